@@ -1,0 +1,70 @@
+-- One step of the scanner.
+use Rattle.std.proofs.Common.{◌≡◌, ℕ, zero, suc, ◌+◌, ◌-◌, ◌<◌, ◌≤◌, Bool, true, false, cond, eqb, List, [], ◌∷◌, ◌++◌, length, take, drop, get_or, Option, Some, None, Result, Ok, Err, refl, sym, ap, subst, ◌∙◌, append_assoc, add-one, arith}
+use Rattle.std.specs.Prelude.{◌||◌}
+use Rattle.std.specs.List.{list_any}
+use Rattle.std.proofs.Math.Nat.{add_assoc}
+use Rattle.std.proofs.lemmas.List.{append-nil, length-drop, length-take-le, drop-drop}
+use Rattle.fam_outer.specs.declared.faults.Place.{Place}
+use Rattle.fam_outer.specs.declared.faults.FileCode.{FileCode}
+use Rattle.c_tokens.specs.declared.token.Token.{Token}
+use Rattle.c_tokens.specs.declared.token.TokenKind.{TokenKind}
+use Rattle.c_tokens.specs.Bytes.{is_space}
+use Rattle.c_tokens.specs.Lexemes.{is_lexeme, lexeme_of, kind_of}
+use Rattle.c_tokens.specs.Places.{is_newline, end_place, place_at}
+use Rattle.c_tokens.specs.Reading.{known, front_of, before, read_lexeme, read_from}
+use Rattle.c_tokens.proofs.Longest.{is_longest}
+use Rattle.c_tokens.proofs.Placing.{spot, behind_bytes, in_lexeme}
+
+-- so many bytes are passed
+pub passed : (text : List ℕ) (offset n : ℕ) (bytes : List ℕ) → n ≤ length bytes → read_from text offset n bytes ≡ read_from text (offset + n) 0 (drop n bytes)
+passed text offset zero bytes le = ap (λ (i : ℕ). read_from text i 0 bytes) (omega arith)
+passed text offset (suc n) [] le = absurd (omega arith)
+passed text offset (suc n) (b ∷ bs) le = passed text (offset + 1) n bs (omega arith) ∙ ap (λ (i : ℕ). read_from text i 0 (drop n bs)) (omega arith)
+
+-- ---- what a lexeme at the front is
+
+pub found_len : (bytes : List ℕ) (kind : TokenKind) (n : ℕ) → front_of bytes ≡ Ok (kind, n) → n ≡ lexeme_of bytes
+found_len bytes kind n e = elim (lexeme_of bytes) as (λ i. known i (kind_of (take i bytes)) ≡ Ok (kind, n) → n ≡ i) [
+  | zero ↦ λ h. absurd cc
+  | suc i ↦ elim (kind_of (take (suc i) bytes)) as (λ o. known (suc i) o ≡ Ok (kind, n) → n ≡ suc i) [ None ↦ λ h. absurd cc | Some k ↦ λ h. cc ]
+] e
+
+pub no_newline : (bytes : List ℕ) (n : ℕ) → 0 < n → n ≡ lexeme_of bytes → list_any is_newline (take n bytes) ≡ false
+no_newline bytes n lt e = subst (λ (i : ℕ). list_any is_newline (take i bytes) ≡ false) (sym e) (in_lexeme (take (lexeme_of bytes) bytes) ((is_longest is_lexeme bytes).passes (omega arith)))
+
+-- ---- steps of the loop
+
+one_front : (list more : List Token) (r : Result (List Token) (FileCode × Place)) → before list (before more r) ≡ before (list ++ more) r
+one_front list more (Ok ts) = ap (λ (us : List Token). Ok us) (sym (append_assoc list more ts))
+one_front list more (Err fault) = refl
+
+-- white space is passed
+pub spaced : (text : List ℕ) (offset b : ℕ) (bs : List ℕ) → is_space b ≡ true → read_from text offset 0 (b ∷ bs) ≡ read_from text (offset + 1) 0 bs
+spaced text offset b bs e = rw e refl
+
+-- elsewhere the lexeme decides
+lexed : (text : List ℕ) (offset b : ℕ) (bs : List ℕ) → is_space b ≡ false → read_from text offset 0 (b ∷ bs) ≡ read_lexeme text offset (front_of (b ∷ bs)) (λ left. read_from text (offset + 1) left bs)
+lexed text offset b bs e = rw e refl
+
+pub stopped : (text : List ℕ) (offset b : ℕ) (bs : List ℕ) (code : FileCode) → is_space b ≡ false → front_of (b ∷ bs) ≡ Err code → read_from text offset 0 (b ∷ bs) ≡ Err (code, place_at text offset)
+stopped text offset b bs code e f = lexed text offset b bs e ∙ ap (λ (r : Result (TokenKind × ℕ) FileCode). read_lexeme text offset r (λ left. read_from text (offset + 1) left bs)) f
+
+abbrev pub token_at : List ℕ → ℕ → TokenKind → ℕ → Token
+token_at text offset kind n = record { kind = kind; place = place_at text offset; start = offset; end = offset + n }
+
+pub taken : (text : List ℕ) (offset b : ℕ) (bs : List ℕ) (kind : TokenKind) (n : ℕ) → is_space b ≡ false → front_of (b ∷ bs) ≡ Ok (kind, n) → 0 < n → n ≤ length (b ∷ bs)
+    → read_from text offset 0 (b ∷ bs) ≡ before (token_at text offset kind n ∷ []) (read_from text (offset + n) 0 (drop n (b ∷ bs)))
+taken text offset b bs kind zero e f lt le = absurd (omega arith)
+taken text offset b bs kind (suc n) e f lt le =
+    lexed text offset b bs e
+    ∙ ap (λ (r : Result (TokenKind × ℕ) FileCode). read_lexeme text offset r (λ left. read_from text (offset + 1) left bs)) f
+    ∙ ap (λ (i : ℕ). before (token_at text offset kind (suc n) ∷ []) (read_from text (offset + 1) i bs)) (let k : suc n - 1 ≡ n = omega arith in k)
+    ∙ ap (λ (r : Result (List Token) (FileCode × Place)). before (token_at text offset kind (suc n) ∷ []) r) (passed text (offset + 1) n bs (omega arith) ∙ ap (λ (i : ℕ). read_from text i 0 (drop n bs)) (omega arith))
+
+-- ---- where the loop stands
+
+pub front_more : (text : List ℕ) (offset n : ℕ) (rest : List ℕ) → rest ≡ drop offset text → take (offset + n) text ≡ take offset text ++ take n rest
+front_more text offset n rest e = ap (λ (xs : List ℕ). xs) (pieces text offset n) ∙ ap (λ (xs : List ℕ). take offset text ++ take n xs) (sym e)
+
+pub behind : (text : List ℕ) (offset n : ℕ) (rest : List ℕ) → rest ≡ drop offset text → drop n rest ≡ drop (offset + n) text
+behind text offset n rest e = ap (drop n) e ∙ drop-drop n offset text
