@@ -4,3 +4,6 @@ pub mod Lexing
 pub mod Literals
 pub mod Placing
 pub mod Scan
+pub mod FirstBytes
+pub mod Readings
+pub mod OneReading

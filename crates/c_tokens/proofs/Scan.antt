@@ -38,7 +38,7 @@ no_newline bytes n lt e = subst (λ (i : ℕ). list_any is_newline (take i bytes
 
 -- ---- steps of the loop
 
-one_front : (list more : List Token) (r : Result (List Token) (FileCode × Place)) → before list (before more r) ≡ before (list ++ more) r
+pub one_front : (list more : List Token) (r : Result (List Token) (FileCode × Place)) → before list (before more r) ≡ before (list ++ more) r
 one_front list more (Ok ts) = ap (λ (us : List Token). Ok us) (sym (append_assoc list more ts))
 one_front list more (Err fault) = refl
 
