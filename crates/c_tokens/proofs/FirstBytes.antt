@@ -20,7 +20,7 @@ word_above b e = elim (or_cases (is_nondigit b) (is_digit b) e) [
   | inl h ↦ elim (or_cases ((eqb b 95) || (leb 97 b && leb b 122)) (leb 65 b && leb b 90) h) [
     | inl i ↦ elim (or_cases (eqb b 95) (leb 97 b && leb b 122) i) [ inl j ↦ omega (arith, eqb-true b 95 j) | inr j ↦ within_above 97 122 b (omega arith) j ]
     | inr i ↦ within_above 65 90 b (omega arith) i
-    ]
+  ]
   | inr h ↦ within_above 48 57 b (omega arith) h
 ]
 

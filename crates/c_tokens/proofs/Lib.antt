@@ -7,3 +7,6 @@ pub mod Scan
 pub mod FirstBytes
 pub mod Readings
 pub mod OneReading
+pub mod Decimals
+pub mod Rising
+pub mod Lining

@@ -69,7 +69,7 @@ over_token text t h =
     let end : t.start + (t.end - t.start) ≡ t.end = (let b = h.begins in omega arith) in
     ap (λ (xs : List ℕ). read_from text t.start 0 xs) cut
     ∙ taken text t.start (get_or text t.start 0) (drop (t.start + 1) text) t.kind (t.end - t.start) (no_space_at text t.start (t.end - t.start) lt h.longest)
-        (front_at (get_or text t.start 0 ∷ drop (t.start + 1) text) (t.end - t.start) (Some t.kind) long (subst (λ (xs : List ℕ). kind_of (take (t.end - t.start) xs) ≡ Some t.kind) cut h.kind) ∙ one_kind (t.end - t.start) t.kind lt) lt long.fits
+    (front_at (get_or text t.start 0 ∷ drop (t.start + 1) text) (t.end - t.start) (Some t.kind) long (subst (λ (xs : List ℕ). kind_of (take (t.end - t.start) xs) ≡ Some t.kind) cut h.kind) ∙ one_kind (t.end - t.start) t.kind lt) lt long.fits
     ∙ ap (λ (xs : List ℕ). before (token_at text t.start t.kind (t.end - t.start) ∷ []) (read_from text (t.start + (t.end - t.start)) 0 xs)) (ap (drop (t.end - t.start)) (sym cut) ∙ drop-drop (t.end - t.start) t.start text)
     ∙ ap (λ (i : ℕ). before (record { kind = t.kind; place = place_at text t.start; start = t.start; end = i } ∷ []) (from text i)) end
     ∙ ap (λ (p : Place). before (record { kind = t.kind; place = p; start = t.start; end = t.end } ∷ []) (from text t.end)) (sym h.place)
@@ -98,7 +98,7 @@ at_stray text offset h =
     let s : list_all is_space (take 1 (get_or text offset 0 ∷ drop (offset + 1) text)) ≡ false = subst (λ (xs : List ℕ). list_all is_space (take 1 xs) ≡ false) cut (subst (λ (i : ℕ). list_all is_space (take i (drop offset text)) ≡ false) one h.no_space) in
     ap (λ (xs : List ℕ). read_from text offset 0 xs) cut
     ∙ stopped text offset (get_or text offset 0) (drop (offset + 1) text) codes.StrayByte (only_one (is_space (get_or text offset 0)) s)
-        (ap (λ (i : ℕ). known i (kind_of (take i (get_or text offset 0 ∷ drop (offset + 1) text)))) (length_at (get_or text offset 0 ∷ drop (offset + 1) text) 0 (subst (λ (xs : List ℕ). IsLongest is_lexeme 0 xs) cut h.none)))
+    (ap (λ (i : ℕ). known i (kind_of (take i (get_or text offset 0 ∷ drop (offset + 1) text)))) (length_at (get_or text offset 0 ∷ drop (offset + 1) text) 0 (subst (λ (xs : List ℕ). IsLongest is_lexeme 0 xs) cut h.none)))
 
 at_literal : (text : List ℕ) (offset len : ℕ) → IsWrongLiteral text offset len → from text offset ≡ Err (codes.Literal, place_at text offset)
 at_literal text offset len h =
@@ -107,7 +107,7 @@ at_literal text offset len h =
     let k : kind_of (take len (drop offset text)) ≡ None = subst (λ (i : ℕ). kind_of (take i (drop offset text)) ≡ None) n h.none in
     ap (λ (xs : List ℕ). read_from text offset 0 xs) cut
     ∙ stopped text offset (get_or text offset 0) (drop (offset + 1) text) codes.Literal (no_space_at text offset len h.begins h.longest)
-        (ap front_of (sym cut) ∙ front_at (drop offset text) len None h.longest k ∙ no_kind len h.begins)
+    (ap front_of (sym cut) ∙ front_at (drop offset text) len None h.longest k ∙ no_kind len h.begins)
 
 at_fault : (text : List ℕ) (offset : ℕ) (code : FileCode) → HasFault text offset code → from text offset ≡ Err (code, place_at text offset)
 at_fault text offset codes.StrayByte h = at_stray text offset h

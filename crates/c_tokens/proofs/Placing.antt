@@ -37,7 +37,7 @@ pub last-append : (xs ys : List ℕ) → list_any is_newline ys ≡ false → la
 last-append [] ys e = last-whole ys e
 last-append (b ∷ bs) ys e = rw (any-append bs ys e) (elim (is_newline b || list_any is_newline bs) as (λ v. cond v (last_line (bs ++ ys)) (b ∷ (bs ++ ys)) ≡ cond v (last_line bs) (b ∷ bs) ++ ys) [ true ↦ last-append bs ys e | false ↦ refl ])
 
-any-newline : (bs ys : List ℕ) → list_any is_newline (bs ++ 10 ∷ ys) ≡ true
+pub any-newline : (bs ys : List ℕ) → list_any is_newline (bs ++ 10 ∷ ys) ≡ true
 any-newline [] ys = refl
 any-newline (b ∷ bs) ys = or_right (is_newline b) (list_any is_newline (bs ++ 10 ∷ ys)) (any-newline bs ys)
 
@@ -54,16 +54,16 @@ one_spot l m c d e f = rw (e, f) refl
 pub behind_newline : (front : List ℕ) (b : ℕ) → b ≡ 10 → spot ((end_place front).line + 1) 1 ≡ end_place (front ++ b ∷ [])
 behind_newline front b e =
     subst (λ (i : ℕ). spot ((end_place front).line + 1) 1 ≡ end_place (front ++ i ∷ [])) (sym e)
-      (one_spot ((end_place front).line + 1) (count_by is_newline (front ++ 10 ∷ []) + 1) 1 (length (last_line (front ++ 10 ∷ [])) + 1)
-        (omega (arith, count-append front (10 ∷ [])))
-        (rw (last-newline front []) refl))
+    (one_spot ((end_place front).line + 1) (count_by is_newline (front ++ 10 ∷ []) + 1) 1 (length (last_line (front ++ 10 ∷ [])) + 1)
+    (omega (arith, count-append front (10 ∷ [])))
+    (rw (last-newline front []) refl))
 
 -- the bytes of one line behind a front
 pub behind_bytes : (front bytes : List ℕ) → list_any is_newline bytes ≡ false → spot (end_place front).line ((end_place front).column + length bytes) ≡ end_place (front ++ bytes)
 behind_bytes front bytes e =
     one_spot (end_place front).line (count_by is_newline (front ++ bytes) + 1) ((end_place front).column + length bytes) (length (last_line (front ++ bytes)) + 1)
-      (omega (arith, count-append front bytes, none_counted bytes e))
-      (rw (last-append front bytes e) (omega (arith, length-append (last_line front) bytes)))
+    (omega (arith, count-append front bytes, none_counted bytes e))
+    (rw (last-append front bytes e) (omega (arith, length-append (last_line front) bytes)))
 
 pub behind_byte : (front : List ℕ) (b : ℕ) → (b ≡ 10 → ⊥) → spot (end_place front).line ((end_place front).column + 1) ≡ end_place (front ++ b ∷ [])
 behind_byte front b e = behind_bytes front (b ∷ []) (or_from (is_newline b) false (ne_eqb b 10 e) refl)
@@ -90,8 +90,8 @@ pair_first b c p e = both_ways (is_pair 10 c) refl (subst (λ (i : ℕ). is_pair
 pair_second : (b c : ℕ) → is_pair b c ≡ true → c ≡ 10 → ⊥
 pair_second b c p e = both_ways (is_pair b c)
     (or_from (is_one_of (codes "=!<>+-") b && eqb c 61) (is_one_of (codes "&|+-") b && eqb c b)
-      (and_right (is_one_of (codes "=!<>+-") b) (eqb c 61) (ne_eqb c 61 (λ k. absurd (omega arith))))
-      (and_right (is_one_of (codes "&|+-") b) (eqb c b) (ne_eqb c b (λ k. pair_first b c p (sym k ∙ e)))))
+    (and_right (is_one_of (codes "=!<>+-") b) (eqb c 61) (ne_eqb c 61 (λ k. absurd (omega arith))))
+    (and_right (is_one_of (codes "&|+-") b) (eqb c b) (ne_eqb c b (λ k. pair_first b c p (sym k ∙ e)))))
     p
 
 in_mark : (xs : List ℕ) → is_mark xs ≡ true → list_any is_newline xs ≡ false

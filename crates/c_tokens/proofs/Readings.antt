@@ -89,13 +89,13 @@ lexed_reading text offset b bs (suc n) None at s e k more h = fault_here text of
 lexed_reading text offset b bs (suc n) (Some kind) at s e k more h =
     let len : (offset + suc n) - offset ≡ suc n = omega arith in
     token_first text offset (record { kind = kind; place = place_at text offset; start = offset; end = offset + suc n }) (more (suc n - 1)) (empty_space text offset at.within)
-      (record {
-        begins = omega arith;
-        longest = subst (λ (i : ℕ). IsLongest is_lexeme i (drop offset text)) (sym len) (lexeme_at text offset (suc n) (b ∷ bs) at e);
-        kind = kind_at text offset (suc n) (b ∷ bs) (Some kind) at k;
-        place = refl;
-      })
-      (h (omega arith))
+    (record {
+      begins = omega arith;
+      longest = subst (λ (i : ℕ). IsLongest is_lexeme i (drop offset text)) (sym len) (lexeme_at text offset (suc n) (b ∷ bs) at e);
+      kind = kind_at text offset (suc n) (b ∷ bs) (Some kind) at k;
+      place = refl;
+    })
+    (h (omega arith))
 
 pub reads : (text : List ℕ) (offset left : ℕ) (rest : List ℕ) → IsAt text offset rest → left ≤ length rest → ReadingFrom text (offset + left) (read_from text offset left rest)
 reads text offset left [] at le =
@@ -105,12 +105,12 @@ reads text offset left [] at le =
 reads text offset (suc left) (b ∷ bs) at le = subst (λ (i : ℕ). ReadingFrom text i (read_from text (offset + 1) left bs)) (let k : offset + 1 + left ≡ offset + suc left = omega arith in k) (reads text (offset + 1) left bs (next_at text offset b bs at) (omega arith))
 reads text offset zero (b ∷ bs) at le =
     subst (λ (i : ℕ). ReadingFrom text i (read_from text offset 0 (b ∷ bs))) (let k : offset ≡ offset + 0 = omega arith in k)
-      (elim (is_space b) as (λ v. is_space b ≡ v → ReadingFrom text offset (cond v (read_from text (offset + 1) 0 bs) (read_lexeme text offset (front_of (b ∷ bs)) (λ left. read_from text (offset + 1) left bs)))) [
-        | true ↦ λ s. wider_reading text offset b bs (read_from text (offset + 1) 0 bs) at s (subst (λ (i : ℕ). ReadingFrom text i (read_from text (offset + 1) 0 bs)) (let k : offset + 1 + 0 ≡ offset + 1 = omega arith in k) (reads text (offset + 1) 0 bs (next_at text offset b bs at) (omega arith)))
-        | false ↦ λ s. lexed_reading text offset b bs (lexeme_of (b ∷ bs)) (kind_of (take (lexeme_of (b ∷ bs)) (b ∷ bs))) at s refl refl (λ left. read_from text (offset + 1) left bs)
-            (λ lt. (let fits = (is_longest is_lexeme (b ∷ bs)).fits in
-              subst (λ (i : ℕ). ReadingFrom text i (read_from text (offset + 1) (lexeme_of (b ∷ bs) - 1) bs)) (let k : offset + 1 + (lexeme_of (b ∷ bs) - 1) ≡ offset + lexeme_of (b ∷ bs) = omega arith in k) (reads text (offset + 1) (lexeme_of (b ∷ bs) - 1) bs (next_at text offset b bs at) (omega arith))))
-      ] refl)
+    (elim (is_space b) as (λ v. is_space b ≡ v → ReadingFrom text offset (cond v (read_from text (offset + 1) 0 bs) (read_lexeme text offset (front_of (b ∷ bs)) (λ left. read_from text (offset + 1) left bs)))) [
+      | true ↦ λ s. wider_reading text offset b bs (read_from text (offset + 1) 0 bs) at s (subst (λ (i : ℕ). ReadingFrom text i (read_from text (offset + 1) 0 bs)) (let k : offset + 1 + 0 ≡ offset + 1 = omega arith in k) (reads text (offset + 1) 0 bs (next_at text offset b bs at) (omega arith)))
+      | false ↦ λ s. lexed_reading text offset b bs (lexeme_of (b ∷ bs)) (kind_of (take (lexeme_of (b ∷ bs)) (b ∷ bs))) at s refl refl (λ left. read_from text (offset + 1) left bs)
+          (λ lt. (let fits = (is_longest is_lexeme (b ∷ bs)).fits in
+          subst (λ (i : ℕ). ReadingFrom text i (read_from text (offset + 1) (lexeme_of (b ∷ bs) - 1) bs)) (let k : offset + 1 + (lexeme_of (b ∷ bs) - 1) ≡ offset + lexeme_of (b ∷ bs) = omega arith in k) (reads text (offset + 1) (lexeme_of (b ∷ bs) - 1) bs (next_at text offset b bs at) (omega arith))))
+    ] refl)
 
 whole : (text : List ℕ) (r : Result (List Token) (FileCode × Place)) → ReadingFrom text 0 r → IsReading text r
 whole text (Ok ts) h = h

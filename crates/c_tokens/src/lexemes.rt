@@ -28,13 +28,7 @@ fn mark_len(bytes: &[u8]) -> usize
 {
     match bytes {
         [] => 0,
-        [b] => {
-            if is_single(*b) {
-                1
-            } else {
-                0
-            }
-        }
+        [b] => { if is_single(*b) { 1 } else { 0 } }
         [b, c, ..] => {
             if is_pair(*b, *c) {
                 2

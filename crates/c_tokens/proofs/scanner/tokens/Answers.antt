@@ -48,17 +48,17 @@ scan-preserved c =
     let back : c.split_at.result.1.now ≡ drop n rest = c.split_at.ensures.back in
     let here : c.scan.place ≡ place_at text at = c.scan.invariant.place in
     let pushed : c.push.new.self.items ≡ c.scan.list.items ++ token_at text at kind n ∷ [] =
-        c.push.ensures.items ∙ cond-true (is_ok c.push.result) _ _ c.if-is_err.ensures.negation
-        ∙ ap (λ (p : Place). c.scan.list.items ++ record { kind = kind; place = p; start = at; end = at + n } ∷ []) here in
+    c.push.ensures.items ∙ cond-true (is_ok c.push.result) _ _ c.if-is_err.ensures.negation
+    ∙ ap (λ (p : Place). c.scan.list.items ++ record { kind = kind; place = p; start = at; end = at + n } ∷ []) here in
     let taken : length (take n rest) ≡ n = length-take-le n rest fits in
     record {
       read = rw (pushed, back) (taken_on c.scan.list.items text at c.in-Some.b c.in-Some.behind.now rest (read_from text 0 0 text) kind n cut (sym c.is_space.ensures ∙ c.if-is_space.false) found some fits c.scan.invariant.read);
       rest = back ∙ behind text at n rest c.scan.invariant.rest;
       len = omega (arith, ap length back, length-drop n rest);
       place = subst (λ (p : Place). spot p.line (p.column + n) ≡ end_place (take (at + n) text)) (sym here)
-        (ap (λ (i : ℕ). spot (place_at text at).line ((place_at text at).column + i)) (sym taken)
-        ∙ behind_bytes (take at text) (take n rest) (no_newline rest n some (found_len rest kind n (sym found)))
-        ∙ ap end_place (sym (front_more text at n rest c.scan.invariant.rest)));
+          (ap (λ (i : ℕ). spot (place_at text at).line ((place_at text at).column + i)) (sym taken)
+          ∙ behind_bytes (take at text) (take n rest) (no_newline rest n some (found_len rest kind n (sym found)))
+          ∙ ap end_place (sym (front_more text at n rest c.scan.invariant.rest)));
       line = omega arith;
       column = omega arith;
     }
