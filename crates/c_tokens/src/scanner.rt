@@ -93,6 +93,7 @@ mod tests {
     use super::*;
     use crate::token::TokenKind;
     use fam_outer::FileCode;
+    use std::process::Abort;
 
     const W: TokenKind = TokenKind::Word;
 
@@ -112,13 +113,13 @@ mod tests {
         }
     }
 
-    fn read(rt: &HostRuntime, text: &[u8]) -> Result<Tokens, FileRefusal> {
+    fn read(rt: &impl Abort, alloc: Global, text: &[u8]) -> Result<Tokens, FileRefusal> {
         assert!(rt; text.len() <= 1_048_576);
-        tokens(rt.alloc(), text)
+        tokens(alloc, text)
     }
 
-    fn accepts(rt: &HostRuntime, text: &[u8], wanted: &[Token]) {
-        match read(rt, text) {
+    fn accepts(rt: &impl Abort, alloc: Global, text: &[u8], wanted: &[Token]) {
+        match read(rt, alloc, text) {
             Ok(list) => assert_eq!(rt; list.items(), wanted),
             Err(_) => panic!(rt; "refused"),
         }
@@ -126,9 +127,10 @@ mod tests {
 
     #[test]
     fn longest_matches(rt: HostRuntime) {
-        accepts(&rt, b"", &[]);
+        accepts(&rt, rt.alloc(), b"", &[]);
         accepts(
             &rt,
+            rt.alloc(),
             b"a+++=b",
             &[
                 at(W, 1, 1, 0, 1),
@@ -137,10 +139,21 @@ mod tests {
                 at(W, 1, 6, 5, 1),
             ],
         );
-        accepts(&rt, b"<==", &[at(M, 1, 1, 0, 2), at(M, 1, 3, 2, 1)]);
-        accepts(&rt, b"x1 _9", &[at(W, 1, 1, 0, 2), at(W, 1, 4, 3, 2)]);
         accepts(
             &rt,
+            rt.alloc(),
+            b"<==",
+            &[at(M, 1, 1, 0, 2), at(M, 1, 3, 2, 1)],
+        );
+        accepts(
+            &rt,
+            rt.alloc(),
+            b"x1 _9",
+            &[at(W, 1, 1, 0, 2), at(W, 1, 4, 3, 2)],
+        );
+        accepts(
+            &rt,
+            rt.alloc(),
             b"0 7 2147483647",
             &[
                 at(number(0), 1, 1, 0, 1),
@@ -150,11 +163,13 @@ mod tests {
         );
         accepts(
             &rt,
+            rt.alloc(),
             b"a\r\n\t b\n\n;",
             &[at(W, 1, 1, 0, 1), at(W, 2, 3, 5, 1), at(M, 4, 1, 8, 1)],
         );
         accepts(
             &rt,
+            rt.alloc(),
             b"!= == >=-=",
             &[
                 at(M, 1, 1, 0, 2),
@@ -165,6 +180,7 @@ mod tests {
         );
         accepts(
             &rt,
+            rt.alloc(),
             b"--&&|| !",
             &[
                 at(M, 1, 1, 0, 2),
@@ -175,6 +191,7 @@ mod tests {
         );
         accepts(
             &rt,
+            rt.alloc(),
             b"(){};,",
             &[
                 at(M, 1, 1, 0, 1),
@@ -187,6 +204,7 @@ mod tests {
         );
         accepts(
             &rt,
+            rt.alloc(),
             b"<>+*/%",
             &[
                 at(M, 1, 1, 0, 1),
@@ -200,8 +218,8 @@ mod tests {
     }
 
     /// The code's number and the place.
-    fn refusal(rt: &HostRuntime, text: &[u8]) -> (u8, u32, u32) {
-        match read(rt, text) {
+    fn refusal(rt: &impl Abort, alloc: Global, text: &[u8]) -> (u8, u32, u32) {
+        match read(rt, alloc, text) {
             Err(
                 FileRefusal::Fault {
                     code: FileCode::StrayByte,
@@ -237,7 +255,7 @@ mod tests {
             (b"x.y", (10, 1, 2)),
         ];
         for (text, wanted) in cases {
-            assert_eq!(rt; refusal(&rt, text), wanted);
+            assert_eq!(rt; refusal(&rt, rt.alloc(), text), wanted);
         }
     }
 
@@ -246,7 +264,7 @@ mod tests {
         let Ok(text) = vec![in rt.alloc(); b'+'; 1_048_576] else {
             return Err(FileRefusal::NoMemory);
         };
-        let list = read(&rt, &text)?;
+        let list = read(&rt, rt.alloc(), &text)?;
         assert_eq!(rt; list.items().len(), 524_288);
         assert_eq!(rt;
             list.items().last(),
