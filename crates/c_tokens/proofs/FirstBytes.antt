@@ -1,10 +1,10 @@
 -- The first byte of a lexeme is no white space.
-use Rattle.std.proofs.Common.{◌≡◌, ℕ, zero, suc, ◌+◌, ◌-◌, ◌<◌, ◌≤◌, ◌⊎◌, inl, inr, Bool, true, false, eqb, leb, List, [], ◌∷◌, take, refl, sym, subst, ◌∙◌, arith}
+use Rattle.std.proofs.Common.{◌≡◌, ℕ, zero, suc, ◌<◌, ◌≤◌, inl, inr, true, false, eqb, leb, List, [], ◌∷◌, take, refl, arith}
 use Rattle.std.specs.Prelude.{◌||◌, ◌&&◌, codes}
 use Rattle.std.specs.List.{list_all}
 use Rattle.std.proofs.lemmas.Bool.{and_parts, or_cases, eqb-true, leb-true, false_from_ne_true}
 use Rattle.c_tokens.specs.Bytes.{is_space, is_digit, is_nondigit, is_word_byte, is_one_of}
-use Rattle.c_tokens.specs.Lexemes.{is_lexeme, is_run, is_mark, is_single, is_pair}
+use Rattle.c_tokens.specs.Lexemes.{is_lexeme, is_run, is_mark, is_pair}
 
 space_below : (b : ℕ) → is_space b ≡ true → b ≤ 32
 space_below b e = elim (or_cases (eqb b 32) (leb 9 b && leb b 13) e) [

@@ -1,11 +1,11 @@
 -- The longest lexeme from the longest run and the longest mark.
-use Rattle.std.proofs.Common.{◌≡◌, ℕ, zero, suc, ◌+◌, ◌-◌, ◌<◌, ◌≤◌, Bool, true, false, not, cond, eqb, List, [], ◌∷◌, length, take, refl, sym, ap, subst, ◌∙◌, arith}
-use Rattle.std.specs.Prelude.{◌||◌, ◌&&◌, codes}
+use Rattle.std.proofs.Common.{◌≡◌, ℕ, zero, suc, ◌+◌, ◌<◌, ◌≤◌, true, false, not, cond, eqb, List, [], ◌∷◌, length, take, refl, ap, subst, arith}
+use Rattle.std.specs.Prelude.{◌&&◌, codes}
 use Rattle.std.specs.List.{list_all, prefix_len}
 use Rattle.std.proofs.lemmas.Bool.{and_parts, and_left, or_from, or_left, or_right, eqb-true, both_ways}
 use Rattle.std.proofs.Math.Numerals.{one-add}
 use Rattle.c_tokens.specs.Bytes.{is_word_byte, is_one_of}
-use Rattle.c_tokens.specs.Lexemes.{IsLongest, is_mark, is_run, is_lexeme, is_single, is_pair, lexeme_of}
+use Rattle.c_tokens.specs.Lexemes.{IsLongest, is_mark, is_run, is_lexeme, lexeme_of}
 use Rattle.c_tokens.proofs.Longest.{is_longest, one_longest}
 
 -- ---- runs

@@ -1,6 +1,6 @@
 -- A line and what stands behind its newline are read apart.
-use Rattle.std.proofs.Common.{◌≡◌, ℕ, zero, suc, ◌+◌, ◌-◌, ◌<◌, ◌≤◌, ◌⊎◌, inl, inr, Bool, true, false, cond, List, [], ◌∷◌, ◌++◌, map, length, take, drop, Option, Some, None, Result, Ok, Err, refl, sym, ap, subst, ◌∙◌, add-one, arith}
-use Rattle.std.specs.Prelude.{◌&&◌, count_by}
+use Rattle.std.proofs.Common.{◌≡◌, ℕ, suc, ◌+◌, ◌-◌, ◌<◌, ◌≤◌, inl, inr, false, List, [], ◌∷◌, ◌++◌, map, length, take, drop, None, Result, Ok, Err, refl, sym, ap, subst, ◌∙◌, arith}
+use Rattle.std.specs.Prelude.{count_by}
 use Rattle.std.specs.List.{list_all, list_any}
 use Rattle.std.proofs.Math.Seq.{take-add, take-append-add, drop-append_seam}
 use Rattle.std.proofs.lemmas.Bool.{and_from, both_ways, cases_lt, false_from_ne_true}
@@ -13,9 +13,9 @@ use Rattle.c_tokens.specs.declared.token.Token.{Token}
 use Rattle.c_tokens.specs.Bytes.{is_space}
 use Rattle.c_tokens.specs.Lexemes.{is_lexeme, IsLongest, kind_of}
 use Rattle.c_tokens.specs.Places.{is_newline, last_line, end_place, place_at}
-use Rattle.c_tokens.specs.Reading.{slice, IsSpaceBetween, IsTokenIn, StandBetween, IsStray, IsWrongLiteral, HasFault, IsReading, before, tokens_of}
-use Rattle.c_tokens.specs.Lines.{lower_place, lower_token, lowered, line_behind}
-use Rattle.c_tokens.proofs.Placing.{spot, one_spot, any-newline, last-newline, count-append, in_lexeme}
+use Rattle.c_tokens.specs.Reading.{slice, IsSpaceBetween, IsTokenIn, StandBetween, HasFault, IsReading, tokens_of}
+use Rattle.c_tokens.specs.Lines.{lower_place, lower_token, line_behind}
+use Rattle.c_tokens.proofs.Placing.{one_spot, any-newline, last-newline, count-append, in_lexeme}
 use Rattle.c_tokens.proofs.Readings.{is_reading}
 use Rattle.c_tokens.proofs.OneReading.{one}
 

@@ -1,5 +1,5 @@
 -- The longest front that passes a test.
-use Rattle.std.proofs.Common.{◌≡◌, ℕ, zero, suc, ◌+◌, ◌-◌, ◌<◌, ◌≤◌, ◌⊎◌, inl, inr, Bool, true, false, cond, List, [], ◌∷◌, length, take, refl, sym, ap, ◌∙◌, arith}
+use Rattle.std.proofs.Common.{◌≡◌, ℕ, zero, suc, ◌<◌, ◌≤◌, inl, inr, Bool, true, false, cond, List, length, take, refl, ap, ◌∙◌, arith}
 use Rattle.std.proofs.lemmas.Bool.{cases_order, both_ways}
 use Rattle.c_tokens.specs.Lexemes.{IsLongest, longest_up_to}
 

@@ -1,5 +1,5 @@
 -- The longest mark at the front.
-use Rattle.std.proofs.Common.{◌≡◌, ℕ, zero, suc, ◌+◌, ◌-◌, ◌<◌, ◌≤◌, Bool, true, false, cond, List, [], ◌∷◌, length, take, get_or, refl, sym, ap, ◌∙◌, arith}
+use Rattle.std.proofs.Common.{◌≡◌, ℕ, zero, suc, ◌<◌, ◌≤◌, true, false, List, [], ◌∷◌, length, take, get_or, refl, arith}
 use Rattle.c_tokens.specs.Lexemes.{IsLongest, is_mark, is_single, is_pair}
 
 long : (b c : ℕ) (bs : List ℕ) (m : ℕ) → 2 < m → m ≤ length (b ∷ c ∷ bs) → is_mark (take m (b ∷ c ∷ bs)) ≡ false

@@ -1,8 +1,8 @@
 -- Each reading is what the function reads.
-use Rattle.std.proofs.Common.{◌≡◌, ℕ, zero, suc, ◌+◌, ◌-◌, ◌<◌, ◌≤◌, Bool, true, false, cond, List, [], ◌∷◌, ◌++◌, length, take, drop, get_or, Option, Some, None, Result, Ok, Err, refl, sym, ap, subst, ◌∙◌, arith}
+use Rattle.std.proofs.Common.{◌≡◌, ℕ, zero, suc, ◌+◌, ◌-◌, ◌<◌, ◌≤◌, Bool, true, false, List, [], ◌∷◌, length, take, drop, get_or, Option, Some, None, Result, Ok, Err, refl, sym, ap, subst, ◌∙◌, arith}
 use Rattle.std.specs.Prelude.{◌&&◌}
 use Rattle.std.specs.List.{list_all}
-use Rattle.std.proofs.lemmas.Bool.{and_parts, true_from_ne_false, both_ways}
+use Rattle.std.proofs.lemmas.Bool.{and_parts}
 use Rattle.std.proofs.lemmas.List.{length-drop, append-nil, drop-drop}
 use Rattle.std.proofs.Math.ListN.{drop_of_length-le}
 use Rattle.fam_outer.specs.declared.faults.Place.{Place}
@@ -13,7 +13,7 @@ use Rattle.c_tokens.specs.declared.token.TokenKind.{TokenKind}
 use Rattle.c_tokens.specs.Bytes.{is_space}
 use Rattle.c_tokens.specs.Lexemes.{is_lexeme, IsLongest, lexeme_of, kind_of}
 use Rattle.c_tokens.specs.Places.{place_at}
-use Rattle.c_tokens.specs.Reading.{slice, IsSpaceBetween, IsTokenIn, StandBetween, IsStray, IsWrongLiteral, HasFault, IsReading, known, front_of, before, read_from, tokens_of}
+use Rattle.c_tokens.specs.Reading.{IsSpaceBetween, IsTokenIn, StandBetween, IsStray, IsWrongLiteral, HasFault, IsReading, known, front_of, before, read_from, tokens_of}
 use Rattle.c_tokens.proofs.Longest.{is_longest, one_longest}
 use Rattle.c_tokens.proofs.FirstBytes.{no_space_first}
 use Rattle.c_tokens.proofs.Readings.{cons_at}

@@ -1,6 +1,5 @@
 -- What the function reads is a reading.
-use Rattle.std.proofs.Common.{◌≡◌, ℕ, zero, suc, ◌+◌, ◌-◌, ◌<◌, ◌≤◌, Bool, true, false, cond, eqb, List, [], ◌∷◌, ◌++◌, length, take, drop, get_or, Option, Some, None, Result, Ok, Err, refl, sym, ap, subst, ◌∙◌, add-one, arith}
-use Rattle.std.specs.Prelude.{◌&&◌}
+use Rattle.std.proofs.Common.{◌≡◌, ℕ, zero, suc, ◌+◌, ◌-◌, ◌<◌, ◌≤◌, true, false, cond, List, [], ◌∷◌, length, take, drop, get_or, Option, Some, None, Result, Ok, Err, refl, sym, ap, subst, ◌∙◌, add-one, arith}
 use Rattle.std.specs.List.{list_all}
 use Rattle.std.proofs.lemmas.Bool.{and_from}
 use Rattle.std.proofs.lemmas.List.{length-drop}
@@ -13,7 +12,7 @@ use Rattle.c_tokens.specs.declared.token.TokenKind.{TokenKind}
 use Rattle.c_tokens.specs.Bytes.{is_space}
 use Rattle.c_tokens.specs.Lexemes.{is_lexeme, IsLongest, lexeme_of, kind_of}
 use Rattle.c_tokens.specs.Places.{place_at}
-use Rattle.c_tokens.specs.Reading.{slice, IsSpaceBetween, IsTokenIn, StandBetween, IsStray, IsWrongLiteral, HasFault, IsReading, known, front_of, before, read_lexeme, read_from, tokens_of}
+use Rattle.c_tokens.specs.Reading.{slice, IsSpaceBetween, IsTokenIn, StandBetween, IsStray, HasFault, IsReading, known, front_of, before, read_lexeme, read_from, tokens_of}
 use Rattle.c_tokens.proofs.Longest.{is_longest}
 
 -- a reading from an offset on

@@ -1,5 +1,5 @@
 -- Later bytes have later places.
-use Rattle.std.proofs.Common.{◌≡◌, ℕ, zero, suc, ◌+◌, ◌-◌, ◌<◌, ◌≤◌, ◌⊎◌, inl, inr, Bool, true, false, cond, List, [], ◌∷◌, ◌++◌, length, take, drop, refl, sym, ap, subst, ◌∙◌, arith}
+use Rattle.std.proofs.Common.{◌≡◌, ℕ, ◌+◌, ◌-◌, ◌<◌, ◌≤◌, inl, inr, true, false, cond, List, [], ◌∷◌, ◌++◌, length, take, drop, refl, sym, ap, subst, ◌∙◌, arith}
 use Rattle.std.specs.Prelude.{◌||◌, count_by}
 use Rattle.std.specs.List.{list_any}
 use Rattle.std.proofs.Math.Seq.{take-add}
@@ -7,7 +7,7 @@ use Rattle.std.proofs.lemmas.List.{length-drop, length-take-le}
 use Rattle.std.proofs.lemmas.List.Sums.{sum_by-cons}
 use Rattle.fam_outer.specs.declared.faults.Place.{Place}
 use Rattle.c_tokens.specs.Places.{is_newline, end_place, place_at, IsEarlier}
-use Rattle.c_tokens.proofs.Placing.{spot, behind_bytes, count-append}
+use Rattle.c_tokens.proofs.Placing.{behind_bytes, count-append}
 
 counted : (xs : List ℕ) → list_any is_newline xs ≡ true → 1 ≤ count_by is_newline xs
 counted [] e = absurd cc

@@ -1,19 +1,18 @@
 -- One step of the scanner.
-use Rattle.std.proofs.Common.{◌≡◌, ℕ, zero, suc, ◌+◌, ◌-◌, ◌<◌, ◌≤◌, Bool, true, false, cond, eqb, List, [], ◌∷◌, ◌++◌, length, take, drop, get_or, Option, Some, None, Result, Ok, Err, refl, sym, ap, subst, ◌∙◌, append_assoc, add-one, arith}
-use Rattle.std.specs.Prelude.{◌||◌}
+use Rattle.std.proofs.Common.{◌≡◌, ℕ, zero, suc, ◌+◌, ◌-◌, ◌<◌, ◌≤◌, true, false, List, [], ◌∷◌, ◌++◌, length, take, drop, Some, None, Result, Ok, Err, refl, sym, ap, subst, ◌∙◌, append_assoc, arith}
 use Rattle.std.specs.List.{list_any}
 use Rattle.std.proofs.Math.Seq.{take-add}
-use Rattle.std.proofs.lemmas.List.{append-nil, length-drop, length-take-le, drop-drop}
+use Rattle.std.proofs.lemmas.List.{append-nil, drop-drop}
 use Rattle.fam_outer.specs.declared.faults.Place.{Place}
 use Rattle.fam_outer.specs.declared.faults.FileCode.{FileCode}
 use Rattle.c_tokens.specs.declared.token.Token.{Token}
 use Rattle.c_tokens.specs.declared.token.TokenKind.{TokenKind}
 use Rattle.c_tokens.specs.Bytes.{is_space}
 use Rattle.c_tokens.specs.Lexemes.{is_lexeme, lexeme_of, kind_of}
-use Rattle.c_tokens.specs.Places.{is_newline, end_place, place_at}
+use Rattle.c_tokens.specs.Places.{is_newline, place_at}
 use Rattle.c_tokens.specs.Reading.{known, front_of, before, read_lexeme, read_from}
 use Rattle.c_tokens.proofs.Longest.{is_longest}
-use Rattle.c_tokens.proofs.Placing.{spot, behind_bytes, in_lexeme}
+use Rattle.c_tokens.proofs.Placing.{in_lexeme}
 
 -- so many bytes are passed
 pub passed : (text : List ℕ) (offset n : ℕ) (bytes : List ℕ) → n ≤ length bytes → read_from text offset n bytes ≡ read_from text (offset + n) 0 (drop n bytes)

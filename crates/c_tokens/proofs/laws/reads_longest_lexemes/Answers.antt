@@ -1,5 +1,4 @@
 use Rattle.c_tokens.proofs.Readings.{is_reading}
-use Rattle.c_tokens.proofs.FirstBytes as first
 use Rattle.c_tokens.proofs.laws.reads_longest_lexemes.Goals as goal
 
 pub returns : goal.returns

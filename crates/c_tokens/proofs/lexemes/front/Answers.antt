@@ -1,4 +1,4 @@
-use Rattle.std.proofs.Common.{◌≡◌, ◌≤◌, length, arith}
+use Rattle.std.proofs.Common.{◌≤◌, length, arith}
 use Rattle.c_tokens.specs.Lexemes.{is_lexeme, lexeme_of}
 use Rattle.c_tokens.proofs.Longest.{is_longest}
 use Rattle.c_tokens.proofs.lexemes.front.Goals as goal

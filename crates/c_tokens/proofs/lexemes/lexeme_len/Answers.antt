@@ -1,4 +1,4 @@
-use Rattle.std.proofs.Common.{◌≡◌, ℕ, sym, subst}
+use Rattle.std.proofs.Common.{ℕ, sym, subst}
 use Rattle.c_tokens.specs.Lexemes.{IsLongest, is_run}
 use Rattle.c_tokens.proofs.Lexing.{run_longest, run_is_lexeme, mark_is_lexeme}
 use Rattle.c_tokens.proofs.lexemes.lexeme_len.Goals as goal

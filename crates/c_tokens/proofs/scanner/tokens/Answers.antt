@@ -1,12 +1,11 @@
-use Rattle.std.proofs.Common.{◌≡◌, ℕ, ◌+◌, ◌<◌, ◌≤◌, List, [], ◌∷◌, ◌++◌, length, take, drop, cond, false, true, Result, Ok, Err, sym, ap, subst, ◌∙◌, arith}
+use Rattle.std.proofs.Common.{◌≡◌, ℕ, ◌+◌, ◌<◌, ◌≤◌, List, [], ◌∷◌, ◌++◌, length, take, drop, Ok, Err, sym, ap, subst, ◌∙◌, arith}
 use Rattle.std.specs.Result.{is_ok}
 use Rattle.std.proofs.lemmas.List.{length-drop, length-take-le}
-use Rattle.std.proofs.lemmas.Bool.{cond-true, not-false}
+use Rattle.std.proofs.lemmas.Bool.{cond-true}
 use Rattle.fam_outer.specs.declared.faults.Place.{Place}
-use Rattle.fam_outer.specs.declared.faults.FileCode.{FileCode}
 use Rattle.c_tokens.specs.declared.token.Token.{Token}
 use Rattle.c_tokens.specs.Places.{end_place, place_at}
-use Rattle.c_tokens.specs.Reading.{before, front_of, read_from, tokens_of}
+use Rattle.c_tokens.specs.Reading.{front_of, read_from, tokens_of}
 use Rattle.c_tokens.proofs.Placing.{spot, behind_bytes}
 use Rattle.c_tokens.proofs.Scan.{front_more, behind, found_len, no_newline, spaced_on, taken_on, stopped_on, done_on, token_at}
 use Rattle.c_tokens.proofs.scanner.tokens.Goals as goal
