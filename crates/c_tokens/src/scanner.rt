@@ -3,7 +3,8 @@
 
 ghost use Rattle.std.specs.Prelude.{◌≡◌, ℕ, ◌<◌, ◌≤◌, ◌+◌, ◌^◌, List, [], ◌∷◌, ◌++◌, length, MatchOption};
 ghost use Rattle.c_tokens.specs.Places.{end_place};
-ghost use Rattle.c_tokens.specs.Reading.{Gives, tokens_of};
+ghost use Rattle.c_tokens.specs.Reading.{tokens_of};
+ghost use Rattle.fam_outer.specs.Refusals.{Gives};
 
 use crate::bytes::is_space;
 use crate::lexemes::front;
