@@ -1,1 +1,4 @@
 pub mod Views
+pub mod Listed
+pub mod Starts
+pub mod Wholes
