@@ -108,7 +108,7 @@ int_found : (truths : List Bool) (count x : ℕ) (ds : List Declared) (o : Optio
 int_found truths count x [] o h k = k
 int_found truths count x (d ∷ ds) o h k =
     int_found truths count x ds (if (d.target == x) && guards_hold truths d.guards then Some d.value else o) (All-tail (IsDeclaredOf count) d ds h)
-      (either_int ((d.target == x) && guards_hold truths d.guards) d.value o (All-head (IsDeclaredOf count) d ds h).value k)
+    (either_int ((d.target == x) && guards_hold truths d.guards) d.value o (All-head (IsDeclaredOf count) d ds h).value k)
 
 int_picked : (o : Option ℤ) (n : ℤ) → IsIntIfThere o → IsInt n → IsInt (unwrap_or o n)
 int_picked None n h k = k
@@ -118,4 +118,4 @@ pub ints-start : (truths : List Bool) (ds : List Declared) (count x : ℕ) (ns :
 ints-start truths ds count x [] h k = k
 ints-start truths ds count x (n ∷ ns) h k =
     All-cons IsInt (headed truths ds x n) (start_from truths ds (x + 1) ns)
-      (int_picked (last_value truths x ds None) n (int_found truths count x ds None h tt) (All-head IsInt n ns k)) (ints-start truths ds count (x + 1) ns h (All-tail IsInt n ns k))
+    (int_picked (last_value truths x ds None) n (int_found truths count x ds None h tt) (All-head IsInt n ns k)) (ints-start truths ds count (x + 1) ns h (All-tail IsInt n ns k))

@@ -17,3 +17,6 @@ pub use copies::{copy_expr, copy_list, copy_stmt};
 pub use lists::{Declarations, Guards, Names};
 pub use projection::project;
 pub use tree::{Declared, Expr, Guard, Kind, Mode, Op, Program, Stmt};
+
+#[cfg(test)]
+mod tests;

@@ -49,10 +49,7 @@ fn does_hold(guard: &Guard, truths: &[bool]) -> bool
 fn do_hold(guards: &Guards, truths: &[bool]) -> bool
     ensures { result ≡ guards_hold truths.now guards.now }
 {
-    guards
-        .items()
-        .iter()
-        .all(|guard| does_hold(guard, truths))
+    guards.items().iter().all(|guard| does_hold(guard, truths))
 }
 
 /// Puts the value of a declarator whose guards hold, where there is its variable.
