@@ -4,9 +4,9 @@ use Rattle.std.specs.Prelude.{slice_index_or}
 use Rattle.fam_outer.specs.declared.faults.Place.{Place}
 use Rattle.c_tree.specs.Tree.{Code, Done, Assign, Input, Assert, If, While, Block, Skip, Cond, followed, Whole}
 use Rattle.c_tree.specs.Fit.{IsCodeOf, IsPlain}
-use Rattle.c_tree.specs.Project.{projected, projected_start, projected_program}
+use Rattle.c_tree.specs.Project.{projected, projected_program}
 use Rattle.c_tree.specs.Places.{places_of, program_places}
-use Rattle.c_tree.specs.Whole.{IsBeforeAll, IsRising, nesting, IsSmall, IsProgram, IsPlainProgram}
+use Rattle.c_tree.specs.Whole.{IsBeforeAll, IsRising, nesting, IsSmall, IsProgram}
 use Rattle.c_tree.proofs.Views.{IsCodeOf-followed, IsPlain-followed}
 use Rattle.c_tree.proofs.Listed.{places_of-followed}
 use Rattle.c_tree.proofs.Starts.{length-start, ints-start}

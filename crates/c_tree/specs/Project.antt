@@ -1,5 +1,5 @@
 -- The program of one choice of truths: preprocessing of a tree that was read with its groups (ISO/IEC 9899:2011, 6.10.1).
-use Rattle.std.specs.Prelude.{ℕ, ℤ, ◌<◌, ◌+◌, ◌==◌, ◌&&◌, Bool, true, false, not, if◌then◌else◌, Option, Some, None, unwrap_or, List, [], ◌∷◌, length, slice_index_or}
+use Rattle.std.specs.Prelude.{ℕ, ℤ, ◌<◌, ◌+◌, ◌==◌, ◌&&◌, Bool, false, not, if◌then◌else◌, Option, Some, None, unwrap_or, List, [], ◌∷◌, slice_index_or}
 use Rattle.std.specs.List.{All, list_all}
 use Rattle.c_tree.specs.declared.tree.Declared.{Declared}
 use Rattle.c_tree.specs.declared.tree.Guard.{Guard}

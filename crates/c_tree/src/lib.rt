@@ -8,6 +8,7 @@
 
 pub mod all_places;
 pub mod copies;
+pub mod laws;
 pub mod lists;
 pub mod projection;
 pub mod tree;

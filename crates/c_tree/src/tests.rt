@@ -74,7 +74,7 @@ fn kept_side(alloc: Global) -> Result<Vec<Stmt>, NoMemory>
 fn body(alloc: Global) -> Result<Vec<Stmt>, NoMemory>
     ensures { IfOk result (λ made. code made.items ≡
         Cond 0 (Skip (record { line = 2; column = 1 }) (Cond 1 (Skip (record { line = 4; column = 1 }) Done) Done Done))
-            (Skip (record { line = 7; column = 1 }) Done) (Skip (record { line = 9; column = 1 }) Done)) }
+        (Skip (record { line = 7; column = 1 }) Done) (Skip (record { line = 9; column = 1 }) Done)) }
 {
     let yes = kept_side(alloc)?;
     let no = one(alloc, skip(7))?;
