@@ -8,12 +8,13 @@ use Rattle.std.proofs.lemmas.Option.{slice_get_within, slice_get-get_or}
 use Rattle.c_tree.specs.declared.tree.Kind.{Kind}
 use Rattle.c_tree.specs.declared.tree.Mode.{Mode}
 use Rattle.fam_outer.specs.declared.faults.Place.{Place}
-use Rattle.c_tree.specs.Tree.{Code, Done, Assign, Input, Assert, If, While, Block, Skip, Cond, followed}
+use Rattle.c_tree.specs.Tree.{Code, Done, Assign, Input, Assert, If, While, Block, Skip, Cond, followed, Whole}
+use Rattle.c_tree.specs.Whole.{IsProgram, IsPlainProgram}
 use Rattle.c_tree.specs.Value.{value_of, is_zero, IsInt}
 use Rattle.c_tree.specs.Fit.{IsCodeOf, IsPlain}
 use Rattle.c_tree.proofs.Values.{IsInt-value_of}
 use Rattle.c_tree.proofs.Views.{IsCodeOf-followed, IsPlain-followed}
-use Rattle.c_tree.specs.Run.{Standing, Outcome, Moved, Stopped, Waiting, Ended, with_value, with_input, step_of, next_of, IsFit, End, StoppedEnd, WaitingEnd, EndedEnd, onward, steps_of}
+use Rattle.c_tree.specs.Run.{Standing, Outcome, Moved, Stopped, Waiting, Ended, with_value, with_input, step_of, next_of, IsFit, End, StoppedEnd, WaitingEnd, EndedEnd, onward, steps_of, start_of}
 use Rattle.run_meaning.specs.View.{left_by, progress_of}
 use Rattle.run_meaning.specs.declared.machine.Progress.{Progress}
 use Rattle.run_meaning.specs.declared.machine.Progress.TheVariants as progress
@@ -110,3 +111,7 @@ IsFit-after (Ok x) new old outcome h k left err = subst IsFit (sym left) h
 IsFit-after (Err e) new old outcome h k left err = subst IsFit (sym err) k
 
 pub ruleset fits = (IsFit-left_by)
+
+-- a plain program begins fit
+pub fit_from_program : (p : Whole) → IsProgram p → IsPlainProgram p → IsFit (start_of p)
+fit_from_program p h k = record { names = subst (λ (n : ℕ). IsCodeOf n p.body) (sym h.starts) h.names; plain = k.body; ints = h.ints }

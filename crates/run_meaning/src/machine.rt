@@ -1,4 +1,5 @@
-// The machine that runs a plain program, one statement at a time.
+//! The machine that runs a plain program, one statement at a time (ISO/IEC 9899:2011, 6.8).
+#![tactic(auto)]
 
 ghost use Rattle.std.specs.Prelude.{◌≡◌, List, ℤ, ◌+◌, ◌-◌, ◌<◌, ◌^◌, [], ◌∷◌, ◌++◌, take, reverse, length, vec_len, slice_get, IfOk, OnOk, OnErr, MatchOption, IfSome};
 ghost use Rattle.std.specs.List.{All};
@@ -6,14 +7,17 @@ ghost use Rattle.c_tree.specs.Tree.{Code, Done, followed};
 ghost use Rattle.c_tree.specs.View.{front, code, whole};
 ghost use Rattle.c_tree.specs.Value.{IsInt};
 ghost use Rattle.c_tree.specs.Fit.{IsCodeOf, IsPlain};
+ghost use Rattle.c_tree.specs.Whole.{IsProgram, IsPlainProgram};
 ghost use Rattle.c_tree.specs.Run.{step_of, next_of, start_of, run_of, cut_of, AtEnd, IsFit};
 ghost use Rattle.run_meaning.specs.View.{pile, below, standing, progress_of, left_by, end_of, performed, IsWithin};
 
 use crate::evaluation::value;
-use c_tree::{Kind, NoMemory, Numbers, Place, Program, Stmt, copy_list};
+use c_tree::{Kind, Mode, Program, Stmt, copy_list};
+use fam_outer::{NoMemory, Place, Values};
 use std::alloc::Global;
 
-/// Where a run stands: the statements still to do, the last one first, the store and the number of inputs taken.
+/// Where a run stands: the statements still to do, the store, and the number of inputs taken. The
+/// statements are kept with the last one first, so that a step works at the end of a vector.
 #[derive(Drop)]
 pub struct State {
     todo: Vec<Stmt>,
@@ -33,17 +37,20 @@ pub enum Progress {
 /// How a run of a bounded number of steps ended.
 #[derive(Drop)]
 pub enum RunEnd {
-    At(Place, Numbers),
+    At(Place, Values),
     Stopped(Place, Kind),
-    Waiting(Place, Numbers),
-    Ended(Numbers),
+    Waiting(Place, Values),
+    Ended(Values),
 }
 
-/// A program before its first step.
-#[tactic(auto, using(crate::proofs::Stacks::piles))]
+/// A program before its first step: its whole body is still to do, its store has the start values,
+/// and no input is taken. The only refusal is want of memory.
+#[tactic(auto, using(crate::proofs::Stacks::piles, crate::proofs::Fits::fit_from_program))]
 pub fn begin(alloc: Global, program: &Program) -> Result<State, NoMemory>
-    requires { IsFit (start_of (whole program.now)) }
+    requires program { IsProgram (whole program.now) }
+    requires plain { IsPlainProgram (whole program.now) }
     ensures start { IfOk result (λ state. standing state ≡ start_of (whole program.now)) }
+    ensures fit { IfOk result (λ state. IsFit (standing state)) }
 {
     let mut todo = copy_list(alloc, &program.body)?;
     todo.reverse();
@@ -55,9 +62,17 @@ pub fn begin(alloc: Global, program: &Program) -> Result<State, NoMemory>
     })
 }
 
-/// One step. Only `Moved` changes the state.
+/// One step in a mode. `Moved`: the first statement was done. `Stopped`: its expression or assertion
+/// stops the run. `Waiting`: it is an input, and all inputs are taken. `Ended`: nothing is left to
+/// do. Only `Moved` changes the state. The memory is taken first, so that after want of memory, the
+/// only refusal, the next call answers as if the refused one had not been.
 #[tactic(auto, using(crate::proofs::Fits::fits))]
-pub fn step(alloc: Global, state: &mut State, inputs: &[i64]) -> Result<Progress, NoMemory>
+pub fn step(
+    alloc: Global,
+    state: &mut State,
+    inputs: &[i64],
+    mode: Mode,
+) -> Result<Progress, NoMemory>
     requires fit { IsFit (standing state.old) }
     requires ints { All IsInt inputs.now }
     ensures progress { IfOk result (λ p. p ≡ progress_of (next_of mode inputs.now (standing state.old))) }
@@ -68,19 +83,28 @@ pub fn step(alloc: Global, state: &mut State, inputs: &[i64]) -> Result<Progress
     let Some(head) = head_of(&state.todo) else {
         return Ok(Progress::Ended);
     };
-    let plan = plan_for(alloc, head, &state.store, state.taken, inputs)?;
+    let plan = plan_for(alloc, head, &state.store, state.taken, inputs, mode)?;
     act(state, plan, inputs)
 }
 
-/// At most `n` steps of a program from its start.
-pub fn run(alloc: Global, program: &Program, inputs: &[i64], n: u64) -> Result<RunEnd, NoMemory>
-    requires fit { IsFit (start_of (whole program.now)) }
+/// What stands after at most `n` steps of a program from its start. `At`: `n` steps were made and
+/// something is left to do; else the answer is that of the next step. The only refusal is want of
+/// memory.
+pub fn run(
+    alloc: Global,
+    program: &Program,
+    inputs: &[i64],
+    n: u64,
+    mode: Mode,
+) -> Result<RunEnd, NoMemory>
+    requires program { IsProgram (whole program.now) }
+    requires plain { IsPlainProgram (whole program.now) }
     requires ints { All IsInt inputs.now }
-    ensures { IfOk result (λ end. end_of end ≡ run_of (whole program.now) inputs.now n) }
+    ensures { IfOk result (λ end. end_of end ≡ run_of (whole program.now) inputs.now n mode) }
 {
     let mut state = begin(alloc, program)?;
     for _i in 0..n {
-        match step(alloc, &mut state, inputs)? {
+        match step(alloc, &mut state, inputs, mode)? {
             Progress::Moved => {}
             Progress::Stopped(place, kind) => return Ok(RunEnd::Stopped(place, kind)),
             Progress::Waiting(place) => return Ok(RunEnd::Waiting(place, store_of(state))),
@@ -90,7 +114,7 @@ pub fn run(alloc: Global, program: &Program, inputs: &[i64], n: u64) -> Result<R
     Ok(cut(state))
 }
 
-// What a run answers after its last step.
+/// What a run answers after its last step.
 fn cut(state: State) -> RunEnd
     requires { IsPlain (standing state).todo }
     ensures { end_of result ≡ cut_of (standing state).todo (standing state).store }
@@ -104,7 +128,7 @@ fn cut(state: State) -> RunEnd
     }
 }
 
-fn store_of(state: State) -> Numbers
+fn store_of(state: State) -> Values
     ensures { result ≡ (standing state).store }
 {
     let State {
@@ -112,7 +136,7 @@ fn store_of(state: State) -> Numbers
         store,
         taken: _,
     } = state;
-    Numbers::from_vec(store)
+    Values::from_vec(store)
 }
 
 fn place_of(head: &Stmt) -> Place
@@ -131,7 +155,7 @@ fn place_of(head: &Stmt) -> Place
     }
 }
 
-// Does what is planned for the first statement.
+/// Does what is planned for the first statement.
 fn act(state: &mut State, plan: Plan, inputs: &[i64]) -> Result<Progress, NoMemory>
     requires { IsWithin (length state.old.store.items) (length inputs.now - state.old.taken) plan }
     ensures progress { IfOk result (λ p. p ≡ progress_of (performed plan (below state.old.todo.items) (pile state.old.todo.items) state.old.store.items state.old.taken)) }
@@ -168,7 +192,7 @@ fn act(state: &mut State, plan: Plan, inputs: &[i64]) -> Result<Progress, NoMemo
     }
 }
 
-// What is to be done for the first statement, with the memory that it takes.
+/// What is to be done for the first statement, with the memory that it takes.
 #[derive(Drop)]
 enum Plan {
     Set(u32, i64),
@@ -186,6 +210,7 @@ fn plan_for(
     store: &[i64],
     taken: u64,
     inputs: &[i64],
+    mode: Mode,
 ) -> Result<Plan, NoMemory>
     requires names { IsCodeOf (length store.now) (front head.now Done) }
     requires plain { IsPlain (front head.now Done) }
@@ -198,7 +223,7 @@ fn plan_for(
             place,
             target,
             value: e,
-        } => match value(e, store) {
+        } => match value(e, store, mode) {
             Ok(n) => Ok(Plan::Set(*target, n)),
             Err(kind) => Ok(Plan::Stop(*place, kind)),
         },
@@ -206,7 +231,7 @@ fn plan_for(
             Some(n) => Ok(Plan::Take(*target, n)),
             None => Ok(Plan::Wait(*place)),
         },
-        Stmt::Assert { place, test } => match value(test, store) {
+        Stmt::Assert { place, test } => match value(test, store, mode) {
             Ok(n) => {
                 if n == 0 {
                     Ok(Plan::Stop(*place, Kind::Assertion))
@@ -221,7 +246,7 @@ fn plan_for(
             test,
             yes,
             no,
-        } => match value(test, store) {
+        } => match value(test, store, mode) {
             Ok(n) => {
                 if n == 0 {
                     Ok(Plan::Enter(copy_list(alloc, no)?))
@@ -231,7 +256,7 @@ fn plan_for(
             }
             Err(kind) => Ok(Plan::Stop(*place, kind)),
         },
-        Stmt::While { place, test, body } => match value(test, store) {
+        Stmt::While { place, test, body } => match value(test, store, mode) {
             Ok(n) => {
                 if n == 0 {
                     Ok(Plan::Pass)
@@ -254,7 +279,7 @@ fn input_at(inputs: &[i64], taken: u64) -> Option<i64>
     inputs.get(taken as usize).copied()
 }
 
-// The statement that comes first.
+/// The statement that comes first.
 #[tactic(auto, using(crate::proofs::Stacks::head_is))]
 fn head_of(todo: &Vec<Stmt>) -> Option<&Stmt>
     ensures { MatchOption result (pile todo.now.items ≡ Done) (λ s. pile todo.now.items ≡ front s.now (below todo.now.items)) }
@@ -269,7 +294,7 @@ fn drop_head(todo: &mut Vec<Stmt>)
     let _head = todo.pop();
 }
 
-// Puts a list in the place of the first statement.
+/// Puts a list in the place of the first statement.
 #[tactic(auto, using(crate::proofs::Stacks::put), unfolding(crate::specs::View::pile, crate::specs::View::below))]
 fn replace_head(todo: &mut Vec<Stmt>, mut list: Vec<Stmt>) -> Result<(), NoMemory>
     ensures ok { OnOk result (pile todo.new.items ≡ followed (code list.items) (below todo.old.items)) }
@@ -282,7 +307,7 @@ fn replace_head(todo: &mut Vec<Stmt>, mut list: Vec<Stmt>) -> Result<(), NoMemor
     Ok(())
 }
 
-// Puts a list in front of the first statement.
+/// Puts a list in front of the first statement.
 #[tactic(auto, using(crate::proofs::Stacks::put), unfolding(crate::specs::View::pile, crate::specs::View::below))]
 fn put_in_front(todo: &mut Vec<Stmt>, mut list: Vec<Stmt>) -> Result<(), NoMemory>
     ensures ok { OnOk result (pile todo.new.items ≡ followed (code list.items) (pile todo.old.items)) }
@@ -291,57 +316,4 @@ fn put_in_front(todo: &mut Vec<Stmt>, mut list: Vec<Stmt>) -> Result<(), NoMemor
     list.reverse();
     todo.append(&mut list)?;
     Ok(())
-}
-
-#[cfg(test)]
-mod tests {
-    use super::*;
-    use c_tree::{Expr, Names, Op, Text};
-    use std::test::Fail;
-
-    // `while (x < 10) x++;` and `assert(x == 10);`
-    fn counting(alloc: Global) -> Result<Program, NoMemory>
-        ensures { IfOk result (λ p. IsFit (start_of (whole p))) }
-    {
-        let x = Box::new(alloc, Expr::Var(0))?;
-        let ten = Box::new(alloc, Expr::Number(10))?;
-        let test = Expr::Binary(Op::Lt, x, ten);
-        let y = Box::new(alloc, Expr::Var(0))?;
-        let one = Box::new(alloc, Expr::Number(1))?;
-        let mut body = Vec::new(alloc);
-        body.push(Stmt::Assign {
-            place: Place {
-                line: 3,
-                column: 16,
-            },
-            target: 0,
-            value: Expr::Binary(Op::Add, y, one),
-        })?;
-        let mut list = Vec::new(alloc);
-        list.push(Stmt::While {
-            place: Place { line: 3, column: 1 },
-            test,
-            body,
-        })?;
-        let names = Names::from_vec(Vec::new(alloc));
-        let mut start = Vec::new(alloc);
-        start.push(0)?;
-        Ok(Program {
-            names,
-            start: Numbers::from_vec(start),
-            body: list,
-            end: Place { line: 5, column: 1 },
-        })
-    }
-
-    #[test]
-    fn runs(rt: HostRuntime) -> Result<(), Fail> {
-        let alloc = rt.alloc();
-        let program = counting(alloc).ok().ok_or("memory")?;
-        match run(alloc, &program, &[], 21).ok().ok_or("memory")? {
-            RunEnd::Ended(store) => assert_eq!(rt; store.items(), [10].as_slice()),
-            _ => assert!(rt; false),
-        }
-        Ok(())
-    }
 }
