@@ -1,0 +1,8 @@
+//! The parser of the C subset: straight files.
+#![tactic(auto)]
+
+pub mod items;
+pub mod laws;
+pub mod straight;
+
+pub use straight::read_straight;
