@@ -47,6 +47,10 @@ pub data State : Type 0 where
   -- the whole file
   Over : (p : Whole) → State
 
+-- a program without groups
+abbrev pub program_of : List (List ℕ) → List ℤ → Code → Place → Whole
+program_of names vs c end = record { names = names; start = vs; declared = []; body = c; end = end }
+
 abbrev pub when : Bool → State → Option State
 when true s = Some s
 when false s = None
@@ -102,7 +106,7 @@ headed vs _ = None
 abbrev pub ready : List (List ℕ) → List ℤ → Code → Place → Sign → Option State
 ready names vs c p (signs.Name x) = when (nat_lt x (length names)) (Named vs c p x)
 ready names vs c p signs.Assert = Some (Asserting vs c p)
-ready names vs c p signs.RightBrace = Some (Over (record { names = names; start = vs; declared = []; body = c; end = p }))
+ready names vs c p signs.RightBrace = Some (Over (program_of names vs c p))
 ready names vs c p _ = None
 
 abbrev pub named : List ℤ → Code → Place → ℕ → Sign → Option State
