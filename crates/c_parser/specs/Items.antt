@@ -28,15 +28,11 @@ abbrev pub word_sign : List (List ℕ) → List ℕ → Option Sign → Sign
 word_sign names word (Some keyword) = keyword
 word_sign names word None = signs.Name (number_in names word)
 
-abbrev pub mark_sign : Option Sign → Sign
-mark_sign (Some sign) = sign
-mark_sign None = signs.Reserved
-
 -- the sign of a token
 abbrev pub sign_of : List (List ℕ) → TokenKind → List ℕ → Sign
 sign_of names (kinds.Number n) lexeme = signs.Number n
 sign_of names kinds.Word lexeme = word_sign names lexeme (keyword_of lexeme)
-sign_of names kinds.Mark lexeme = mark_sign (mark_of lexeme)
+sign_of names kinds.Mark lexeme = mark_of lexeme
 
 abbrev pub names_with_word : List (List ℕ) → List ℕ → Option Sign → List (List ℕ)
 names_with_word names word (Some keyword) = names

@@ -1,5 +1,5 @@
 -- The signs of words and marks.
-use Rattle.std.specs.Prelude.{ℕ, ℤ, suc, Bool, true, false, ◌||◌, List, [], ◌∷◌, codes, Option, Some, None, if◌then◌else◌}
+use Rattle.std.specs.Prelude.{ℕ, ℤ, suc, Bool, true, false, ◌||◌, List, [], ◌∷◌, codes, Option, Some, None, unwrap_or, if◌then◌else◌}
 use Rattle.std.specs.Str.{bytes_eq}
 use Rattle.c_tree.specs.declared.tree.Op.TheVariants.{Add, Sub, Mul, Div, Rem, Lt, Le, Gt, Ge, Eq, Ne, And, Or}
 use Rattle.c_parser.specs.declared.items.Sign.{Sign}
@@ -38,12 +38,12 @@ keyword_of word = if is_among other_keywords word then Some signs.Reserved else 
 abbrev pub marks : List (List ℕ × Sign)
 marks =
     (codes "(", signs.Open) ∷ (codes ")", signs.Close) ∷ (codes "{", signs.LeftBrace) ∷ (codes "}", signs.RightBrace) ∷ (codes ";", signs.Semicolon)
-    ∷ (codes ",", signs.Comma) ∷ (codes "=", signs.Equals) ∷ (codes "!", signs.Bang) ∷ (codes "++", signs.PlusPlus) ∷ (codes "--", signs.MinusMinus)
-    ∷ (codes "+=", signs.PlusEquals) ∷ (codes "-=", signs.MinusEquals) ∷ (codes "+", signs.Oper Add) ∷ (codes "-", signs.Oper Sub)
-    ∷ (codes "*", signs.Oper Mul) ∷ (codes "/", signs.Oper Div) ∷ (codes "%", signs.Oper Rem) ∷ (codes "<", signs.Oper Lt) ∷ (codes "<=", signs.Oper Le)
-    ∷ (codes ">", signs.Oper Gt) ∷ (codes ">=", signs.Oper Ge) ∷ (codes "==", signs.Oper Eq) ∷ (codes "!=", signs.Oper Ne) ∷ (codes "&&", signs.Oper And)
-    ∷ (codes "||", signs.Oper Or) ∷ []
+    ∷ (codes ",", signs.Comma) ∷ (codes "=", signs.Equals) ∷ (codes "!", signs.Bang) ∷ (codes "+", signs.Oper Add) ∷ (codes "-", signs.Oper Sub)
+    ∷ (codes "*", signs.Oper Mul) ∷ (codes "/", signs.Oper Div) ∷ (codes "%", signs.Oper Rem) ∷ (codes "<", signs.Oper Lt) ∷ (codes ">", signs.Oper Gt)
+    ∷ (codes "<=", signs.Oper Le) ∷ (codes ">=", signs.Oper Ge) ∷ (codes "==", signs.Oper Eq) ∷ (codes "!=", signs.Oper Ne) ∷ (codes "&&", signs.Oper And)
+    ∷ (codes "||", signs.Oper Or) ∷ (codes "++", signs.PlusPlus) ∷ (codes "--", signs.MinusMinus) ∷ (codes "+=", signs.PlusEquals)
+    ∷ (codes "-=", signs.MinusEquals) ∷ []
 
--- the sign of a mark
-abbrev pub mark_of : List ℕ → Option Sign
-mark_of mark = sign_in marks mark
+-- the sign of a mark; no token is a mark without one
+abbrev pub mark_of : List ℕ → Sign
+mark_of mark = unwrap_or (sign_in marks mark) signs.Reserved

@@ -3,6 +3,7 @@
 
 pub mod items;
 pub mod laws;
+pub mod signs;
 pub mod straight;
 
 pub use straight::read_straight;
