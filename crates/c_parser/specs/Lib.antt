@@ -3,3 +3,4 @@ pub mod Items
 pub mod Grammar
 pub mod Reading
 pub mod Machine
+pub mod Descent

@@ -1,9 +1,12 @@
 //! The parser of the C subset: straight files.
 #![tactic(auto)]
 
+pub mod cursor;
+pub mod declarations;
 pub mod items;
 pub mod laws;
 pub mod signs;
+pub mod stop;
 pub mod straight;
 
 pub use straight::read_straight;
