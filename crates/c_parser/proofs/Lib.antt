@@ -1,3 +1,4 @@
 pub mod Complete
 pub mod Sound
 pub mod Readings
+pub mod Declaring
