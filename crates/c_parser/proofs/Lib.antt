@@ -2,3 +2,4 @@ pub mod Complete
 pub mod Sound
 pub mod Readings
 pub mod Declaring
+pub mod Summing

@@ -17,7 +17,7 @@ use Rattle.c_parser.specs.declared.items.Sign.TheVariants as signs
 use Rattle.c_parser.specs.declared.stop.Stop.{Stop}
 use Rattle.c_parser.specs.declared.stop.Stop.TheVariants as stops
 use Rattle.c_parser.specs.Items.{at}
-use Rattle.c_parser.specs.Machine.{Use, spent, State, Declaring, Introduced, Starting, Started, Titled, Headed, Ready, Named, Asserting, Wants, Has, Adds, program_of, run}
+use Rattle.c_parser.specs.Machine.{Use, ToTest, spent, State, Declaring, Introduced, Starting, Started, Titled, Headed, Ready, Named, Asserting, Wants, Has, Adds, Tested, program_of, run}
 
 abbrev pub IsNoDeclarator : Sign → Sign → Type 0
 IsNoDeclarator signs.Int (signs.Name k) = ⊥
@@ -52,6 +52,15 @@ IsNoRelation _ = Unit {0}
 abbrev pub NoRelation : List Item → Type 0
 NoRelation [] = Unit {0}
 NoRelation (x ∷ w) = IsNoRelation x.sign
+
+abbrev pub IsNoClose : Sign → Type 0
+IsNoClose signs.Close = ⊥
+IsNoClose _ = Unit {0}
+
+-- no closing parenthesis stands in front
+abbrev pub NoClose : List Item → Type 0
+NoClose [] = Unit {0}
+NoClose (x ∷ w) = IsNoClose x.sign
 
 abbrev pub IsLiteral : Sign → Type 0
 IsLiteral (signs.Number n) = (pos 0 ≤ℤ n) × (n ≤ℤ greatest)
@@ -140,6 +149,12 @@ abbrev pub Assigns : ℕ → Result (Expr × Bor (List Item)) Stop → List Item
 Assigns count (Ok x) ts = (names : List (List ℕ)) (vs : List ℤ) (c : Code) (p : Place) (y : ℕ) → length names ≡ count → run names (Named vs c p y) ts ≡ run names (Ready vs (followed c (Assign p y (term x.0) Done))) x.1.now
 Assigns count (Err stops.NoMemory) ts = ⊤
 Assigns count (Err stops.Wrong) ts = (names : List (List ℕ)) (vs : List ℤ) (c : Code) (p : Place) (y : ℕ) → length names ≡ count → run names (Named vs c p y) ts ≡ None
+
+-- behind `assert (`
+abbrev pub Compares : ℕ → Result (Expr × Bor (List Item)) Stop → List Item → Type 0
+Compares count (Ok x) ts = (names : List (List ℕ)) (vs : List ℤ) (c : Code) (p : Place) → length names ≡ count → run names (Wants vs c (ToTest p)) ts ≡ run names (Tested vs c p (term x.0)) x.1.now
+Compares count (Err stops.NoMemory) ts = ⊤
+Compares count (Err stops.Wrong) ts = (names : List (List ℕ)) (vs : List ℤ) (c : Code) (p : Place) → length names ≡ count → run names (Wants vs c (ToTest p)) ts ≡ None
 
 -- behind `assert`
 abbrev pub Asserts : ℕ → Result (Expr × Bor (List Item)) Stop → List Item → Type 0

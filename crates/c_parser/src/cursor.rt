@@ -5,7 +5,7 @@ ghost use Rattle.std.specs.Prelude.{◌≡◌, [], ◌∷◌, MatchOption};
 ghost use Rattle.fam_outer.specs.declared.faults.Place as places;
 ghost use Rattle.c_tree.specs.Straight.{IsAdditive, IsComparison};
 ghost use Rattle.c_parser.specs.Items.{at};
-ghost use Rattle.c_parser.specs.Descent.{NoDeclarator, NoSum, NoRelation};
+ghost use Rattle.c_parser.specs.Descent.{NoClose, NoDeclarator, NoSum, NoRelation};
 ghost use Rattle.c_parser.specs.declared.items.Sign.TheVariants as signs;
 
 use crate::items::{Item, Sign};
@@ -57,6 +57,16 @@ pub(crate) fn relation(items: &[Item]) -> Option<(Op, &[Item])>
             Op::Lt | Op::Le | Op::Gt | Op::Ge | Op::Eq | Op::Ne => Some((op, rest)),
             _ => None,
         },
+        _ => None,
+    }
+}
+
+/// What is behind a closing parenthesis at the front.
+pub(crate) fn close(items: &[Item]) -> Option<&[Item]>
+    ensures { MatchOption result (NoClose items.now) (λ x. (p : places.Place) × (items.now ≡ at p signs.Close ∷ x.now)) }
+{
+    match cut(items) {
+        Some((_, Sign::Close, rest)) => Some(rest),
         _ => None,
     }
 }

@@ -6,7 +6,9 @@ pub mod declarations;
 pub mod items;
 pub mod laws;
 pub mod signs;
+pub mod statements;
 pub mod stop;
 pub mod straight;
+pub mod sums;
 
 pub use straight::read_straight;
