@@ -3,3 +3,4 @@ pub mod Sound
 pub mod Readings
 pub mod Declaring
 pub mod Summing
+pub mod Names

@@ -4,3 +4,4 @@ pub mod Grammar
 pub mod Reading
 pub mod Machine
 pub mod Descent
+pub mod Numbering

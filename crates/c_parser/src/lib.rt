@@ -5,6 +5,7 @@ pub mod cursor;
 pub mod declarations;
 pub mod items;
 pub mod laws;
+pub mod numbering;
 pub mod signs;
 pub mod statements;
 pub mod stop;
