@@ -1,5 +1,5 @@
 -- Kinds of bytes in code.
-use Rattle.std.specs.Prelude.{ℕ, Bool, true, false, ◌&&◌, ◌||◌, ◌==◌, nat_le, List, [], ◌∷◌}
+use Rattle.std.specs.Prelude.{ℕ, Bool, false, ◌&&◌, ◌||◌, ◌==◌, nat_le, List, [], ◌∷◌}
 
 -- space, tab, newline, vertical tab, form feed and carriage return
 abbrev pub is_space : ℕ → Bool

@@ -1,5 +1,5 @@
 -- Places in a text.
-use Rattle.std.specs.Prelude.{◌≡◌, ◌⊎◌, ◌<◌, ℕ, suc, ◌+◌, Bool, true, false, ◌==◌, List, [], ◌∷◌, length, take, drop, count_by, if◌then◌else◌}
+use Rattle.std.specs.Prelude.{◌≡◌, ◌⊎◌, ◌<◌, ℕ, ◌+◌, Bool, ◌==◌, List, [], ◌∷◌, length, take, count_by, if◌then◌else◌}
 use Rattle.std.specs.List.{list_any}
 use Rattle.fam_outer.specs.declared.faults.Place.{Place}
 

@@ -1,11 +1,9 @@
 -- The tokens of a text, or its first fault.
-use Rattle.std.specs.Prelude.{◌≡◌, ℕ, zero, suc, ◌+◌, ◌-◌, ◌<◌, ◌≤◌, Bool, true, false, List, [], ◌∷◌, ◌++◌, length, take, drop, Option, Some, None, Result, Ok, Err, if◌then◌else◌}
+use Rattle.std.specs.Prelude.{◌≡◌, ℕ, zero, suc, ◌+◌, ◌-◌, ◌<◌, ◌≤◌, true, false, List, [], ◌∷◌, ◌++◌, length, take, drop, Option, Some, None, Result, Ok, Err, if◌then◌else◌}
 use Rattle.std.specs.List.{list_all}
 use Rattle.fam_outer.specs.declared.faults.Place.{Place}
 use Rattle.fam_outer.specs.declared.faults.FileCode.{FileCode}
 use Rattle.fam_outer.specs.declared.faults.FileCode.TheVariants.{StrayByte, Literal}
-use Rattle.fam_outer.specs.declared.faults.FileRefusal.{FileRefusal}
-use Rattle.fam_outer.specs.declared.faults.FileRefusal.TheVariants as refusals
 use Rattle.c_tokens.specs.declared.token.Token.{Token}
 use Rattle.c_tokens.specs.declared.token.TokenKind.{TokenKind}
 use Rattle.c_tokens.specs.Bytes.{is_space}
@@ -92,9 +90,3 @@ read_from text offset zero (b ∷ bs) =
 -- the tokens of a text, or its first fault
 unfoldable pub tokens_of : List ℕ → Result (List Token) (FileCode × Place)
 tokens_of text = read_from text 0 0 text
-
--- what a call that reads answers: what was read, seen by the view, or the fault; want of memory is free
-abbrev pub Gives : {X Y : Type 0} → (X → Y) → Result X FileRefusal → Result Y (FileCode × Place) → Type 0
-Gives view (Ok x) answer = answer ≡ Ok (view x)
-Gives view (Err refusals.NoMemory) answer = Unit {0}
-Gives view (Err (refusals.Fault code place)) answer = answer ≡ Err (code, place)

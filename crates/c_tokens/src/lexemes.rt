@@ -2,7 +2,9 @@
 #![tactic(auto)]
 
 ghost use Rattle.std.specs.Prelude.{◌≡◌, length, take, Option, Some, None, Result, Ok, Err, IfOk, ◌<◌, ◌≤◌};
-ghost use Rattle.c_tokens.specs.Lexemes.{IsLongest, is_mark, is_run, lexeme_of, literal_of};
+ghost use Rattle.c_tokens.specs.Lexemes.{IsLongest, is_mark, lexeme_of, literal_of};
+ghost use Rattle.std.specs.List.{prefix_len};
+ghost use Rattle.c_tokens.specs.Bytes.{is_word_byte as is_word};
 ghost use Rattle.c_tokens.specs.Lexemes as lexemes;
 ghost use Rattle.c_tokens.specs.Reading.{front_of};
 
@@ -15,16 +17,9 @@ const MAX: u32 = 2_147_483_647;
 
 /// How many bytes at the front are letters, digits and underscores.
 fn run_len(bytes: &[u8]) -> usize
-    ensures { IsLongest is_run result bytes.now }
+    ensures { result ≡ prefix_len is_word bytes.now }
 {
-    let mut len = 0;
-    for b in bytes {
-        if !is_word_byte(*b) {
-            break;
-        }
-        len += 1;
-    }
-    len
+    bytes.iter().take_while(|b| is_word_byte(**b)).count()
 }
 
 /// The length of the longest mark at the front; 0 where there is none.
@@ -33,13 +28,7 @@ fn mark_len(bytes: &[u8]) -> usize
 {
     match bytes {
         [] => 0,
-        [b] => {
-            if is_single(*b) {
-                1
-            } else {
-                0
-            }
-        }
+        [b] => { if is_single(*b) { 1 } else { 0 } }
         [b, c, ..] => {
             if is_pair(*b, *c) {
                 2

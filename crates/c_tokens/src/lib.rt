@@ -1,9 +1,9 @@
 //! Tokens of code by longest match (ISO/IEC 9899:2011, 6.4, paragraph 4).
 #![tactic(auto)]
 
-pub mod bytes;
+mod bytes;
 pub mod laws;
-pub mod lexemes;
+mod lexemes;
 pub mod scanner;
 pub mod token;
 
