@@ -4,3 +4,6 @@ pub mod Readings
 pub mod Declaring
 pub mod Summing
 pub mod Names
+pub mod Programs
+pub mod Lexical
+pub mod Parsing

@@ -1,5 +1,5 @@
 -- What the functions of the descent answer, as the machine does it.
-use Rattle.std.specs.Prelude.{◌≡◌, ⊤, ℕ, ◌+◌, ◌≤◌, ◌<◌, ℤ, pos, ◌≤ℤ◌, List, [], ◌∷◌, ◌++◌, length, Option, Some, None, Result, Ok, Err}
+use Rattle.std.specs.Prelude.{◌≡◌, ⊤, ℕ, ◌+◌, ◌≤◌, ◌<◌, ℤ, List, [], ◌∷◌, ◌++◌, length, Option, Some, None, Result, Ok, Err}
 use Rattle.std.specs.Borrow.{Bor}
 use Rattle.std.specs.Global.{Vec}
 use Rattle.fam_outer.specs.declared.faults.Place.{Place}
@@ -9,7 +9,6 @@ use Rattle.c_tree.specs.declared.tree.Expr.{Expr}
 use Rattle.c_tree.specs.declared.tree.Stmt.{Stmt}
 use Rattle.c_tree.specs.declared.tree.Program.{Program}
 use Rattle.c_tree.specs.Tree.{Term, Binary, Code, Done, Assign, Assert, followed}
-use Rattle.c_tree.specs.Value.{greatest}
 use Rattle.c_tree.specs.View.{term, front, code, whole}
 use Rattle.c_parser.specs.declared.items.Item.{Item}
 use Rattle.c_parser.specs.declared.items.Sign.{Sign}
@@ -61,15 +60,6 @@ IsNoClose _ = Unit {0}
 abbrev pub NoClose : List Item → Type 0
 NoClose [] = Unit {0}
 NoClose (x ∷ w) = IsNoClose x.sign
-
-abbrev pub IsLiteral : Sign → Type 0
-IsLiteral (signs.Number n) = (pos 0 ≤ℤ n) × (n ≤ℤ greatest)
-IsLiteral _ = Unit {0}
-
--- the numbers are literals
-abbrev pub AreLiterals : List Item → Type 0
-AreLiterals [] = Unit {0}
-AreLiterals (x ∷ w) = IsLiteral x.sign × AreLiterals w
 
 -- ---- declarations
 

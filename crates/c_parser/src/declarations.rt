@@ -3,7 +3,8 @@
 
 ghost use Rattle.std.specs.Prelude.{◌≡◌, ◌<◌, ◌≤◌, ℕ, ℤ, List, length, IfOk};
 ghost use Rattle.c_parser.specs.Machine.{run};
-ghost use Rattle.c_parser.specs.Descent.{AreLiterals, Begins, Declares, Lists, NoDeclarator, Numbers, Opens, StartsAs};
+ghost use Rattle.c_parser.specs.Facts.{AreLiterals};
+ghost use Rattle.c_parser.specs.Descent.{Begins, Declares, Lists, NoDeclarator, Numbers, Opens, StartsAs};
 
 use crate::cursor::{cut, declarator};
 use crate::items::{Item, Sign};

@@ -1,18 +1,56 @@
 //! The program of a straight file.
 #![tactic(auto)]
 
-ghost use Rattle.std.specs.Prelude.{IfOk};
+ghost use Rattle.std.specs.Prelude.{IfOk, length};
 ghost use Rattle.c_tree.specs.View.{whole};
 ghost use Rattle.c_tree.specs.Whole.{IsProgram, IsPlainProgram};
 ghost use Rattle.c_tree.specs.Straight.{IsStraight};
-ghost use Rattle.c_parser.specs.Reading.{IsRead};
+ghost use Rattle.c_parser.specs.Reading.{IsParsed, IsRead};
+ghost use Rattle.c_parser.specs.Items.{items_of};
+ghost use Rattle.c_parser.specs.Facts.{AreLiterals};
+ghost use Rattle.c_parser.specs.Numbering.{AreWithin};
+ghost use Rattle.c_parser.specs.Descent.{Parses};
 
-use c_tree::Program;
-use fam_outer::{FileCode, FileRefusal, Place};
+use crate::declarations::{declarations, head};
+use crate::items::Item;
+use crate::numbering::number;
+use crate::statements::body;
+use crate::stop::Stop;
+use c_tokens::laws::{literals_are_decimal, places_rise, reads_longest_lexemes};
+use c_tokens::{Token, tokens};
+use c_tree::{Declarations, Names, Program};
+use fam_outer::{FileCode, FileRefusal, Place, Text, Values};
 use std::alloc::Global;
 
 /// The greatest number of bytes of a file.
 const LIMIT: usize = 1_048_576;
+
+/// The program of these items, whose identifiers are these names.
+fn program(alloc: Global, names: Vec<Text>, items: &[Item]) -> Result<Program, Stop>
+    requires { AreLiterals items.now }
+    ensures { Parses names.items result items.now }
+{
+    let (starts, rest) = declarations(alloc, items)?;
+    let rest = head(rest, starts.len(), names.len())?;
+    let (body, end) = body(alloc, rest, names.len())?;
+    Ok(Program {
+        names: Names::from_vec(names),
+        start: Values::from_vec(starts),
+        declared: Declarations::from_vec(Vec::new(alloc)),
+        body,
+        end,
+    })
+}
+
+/// The program that the tokens of a text spell.
+fn parse(alloc: Global, bytes: &[u8], tokens: &[Token]) -> Result<Program, Stop>
+    requires within { AreWithin (length bytes.now) tokens.now }
+    requires literals { AreLiterals (items_of bytes.now tokens.now) }
+    ensures { IsParsed bytes.now tokens.now result }
+{
+    let numbered = number(alloc, bytes, tokens)?;
+    program(alloc, numbered.names, numbered.items.as_slice())
+}
 
 /// The program that a file spells.
 ///
@@ -39,6 +77,9 @@ pub fn read_straight(alloc: Global, bytes: &[u8]) -> Result<Program, FileRefusal
     ensures plain { IfOk result (λ p. IsPlainProgram (whole p)) }
     ensures straight { IfOk result (λ p. IsStraight (whole p).body) }
 {
+    reads_longest_lexemes();
+    literals_are_decimal();
+    places_rise();
     let place = Place { line: 1, column: 1 };
     if bytes.len() > LIMIT {
         return Err(FileRefusal::Fault {
@@ -46,5 +87,13 @@ pub fn read_straight(alloc: Global, bytes: &[u8]) -> Result<Program, FileRefusal
             place,
         });
     }
-    Err(FileRefusal::NoMemory)
+    let tokens = tokens(alloc, bytes)?;
+    match parse(alloc, bytes, tokens.items()) {
+        Ok(program) => Ok(program),
+        Err(Stop::NoMemory) => Err(FileRefusal::NoMemory),
+        Err(Stop::Wrong) => Err(FileRefusal::Fault {
+            code: FileCode::Syntax,
+            place,
+        }),
+    }
 }

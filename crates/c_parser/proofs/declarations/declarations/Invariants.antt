@@ -1,6 +1,6 @@
 use Rattle.std.proofs.Common.{◌≡◌, ◌≤◌, ℕ, List, [], length}
 use Rattle.c_parser.specs.Machine.{Declaring, run}
-use Rattle.c_parser.specs.Descent.{AreLiterals}
+use Rattle.c_parser.specs.Facts.{AreLiterals}
 use Rattle.c_parser.proofs.declarations.declarations.Given as goal
 
 abbrev pub invariant-each : goal.invariant-each
