@@ -1,12 +1,12 @@
 -- What is spelled, the machine reads.
-use Rattle.std.proofs.Common.{◌≡◌, ℕ, zero, suc, ◌+◌, ◌≤◌, ◌<◌, Bool, true, false, List, [], ◌∷◌, ◌++◌, length, Option, Some, None, refl, sym, ap, subst, ◌∙◌, append_assoc, arith, eq-eqb}
+use Rattle.std.proofs.Common.{◌≡◌, ℕ, ◌+◌, ◌≤◌, ◌<◌, List, [], ◌∷◌, ◌++◌, length, Option, Some, refl, sym, ap, ◌∙◌, append_assoc, arith, eq-eqb}
 use Rattle.std.specs.Prelude.{ℤ}
 use Rattle.std.proofs.lemmas.Bool.{lt-ltb}
 use Rattle.fam_outer.specs.declared.faults.Place.{Place}
 use Rattle.c_tree.specs.declared.tree.Op.{Op}
-use Rattle.c_tree.specs.declared.tree.Op.TheVariants.{Add, Sub, Mul, Div, Rem, Lt, Le, Gt, Ge, Eq, Ne, And, Or}
+use Rattle.c_tree.specs.declared.tree.Op.TheVariants.{Add, Sub, Lt, Le, Gt, Ge, Eq, Ne}
 use Rattle.c_tree.specs.declared.tree.Declared.{Declared}
-use Rattle.c_tree.specs.Tree.{Term, Number, Var, Binary, Code, Done, Assign, Assert, followed, Whole}
+use Rattle.c_tree.specs.Tree.{Term, Binary, Code, Done, Assign, Assert, followed, Whole}
 use Rattle.c_tree.specs.Whole.{operators}
 use Rattle.c_tree.specs.Straight.{IsAdditive, IsComparison}
 use Rattle.c_tree.proofs.Views.{followed-Done, followed_assoc}
@@ -15,7 +15,7 @@ use Rattle.c_parser.specs.declared.items.Sign.TheVariants as signs
 use Rattle.c_parser.specs.Items.{at}
 use Rattle.c_parser.specs.Grammar.{Level, Operand, Sum, Comparison, SpellsTerm, SpellsCode, SpellsStart, SpellsDeclarations, SpellsHead, Spells}
 use Rattle.c_parser.specs.Grammar as grammar
-use Rattle.c_parser.specs.Machine.{Use, ToAssign, ToTest, ToCompare, spent, State, Declaring, Typed, Introduced, Titled, Ready, Named, Asserting, Wants, Has, Adds, Tested, Over, program_of, run}
+use Rattle.c_parser.specs.Machine.{Use, ToAssign, ToTest, ToCompare, spent, Declaring, Introduced, Titled, Ready, Named, Wants, Has, Adds, Tested, program_of, run}
 
 pub operand_read : (names : List (List ℕ)) (vs : List ℤ) (c : Code) (u : Use) {ts : List Item} {e : Term} → SpellsTerm (length names) Operand ts e → (w : List Item) → run names (Wants vs c u) (ts ++ w) ≡ run names (Has vs c u e) w
 unfolding run

@@ -1,15 +1,13 @@
 -- What the loop over declarations does, as the machine does it.
-use Rattle.std.proofs.Common.{◌≡◌, ℕ, List, [], ◌∷◌, ◌++◌, length, Option, Some, None, Result, Ok, Err, refl, sym, ap, subst, ◌∙◌, ne_eqb}
+use Rattle.std.proofs.Common.{◌≡◌, ℕ, List, [], ◌∷◌, ◌++◌, length, None, Err, refl, sym, ap, ◌∙◌, ne_eqb}
 use Rattle.std.specs.Prelude.{ℤ}
-use Rattle.std.specs.Borrow.{Bor}
-use Rattle.std.specs.Global.{Vec}
 use Rattle.fam_outer.specs.declared.faults.Place.{Place}
 use Rattle.c_parser.specs.declared.items.Item.{Item}
 use Rattle.c_parser.specs.declared.items.Sign.TheVariants as signs
 use Rattle.c_parser.specs.declared.stop.Stop.{Stop}
 use Rattle.c_parser.specs.declared.stop.Stop.TheVariants as stops
 use Rattle.c_parser.specs.Items.{at}
-use Rattle.c_parser.specs.Machine.{State, Declaring, Introduced, when, moved, run}
+use Rattle.c_parser.specs.Machine.{Declaring, Introduced, run}
 use Rattle.c_parser.specs.Descent.{StartsAs, Declares}
 use Rattle.c_parser.proofs.Complete.{introduces}
 

@@ -1,5 +1,5 @@
 -- Facts of the tokens of a text and of their items.
-use Rattle.std.proofs.Common.{◌≡◌, ℕ, zero, suc, ◌+◌, ◌-◌, ◌≤◌, ◌<◌, ◌⊎◌, Bool, true, false, List, [], ◌∷◌, ◌++◌, length, drop, Option, Some, None, Result, Ok, Err, refl, sym, ap, subst, ◌∙◌, arith, inl, inr, eq-eqb}
+use Rattle.std.proofs.Common.{◌≡◌, ℕ, ◌≤◌, ◌<◌, Bool, true, false, List, [], ◌∷◌, length, Option, Some, None, Ok, refl, sym, subst, arith, inl, inr, eq-eqb}
 use Rattle.std.specs.Prelude.{ℤ, pos, IfSome, IsTrue, ◌||◌, ◌&&◌, if◌then◌else◌, unwrap_or, nat_lt, nat_eq}
 use Rattle.std.specs.Str.{bytes_eq}
 use Rattle.std.specs.Fmt.{decimal}
@@ -7,7 +7,6 @@ use Rattle.std.proofs.lemmas.List.{length-drop}
 use Rattle.std.proofs.lemmas.Bool.{lt-ltb}
 use Rattle.std.proofs.lemmas.Int.{ints}
 use Rattle.fam_outer.specs.declared.faults.Place.{Place}
-use Rattle.fam_outer.specs.declared.faults.FileCode.{FileCode}
 use Rattle.c_tokens.specs.declared.token.Token.{Token}
 use Rattle.c_tokens.specs.declared.token.TokenKind.{TokenKind}
 use Rattle.c_tokens.specs.declared.token.TokenKind.TheVariants as kinds
@@ -17,7 +16,7 @@ use Rattle.c_tokens.specs.Reading.{StandBetween, IsReading, tokens_of}
 use Rattle.c_tree.specs.Whole.{is_before}
 use Rattle.c_parser.specs.declared.items.Sign.{Sign}
 use Rattle.c_parser.specs.declared.items.Sign.TheVariants as signs
-use Rattle.c_parser.specs.Signs.{is_among, sign_in, other_keywords, used_words, keyword_of, marks, mark_of}
+use Rattle.c_parser.specs.Signs.{is_among, sign_in, other_keywords, used_words, keyword_of, marks}
 use Rattle.c_parser.specs.Items.{sign_of, word_sign, names_with, lexeme_in, items_from, items_of}
 use Rattle.c_parser.specs.Numbering.{AreWithin}
 use Rattle.c_parser.specs.Facts.{IsLiteral, AreLiterals, IsBeforeItems, AreRising}
@@ -48,16 +47,16 @@ earlier_before p q (inr h) = or_right (nat_lt p.line q.line) (nat_eq p.line q.li
 before_all : TokenLaws → (text : List ℕ) (k start : ℕ) → k < start → (names : List (List ℕ)) (ts : List Token) (end : ℕ) → StandBetween text start ts end → IsBeforeItems (place_at text k) (items_from text names ts)
 before_all laws text k start lt names [] end h = tt
 before_all laws text k start lt names (t ∷ ts) end h = (
-    subst (λ (q : Place). IsTrue (is_before (place_at text k) q)) (sym h.1.0.place) (earlier_before (place_at text k) (place_at text t.start) (laws.rise text k t.start (omega (arith, h.0.order)) h.0.within)),
-    before_all laws text k t.end (omega (arith, h.0.order, h.1.0.begins)) (names_with names t.kind (lexeme_in text t)) ts end h.1.1,
-  )
+  subst (λ (q : Place). IsTrue (is_before (place_at text k) q)) (sym h.1.0.place) (earlier_before (place_at text k) (place_at text t.start) (laws.rise text k t.start (omega (arith, h.0.order)) h.0.within)),
+  before_all laws text k t.end (omega (arith, h.0.order, h.1.0.begins)) (names_with names t.kind (lexeme_in text t)) ts end h.1.1,
+)
 
 rising : TokenLaws → (text : List ℕ) (start : ℕ) (names : List (List ℕ)) (ts : List Token) (end : ℕ) → StandBetween text start ts end → AreRising (items_from text names ts)
 rising laws text start names [] end h = tt
 rising laws text start names (t ∷ ts) end h = (
-    subst (λ (q : Place). IsBeforeItems q (items_from text (names_with names t.kind (lexeme_in text t)) ts)) (sym h.1.0.place) (before_all laws text t.start t.end h.1.0.begins (names_with names t.kind (lexeme_in text t)) ts end h.1.1),
-    rising laws text t.end (names_with names t.kind (lexeme_in text t)) ts end h.1.1,
-  )
+  subst (λ (q : Place). IsBeforeItems q (items_from text (names_with names t.kind (lexeme_in text t)) ts)) (sym h.1.0.place) (before_all laws text t.start t.end h.1.0.begins (names_with names t.kind (lexeme_in text t)) ts end h.1.1),
+  rising laws text t.end (names_with names t.kind (lexeme_in text t)) ts end h.1.1,
+)
 
 -- ---- literals
 

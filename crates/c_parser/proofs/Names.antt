@@ -1,5 +1,5 @@
 -- Numbers of names.
-use Rattle.std.proofs.Common.{◌≡◌, ℕ, zero, suc, ◌+◌, ◌≤◌, ◌<◌, ◌⊎◌, Bool, true, false, List, [], ◌∷◌, ◌++◌, length, Option, Some, None, Result, Ok, Err, refl, sym, ap, subst, ◌∙◌, arith, inl, inr}
+use Rattle.std.proofs.Common.{◌≡◌, ℕ, suc, ◌≤◌, ◌<◌, ◌⊎◌, true, false, List, [], ◌∷◌, ◌++◌, length, Option, Some, None, Err, refl, ap, ◌∙◌, arith, inl, inr}
 use Rattle.std.specs.Prelude.{if◌then◌else◌, ◌||◌}
 use Rattle.std.specs.Str.{bytes_eq}
 use Rattle.std.proofs.lemmas.List.{length-append}
@@ -20,9 +20,9 @@ new_or_old (n ∷ ns) w =
     elim (bytes_eq w n) as (λ b. (((b || is_among ns w) ≡ false) × ((if b then 0 else suc (number_in ns w)) ≡ suc (length ns))) ⊎ (((b || is_among ns w) ≡ true) × ((if b then 0 else suc (number_in ns w)) < suc (length ns)))) [
       | true ↦ inr (refl, omega arith)
       | false ↦ elim (new_or_old ns w) [
-          | inl h ↦ inl (h.0, omega (arith, h.1))
-          | inr h ↦ inr (h.0, omega (arith, h.1))
-        ]
+        | inl h ↦ inl (h.0, omega (arith, h.1))
+        | inr h ↦ inr (h.0, omega (arith, h.1))
+      ]
     ]
 
 -- a new name stands last

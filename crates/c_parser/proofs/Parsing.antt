@@ -1,17 +1,12 @@
 -- From the machine to what is spelled.
-use Rattle.std.proofs.Common.{◌≡◌, ℕ, ◌≤◌, ◌<◌, List, [], length, Option, Some, None, Result, Ok, Err, refl, sym, ap, subst, ◌∙◌, arith, inl, inr}
-use Rattle.fam_outer.specs.declared.faults.Place.{Place}
-use Rattle.fam_outer.specs.declared.faults.FileCode.{FileCode}
+use Rattle.std.proofs.Common.{◌≡◌, ℕ, ◌≤◌, List, length, Result, Ok, Err, subst}
 use Rattle.c_tokens.specs.declared.token.Token.{Token}
 use Rattle.c_tree.specs.declared.tree.Program.{Program}
-use Rattle.c_tree.specs.Tree.{Whole}
 use Rattle.c_tree.specs.View.{whole}
 use Rattle.c_parser.specs.declared.items.Item.{Item}
 use Rattle.c_parser.specs.declared.stop.Stop.{Stop}
 use Rattle.c_parser.specs.declared.stop.Stop.TheVariants as stops
 use Rattle.c_parser.specs.Items.{items_of, names_of}
-use Rattle.c_parser.specs.Grammar.{Spells}
-use Rattle.c_parser.specs.Machine.{Declaring, run}
 use Rattle.c_parser.specs.Descent.{Parses}
 use Rattle.c_parser.specs.Reading.{IsParsed}
 use Rattle.c_parser.proofs.Sound.{is_spelled}

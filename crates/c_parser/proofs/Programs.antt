@@ -1,21 +1,20 @@
 -- What is spelled is a well-formed straight program.
-use Rattle.std.proofs.Common.{◌≡◌, ℕ, zero, suc, ◌+◌, ◌≤◌, ◌<◌, List, [], ◌∷◌, ◌++◌, length, refl, sym, ap, subst, ◌∙◌, append_assoc, arith}
-use Rattle.std.specs.Prelude.{ℤ, pos, neg_ℤ}
+use Rattle.std.proofs.Common.{◌≡◌, ℕ, List, [], ◌∷◌, ◌++◌, length, refl, sym, ap, subst, ◌∙◌, append_assoc, arith}
+use Rattle.std.specs.Prelude.{ℤ}
 use Rattle.std.specs.List.{All}
 use Rattle.std.proofs.lemmas.List.Elements.{All-append, All-cons, All-nil, All-same}
 use Rattle.std.proofs.lemmas.Int.{ints}
 use Rattle.fam_outer.specs.declared.faults.Place.{Place}
-use Rattle.c_tree.specs.declared.tree.Op.{Op}
-use Rattle.c_tree.specs.Tree.{Term, Number, Var, Binary, Code, Done, Assign, Assert, Whole}
+use Rattle.c_tree.specs.Tree.{Term, Code, Whole}
 use Rattle.c_tree.specs.Value.{IsInt}
 use Rattle.c_tree.specs.Fit.{IsTermOf, IsCodeOf, IsPlain}
-use Rattle.c_tree.specs.Places.{places_of, program_places}
+use Rattle.c_tree.specs.Places.{places_of}
 use Rattle.c_tree.specs.Whole.{IsBeforeAll, IsRising, nesting, IsSmall, IsDeclaredOf, IsProgram, IsPlainProgram}
 use Rattle.c_tree.specs.Straight.{IsSum, IsTest, IsStraight}
 use Rattle.c_parser.specs.declared.items.Item.{Item}
 use Rattle.c_parser.specs.declared.items.Sign.TheVariants as signs
 use Rattle.c_parser.specs.Items.{at}
-use Rattle.c_parser.specs.Facts.{IsLiteral, AreLiterals, IsBeforeItems, AreRising}
+use Rattle.c_parser.specs.Facts.{AreLiterals, IsBeforeItems, AreRising}
 use Rattle.c_parser.specs.Grammar.{Level, Operand, Sum, Comparison, SpellsTerm, SpellsCode, SpellsStart, SpellsDeclarations, Spells}
 use Rattle.c_parser.specs.Grammar as grammar
 

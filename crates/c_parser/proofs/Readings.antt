@@ -1,5 +1,5 @@
 -- A file has one reading.
-use Rattle.std.proofs.Common.{◌≡◌, ℕ, ◌+◌, ◌≤◌, ◌<◌, ◌⊎◌, List, [], ◌∷◌, length, Option, Some, None, Result, Ok, Err, refl, sym, ap, subst, ◌∙◌, arith, inl, inr}
+use Rattle.std.proofs.Common.{◌≡◌, ℕ, ◌≤◌, ◌⊎◌, List, [], length, Option, Some, None, Result, Ok, Err, refl, sym, ap, subst, ◌∙◌, arith, inl, inr}
 use Rattle.std.proofs.lemmas.Bool.{cases_lt}
 use Rattle.fam_outer.specs.declared.faults.Place.{Place}
 use Rattle.fam_outer.specs.declared.faults.FileCode.{FileCode}
@@ -10,8 +10,8 @@ use Rattle.c_tree.specs.Tree.{Whole}
 use Rattle.c_parser.specs.declared.items.Item.{Item}
 use Rattle.c_parser.specs.Items.{items_of, names_of}
 use Rattle.c_parser.specs.Grammar.{Spells}
-use Rattle.c_parser.specs.Machine.{State, Declaring, run}
-use Rattle.c_parser.specs.Reading.{limit, file_place, IsSpelled, IsReadAs, IsTooLong, HasNoTokens, SpellsNothing, Reads}
+use Rattle.c_parser.specs.Machine.{Declaring, run}
+use Rattle.c_parser.specs.Reading.{limit, file_place, IsSpelled, IsReadAs, Reads}
 use Rattle.c_parser.proofs.Complete.{is_read}
 use Rattle.c_parser.proofs.Sound.{is_spelled}
 

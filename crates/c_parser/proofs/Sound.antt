@@ -1,12 +1,12 @@
 -- What the machine reads is spelled.
-use Rattle.std.proofs.Common.{◌≡◌, ℕ, zero, suc, ◌+◌, ◌≤◌, ◌<◌, Bool, true, false, List, [], ◌∷◌, ◌++◌, length, Option, Some, None, refl, sym, ap, subst, ◌∙◌, append_assoc, arith, eqb-true}
+use Rattle.std.proofs.Common.{◌≡◌, ℕ, ◌+◌, ◌≤◌, ◌<◌, Bool, true, false, List, [], ◌∷◌, ◌++◌, length, Option, Some, None, refl, sym, ap, subst, ◌∙◌, append_assoc, arith, eqb-true}
 use Rattle.std.specs.Prelude.{ℤ, nat_eq, nat_lt, IfSome, if◌then◌else◌}
 use Rattle.std.proofs.lemmas.List.{append-nil}
 use Rattle.std.proofs.lemmas.Bool.{ltb-true}
 use Rattle.fam_outer.specs.declared.faults.Place.{Place}
 use Rattle.c_tree.specs.declared.tree.Op.{Op}
-use Rattle.c_tree.specs.declared.tree.Op.TheVariants.{Add, Sub, Mul, Div, Rem, Lt, Le, Gt, Ge, Eq, Ne, And, Or}
-use Rattle.c_tree.specs.Tree.{Term, Number, Var, Binary, Code, Done, Assign, Assert, followed, Whole}
+use Rattle.c_tree.specs.declared.tree.Op.TheVariants.{Add, Sub, Lt, Le, Gt, Ge, Eq, Ne}
+use Rattle.c_tree.specs.Tree.{Term, Var, Binary, Code, Done, Assign, Assert, followed, Whole}
 use Rattle.c_tree.specs.Whole.{operators}
 use Rattle.c_tree.specs.Straight.{IsAdditive, IsComparison}
 use Rattle.c_parser.specs.declared.items.Item.{Item}
@@ -177,15 +177,15 @@ assigned_made names vs c q x e p a h =
 
 closed_made : (names : List (List ℕ)) (vs : List ℤ) (c : Code) (q : Place) (op : Op) (l e : Term) (p : Place) (a : List Item) → Stands names (Has vs c (ToCompare q op l) e) a → Stands names (Tested vs c q (Binary op l e)) (a ++ at p signs.Close ∷ [])
 closed_made names vs c q op l e p a h = (
-    h.2.0,
-    h.2.1,
-    h.2.2 ++ at h.2.3 (signs.Oper op) ∷ h.1,
-    p,
-    h.2.4,
-    grammar.comparison h.2.3 op h.2.6 h.2.5 h.3,
-    omega (arith, h.4),
-    grow (at p signs.Close) a h.0 h.1 h.5 ∙ ap (λ (y : List Item). y ++ (h.1 ++ at p signs.Close ∷ [])) h.2.8 ∙ simp append_assoc,
-  )
+  h.2.0,
+  h.2.1,
+  h.2.2 ++ at h.2.3 (signs.Oper op) ∷ h.1,
+  p,
+  h.2.4,
+  grammar.comparison h.2.3 op h.2.6 h.2.5 h.3,
+  omega (arith, h.4),
+  grow (at p signs.Close) a h.0 h.1 h.5 ∙ ap (λ (y : List Item). y ++ (h.1 ++ at p signs.Close ∷ [])) h.2.8 ∙ simp append_assoc,
+)
 
 has_made : (names : List (List ℕ)) (vs : List ℤ) (c : Code) (u : Use) (e : Term) (p : Place) (s : Sign) (a : List Item) → Stands names (Has vs c u e) a → IfSome (has vs c u e s) (λ next. Stands names next (a ++ at p s ∷ []))
 has_made names vs c u e p (signs.Oper op) a h = operated_made names vs c u e op p a h

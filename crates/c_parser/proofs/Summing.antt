@@ -1,5 +1,5 @@
 -- What the loop over a sum does, as the machine does it.
-use Rattle.std.proofs.Common.{◌≡◌, ℕ, ◌+◌, ◌≤◌, ◌<◌, List, [], ◌∷◌, ◌++◌, length, Option, Some, None, Result, Ok, Err, refl, sym, ap, subst, ◌∙◌, arith}
+use Rattle.std.proofs.Common.{◌≡◌, ℕ, ◌+◌, ◌≤◌, ◌<◌, List, [], ◌∷◌, ◌++◌, length, Some, None, Err, refl, sym, ap, ◌∙◌, arith}
 use Rattle.std.specs.Prelude.{ℤ}
 use Rattle.std.proofs.lemmas.Bool.{le-ltb}
 use Rattle.fam_outer.specs.declared.faults.Place.{Place}
@@ -17,7 +17,7 @@ use Rattle.c_parser.specs.declared.items.Sign.TheVariants as signs
 use Rattle.c_parser.specs.declared.stop.Stop.{Stop}
 use Rattle.c_parser.specs.declared.stop.Stop.TheVariants as stops
 use Rattle.c_parser.specs.Items.{at}
-use Rattle.c_parser.specs.Machine.{Use, ToTest, ToCompare, spent, State, Ready, Wants, Has, Over, has, program_of, moved, run}
+use Rattle.c_parser.specs.Machine.{Use, ToTest, ToCompare, spent, Ready, Wants, Has, Over, has, program_of, run}
 use Rattle.c_parser.specs.Descent.{SumGoes, NoSumStands, OperandGoes, Operands, Sums, NoSum, IsNoSum, NoClose, IsNoClose}
 use Rattle.c_parser.proofs.Complete.{adds_on, compares}
 
@@ -44,8 +44,8 @@ right_falls stops.Wrong count before e ts rest after p op h cut is lt falls = re
 pub one_more : (count before : ℕ) (e f made : Term) (ts rest after next : List Item) (p : Place) (op : Op) → SumGoes count before e ts rest → rest ≡ at p (signs.Oper op) ∷ after → IsAdditive op → before + operators e < 64 → OperandGoes count f after next → made ≡ Binary op e f → SumGoes count before made ts next
 one_more count before e f made ts rest after next p op h cut is lt goes made_is = record {
   goes = λ names vs c u n s.
-    h.goes names vs c u n s ∙ ap (run names (Has vs c u e)) cut ∙ adds_on names vs c u e p op is (omega arith) after ∙ goes.later names vs c u e op n
-    ∙ ap (λ (x : Term). run names (Has vs c u x) next) (sym made_is);
+      h.goes names vs c u n s ∙ ap (run names (Has vs c u e)) cut ∙ adds_on names vs c u e p op is (omega arith) after ∙ goes.later names vs c u e op n
+      ∙ ap (λ (x : Term). run names (Has vs c u x) next) (sym made_is);
 }
 
 unclosed_step : (vs : List ℤ) (c : Code) (p : Place) (op : Op) (l e : Term) (s : Sign) → IsNoSum s → IsNoClose s → has vs c (ToCompare p op l) e s ≡ None

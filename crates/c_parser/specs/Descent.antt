@@ -1,5 +1,5 @@
 -- What the functions of the descent answer, as the machine does it.
-use Rattle.std.specs.Prelude.{◌≡◌, ⊤, ℕ, ◌+◌, ◌≤◌, ◌<◌, ℤ, List, [], ◌∷◌, ◌++◌, length, Option, Some, None, Result, Ok, Err}
+use Rattle.std.specs.Prelude.{◌≡◌, ⊤, ℕ, ℤ, List, [], ◌∷◌, ◌++◌, length, Some, None, Result, Ok, Err}
 use Rattle.std.specs.Borrow.{Bor}
 use Rattle.std.specs.Global.{Vec}
 use Rattle.fam_outer.specs.declared.faults.Place.{Place}
@@ -16,7 +16,7 @@ use Rattle.c_parser.specs.declared.items.Sign.TheVariants as signs
 use Rattle.c_parser.specs.declared.stop.Stop.{Stop}
 use Rattle.c_parser.specs.declared.stop.Stop.TheVariants as stops
 use Rattle.c_parser.specs.Items.{at}
-use Rattle.c_parser.specs.Machine.{Use, ToTest, spent, State, Declaring, Introduced, Starting, Started, Titled, Headed, Ready, Named, Asserting, Wants, Has, Adds, Tested, program_of, run}
+use Rattle.c_parser.specs.Machine.{Use, ToTest, spent, Declaring, Introduced, Starting, Started, Titled, Headed, Ready, Named, Asserting, Wants, Has, Adds, Tested, program_of, run}
 
 abbrev pub IsNoDeclarator : Sign → Sign → Type 0
 IsNoDeclarator signs.Int (signs.Name k) = ⊥

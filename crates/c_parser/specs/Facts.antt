@@ -1,5 +1,5 @@
 -- Facts of the items of a text: literals, and places that rise.
-use Rattle.std.specs.Prelude.{ℕ, ◌≤ℤ◌, pos, List, [], ◌∷◌, IsTrue}
+use Rattle.std.specs.Prelude.{◌≤ℤ◌, pos, List, [], ◌∷◌, IsTrue}
 use Rattle.fam_outer.specs.declared.faults.Place.{Place}
 use Rattle.c_tree.specs.Value.{greatest}
 use Rattle.c_tree.specs.Whole.{is_before}

@@ -1,5 +1,5 @@
 -- The items of tokens: their signs and places, with the identifiers numbered by their first occurrence.
-use Rattle.std.specs.Prelude.{ℕ, suc, Bool, true, false, List, [], ◌∷◌, ◌++◌, Option, Some, None, if◌then◌else◌}
+use Rattle.std.specs.Prelude.{ℕ, suc, List, [], ◌∷◌, ◌++◌, Option, Some, None, if◌then◌else◌}
 use Rattle.std.specs.Str.{bytes_eq}
 use Rattle.fam_outer.specs.declared.faults.Place.{Place}
 use Rattle.c_tokens.specs.declared.token.Token.{Token}

@@ -1,13 +1,11 @@
 -- What numbering the names of tokens answers.
 use Rattle.std.specs.Prelude.{◌≡◌, ⊤, ℕ, ◌≤◌, ◌<◌, List, [], ◌∷◌, length, Result, Ok, Err}
 use Rattle.c_tokens.specs.declared.token.Token.{Token}
-use Rattle.c_tokens.specs.declared.token.TokenKind.{TokenKind}
 use Rattle.c_parser.specs.declared.items.Sign.{Sign}
 use Rattle.c_parser.specs.declared.numbering.Numbered.{Numbered}
 use Rattle.c_parser.specs.declared.stop.Stop.{Stop}
 use Rattle.c_parser.specs.declared.stop.Stop.TheVariants as stops
-use Rattle.c_parser.specs.Items.{sign_of, names_with, word_sign, names_with_word, items_of, names_of}
-use Rattle.c_parser.specs.Signs.{keyword_of}
+use Rattle.c_parser.specs.Items.{items_of, names_of}
 
 -- a token lies within so many bytes
 abbrev pub IsWithin : ℕ → Token → Type 0

@@ -10,11 +10,9 @@ ghost use Rattle.c_parser.specs.Reading.{Reads};
 /// A file is read in one way.
 pub fn reads_at_most_once()
     ensures { (bytes : List ℕ) (r s : Result Whole (FileCode × Place)) → Reads bytes r → Reads bytes s → r ≡ s }
-{
-}
+{}
 
 /// Each file is read as a program, or has a refusal.
 pub fn reads_something()
     ensures { (bytes : List ℕ) → (r : Result Whole (FileCode × Place)) × Reads bytes r }
-{
-}
+{}

@@ -13,3 +13,6 @@ pub mod straight;
 pub mod sums;
 
 pub use straight::read_straight;
+
+#[cfg(test)]
+mod tests;

@@ -54,12 +54,7 @@ fn identifier(alloc: Global, names: &mut Vec<Text>, name: &[u8]) -> Result<Sign,
 }
 
 /// The sign of a token with this kind and text.
-fn sign(
-    alloc: Global,
-    names: &mut Vec<Text>,
-    kind: TokenKind,
-    lexeme: &[u8],
-) -> Result<Sign, Stop>
+fn sign(alloc: Global, names: &mut Vec<Text>, kind: TokenKind, lexeme: &[u8]) -> Result<Sign, Stop>
     requires { length names.old.items ≤ 16 }
     ensures { answers.Signs names.old.items names.new.items (numbers.sign_of names.old.items kind lexeme.now) (numbers.names_with names.old.items kind lexeme.now) result }
 {

@@ -109,11 +109,7 @@ fn closes(sign: Sign) -> bool
 }
 
 /// The statements of `main` and the place of its closing brace, behind which nothing stands.
-pub(crate) fn body(
-    alloc: Global,
-    items: &[Item],
-    count: usize,
-) -> Result<(Vec<Stmt>, Place), Stop>
+pub(crate) fn body(alloc: Global, items: &[Item], count: usize) -> Result<(Vec<Stmt>, Place), Stop>
     ensures { Bodies count result items.now }
 {
     let mut list = Vec::new(alloc);

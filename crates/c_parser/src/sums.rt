@@ -41,11 +41,7 @@ fn operand(items: &[Item], count: usize) -> Result<(Expr, &[Item]), Stop>
 pub(crate) fn binary(alloc: Global, op: Op, left: Expr, right: Expr) -> Result<Expr, Stop>
     ensures { Made result (Binary op (term left) (term right)) }
 {
-    Ok(Expr::Binary(
-        op,
-        Box::new(alloc, left)?,
-        Box::new(alloc, right)?,
-    ))
+    Ok(Expr::Binary(op, Box::new(alloc, left)?, Box::new(alloc, right)?))
 }
 
 /// A sum over so many variables, the number of its operators, and what is behind it. So many operators of its

@@ -1,4 +1,4 @@
-use Rattle.std.proofs.Common.{◌≡◌, ◌≤◌, ℕ, List, [], length}
+use Rattle.std.proofs.Common.{◌≡◌, ℕ, List, [], length}
 use Rattle.c_parser.specs.Machine.{Declaring, run}
 use Rattle.c_parser.specs.Facts.{AreLiterals}
 use Rattle.c_parser.proofs.declarations.declarations.Given as goal

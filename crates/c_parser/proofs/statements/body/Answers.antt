@@ -1,4 +1,4 @@
-use Rattle.std.proofs.Common.{◌≡◌, sym, refl, false-eqb, arith}
+use Rattle.std.proofs.Common.{sym, false-eqb}
 use Rattle.std.proofs.lemmas.Bool.{eqb-true}
 use Rattle.std.proofs.lemmas.List.{nil_from_length}
 use Rattle.c_parser.proofs.Summing.{all_read, some_left, not_ended, one_statement}

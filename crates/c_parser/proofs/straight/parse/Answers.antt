@@ -1,4 +1,4 @@
-use Rattle.std.proofs.Common.{◌≡◌, ◌∙◌, sym}
+use Rattle.std.proofs.Common.{◌∙◌}
 use Rattle.c_parser.proofs.Parsing.{parsed}
 use Rattle.c_parser.proofs.straight.parse.Goals as goal
 

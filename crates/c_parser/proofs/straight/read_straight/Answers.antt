@@ -1,4 +1,4 @@
-use Rattle.std.proofs.Common.{◌≡◌, ◌∙◌, List, sym, ap, subst, refl, Ok, Err, inl, inr, arith}
+use Rattle.std.proofs.Common.{◌∙◌, List, sym, ap, subst, refl, Ok, Err, inr, arith}
 use Rattle.c_tokens.specs.declared.token.Token.{Token}
 use Rattle.c_tree.specs.View.{whole}
 use Rattle.c_parser.specs.Items.{items_of, names_of}
