@@ -1,5 +1,5 @@
 -- Numbers of names.
-use Rattle.std.proofs.Common.{◌≡◌, ℕ, suc, ◌≤◌, ◌<◌, ◌⊎◌, true, false, List, [], ◌∷◌, ◌++◌, length, Option, Some, None, Err, refl, ap, ◌∙◌, arith, inl, inr}
+use Rattle.std.proofs.Common.{◌≡◌, sym, ℕ, suc, ◌≤◌, ◌<◌, ◌⊎◌, true, false, List, [], ◌∷◌, ◌++◌, length, Option, Some, None, Err, refl, ap, ◌∙◌, arith, inl, inr}
 use Rattle.std.specs.Prelude.{if◌then◌else◌, ◌||◌}
 use Rattle.std.specs.Str.{bytes_eq}
 use Rattle.std.proofs.lemmas.List.{length-append}
@@ -31,6 +31,10 @@ added names w is = elim (new_or_old names w) [
   | inl h ↦ rw h.0 refl
   | inr h ↦ absurd (omega (arith, is, h.1))
 ]
+
+-- a new name is pushed
+pub pushed : (names new : List (List ℕ)) (text w : List ℕ) → new ≡ names ++ text ∷ [] → text ≡ w → number_in names w ≡ length names → new ≡ with_name names w
+pushed names new text w is same last = is ∙ ap (λ (t : List ℕ). names ++ t ∷ []) same ∙ sym (added names w last)
 
 pub kept : (names : List (List ℕ)) (w : List ℕ) → (number_in names w ≡ length names → ⊥) → with_name names w ≡ names
 kept names w n = elim (new_or_old names w) [

@@ -8,7 +8,7 @@ use Rattle.c_parser.specs.declared.stop.Stop.{Stop}
 use Rattle.c_parser.specs.declared.stop.Stop.TheVariants as stops
 use Rattle.c_parser.specs.Items.{items_of, names_of}
 use Rattle.c_parser.specs.Descent.{Parses}
-use Rattle.c_parser.specs.Reading.{IsParsed}
+use Rattle.c_parser.specs.Parsing.{IsParsed}
 use Rattle.c_parser.proofs.Sound.{is_spelled}
 use Rattle.c_parser.proofs.Readings.{spells_none}
 

@@ -21,14 +21,18 @@ pub data SpellsTerm (count : ℕ) : Level → List Item → Term → Type 0 wher
   number : (p : Place) (n : ℤ) → SpellsTerm count Operand (at p (signs.Number n) ∷ []) (Number n)
   name : (p : Place) (x : ℕ) → x < count → SpellsTerm count Operand (at p (signs.Name x) ∷ []) (Var x)
   operand : {ts : List Item} {e : Term} → SpellsTerm count Operand ts e → SpellsTerm count Sum ts e
-  sum : (p : Place) (op : Op) {ts us : List Item} {a b : Term} → IsAdditive op → SpellsTerm count Sum ts a → SpellsTerm count Operand us b → SpellsTerm count Sum (ts ++ at p (signs.Oper op) ∷ us) (Binary op a b)
-  comparison : (p : Place) (op : Op) {ts us : List Item} {a b : Term} → IsComparison op → SpellsTerm count Sum ts a → SpellsTerm count Sum us b → SpellsTerm count Comparison (ts ++ at p (signs.Oper op) ∷ us) (Binary op a b)
+  sum : (p : Place) (op : Op) {ts us : List Item} {a b : Term} → IsAdditive op → SpellsTerm count Sum ts a → SpellsTerm count Operand us b
+      → SpellsTerm count Sum (ts ++ at p (signs.Oper op) ∷ us) (Binary op a b)
+  comparison : (p : Place) (op : Op) {ts us : List Item} {a b : Term} → IsComparison op → SpellsTerm count Sum ts a → SpellsTerm count Sum us b
+      → SpellsTerm count Comparison (ts ++ at p (signs.Oper op) ∷ us) (Binary op a b)
 
 -- statements, one after another; an expression has at most 64 operators
 pub data SpellsCode (count : ℕ) : List Item → Code → Type 0 where
   none : SpellsCode count [] Done
-  assign : (p q r : Place) (x : ℕ) {ts us : List Item} {e : Term} {c : Code} → x < count → SpellsTerm count Sum ts e → operators e ≤ 64 → SpellsCode count us c → SpellsCode count (at p (signs.Name x) ∷ at q signs.Equals ∷ (ts ++ at r signs.Semicolon ∷ us)) (Assign p x e c)
-  assert : (p q r s : Place) {ts us : List Item} {e : Term} {c : Code} → SpellsTerm count Comparison ts e → operators e ≤ 64 → SpellsCode count us c → SpellsCode count (at p signs.Assert ∷ at q signs.Open ∷ (ts ++ at r signs.Close ∷ at s signs.Semicolon ∷ us)) (Assert p e c)
+  assign : (p q r : Place) (x : ℕ) {ts us : List Item} {e : Term} {c : Code} → x < count → SpellsTerm count Sum ts e → operators e ≤ 64 → SpellsCode count us c
+      → SpellsCode count (at p (signs.Name x) ∷ at q signs.Equals ∷ (ts ++ at r signs.Semicolon ∷ us)) (Assign p x e c)
+  assert : (p q r s : Place) {ts us : List Item} {e : Term} {c : Code} → SpellsTerm count Comparison ts e → operators e ≤ 64 → SpellsCode count us c
+      → SpellsCode count (at p signs.Assert ∷ at q signs.Open ∷ (ts ++ at r signs.Close ∷ at s signs.Semicolon ∷ us)) (Assert p e c)
 
 -- the start value of a name: none is written and it is 0, a number, or a number after `-`
 pub data SpellsStart : List Item → ℤ → Type 0 where
@@ -39,7 +43,8 @@ pub data SpellsStart : List Item → ℤ → Type 0 where
 -- declarations with these start values, one after another; each declares the next name, so that none is declared twice
 pub data SpellsDeclarations : List Item → List ℤ → Type 0 where
   none : SpellsDeclarations [] []
-  more : (p q r : Place) {ts us : List Item} {vs : List ℤ} {v : ℤ} → SpellsDeclarations ts vs → SpellsStart us v → SpellsDeclarations (ts ++ at p signs.Int ∷ at q (signs.Name (length vs)) ∷ (us ++ at r signs.Semicolon ∷ [])) (vs ++ v ∷ [])
+  more : (p q r : Place) {ts us : List Item} {vs : List ℤ} {v : ℤ} → SpellsDeclarations ts vs → SpellsStart us v
+      → SpellsDeclarations (ts ++ at p signs.Int ∷ at q (signs.Name (length vs)) ∷ (us ++ at r signs.Semicolon ∷ [])) (vs ++ v ∷ [])
 
 -- `int main(void) {` and `int main() {`
 pub data SpellsHead : List Item → Type 0 where

@@ -6,3 +6,4 @@ pub mod Machine
 pub mod Facts
 pub mod Descent
 pub mod Numbering
+pub mod Parsing

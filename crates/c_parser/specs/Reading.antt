@@ -10,8 +10,6 @@ use Rattle.c_tokens.specs.Reading.{tokens_of}
 use Rattle.c_tree.specs.Tree.{Whole}
 use Rattle.c_tree.specs.View.{whole}
 use Rattle.c_tree.specs.declared.tree.Program.{Program}
-use Rattle.c_parser.specs.declared.stop.Stop.{Stop}
-use Rattle.c_parser.specs.declared.stop.Stop.TheVariants as stops
 use Rattle.c_parser.specs.Items.{items_of, names_of}
 use Rattle.c_parser.specs.Grammar.{Spells}
 
@@ -26,12 +24,6 @@ file_place = record { line = 1; column = 1 }
 -- the tokens of these bytes spell the program
 abbrev pub IsSpelled : List ℕ → List Token → Whole → Type 0
 IsSpelled bytes ts p = Spells (names_of bytes ts) (items_of bytes ts) p
-
--- a call that parses the tokens; want of memory is free
-abbrev pub IsParsed : List ℕ → List Token → Result Program Stop → Type 0
-IsParsed bytes ts (Ok program) = IsSpelled bytes ts (whole program)
-IsParsed bytes ts (Err stops.NoMemory) = ⊤
-IsParsed bytes ts (Err stops.Wrong) = (p : Whole) → IsSpelled bytes ts p → ⊥
 
 pub record IsReadAs (bytes : List ℕ) (p : Whole) : Type 0 where
   pub within : length bytes ≤ limit

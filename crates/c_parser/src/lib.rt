@@ -1,16 +1,16 @@
 //! The parser of the C subset: straight files.
 #![tactic(auto)]
 
-pub mod cursor;
-pub mod declarations;
+mod cursor;
+mod declarations;
 pub mod items;
 pub mod laws;
-pub mod numbering;
-pub mod signs;
-pub mod statements;
-pub mod stop;
+mod numbering;
+mod signs;
+mod statements;
+mod stop;
 pub mod straight;
-pub mod sums;
+mod sums;
 
 pub use straight::read_straight;
 

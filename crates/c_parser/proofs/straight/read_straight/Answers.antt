@@ -3,7 +3,7 @@ use Rattle.c_tokens.specs.declared.token.Token.{Token}
 use Rattle.c_tree.specs.View.{whole}
 use Rattle.c_parser.specs.Items.{items_of, names_of}
 use Rattle.c_parser.specs.declared.stop.Stop.{Stop}
-use Rattle.c_parser.specs.Reading.{IsParsed}
+use Rattle.c_parser.specs.Parsing.{IsParsed}
 use Rattle.c_parser.proofs.Lexical.{tokens_within, items_rise, items_literal}
 use Rattle.c_parser.proofs.Programs.{spelled_program, spelled_plain, spelled_straight}
 use Rattle.c_parser.proofs.straight.read_straight.Goals as goal
