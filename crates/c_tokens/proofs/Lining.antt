@@ -12,10 +12,11 @@ use Rattle.fam_outer.specs.declared.faults.FileCode.TheVariants as codes
 use Rattle.c_tokens.specs.declared.token.Token.{Token}
 use Rattle.c_tokens.specs.Bytes.{is_space}
 use Rattle.c_tokens.specs.Lexemes.{is_lexeme, IsLongest, kind_of}
-use Rattle.c_tokens.specs.Places.{is_newline, last_line, end_place, place_at}
+use Rattle.fam_outer.specs.Places.{is_newline, last_line, end_place, place_at}
 use Rattle.c_tokens.specs.Reading.{slice, IsSpaceBetween, IsTokenIn, StandBetween, HasFault, IsReading, tokens_of}
 use Rattle.c_tokens.specs.Lines.{lower_place, lower_token, line_behind}
-use Rattle.c_tokens.proofs.Placing.{one_spot, any-newline, last-newline, count-append, in_lexeme}
+use Rattle.fam_outer.proofs.Placing.{one_spot, any-newline, last-newline, count-append}
+use Rattle.c_tokens.proofs.Newlines.{in_lexeme}
 use Rattle.c_tokens.proofs.Readings.{is_reading}
 use Rattle.c_tokens.proofs.OneReading.{one}
 

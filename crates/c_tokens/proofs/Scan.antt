@@ -9,10 +9,10 @@ use Rattle.c_tokens.specs.declared.token.Token.{Token}
 use Rattle.c_tokens.specs.declared.token.TokenKind.{TokenKind}
 use Rattle.c_tokens.specs.Bytes.{is_space}
 use Rattle.c_tokens.specs.Lexemes.{is_lexeme, lexeme_of, kind_of}
-use Rattle.c_tokens.specs.Places.{is_newline, place_at}
+use Rattle.fam_outer.specs.Places.{is_newline, place_at}
 use Rattle.c_tokens.specs.Reading.{known, front_of, before, read_lexeme, read_from}
 use Rattle.c_tokens.proofs.Longest.{is_longest}
-use Rattle.c_tokens.proofs.Placing.{in_lexeme}
+use Rattle.c_tokens.proofs.Newlines.{in_lexeme}
 
 -- so many bytes are passed
 pub passed : (text : List ℕ) (offset n : ℕ) (bytes : List ℕ) → n ≤ length bytes → read_from text offset n bytes ≡ read_from text (offset + n) 0 (drop n bytes)

@@ -3,7 +3,7 @@ use Rattle.std.specs.Prelude.{ℕ, ◌+◌, List, map, length, count_by, Result,
 use Rattle.fam_outer.specs.declared.faults.Place.{Place}
 use Rattle.fam_outer.specs.declared.faults.FileCode.{FileCode}
 use Rattle.c_tokens.specs.declared.token.Token.{Token}
-use Rattle.c_tokens.specs.Places.{is_newline}
+use Rattle.fam_outer.specs.Places.{is_newline}
 use Rattle.c_tokens.specs.Reading.{before}
 
 -- a place that many lines below

@@ -7,7 +7,7 @@ use Rattle.fam_outer.specs.declared.faults.FileCode.TheVariants.{StrayByte, Lite
 use Rattle.c_tokens.specs.declared.token.Token.{Token}
 use Rattle.c_tokens.specs.declared.token.TokenKind.{TokenKind}
 use Rattle.c_tokens.specs.Bytes.{is_space}
-use Rattle.c_tokens.specs.Places.{place_at}
+use Rattle.fam_outer.specs.Places.{place_at}
 use Rattle.c_tokens.specs.Lexemes.{is_lexeme, IsLongest, lexeme_of, kind_of}
 
 -- the bytes from one offset to another

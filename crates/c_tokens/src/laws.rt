@@ -8,7 +8,6 @@ ghost use Rattle.fam_outer.specs.declared.faults.Place as outer;
 ghost use Rattle.c_tokens.specs.declared.token.Token as declared;
 ghost use Rattle.c_tokens.specs.declared.token.TokenKind.TheVariants.{Number};
 ghost use Rattle.c_tokens.specs.Lexemes.{kind_of};
-ghost use Rattle.c_tokens.specs.Places.{place_at, IsEarlier};
 ghost use Rattle.c_tokens.specs.Reading.{IsReading, tokens_of};
 ghost use Rattle.c_tokens.specs.Lines.{line_behind};
 
@@ -26,11 +25,6 @@ pub fn one_reading()
 pub fn literals_are_decimal()
     ensures read { (n : ℕ) → n ≤ 2147483647 → kind_of (decimal n) ≡ Some (Number (pos n)) }
     ensures written { (lexeme : List ℕ) (value : ℤ) → kind_of lexeme ≡ Some (Number value) → (n : ℕ) × (value ≡ pos n) × (n ≤ 2147483647) × (lexeme ≡ decimal n) }
-{}
-
-/// A later byte of a text has a later place.
-pub fn places_rise()
-    ensures { (text : List ℕ) (i j : ℕ) → i < j → j ≤ length text → IsEarlier (place_at text i) (place_at text j) }
 {}
 
 /// Lines are read one by one: a line and what stands behind its newline have the tokens that each has alone.

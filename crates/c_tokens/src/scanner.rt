@@ -2,7 +2,7 @@
 #![tactic(auto)]
 
 ghost use Rattle.std.specs.Prelude.{◌≡◌, ℕ, ◌<◌, ◌≤◌, ◌+◌, ◌^◌, List, [], ◌∷◌, ◌++◌, length, MatchOption};
-ghost use Rattle.c_tokens.specs.Places.{end_place};
+ghost use Rattle.fam_outer.specs.Places.{end_place};
 ghost use Rattle.c_tokens.specs.Reading.{tokens_of};
 ghost use Rattle.fam_outer.specs.Refusals.{Gives};
 
@@ -79,9 +79,7 @@ pub fn tokens(alloc: Global, text: &[u8]) -> Result<Tokens, FileRefusal>
             start: at,
             end,
         };
-        if list.push(token).is_err() {
-            return Err(FileRefusal::NoMemory);
-        }
+        list.push(token)?;
         place.column += len as u32;
         at = end;
         rest = rest.split_at(len).1;

@@ -4,5 +4,6 @@ pub mod Value
 pub mod Places
 pub mod Fit
 pub mod Whole
+pub mod Project
 pub mod Run
 pub mod Straight

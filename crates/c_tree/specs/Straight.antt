@@ -1,7 +1,7 @@
 -- Straight programs: assignments of sums and assertions of comparisons, one after another.
 use Rattle.c_tree.specs.declared.tree.Op.{Op}
 use Rattle.c_tree.specs.declared.tree.Op.TheVariants.{Add, Sub, Lt, Le, Gt, Ge, Eq, Ne}
-use Rattle.c_tree.specs.Tree.{Term, Number, Var, Neg, Not, Binary, Code, Done, Assign, Input, Assert, If, While, Block, Skip, Cond, Whole}
+use Rattle.c_tree.specs.Tree.{Term, Number, Var, Neg, Not, Binary, Code, Done, Assign, Input, Assert, If, While, Block, Skip, Cond}
 
 abbrev pub IsAdditive : Op → Type 0
 IsAdditive Add = Unit {0}

@@ -6,8 +6,18 @@
 //! the analyses can speak of runs without the crate that runs them.
 #![tactic(auto)]
 
+pub mod all_places;
+pub mod copies;
+pub mod laws;
 pub mod lists;
+pub mod projection;
 pub mod tree;
 
+pub use all_places::places;
+pub use copies::{copy_expr, copy_list, copy_stmt};
 pub use lists::{Declarations, Guards, Names};
+pub use projection::project;
 pub use tree::{Declared, Expr, Guard, Kind, Mode, Op, Program, Stmt};
+
+#[cfg(test)]
+mod tests;

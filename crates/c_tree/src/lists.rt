@@ -1,10 +1,11 @@
 //! The lists of a program: names, guards and declarations.
 #![tactic(auto)]
 
-ghost use Rattle.std.specs.Prelude.{◌≡◌};
+ghost use Rattle.std.specs.Prelude.{◌≡◌, IfOk};
 
 use crate::tree::{Declared, Guard};
-use fam_outer::Text;
+use fam_outer::{NoMemory, Text};
+use std::alloc::Global;
 use std::marker::Model;
 
 /// The names of the variables, in the order of their declaration.
@@ -27,6 +28,17 @@ impl Names {
         ensures { result ≡ list.items }
     {
         Names { list }
+    }
+
+    /// A copy of the names.
+    pub fn copy(&self, alloc: Global) -> Result<Names, NoMemory>
+        ensures { IfOk result (λ made. made ≡ self.now) }
+    {
+        let mut list = Vec::new(alloc);
+        for name in self.items() {
+            list.push(name.copy(alloc)?)?;
+        }
+        Ok(Names { list })
     }
 
     /// The names.
@@ -60,6 +72,14 @@ impl Guards {
         Guards { list }
     }
 
+    /// A copy of the guards.
+    pub fn copy(&self, alloc: Global) -> Result<Guards, NoMemory>
+        ensures { IfOk result (λ made. made ≡ self.now) }
+    {
+        let list = Vec::from_slice(alloc, self.items())?;
+        Ok(Guards { list })
+    }
+
     /// The guards.
     pub fn items(&self) -> &[Guard]
         ensures { result.now ≡ self.now }
@@ -89,6 +109,22 @@ impl Declarations {
         ensures { result ≡ list.items }
     {
         Declarations { list }
+    }
+
+    /// A copy of the declarators.
+    pub fn copy(&self, alloc: Global) -> Result<Declarations, NoMemory>
+        ensures { IfOk result (λ made. made ≡ self.now) }
+    {
+        let mut list = Vec::new(alloc);
+        for d in self.items() {
+            let guards = d.guards.copy(alloc)?;
+            list.push(Declared {
+                target: d.target,
+                value: d.value,
+                guards,
+            })?;
+        }
+        Ok(Declarations { list })
     }
 
     /// The declarators.

@@ -2,6 +2,6 @@ pub mod Signed
 pub mod Cuts
 pub mod Bounds
 pub mod Values
-pub mod Tests
+pub mod Assertions
 pub mod Runs
 pub mod Statements

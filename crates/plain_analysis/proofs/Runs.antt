@@ -19,7 +19,7 @@ use Rattle.plain_analysis.specs.Leaves.{AllWithin, Holds, is_nothing_of, points_
 use Rattle.plain_analysis.specs.Transfer.{may_overflow, assigned, assumed}
 use Rattle.plain_analysis.specs.Straight.{alarm_where, assign_alarms, assert_alarms, alarms_from, alarms_of}
 use Rattle.plain_analysis.proofs.Values.{overflow_foreseen}
-use Rattle.plain_analysis.proofs.Tests.{assigned_holds, assumed_holds, test_foreseen}
+use Rattle.plain_analysis.proofs.Assertions.{assigned_holds, assumed_holds, test_foreseen}
 
 abbrev alarm_at : Place → Kind → Alarm
 alarm_at place kind = record { place = place; kind = kind }

@@ -10,3 +10,6 @@ mod transfer;
 
 pub use alarm::{Alarm, Alarms};
 pub use straight::analyse_straight;
+
+#[cfg(test)]
+mod tests;

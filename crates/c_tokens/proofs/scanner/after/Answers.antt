@@ -1,7 +1,7 @@
 use Rattle.std.proofs.Common.{◌≡◌, ◌+◌, [], ◌∷◌, ◌++◌, sym, subst}
 use Rattle.fam_outer.specs.declared.faults.Place.{Place}
-use Rattle.c_tokens.specs.Places.{end_place}
-use Rattle.c_tokens.proofs.Placing.{spot, behind_newline, behind_byte}
+use Rattle.fam_outer.specs.Places.{end_place}
+use Rattle.fam_outer.proofs.Placing.{spot, behind_newline, behind_byte}
 use Rattle.c_tokens.proofs.scanner.after.Goals as goal
 
 pub returns-then-b-eq10-clause-value : goal.returns-then-b-eq10-clause-value

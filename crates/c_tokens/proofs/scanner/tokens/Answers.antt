@@ -4,9 +4,9 @@ use Rattle.std.proofs.lemmas.List.{length-drop, length-take-le}
 use Rattle.std.proofs.lemmas.Bool.{cond-true}
 use Rattle.fam_outer.specs.declared.faults.Place.{Place}
 use Rattle.c_tokens.specs.declared.token.Token.{Token}
-use Rattle.c_tokens.specs.Places.{end_place, place_at}
+use Rattle.fam_outer.specs.Places.{end_place, place_at}
 use Rattle.c_tokens.specs.Reading.{front_of, read_from, tokens_of}
-use Rattle.c_tokens.proofs.Placing.{spot, behind_bytes}
+use Rattle.fam_outer.proofs.Placing.{spot, behind_bytes}
 use Rattle.c_tokens.proofs.Scan.{front_more, behind, found_len, no_newline, spaced_on, taken_on, stopped_on, done_on, token_at}
 use Rattle.c_tokens.proofs.scanner.tokens.Goals as goal
 
@@ -47,8 +47,7 @@ scan-preserved c =
     let back : c.split_at.result.1.now ≡ drop n rest = c.split_at.ensures.back in
     let here : c.scan.place ≡ place_at text at = c.scan.invariant.place in
     let pushed : c.push.new.self.items ≡ c.scan.list.items ++ token_at text at kind n ∷ [] =
-    c.push.ensures.items ∙ cond-true (is_ok c.push.result) _ _ c.if-is_err.ensures.negation
-    ∙ ap (λ (p : Place). c.scan.list.items ++ record { kind = kind; place = p; start = at; end = at + n } ∷ []) here in
+    c.in_ok-push.ensures.items ∙ ap (λ (p : Place). c.scan.list.items ++ record { kind = kind; place = p; start = at; end = at + n } ∷ []) here in
     let taken : length (take n rest) ≡ n = length-take-le n rest fits in
     record {
       read = rw (pushed, back) (taken_on c.scan.list.items text at c.in-Some.b c.in-Some.behind.now rest (read_from text 0 0 text) kind n cut (sym c.is_space.ensures ∙ c.if-is_space.false) found some fits c.scan.invariant.read);

@@ -1,5 +1,5 @@
 use Rattle.std.proofs.Common.{◌≡◌, ◌≤◌, ◌+◌, length, drop}
-use Rattle.c_tokens.specs.Places.{place_at}
+use Rattle.fam_outer.specs.Places.{place_at}
 use Rattle.c_tokens.specs.Reading.{before, read_from}
 use Rattle.c_tokens.proofs.scanner.tokens.Given as goal
 

@@ -6,8 +6,8 @@ use Rattle.std.proofs.Math.Seq.{take-add}
 use Rattle.std.proofs.lemmas.List.{length-drop, length-take-le}
 use Rattle.std.proofs.lemmas.List.Sums.{sum_by-cons}
 use Rattle.fam_outer.specs.declared.faults.Place.{Place}
-use Rattle.c_tokens.specs.Places.{is_newline, end_place, place_at, IsEarlier}
-use Rattle.c_tokens.proofs.Placing.{behind_bytes, count-append}
+use Rattle.fam_outer.specs.Places.{is_newline, end_place, place_at, IsEarlier}
+use Rattle.fam_outer.proofs.Placing.{behind_bytes, count-append}
 
 counted : (xs : List ℕ) → list_any is_newline xs ≡ true → 1 ≤ count_by is_newline xs
 counted [] e = absurd cc

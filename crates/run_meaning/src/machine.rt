@@ -1,0 +1,347 @@
+// The machine that runs a plain program, one statement at a time.
+
+ghost use Rattle.std.specs.Prelude.{◌≡◌, List, ℤ, ◌+◌, ◌-◌, ◌<◌, ◌^◌, [], ◌∷◌, ◌++◌, take, reverse, length, vec_len, slice_get, IfOk, OnOk, OnErr, MatchOption, IfSome};
+ghost use Rattle.std.specs.List.{All};
+ghost use Rattle.c_tree.specs.Tree.{Code, Done, followed};
+ghost use Rattle.c_tree.specs.View.{front, code, whole};
+ghost use Rattle.c_tree.specs.Value.{IsInt};
+ghost use Rattle.c_tree.specs.Fit.{IsCodeOf, IsPlain};
+ghost use Rattle.c_tree.specs.Run.{step_of, next_of, start_of, run_of, cut_of, AtEnd, IsFit};
+ghost use Rattle.run_meaning.specs.View.{pile, below, standing, progress_of, left_by, end_of, performed, IsWithin};
+
+use crate::evaluation::value;
+use c_tree::{Kind, NoMemory, Numbers, Place, Program, Stmt, copy_list};
+use std::alloc::Global;
+
+/// Where a run stands: the statements still to do, the last one first, the store and the number of inputs taken.
+#[derive(Drop)]
+pub struct State {
+    todo: Vec<Stmt>,
+    store: Vec<i64>,
+    taken: u64,
+}
+
+/// What a step came to.
+#[derive(Clone, Copy, Debug, PartialEq, Eq)]
+pub enum Progress {
+    Moved,
+    Stopped(Place, Kind),
+    Waiting(Place),
+    Ended,
+}
+
+/// How a run of a bounded number of steps ended.
+#[derive(Drop)]
+pub enum RunEnd {
+    At(Place, Numbers),
+    Stopped(Place, Kind),
+    Waiting(Place, Numbers),
+    Ended(Numbers),
+}
+
+/// A program before its first step.
+#[tactic(auto, using(crate::proofs::Stacks::piles))]
+pub fn begin(alloc: Global, program: &Program) -> Result<State, NoMemory>
+    requires { IsFit (start_of (whole program.now)) }
+    ensures start { IfOk result (λ state. standing state ≡ start_of (whole program.now)) }
+{
+    let mut todo = copy_list(alloc, &program.body)?;
+    todo.reverse();
+    let store = Vec::from_slice(alloc, program.start.items())?;
+    Ok(State {
+        todo,
+        store,
+        taken: 0,
+    })
+}
+
+/// One step. Only `Moved` changes the state.
+#[tactic(auto, using(crate::proofs::Fits::fits))]
+pub fn step(alloc: Global, state: &mut State, inputs: &[i64]) -> Result<Progress, NoMemory>
+    requires fit { IsFit (standing state.old) }
+    requires ints { All IsInt inputs.now }
+    ensures progress { IfOk result (λ p. p ≡ progress_of (next_of mode inputs.now (standing state.old))) }
+    ensures left { OnOk result (standing state.new ≡ left_by (next_of mode inputs.now (standing state.old)) (standing state.old)) }
+    ensures err { OnErr result (standing state.new ≡ standing state.old) }
+    ensures fit { IsFit (standing state.new) }
+{
+    let Some(head) = head_of(&state.todo) else {
+        return Ok(Progress::Ended);
+    };
+    let plan = plan_for(alloc, head, &state.store, state.taken, inputs)?;
+    act(state, plan, inputs)
+}
+
+/// At most `n` steps of a program from its start.
+pub fn run(alloc: Global, program: &Program, inputs: &[i64], n: u64) -> Result<RunEnd, NoMemory>
+    requires fit { IsFit (start_of (whole program.now)) }
+    requires ints { All IsInt inputs.now }
+    ensures { IfOk result (λ end. end_of end ≡ run_of (whole program.now) inputs.now n) }
+{
+    let mut state = begin(alloc, program)?;
+    for _i in 0..n {
+        match step(alloc, &mut state, inputs)? {
+            Progress::Moved => {}
+            Progress::Stopped(place, kind) => return Ok(RunEnd::Stopped(place, kind)),
+            Progress::Waiting(place) => return Ok(RunEnd::Waiting(place, store_of(state))),
+            Progress::Ended => return Ok(RunEnd::Ended(store_of(state))),
+        }
+    }
+    Ok(cut(state))
+}
+
+// What a run answers after its last step.
+fn cut(state: State) -> RunEnd
+    requires { IsPlain (standing state).todo }
+    ensures { end_of result ≡ cut_of (standing state).todo (standing state).store }
+{
+    match head_of(&state.todo) {
+        None => RunEnd::Ended(store_of(state)),
+        Some(head) => {
+            let place = place_of(head);
+            RunEnd::At(place, store_of(state))
+        }
+    }
+}
+
+fn store_of(state: State) -> Numbers
+    ensures { result ≡ (standing state).store }
+{
+    let State {
+        todo: _,
+        store,
+        taken: _,
+    } = state;
+    Numbers::from_vec(store)
+}
+
+fn place_of(head: &Stmt) -> Place
+    requires { IsPlain (front head.now Done) }
+    ensures { (rest : Code) (store : List ℤ) → cut_of (front head.now rest) store ≡ AtEnd result store }
+{
+    match head {
+        Stmt::Assign { place, .. }
+        | Stmt::Input { place, .. }
+        | Stmt::Assert { place, .. }
+        | Stmt::If { place, .. }
+        | Stmt::While { place, .. }
+        | Stmt::Block { place, .. }
+        | Stmt::Skip { place } => *place,
+        Stmt::Cond { .. } => unreachable!(),
+    }
+}
+
+// Does what is planned for the first statement.
+fn act(state: &mut State, plan: Plan, inputs: &[i64]) -> Result<Progress, NoMemory>
+    requires { IsWithin (length state.old.store.items) (length inputs.now - state.old.taken) plan }
+    ensures progress { IfOk result (λ p. p ≡ progress_of (performed plan (below state.old.todo.items) (pile state.old.todo.items) state.old.store.items state.old.taken)) }
+    ensures left { OnOk result (standing state.new ≡ left_by (performed plan (below state.old.todo.items) (pile state.old.todo.items) state.old.store.items state.old.taken) (standing state.old)) }
+    ensures err { OnErr result (standing state.new ≡ standing state.old) }
+{
+    match plan {
+        Plan::Set(target, n) => {
+            drop_head(&mut state.todo);
+            state.store[target as usize] = n;
+            Ok(Progress::Moved)
+        }
+        Plan::Take(target, n) => {
+            let _length = inputs.len();
+            drop_head(&mut state.todo);
+            state.store[target as usize] = n;
+            state.taken += 1;
+            Ok(Progress::Moved)
+        }
+        Plan::Pass => {
+            drop_head(&mut state.todo);
+            Ok(Progress::Moved)
+        }
+        Plan::Enter(list) => {
+            replace_head(&mut state.todo, list)?;
+            Ok(Progress::Moved)
+        }
+        Plan::Again(list) => {
+            put_in_front(&mut state.todo, list)?;
+            Ok(Progress::Moved)
+        }
+        Plan::Stop(place, kind) => Ok(Progress::Stopped(place, kind)),
+        Plan::Wait(place) => Ok(Progress::Waiting(place)),
+    }
+}
+
+// What is to be done for the first statement, with the memory that it takes.
+#[derive(Drop)]
+enum Plan {
+    Set(u32, i64),
+    Take(u32, i64),
+    Pass,
+    Enter(Vec<Stmt>),
+    Again(Vec<Stmt>),
+    Stop(Place, Kind),
+    Wait(Place),
+}
+
+fn plan_for(
+    alloc: Global,
+    head: &Stmt,
+    store: &[i64],
+    taken: u64,
+    inputs: &[i64],
+) -> Result<Plan, NoMemory>
+    requires names { IsCodeOf (length store.now) (front head.now Done) }
+    requires plain { IsPlain (front head.now Done) }
+    requires ints { All IsInt store.now }
+    ensures target { IfOk result (IsWithin (length store.now) (length inputs.now - taken)) }
+    ensures does { IfOk result (λ plan. (rest : Code) → step_of mode inputs.now (front head.now rest) store.now taken ≡ performed plan rest (front head.now rest) store.now taken) }
+{
+    match head {
+        Stmt::Assign {
+            place,
+            target,
+            value: e,
+        } => match value(e, store) {
+            Ok(n) => Ok(Plan::Set(*target, n)),
+            Err(kind) => Ok(Plan::Stop(*place, kind)),
+        },
+        Stmt::Input { place, target } => match input_at(inputs, taken) {
+            Some(n) => Ok(Plan::Take(*target, n)),
+            None => Ok(Plan::Wait(*place)),
+        },
+        Stmt::Assert { place, test } => match value(test, store) {
+            Ok(n) => {
+                if n == 0 {
+                    Ok(Plan::Stop(*place, Kind::Assertion))
+                } else {
+                    Ok(Plan::Pass)
+                }
+            }
+            Err(kind) => Ok(Plan::Stop(*place, kind)),
+        },
+        Stmt::If {
+            place,
+            test,
+            yes,
+            no,
+        } => match value(test, store) {
+            Ok(n) => {
+                if n == 0 {
+                    Ok(Plan::Enter(copy_list(alloc, no)?))
+                } else {
+                    Ok(Plan::Enter(copy_list(alloc, yes)?))
+                }
+            }
+            Err(kind) => Ok(Plan::Stop(*place, kind)),
+        },
+        Stmt::While { place, test, body } => match value(test, store) {
+            Ok(n) => {
+                if n == 0 {
+                    Ok(Plan::Pass)
+                } else {
+                    Ok(Plan::Again(copy_list(alloc, body)?))
+                }
+            }
+            Err(kind) => Ok(Plan::Stop(*place, kind)),
+        },
+        Stmt::Block { place: _, body } => Ok(Plan::Enter(copy_list(alloc, body)?)),
+        Stmt::Skip { place: _ } => Ok(Plan::Pass),
+        Stmt::Cond { .. } => unreachable!(),
+    }
+}
+
+fn input_at(inputs: &[i64], taken: u64) -> Option<i64>
+    ensures value { result ≡ slice_get inputs.now taken }
+    ensures there { IfSome result (λ _. taken < length inputs.now) }
+{
+    inputs.get(taken as usize).copied()
+}
+
+// The statement that comes first.
+#[tactic(auto, using(crate::proofs::Stacks::head_is))]
+fn head_of(todo: &Vec<Stmt>) -> Option<&Stmt>
+    ensures { MatchOption result (pile todo.now.items ≡ Done) (λ s. pile todo.now.items ≡ front s.now (below todo.now.items)) }
+{
+    todo.last()
+}
+
+#[tactic(auto, unfolding(crate::specs::View::pile, crate::specs::View::below))]
+fn drop_head(todo: &mut Vec<Stmt>)
+    ensures { pile todo.new.items ≡ below todo.old.items }
+{
+    let _head = todo.pop();
+}
+
+// Puts a list in the place of the first statement.
+#[tactic(auto, using(crate::proofs::Stacks::put), unfolding(crate::specs::View::pile, crate::specs::View::below))]
+fn replace_head(todo: &mut Vec<Stmt>, mut list: Vec<Stmt>) -> Result<(), NoMemory>
+    ensures ok { OnOk result (pile todo.new.items ≡ followed (code list.items) (below todo.old.items)) }
+    ensures err { OnErr result (pile todo.new.items ≡ pile todo.old.items) }
+{
+    todo.reserve(list.len())?;
+    list.reverse();
+    let _head = todo.pop();
+    todo.append(&mut list).unwrap();
+    Ok(())
+}
+
+// Puts a list in front of the first statement.
+#[tactic(auto, using(crate::proofs::Stacks::put), unfolding(crate::specs::View::pile, crate::specs::View::below))]
+fn put_in_front(todo: &mut Vec<Stmt>, mut list: Vec<Stmt>) -> Result<(), NoMemory>
+    ensures ok { OnOk result (pile todo.new.items ≡ followed (code list.items) (pile todo.old.items)) }
+    ensures err { OnErr result (pile todo.new.items ≡ pile todo.old.items) }
+{
+    list.reverse();
+    todo.append(&mut list)?;
+    Ok(())
+}
+
+#[cfg(test)]
+mod tests {
+    use super::*;
+    use c_tree::{Expr, Names, Op, Text};
+    use std::test::Fail;
+
+    // `while (x < 10) x++;` and `assert(x == 10);`
+    fn counting(alloc: Global) -> Result<Program, NoMemory>
+        ensures { IfOk result (λ p. IsFit (start_of (whole p))) }
+    {
+        let x = Box::new(alloc, Expr::Var(0))?;
+        let ten = Box::new(alloc, Expr::Number(10))?;
+        let test = Expr::Binary(Op::Lt, x, ten);
+        let y = Box::new(alloc, Expr::Var(0))?;
+        let one = Box::new(alloc, Expr::Number(1))?;
+        let mut body = Vec::new(alloc);
+        body.push(Stmt::Assign {
+            place: Place {
+                line: 3,
+                column: 16,
+            },
+            target: 0,
+            value: Expr::Binary(Op::Add, y, one),
+        })?;
+        let mut list = Vec::new(alloc);
+        list.push(Stmt::While {
+            place: Place { line: 3, column: 1 },
+            test,
+            body,
+        })?;
+        let names = Names::from_vec(Vec::new(alloc));
+        let mut start = Vec::new(alloc);
+        start.push(0)?;
+        Ok(Program {
+            names,
+            start: Numbers::from_vec(start),
+            body: list,
+            end: Place { line: 5, column: 1 },
+        })
+    }
+
+    #[test]
+    fn runs(rt: HostRuntime) -> Result<(), Fail> {
+        let alloc = rt.alloc();
+        let program = counting(alloc).ok().ok_or("memory")?;
+        match run(alloc, &program, &[], 21).ok().ok_or("memory")? {
+            RunEnd::Ended(store) => assert_eq!(rt; store.items(), [10].as_slice()),
+            _ => assert!(rt; false),
+        }
+        Ok(())
+    }
+}
