@@ -11,7 +11,7 @@ use Rattle.c_tokens.specs.declared.token.Token.{Token}
 use Rattle.c_tokens.specs.declared.token.TokenKind.{TokenKind}
 use Rattle.c_tokens.specs.declared.token.TokenKind.TheVariants as kinds
 use Rattle.c_tokens.specs.Lexemes.{kind_of}
-use Rattle.c_tokens.specs.Places.{place_at, IsEarlier}
+use Rattle.fam_outer.specs.Places.{place_at, IsEarlier}
 use Rattle.c_tokens.specs.Reading.{StandBetween, IsReading, tokens_of}
 use Rattle.c_tree.specs.Whole.{is_before}
 use Rattle.c_parser.specs.declared.items.Sign.{Sign}

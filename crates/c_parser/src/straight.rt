@@ -17,10 +17,10 @@ use crate::items::Item;
 use crate::numbering::number;
 use crate::statements::body;
 use crate::stop::Stop;
-use c_tokens::laws::{literals_are_decimal, places_rise, reads_longest_lexemes};
+use c_tokens::laws::{literals_are_decimal, reads_longest_lexemes};
 use c_tokens::{Token, tokens};
 use c_tree::{Declarations, Names, Program};
-use fam_outer::{FileCode, FileRefusal, Place, Text, Values};
+use fam_outer::{FileCode, FileRefusal, Place, Text, Values, places_rise};
 use std::alloc::Global;
 
 /// The greatest number of bytes of a file.
