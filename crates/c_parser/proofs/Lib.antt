@@ -1,0 +1,9 @@
+pub mod Complete
+pub mod Sound
+pub mod Readings
+pub mod Declaring
+pub mod Summing
+pub mod Names
+pub mod Programs
+pub mod Lexical
+pub mod Parsing

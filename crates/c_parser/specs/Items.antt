@@ -1,0 +1,66 @@
+-- The items of tokens: their signs and places, with the identifiers numbered by their first occurrence.
+use Rattle.std.specs.Prelude.{ℕ, suc, List, [], ◌∷◌, ◌++◌, Option, Some, None, if◌then◌else◌}
+use Rattle.std.specs.Str.{bytes_eq}
+use Rattle.fam_outer.specs.declared.faults.Place.{Place}
+use Rattle.c_tokens.specs.declared.token.Token.{Token}
+use Rattle.c_tokens.specs.declared.token.TokenKind.{TokenKind}
+use Rattle.c_tokens.specs.declared.token.TokenKind.TheVariants as kinds
+use Rattle.c_tokens.specs.Reading.{slice}
+use Rattle.c_parser.specs.declared.items.Item.{Item}
+use Rattle.c_parser.specs.declared.items.Sign.{Sign}
+use Rattle.c_parser.specs.declared.items.Sign.TheVariants as signs
+use Rattle.c_parser.specs.Signs.{is_among, keyword_of, mark_of}
+
+abbrev pub at : Place → Sign → Item
+at p s = record { place = p; sign = s }
+
+-- the number of a name in a list of names, which is their count where it is new
+abbrev pub number_in : List (List ℕ) → List ℕ → ℕ
+number_in [] name = 0
+number_in (n ∷ ns) name = if bytes_eq name n then 0 else suc (number_in ns name)
+
+-- the names, with this one where it is new
+abbrev pub with_name : List (List ℕ) → List ℕ → List (List ℕ)
+with_name names name = if is_among names name then names else names ++ name ∷ []
+
+-- the sign of a word, where these are the names before it
+abbrev pub word_sign : List (List ℕ) → List ℕ → Option Sign → Sign
+word_sign names word (Some keyword) = keyword
+word_sign names word None = signs.Name (number_in names word)
+
+-- the sign of a token
+abbrev pub sign_of : List (List ℕ) → TokenKind → List ℕ → Sign
+sign_of names (kinds.Number n) lexeme = signs.Number n
+sign_of names kinds.Word lexeme = word_sign names lexeme (keyword_of lexeme)
+sign_of names kinds.Mark lexeme = mark_of lexeme
+
+abbrev pub names_with_word : List (List ℕ) → List ℕ → Option Sign → List (List ℕ)
+names_with_word names word (Some keyword) = names
+names_with_word names word None = with_name names word
+
+-- the names after a token
+abbrev pub names_with : List (List ℕ) → TokenKind → List ℕ → List (List ℕ)
+names_with names (kinds.Number n) lexeme = names
+names_with names kinds.Word lexeme = names_with_word names lexeme (keyword_of lexeme)
+names_with names kinds.Mark lexeme = names
+
+-- the bytes of a token
+abbrev pub lexeme_in : List ℕ → Token → List ℕ
+lexeme_in bytes t = slice bytes t.start t.end
+
+-- the items of tokens that stand behind these names
+abbrev pub items_from : List ℕ → List (List ℕ) → List Token → List Item
+items_from bytes names [] = []
+items_from bytes names (t ∷ ts) =
+    at t.place (sign_of names t.kind (lexeme_in bytes t)) ∷ items_from bytes (names_with names t.kind (lexeme_in bytes t)) ts
+
+-- these names and those of the tokens, in the order of their first occurrence
+abbrev pub names_from : List ℕ → List (List ℕ) → List Token → List (List ℕ)
+names_from bytes names [] = names
+names_from bytes names (t ∷ ts) = names_from bytes (names_with names t.kind (lexeme_in bytes t)) ts
+
+abbrev pub items_of : List ℕ → List Token → List Item
+items_of bytes ts = items_from bytes [] ts
+
+abbrev pub names_of : List ℕ → List Token → List (List ℕ)
+names_of bytes ts = names_from bytes [] ts

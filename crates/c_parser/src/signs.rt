@@ -1,0 +1,144 @@
+//! The signs of words and marks.
+#![tactic(auto)]
+
+ghost use Rattle.std.specs.Prelude.{◌≡◌, map};
+ghost use Rattle.std.specs.Str.{bytes_eq};
+ghost use Rattle.c_parser.specs.Signs as tables;
+
+use crate::items::Sign;
+use c_tree::Op;
+
+/// The keywords of C that the subset does not use (ISO/IEC 9899:2011, 6.4.1), and `_Imaginary`.
+const OTHER_KEYWORDS: [&str; 36] = [
+    "auto",
+    "break",
+    "case",
+    "char",
+    "const",
+    "continue",
+    "default",
+    "do",
+    "double",
+    "enum",
+    "float",
+    "for",
+    "goto",
+    "inline",
+    "long",
+    "register",
+    "restrict",
+    "short",
+    "signed",
+    "sizeof",
+    "struct",
+    "switch",
+    "typedef",
+    "union",
+    "unsigned",
+    "volatile",
+    "_Alignas",
+    "_Alignof",
+    "_Atomic",
+    "_Bool",
+    "_Complex",
+    "_Generic",
+    "_Imaginary",
+    "_Noreturn",
+    "_Static_assert",
+    "_Thread_local",
+];
+
+/// The keywords that the subset uses, and the words that it reserves besides.
+const USED_WORDS: [(&str, Sign); 11] = [
+    ("static", Sign::Static),
+    ("int", Sign::Int),
+    ("extern", Sign::Extern),
+    ("input", Sign::Input),
+    ("void", Sign::Void),
+    ("main", Sign::Main),
+    ("return", Sign::Return),
+    ("assert", Sign::Assert),
+    ("if", Sign::If),
+    ("else", Sign::Else),
+    ("while", Sign::While),
+];
+
+/// The marks.
+const MARKS: [(&str, Sign); 25] = [
+    ("(", Sign::Open),
+    (")", Sign::Close),
+    ("{", Sign::LeftBrace),
+    ("}", Sign::RightBrace),
+    (";", Sign::Semicolon),
+    (",", Sign::Comma),
+    ("=", Sign::Equals),
+    ("!", Sign::Bang),
+    ("+", Sign::Oper(Op::Add)),
+    ("-", Sign::Oper(Op::Sub)),
+    ("*", Sign::Oper(Op::Mul)),
+    ("/", Sign::Oper(Op::Div)),
+    ("%", Sign::Oper(Op::Rem)),
+    ("<", Sign::Oper(Op::Lt)),
+    (">", Sign::Oper(Op::Gt)),
+    ("<=", Sign::Oper(Op::Le)),
+    (">=", Sign::Oper(Op::Ge)),
+    ("==", Sign::Oper(Op::Eq)),
+    ("!=", Sign::Oper(Op::Ne)),
+    ("&&", Sign::Oper(Op::And)),
+    ("||", Sign::Oper(Op::Or)),
+    ("++", Sign::PlusPlus),
+    ("--", Sign::MinusMinus),
+    ("+=", Sign::PlusEquals),
+    ("-=", Sign::MinusEquals),
+];
+
+/// Whether the lexeme is this text.
+fn is(lexeme: &[u8], text: &str) -> bool
+    ensures { result ≡ bytes_eq lexeme.now text.now }
+{
+    lexeme == text.as_bytes()
+}
+
+/// Whether a word is one of these.
+fn is_among(words: &[&str], word: &[u8]) -> bool
+    ensures { result ≡ tables.is_among (map (λ w. w.now) words.now) word.now }
+{
+    for other in words {
+        if is(word, *other) {
+            return true;
+        }
+    }
+    false
+}
+
+/// The sign that a table gives a lexeme.
+fn sign_in(table: &[(&str, Sign)], lexeme: &[u8]) -> Option<Sign>
+    ensures { result ≡ tables.sign_in (map (λ entry. (entry.0.now, entry.1)) table.now) lexeme.now }
+{
+    for (text, sign) in table {
+        if is(lexeme, *text) {
+            return Some(*sign);
+        }
+    }
+    None
+}
+
+/// The sign of a reserved word; none for an identifier.
+pub(crate) fn keyword(word: &[u8]) -> Option<Sign>
+    ensures { result ≡ tables.keyword_of word.now }
+{
+    if is_among(&OTHER_KEYWORDS, word) {
+        return Some(Sign::Reserved);
+    }
+    sign_in(&USED_WORDS, word)
+}
+
+/// The sign of a mark; `Reserved` where it is none.
+pub(crate) fn mark(lexeme: &[u8]) -> Sign
+    ensures { result ≡ tables.mark_of lexeme.now }
+{
+    match sign_in(&MARKS, lexeme) {
+        Some(sign) => sign,
+        None => Sign::Reserved,
+    }
+}
