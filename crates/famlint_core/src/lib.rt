@@ -13,5 +13,5 @@ mod words;
 pub use program::famlint;
 pub use steady::famlint_over_steady;
 
-//#[cfg(test)]
-//mod tests;
+#[cfg(test)]
+mod tests;
