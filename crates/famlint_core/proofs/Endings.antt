@@ -1,5 +1,5 @@
 -- What the stages came to ends the program with the answer.
-use Rattle.std.proofs.Common.{◌≡◌, ◌≢◌, ◌≤◌, ℕ, List, subst, sym, arith}
+use Rattle.std.proofs.Common.{◌≡◌, ◌≤◌, ℕ, List, subst, sym, arith}
 use Rattle.std.specs.Prelude.{Option, Result, Ok, Err, IfOk}
 use Rattle.std.specs.Io.KnownBytes.{append_known}
 use Rattle.c_tree.specs.Tree.{Whole}
@@ -13,7 +13,7 @@ use Rattle.famlint_core.specs.declared.words.Role.{Role}
 use Rattle.famlint_core.specs.Endings.{IsEnded, Ends}
 use Rattle.famlint_core.specs.Report.{ReportsStops}
 use Rattle.famlint_core.specs.Stages.{Contents, AreTold, IsTold, Reaches, answer, answer_of}
-use Rattle.famlint_core.specs.Words.{reading, role_of, role_for}
+use Rattle.famlint_core.specs.Words.{reading, role_of, failed_role}
 
 pub Ends-from_reaches : (came : Result Done Stop) (expected : Result Done Fault) (role : Role) (status : ℕ)
     (out out' err err' : Option (List ℕ)) (outs outs' errs errs' : ℕ)
@@ -41,7 +41,7 @@ pub Ends-from_request : (words : List (List ℕ)) (content : List ℕ → Option
     (came : Result Done Stop) (failed : Option (List ℕ)) (role : Role) (status : ℕ) (out out' err err' : Option (List ℕ)) (outs outs' errs errs' : ℕ)
     → reading words ≡ Ok request → (AreTold request content told → Reaches (λ (done : Done). done) (answer_of request told) came)
     → role ≡ role_of request failed → IsEnded came role status out out' err err' outs outs' errs errs'
-    → IsTold words content told → Ends (answer words told) (role_for (reading words) failed) status out out' err err' errs errs'
+    → IsTold words content told → Ends (answer words told) (failed_role words failed) status out out' err err' errs errs'
 Ends-from_request words content told request came failed role status out out' err err' outs outs' errs errs' e reaches role_is ended is_told =
     rw (e, ← role_is) (Ends-from_reaches came _ _ status out out' err err' outs outs' errs errs' (reaches (rw e at is_told)) ended)
 

@@ -1,6 +1,6 @@
 -- Bytes read as one thing, and refusals pass on.
 use Rattle.std.proofs.Common.{◌≡◌, ◌<◌, ℕ, List, length, ap, refl}
-use Rattle.std.specs.Prelude.{Option, Some, Result, Ok, Err, IfSome}
+use Rattle.std.specs.Prelude.{Option, Result, Ok, Err, IfSome}
 use Rattle.c_parser.specs.Reading.{Reads}
 use Rattle.c_parser.proofs.Once.{reads_once, reads_too_long}
 use Rattle.c_tree.specs.Tree.{Whole}

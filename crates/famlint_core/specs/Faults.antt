@@ -1,5 +1,5 @@
 -- The statuses and the lines of faults.
-use Rattle.std.specs.Prelude.{ℕ, List, [], ◌∷◌, ◌++◌, codes}
+use Rattle.std.specs.Prelude.{ℕ, List, ◌++◌, codes}
 use Rattle.std.specs.Fmt.{decimal}
 use Rattle.fam_outer.specs.declared.faults.ConditionFault.{ConditionFault}
 use Rattle.fam_outer.specs.declared.faults.ConditionFault.TheVariants as condition

@@ -1,6 +1,7 @@
 -- What the words ask for.
-use Rattle.std.specs.Prelude.{ℕ, Bool, false, ◌==◌, ◌≡◌, ⊤, List, [], ◌∷◌, codes, if◌then◌else◌, Option, Some, None, Result, Ok, Err}
+use Rattle.std.specs.Prelude.{ℕ, Bool, false, ◌==◌, ◌≡◌, ⊤, List, [], ◌∷◌, codes, map, string_bytes, if◌then◌else◌, Option, Some, None, Result, Ok, Err}
 use Rattle.std.specs.Str.{bytes_eq}
+use Rattle.std.specs.declared.string.String.{String}
 use Rattle.famlint_core.specs.declared.fault.Fault.{Fault}
 use Rattle.famlint_core.specs.declared.fault.Fault.TheVariants.{Usage}
 use Rattle.famlint_core.specs.declared.words.Command.{Command}
@@ -11,6 +12,10 @@ use Rattle.famlint_core.specs.declared.words.Role.{Role}
 use Rattle.famlint_core.specs.declared.words.Role.TheVariants as role
 use Rattle.famlint_core.specs.declared.words.WordsRefusal.{WordsRefusal}
 use Rattle.famlint_core.specs.declared.words.WordsRefusal.TheVariants as refusal
+
+-- the words, each as its bytes
+abbrev pub texts_of : {Z : Type 0} → List (String Z) → List (List ℕ)
+texts_of words = map string_bytes words
 
 -- a word that begins with '-' and is not '-' alone
 abbrev pub is_option : List ℕ → Bool
@@ -51,10 +56,13 @@ ReadsWords expected (Err refusal.NoMemory) = ⊤
 abbrev pub paths_of : Request → List (List ℕ)
 paths_of (request.Plain file) = file ∷ []
 
+abbrev pub paths_for : Result Request Fault → List (List ℕ)
+paths_for (Ok request) = paths_of request
+paths_for (Err fault) = []
+
 -- the paths that the words name
-abbrev pub named_paths : Result Request Fault → List (List ℕ)
-named_paths (Ok request) = paths_of request
-named_paths (Err fault) = []
+abbrev pub named_paths : List (List ℕ) → List (List ℕ)
+named_paths words = paths_for (reading words)
 
 -- what the path of a failed load is to a request
 abbrev pub role_of : Request → Option (List ℕ) → Role
@@ -63,3 +71,7 @@ role_of (request.Plain file) failed = role.File
 abbrev pub role_for : Result Request Fault → Option (List ℕ) → Role
 role_for (Ok request) failed = role_of request failed
 role_for (Err fault) failed = role.File
+
+-- what the path of a failed load is to the words
+abbrev pub failed_role : List (List ℕ) → Option (List ℕ) → Role
+failed_role words failed = role_for (reading words) failed

@@ -1,11 +1,11 @@
 //! The top call.
 #![tactic(auto)]
 
-ghost use Rattle.std.specs.Prelude.{◌≡◌, ◌≢◌, ◌≤◌, ◌⊎◌, ℕ, List, map, string_bytes, IsErr, Ok};
+ghost use Rattle.std.specs.Prelude.{◌≡◌, ◌≢◌, ◌≤◌, ◌⊎◌, ℕ, List, IsErr, Ok};
 ghost use Rattle.std.specs.Io.KnownBytes.{append_known};
 ghost use Rattle.fam_outer.specs.Causes.{Rose};
 ghost use Rattle.c_tree.specs.Tree.{Whole};
-ghost use Rattle.famlint_core.specs.Words.{reading, named_paths, role_for};
+ghost use Rattle.famlint_core.specs.Words.{texts_of, reading, named_paths, failed_role};
 ghost use Rattle.famlint_core.specs.Stages.{Contents, IsTold, IsAccepted, IsOneOf, answer, loads};
 ghost use Rattle.famlint_core.specs.Report.{ReportsStops};
 ghost use Rattle.famlint_core.specs.Endings.{Ends};
@@ -31,26 +31,26 @@ pub fn famlint<F: Files, S: Sink, E: Sink>(
     err: &mut E,
 ) -> u8
     // Where the contents of the paths are told, what they read as and the words decide the status, the output and the line.
-    ensures answer { (told : Contents) → IsTold (map string_bytes words.now) (F.content files.old) told
-        → Ends (answer (map string_bytes words.now) told) (role_for (reading (map string_bytes words.now)) (F.failed files.new)) result
-            (S.written out.old) (S.written out.new) (E.written err.old) (E.written err.new) (E.faults err.old) (E.faults err.new) }
+    ensures answer { (told : Contents) → IsTold (texts_of words.now) (F.content files.old) told
+        → Ends (answer (texts_of words.now) told) (failed_role (texts_of words.now) (F.failed files.new)) result
+        (S.written out.old) (S.written out.new) (E.written err.old) (E.written err.new) (E.faults err.old) (E.faults err.new) }
     // Each stop of each run of an accepted program is printed.
-    ensures stops { (told : Contents) → IsTold (map string_bytes words.now) (F.content files.old) told
+    ensures stops { (told : Contents) → IsTold (texts_of words.now) (F.content files.old) told
         → (p : Whole) → told.file ≡ Ok p → result ≤ 1
         → (text : List ℕ) × (S.written out.new ≡ append_known (S.written out.old) text) × ReportsStops p text }
     // What is accepted is answered, unless memory runs out, a load fails or a write fails.
-    ensures complete { (told : Contents) → IsTold (map string_bytes words.now) (F.content files.old) told
-        → IsAccepted (map string_bytes words.now) told
+    ensures complete { (told : Contents) → IsTold (texts_of words.now) (F.content files.old) told
+        → IsAccepted (texts_of words.now) told
         → ¬ Rose (F.faults files.old) (F.faults files.new) → ¬ Rose (S.faults out.old) (S.faults out.new)
         → (result ≤ 1) ⊎ (result ≡ 8) }
     // A refusal of what was loaded earlier comes before a failed load.
-    ensures order { (told : Contents) → IsTold (map string_bytes words.now) (F.content files.old) told
-        → result ≡ 6 → IsOneOf (F.failed files.new) (loads (map string_bytes words.now) told) }
+    ensures order { (told : Contents) → IsTold (texts_of words.now) (F.content files.old) told
+        → result ≡ 6 → IsOneOf (F.failed files.new) (loads (texts_of words.now) told) }
     ensures known { result ≤ 9 }
-    ensures usage { result ≡ 2 → IsErr (reading (map string_bytes words.now)) }
-    ensures refused { IsErr (reading (map string_bytes words.now)) → (result ≡ 2) ⊎ (result ≡ 8) }
+    ensures usage { result ≡ 2 → IsErr (reading (texts_of words.now)) }
+    ensures refused { IsErr (reading (texts_of words.now)) → (result ≡ 2) ⊎ (result ≡ 8) }
     ensures read { result ≡ 6 → Rose (F.faults files.old) (F.faults files.new) }
-    ensures path { result ≡ 6 → IsOneOf (F.failed files.new) (named_paths (reading (map string_bytes words.now))) }
+    ensures path { result ≡ 6 → IsOneOf (F.failed files.new) (named_paths (texts_of words.now)) }
     ensures write { result ≡ 7 → Rose (S.faults out.old) (S.faults out.new) }
     ensures quiet { 2 ≤ result → result ≢ 7 → S.written out.new ≡ S.written out.old }
     ensures silent { result ≤ 1 → E.written err.new ≡ E.written err.old }
@@ -58,7 +58,13 @@ pub fn famlint<F: Files, S: Sink, E: Sink>(
     match read_words(alloc, words) {
         Err(WordsRefusal::NoMemory) => end(alloc, &Err(Stop::NoMemory), Role::File, out, err),
         Err(WordsRefusal::Usage) => {
-            end(alloc, &Err(Stop::Refused(Fault::Usage)), Role::File, out, err)
+            end(
+                alloc,
+                &Err(Stop::Refused(Fault::Usage)),
+                Role::File,
+                out,
+                err,
+            )
         }
         Ok(request) => {
             let came = run(alloc, &request, files);

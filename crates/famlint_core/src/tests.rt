@@ -33,7 +33,9 @@ fn ample_sink(alloc: Global) -> Result<MemorySink, NoMemory> {
 }
 
 const ROW_1: &[u8] = b"int main(void) { }\n";
-const USAGE: &[u8] = b"usage: famlint plain FILE, project MODEL FILE SETTINGS, variant MODEL FILE SETTINGS, run MODEL FILE SETTINGS, analyse MODEL FILE, invariants MODEL FILE, generate NUMBER, certify MODEL FILE, check MODEL FILE CERTIFICATE, advise MODEL FILE SETTINGS, features MODEL\n";
+
+const USAGE: &[u8] =
+    b"usage: famlint plain FILE, project MODEL FILE SETTINGS, variant MODEL FILE SETTINGS, run MODEL FILE SETTINGS, analyse MODEL FILE, invariants MODEL FILE, generate NUMBER, certify MODEL FILE, check MODEL FILE CERTIFICATE, advise MODEL FILE SETTINGS, features MODEL\n";
 
 #[test]
 fn refuses(rt: HostRuntime) -> Result<(), Fail> {
@@ -51,7 +53,12 @@ fn refuses(rt: HostRuntime) -> Result<(), Fail> {
         ("plain f --delay 17", ROW_1, 2, USAGE),
         ("plain g", ROW_1, 6, b"read fault: file\n".as_slice()),
         ("plain f", stray, 4, b"file: F10 at 1:1\n".as_slice()),
-        ("plain f", empty_statement, 4, b"file: F12 at 1:1\n".as_slice()),
+        (
+            "plain f",
+            empty_statement,
+            4,
+            b"file: F12 at 1:1\n".as_slice(),
+        ),
     ];
     for (line, content, status, fault) in cases {
         let words = words_of(alloc, line)?;
@@ -85,7 +92,8 @@ fn refuses_a_long_file(rt: HostRuntime) -> Result<(), Fail> {
 fn reports(rt: HostRuntime) -> Result<(), Fail> {
     let alloc = rt.alloc();
     let overflow: &[u8] = b"int x = 2147483647;\nint main(void) {\nx = x + 1;\nassert(x < 0);\n}\n";
-    let assertion: &[u8] = b"int x = 3;\nint main(void) {\nx = x - 5;\nassert(x >= 0);\nx = 1;\n}\n";
+    let assertion: &[u8] =
+        b"int x = 3;\nint main(void) {\nx = x - 5;\nassert(x >= 0);\nx = 1;\n}\n";
     let cases = [
         ("f", ROW_1, 0, b"alarms: 0\n".as_slice()),
         ("-", ROW_1, 0, b"alarms: 0\n".as_slice()),
@@ -93,7 +101,10 @@ fn reports(rt: HostRuntime) -> Result<(), Fail> {
         ("f", assertion, 1, b"4:1: assertion\nalarms: 1\n".as_slice()),
     ];
     for (path, content, status, report) in cases {
-        let words = vec![in alloc; String::from_str(alloc, "plain")?, String::from_str(alloc, path)?]?;
+        let words = vec![in alloc;
+            String::from_str(alloc, "plain")?,
+            String::from_str(alloc, path)?,
+        ]?;
         let mut files = one_file(alloc, path, content)?;
         let mut out = ample_sink(alloc)?;
         let mut err = ample_sink(alloc)?;

@@ -2,8 +2,8 @@
 #![tactic(auto)]
 
 ghost use Rattle.std.specs.Option.{option_copied};
-ghost use Rattle.std.specs.Prelude.{◌≡◌, map, string_bytes, IfOk, IsTrue, ◌↔◌};
-ghost use Rattle.famlint_core.specs.Words.{reading, is_option as begins_with_dash, command_of as named, request_of as asked, plain_request as asked_plain, role_of, ReadsWords};
+ghost use Rattle.std.specs.Prelude.{◌≡◌, IfOk};
+ghost use Rattle.famlint_core.specs.Words.{texts_of, reading, is_option as begins_with_dash, command_of as named, request_of as asked, plain_request as asked_plain, role_of, ReadsWords};
 
 use fam_outer::{NoMemory, Text};
 use std::alloc::Global;
@@ -122,7 +122,7 @@ fn plain_request(alloc: Global, file: &str) -> Result<Request, WordsRefusal>
 
 /// What a command asks for with these words.
 fn request_of(alloc: Global, command: Command, words: &[String]) -> Result<Request, WordsRefusal>
-    ensures { ReadsWords (asked command (map string_bytes words.now)) result }
+    ensures { ReadsWords (asked command (texts_of words.now)) result }
 {
     match (command, words) {
         (Command::Plain, [file]) => plain_request(alloc, file.as_str()),
@@ -132,7 +132,7 @@ fn request_of(alloc: Global, command: Command, words: &[String]) -> Result<Reque
 
 /// What the words ask for.
 pub fn read_words(alloc: Global, words: &[String]) -> Result<Request, WordsRefusal>
-    ensures { ReadsWords (reading (map string_bytes words.now)) result }
+    ensures { ReadsWords (reading (texts_of words.now)) result }
 {
     match words {
         [] => Err(WordsRefusal::Usage),

@@ -10,7 +10,6 @@ ghost use Rattle.plain_analysis.specs.Straight.{alarms_of};
 pub mod alarms;
 
 pub use alarms::{Alarm, Alarms};
-
 use c_tree::Program;
 use fam_outer::NoMemory;
 use std::alloc::Global;
