@@ -22,6 +22,7 @@ abbrev pub output_of : Result Done Fault → List ℕ
 output_of (Ok done) = done.text
 output_of (Err fault) = []
 
+-- the line of the fault of an answer
 abbrev pub fault_line : Result Done Fault → List ℕ
 fault_line (Ok done) = []
 fault_line (Err fault) = line_of fault
@@ -43,17 +44,20 @@ pub record Ends (answer : Result Done Fault) (failed : Role) (status : ℕ) (out
 
 -- ---- by what the stages came to
 
+-- the answer that was reached; where a load failed or memory ran out, any answer serves
 abbrev pub answer_at : Result Done Stop → Result Done Fault
 answer_at (Ok done) = Ok done
 answer_at (Err (stop.Refused fault)) = Err fault
 answer_at (Err stop.ReadFault) = Err Usage
 answer_at (Err stop.NoMemory) = Err Usage
 
+-- the status after a failed load, and after want of memory
 abbrev pub HasFixedStatus : Result Done Stop → ℕ → Type 0
 HasFixedStatus (Err stop.ReadFault) status = status ≡ 6
 HasFixedStatus (Err stop.NoMemory) status = status ≡ 8
 HasFixedStatus other status = ⊤
 
+-- the run ended with what the stages came to
 pub record IsEnded (came : Result Done Stop) (failed : Role) (status : ℕ) (out out' err err' : Option (List ℕ)) (outs outs' errs errs' : ℕ) : Type 0 where
   pub known : status ≤ 9
   pub fixed : HasFixedStatus came status

@@ -26,6 +26,7 @@ pub record IsFileTold (path : List ℕ) (content : List ℕ → Option (List ℕ
   pub content_is : content path ≡ Some bytes
   pub reads : Reads bytes file
 
+-- the contents of the paths of a request are told, and read as these
 abbrev pub AreTold : Request → (List ℕ → Option (List ℕ)) → Contents → Type 0
 AreTold (Plain file) content told = IsFileTold file content told.file
 
@@ -97,9 +98,11 @@ plain_done p = record { text = variant_text (alarms_of p); has_alarms = some_ala
 
 -- ---- the commands
 
+-- `plain FILE`
 abbrev pub plain_answer : Contents → Result Done Fault
 plain_answer told = and_then (file_stage told.file) (λ p. Ok (plain_done p))
 
+-- the answer to a request
 abbrev pub answer_of : Request → Contents → Result Done Fault
 answer_of (Plain file) told = plain_answer told
 
@@ -119,8 +122,21 @@ AcceptedFor (Err fault) told = ⊥
 abbrev pub IsAccepted : List (List ℕ) → Contents → Type 0
 IsAccepted words told = AcceptedFor (reading words) told
 
+-- a request is for the report on this program
+abbrev pub ReportsOn : Request → Contents → Whole → Type 0
+ReportsOn (Plain file) told p = told.file ≡ Ok p
+
+abbrev pub ReportFor : Result Request Fault → Contents → Whole → Type 0
+ReportFor (Ok request) told p = ReportsOn request told p
+ReportFor (Err fault) told p = ⊥
+
+-- the words ask for the report on this program, which was read
+abbrev pub IsReportOn : List (List ℕ) → Contents → Whole → Type 0
+IsReportOn words told p = ReportFor (reading words) told p
+
 -- ---- the loads, in their order, as far as they go
 
+-- the paths that are loaded for a request
 abbrev pub loads_of : Request → Contents → List (List ℕ)
 loads_of (Plain file) told = file ∷ []
 

@@ -37,6 +37,7 @@ request_of command.Plain [] = Err Usage
 request_of command.Plain (file ∷ []) = plain_request file
 request_of command.Plain (file ∷ more ∷ words) = Err Usage
 
+-- what the words after the first ask for, where that is the name of this command, or of none
 abbrev pub request_by : Option Command → List (List ℕ) → Result Request Fault
 request_by (Some given) words = request_of given words
 request_by None words = Err Usage

@@ -4,7 +4,7 @@
 ghost use Rattle.std.specs.Prelude.{◌≡◌, List, ℕ, [], ◌∷◌, IfOk, Ok};
 ghost use Rattle.c_tree.specs.Tree.{Whole};
 ghost use Rattle.famlint_core.specs.Report.{ReportsStops};
-ghost use Rattle.famlint_core.specs.Stages.{Contents, AreTold, IsFileTold, Reaches, IsReadFault, IsReadOf, IsOneOf, loads_of, answer_of, plain_answer, plain_done};
+ghost use Rattle.famlint_core.specs.Stages.{Contents, AreTold, IsFileTold, Reaches, IsReadFault, IsReadOf, IsOneOf, ReportsOn, loads_of, answer_of, plain_answer, plain_done};
 ghost use Rattle.famlint_core.specs.Words.{paths_of};
 ghost use Rattle.c_tree.specs.View.{whole};
 ghost use Rattle.c_tree.specs.Whole.{IsProgram, IsPlainProgram};
@@ -49,7 +49,7 @@ fn plain<F: Files>(alloc: Global, file: &str, files: &mut F) -> Result<Done, Sto
 /// Does what the words ask for.
 pub fn run<F: Files>(alloc: Global, request: &Request, files: &mut F) -> Result<Done, Stop>
     ensures answer { (told : Contents) → AreTold request.now (F.content files.old) told → Reaches (λ done. done) (answer_of request.now told) result }
-    ensures stops { (told : Contents) → AreTold request.now (F.content files.old) told → (p : Whole) → told.file ≡ Ok p
+    ensures stops { (told : Contents) → AreTold request.now (F.content files.old) told → (p : Whole) → ReportsOn request.now told p
         → IfOk result (λ done. ReportsStops p done.text) }
     ensures order { (told : Contents) → AreTold request.now (F.content files.old) told
         → IsReadFault result → IsOneOf (F.failed files.new) (loads_of request.now told) }

@@ -1,12 +1,12 @@
 //! The top call.
 #![tactic(auto)]
 
-ghost use Rattle.std.specs.Prelude.{◌≡◌, ◌≢◌, ◌≤◌, ◌⊎◌, ℕ, List, IsErr, Ok};
+ghost use Rattle.std.specs.Prelude.{◌≡◌, ◌≢◌, ◌≤◌, ◌⊎◌, ℕ, List, IsErr};
 ghost use Rattle.std.specs.Io.KnownBytes.{append_known};
 ghost use Rattle.fam_outer.specs.Causes.{Rose};
 ghost use Rattle.c_tree.specs.Tree.{Whole};
 ghost use Rattle.famlint_core.specs.Words.{texts_of, reading, named_paths, failed_role};
-ghost use Rattle.famlint_core.specs.Stages.{Contents, IsTold, IsAccepted, IsOneOf, answer, loads};
+ghost use Rattle.famlint_core.specs.Stages.{Contents, IsTold, IsAccepted, IsReportOn, IsOneOf, answer, loads};
 ghost use Rattle.famlint_core.specs.Report.{ReportsStops};
 ghost use Rattle.famlint_core.specs.Endings.{Ends};
 
@@ -36,7 +36,7 @@ pub fn famlint<F: Files, S: Sink, E: Sink>(
         (S.written out.old) (S.written out.new) (E.written err.old) (E.written err.new) (E.faults err.old) (E.faults err.new) }
     // Each stop of each run of an accepted program is printed.
     ensures stops { (told : Contents) → IsTold (texts_of words.now) (F.content files.old) told
-        → (p : Whole) → told.file ≡ Ok p → result ≤ 1
+        → (p : Whole) → IsReportOn (texts_of words.now) told p → result ≤ 1
         → (text : List ℕ) × (S.written out.new ≡ append_known (S.written out.old) text) × ReportsStops p text }
     // What is accepted is answered, unless memory runs out, a load fails or a write fails.
     ensures complete { (told : Contents) → IsTold (texts_of words.now) (F.content files.old) told
