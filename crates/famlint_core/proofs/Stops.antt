@@ -4,7 +4,7 @@ use Rattle.c_tree.specs.Tree.{Whole}
 use Rattle.c_tree.specs.Whole.{IsProgram}
 use Rattle.c_tree.specs.Straight.{IsStraight}
 use Rattle.plain_analysis.specs.Straight.{alarms_of}
-use Rattle.plain_analysis.proofs.Stops.{stops_are_listed}
+use Rattle.plain_analysis.proofs.Runs.{stops_are_listed}
 use Rattle.famlint_core.specs.Report.{variant_text, ReportsStops}
 
 -- the report on a program reports the stops of its runs

@@ -7,7 +7,7 @@ use Rattle.c_tree.specs.declared.tree.Mode.TheVariants.{Stop}
 use Rattle.c_tree.specs.Tree.{Whole}
 use Rattle.c_tree.specs.Run.{run_of, StoppedEnd}
 use Rattle.fam_outer.specs.declared.faults.Place.{Place}
-use Rattle.plain_analysis.specs.declared.alarms.Alarm.{Alarm}
+use Rattle.plain_analysis.specs.declared.alarm.Alarm.{Alarm}
 use Rattle.famlint_core.specs.Faults.{place_text}
 
 abbrev pub kind_text : Kind → List ℕ
