@@ -1,0 +1,69 @@
+-- How the program ends.
+use Rattle.std.specs.Prelude.{ℕ, false, ◌≡◌, ◌≢◌, ◌≤◌, ◌==◌, ⊤, List, [], if◌then◌else◌, Option, Result, Ok, Err}
+use Rattle.std.specs.Io.KnownBytes.{append_known}
+use Rattle.fam_outer.specs.Causes.{Rose}
+use Rattle.fam_outer.specs.Writing.{Delivers, Reports}
+use Rattle.famlint_core.specs.declared.fault.Done.{Done}
+use Rattle.famlint_core.specs.declared.fault.Fault.{Fault}
+use Rattle.famlint_core.specs.declared.fault.Fault.TheVariants.{Usage}
+use Rattle.famlint_core.specs.declared.fault.Stop.{Stop}
+use Rattle.famlint_core.specs.declared.fault.Stop.TheVariants as stop
+use Rattle.famlint_core.specs.declared.words.Role.{Role}
+use Rattle.famlint_core.specs.Faults.{status_of, line_of, read_fault_line, write_fault_line, memory_line}
+use Rattle.famlint_core.specs.Stages.{IsUsage, IsReadFault}
+
+-- the status of an answer
+abbrev pub status_at : Result Done Fault → ℕ
+status_at (Ok done) = if done.has_alarms then 1 else 0
+status_at (Err fault) = status_of fault
+
+-- the output of an answer
+abbrev pub output_of : Result Done Fault → List ℕ
+output_of (Ok done) = done.text
+output_of (Err fault) = []
+
+-- the line of the fault of an answer
+abbrev pub fault_line : Result Done Fault → List ℕ
+fault_line (Ok done) = []
+fault_line (Err fault) = line_of fault
+
+-- the line for `err` at a status from 2 on
+abbrev pub line_at : ℕ → Role → Result Done Fault → List ℕ
+line_at status failed answer =
+    if status == 6 then read_fault_line failed
+    else (if status == 7 then write_fault_line
+    else (if status == 8 then memory_line else fault_line answer))
+
+-- the run ended with this answer, but for a failed load, a failed write and want of memory: the status is the answer's, the
+-- whole output was appended at 0 and 1 and a prefix of it that is not all at 7, and at 2 to 9 the fault's line was written
+pub record Ends (answer : Result Done Fault) (failed : Role) (status : ℕ) (out out' err err' : Option (List ℕ)) (errs errs' : ℕ) : Type 0 where
+  pub exact : status ≢ 6 → status ≢ 7 → status ≢ 8 → status ≡ status_at answer
+  pub whole : status ≤ 1 → out' ≡ append_known out (output_of answer)
+  pub part : status ≡ 7 → Delivers out out' (output_of answer) false
+  pub line : 2 ≤ status → Reports err err' (line_at status failed answer) errs errs'
+
+-- ---- by what the stages came to
+
+-- the answer that was reached; where a load failed or memory ran out, any answer serves
+abbrev pub answer_at : Result Done Stop → Result Done Fault
+answer_at (Ok done) = Ok done
+answer_at (Err (stop.Refused fault)) = Err fault
+answer_at (Err stop.ReadFault) = Err Usage
+answer_at (Err stop.NoMemory) = Err Usage
+
+-- the status after a failed load, and after want of memory
+abbrev pub HasFixedStatus : Result Done Stop → ℕ → Type 0
+HasFixedStatus (Err stop.ReadFault) status = status ≡ 6
+HasFixedStatus (Err stop.NoMemory) status = status ≡ 8
+HasFixedStatus other status = ⊤
+
+-- the run ended with what the stages came to
+pub record IsEnded (came : Result Done Stop) (failed : Role) (status : ℕ) (out out' err err' : Option (List ℕ)) (outs outs' errs errs' : ℕ) : Type 0 where
+  pub known : status ≤ 9
+  pub fixed : HasFixedStatus came status
+  pub read : status ≡ 6 → IsReadFault came
+  pub usage : status ≡ 2 → IsUsage came
+  pub ends : Ends (answer_at came) failed status out out' err err' errs errs'
+  pub write : status ≡ 7 → Rose outs outs'
+  pub quiet : 2 ≤ status → status ≢ 7 → out' ≡ out
+  pub silent : status ≤ 1 → err' ≡ err

@@ -1,0 +1,5 @@
+pub mod Endings
+pub mod Faults
+pub mod Report
+pub mod Stages
+pub mod Words

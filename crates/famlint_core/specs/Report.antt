@@ -1,0 +1,37 @@
+-- The report on one program, and the stops of its runs.
+use Rattle.std.specs.Prelude.{ℕ, ℤ, Bool, ◌≡◌, List, ◌++◌, codes, length, nat_lt, flat_map, Contains}
+use Rattle.std.specs.Fmt.{decimal}
+use Rattle.c_tree.specs.declared.tree.Kind.{Kind}
+use Rattle.c_tree.specs.declared.tree.Kind.TheVariants.{Overflow, ZeroDivisor, Assertion}
+use Rattle.c_tree.specs.declared.tree.Mode.TheVariants.{Stop}
+use Rattle.c_tree.specs.Tree.{Whole}
+use Rattle.c_tree.specs.Run.{run_of, StoppedEnd}
+use Rattle.fam_outer.specs.declared.faults.Place.{Place}
+use Rattle.plain_analysis.specs.declared.alarm.Alarm.{Alarm}
+use Rattle.famlint_core.specs.Faults.{place_text}
+
+abbrev pub kind_text : Kind → List ℕ
+kind_text Overflow = codes "overflow"
+kind_text ZeroDivisor = codes "zero-divisor"
+kind_text Assertion = codes "assertion"
+
+-- an alarm's line
+abbrev pub alarm_line : Alarm → List ℕ
+alarm_line alarm = place_text alarm.place ++ codes ": " ++ kind_text alarm.kind ++ codes "\n"
+
+-- the lines of the alarms, and how many they are
+abbrev pub variant_text : List Alarm → List ℕ
+variant_text alarms = flat_map alarm_line alarms ++ codes "alarms: " ++ decimal (length alarms) ++ codes "\n"
+
+-- there is an alarm
+abbrev pub some_alarm : List Alarm → Bool
+some_alarm alarms = nat_lt 0 (length alarms)
+
+-- each stop of each run of the program is listed
+abbrev pub HasStops : Whole → List Alarm → Type 0
+HasStops p alarms = (inputs : List ℤ) (n : ℕ) (place : Place) (kind : Kind)
+    → run_of p inputs n Stop ≡ StoppedEnd place kind → Contains alarms (record { place = place; kind = kind })
+
+-- the text reports a list of alarms, in which each stop of each run of the program is listed
+abbrev pub ReportsStops : Whole → List ℕ → Type 0
+ReportsStops p text = (alarms : List Alarm) × (text ≡ variant_text alarms) × HasStops p alarms

@@ -1,0 +1,17 @@
+//! The program: words, loads, work and answers.
+#![tactic(auto)]
+
+mod commands;
+mod ends;
+mod fault;
+mod program;
+mod report;
+mod stages;
+mod steady;
+mod words;
+
+pub use program::famlint;
+pub use steady::famlint_over_steady;
+
+#[cfg(test)]
+mod tests;

@@ -1,0 +1,44 @@
+//! The report on one program.
+#![tactic(auto)]
+
+ghost use Rattle.std.specs.Prelude.{◌≡◌, ◌++◌, string_bytes, IfOk};
+ghost use Rattle.famlint_core.specs.Report.{kind_text as text_of_kind, alarm_line, variant_text};
+
+use c_tree::Kind;
+use fam_outer::{NoMemory, Text};
+use plain_analysis::Alarm;
+use std::alloc::Global;
+
+fn kind_text(kind: Kind) -> &'static str
+    ensures { result.now ≡ text_of_kind kind }
+{
+    match kind {
+        Kind::Overflow => "overflow",
+        Kind::ZeroDivisor => "zero-divisor",
+        Kind::Assertion => "assertion",
+    }
+}
+
+/// Adds the line of an alarm.
+fn push_alarm(text: &mut String, alarm: &Alarm) -> Result<(), NoMemory>
+    ensures { IfOk result (λ _. string_bytes text.new ≡ string_bytes text.old ++ alarm_line alarm.now) }
+{
+    let kind = kind_text(alarm.kind);
+    let line = alarm.place.line;
+    let column = alarm.place.column;
+    write!(text, "{line}:{column}: {kind}\n")?;
+    Ok(())
+}
+
+/// The lines of the alarms, and how many they are.
+pub fn report(alloc: Global, alarms: &[Alarm]) -> Result<Text, NoMemory>
+    ensures { IfOk result (λ text. text ≡ variant_text alarms.now) }
+{
+    let mut text = String::new(alloc);
+    for alarm in alarms {
+        push_alarm(&mut text, alarm)?;
+    }
+    let count = alarms.len();
+    write!(text, "alarms: {count}\n")?;
+    Ok(Text::from_vec(text.into_bytes()))
+}

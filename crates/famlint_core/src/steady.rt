@@ -1,0 +1,29 @@
+//! The program where nothing outside fails.
+#![tactic(auto)]
+
+ghost use Rattle.std.specs.Prelude.{◌≡◌, ◌≢◌, [], unwrap_or};
+ghost use Rattle.fam_outer.specs.Memory.{entry_of};
+ghost use Rattle.famlint_core.specs.Words.{texts_of};
+ghost use Rattle.famlint_core.specs.Stages.{Contents, IsTold, answer};
+ghost use Rattle.famlint_core.specs.Endings.{status_at};
+
+use crate::program::famlint;
+use fam_outer::{SteadyFiles, SteadySink};
+use std::alloc::Global;
+
+/// The program over steady files and steady sinks. No load and no write fails there, so the words
+/// and the files decide the status, but for want of memory.
+pub fn famlint_over_steady(
+    alloc: Global,
+    words: &[String],
+    files: &mut SteadyFiles,
+    out: &mut SteadySink,
+    err: &mut SteadySink,
+) -> u8
+    ensures exact { (told : Contents) → IsTold (texts_of words.now) (λ path. Some (unwrap_or (entry_of files.old.entries path) [])) told
+        → result ≢ 8 → result ≡ status_at (answer (texts_of words.now) told) }
+    ensures read { result ≢ 6 }
+    ensures write { result ≢ 7 }
+{
+    famlint(alloc, words, files, out, err)
+}
