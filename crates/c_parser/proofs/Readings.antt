@@ -1,5 +1,5 @@
 -- A file has one reading.
-use Rattle.std.proofs.Common.{◌≡◌, ℕ, ◌≤◌, ◌⊎◌, List, [], length, Option, Some, None, Result, Ok, Err, refl, sym, ap, subst, ◌∙◌, arith, inl, inr}
+use Rattle.std.proofs.Common.{◌<◌, ◌≡◌, ℕ, ◌≤◌, ◌⊎◌, List, [], length, Option, Some, None, Result, Ok, Err, refl, sym, ap, subst, ◌∙◌, arith, inl, inr}
 use Rattle.std.proofs.lemmas.Bool.{cases_lt}
 use Rattle.fam_outer.specs.declared.faults.Place.{Place}
 use Rattle.fam_outer.specs.declared.faults.FileCode.{FileCode}
@@ -104,3 +104,7 @@ reads_any bytes = elim (cases_lt limit (length bytes)) [
   | inl long ↦ (Err (TooLong, file_place), inl (record { longer = long; is = refl }))
   | inr short ↦ by_tokens bytes (omega arith) (tokens_of bytes) refl
 ]
+
+-- a file of more bytes is refused whole
+pub reads_too_long : (bytes : List ℕ) → limit < length bytes → Reads bytes (Err (TooLong, file_place))
+reads_too_long bytes h = inl (record { longer = h; is = refl })

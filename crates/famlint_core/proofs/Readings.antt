@@ -2,7 +2,7 @@
 use Rattle.std.proofs.Common.{◌≡◌, ◌<◌, ℕ, List, length, ap, refl}
 use Rattle.std.specs.Prelude.{Option, Result, Ok, Err, IfSome}
 use Rattle.c_parser.specs.Reading.{Reads}
-use Rattle.c_parser.proofs.Once.{reads_once, reads_too_long}
+use Rattle.c_parser.proofs.Readings.{reads_once, reads_too_long}
 use Rattle.c_tree.specs.Tree.{Whole}
 use Rattle.fam_outer.specs.declared.faults.FileCode.{FileCode}
 use Rattle.fam_outer.specs.declared.faults.FileCode.TheVariants.{TooLong}
