@@ -1,0 +1,82 @@
+-- The stores that meet a matrix have values within `int`, and the matrix of the type's bounds is met by all of these.
+use Rattle.std.proofs.Common.{◌≡◌, ◌≢◌, ◌⊎◌, inl, inr, ℕ, ℤ, pos, neg_ℤ, ◌+ℤ◌, ◌-ℤ◌, ◌≤ℤ◌, ◌+◌, ◌*◌, ◌/◌, ◌%◌, ◌<◌, arith, ◌∙◌, ap, sym, subst, refl, Bool, true, false, nat_eq, if◌then◌else◌, List}
+use Rattle.std.proofs.lemmas.Int.{ints}
+use Rattle.std.proofs.lemmas.Bool.Decides.{eqb_tells}
+use Rattle.octagon_matrix.specs.Terms.{int_least, int_greatest, least_value, greatest_value, type_bound}
+use Rattle.octagon_matrix.specs.Matrices.{MatrixValue, entry_of, IsMatrix, HasEntries}
+use Rattle.octagon_matrix.specs.Stores.{value_at, term_value, IsStore, Holds}
+use Rattle.octagon_matrix.proofs.Terms.{type_bound-apart, type_bound-least}
+
+-- ---- the two terms of a variable
+plus-value : (s : List ℤ) (x : ℕ) → term_value s (2 * x) ≡ value_at s x
+plus-value s x = let e : 2 * x % 2 ≡ 0 = omega arith in let f : 2 * x / 2 ≡ x = omega arith in rw (e, f) refl
+
+minus-value : (s : List ℤ) (x : ℕ) → term_value s (2 * x + 1) ≡ neg_ℤ (value_at s x)
+minus-value s x = let e : (2 * x + 1) % 2 ≡ 1 = omega arith in let f : (2 * x + 1) / 2 ≡ x = omega arith in rw (e, f) refl
+
+plus-greatest : (x : ℕ) → greatest_value (2 * x) ≡ int_greatest
+plus-greatest x = let e : 2 * x % 2 ≡ 0 = omega arith in rw (e) refl
+
+plus-least : (x : ℕ) → least_value (2 * x) ≡ int_least
+plus-least x = let e : 2 * x % 2 ≡ 0 = omega arith in rw (e) refl
+
+minus-greatest : (x : ℕ) → greatest_value (2 * x + 1) ≡ neg_ℤ int_least
+minus-greatest x = let e : (2 * x + 1) % 2 ≡ 1 = omega arith in rw (e) refl
+
+minus-least : (x : ℕ) → least_value (2 * x + 1) ≡ neg_ℤ int_greatest
+minus-least x = let e : (2 * x + 1) % 2 ≡ 1 = omega arith in rw (e) refl
+
+doubled-most : (x p q e t g l : ℤ) → (p -ℤ q) ≤ℤ e → p ≡ x → q ≡ neg_ℤ x → e ≤ℤ t → t ≡ g -ℤ l → g ≡ int_greatest → l ≡ neg_ℤ int_greatest → x ≤ℤ int_greatest
+doubled-most x p q e t g l h i j k u v w = omega (arith, ints)
+
+doubled-least : (x p q e t g l : ℤ) → (q -ℤ p) ≤ℤ e → p ≡ x → q ≡ neg_ℤ x → e ≤ℤ t → t ≡ g -ℤ l → g ≡ neg_ℤ int_least → l ≡ int_least → int_least ≤ℤ x
+doubled-least x p q e t g l h i j k u v w = omega (arith, ints)
+
+-- the entries between the two terms of a variable keep its value within `int`
+pub holds-store : (m : MatrixValue) (s : List ℤ) → IsMatrix m → Holds m s → IsStore m.variables s
+holds-store m s k o = record {
+  size = o.size;
+  least = λ x h.
+      let i : 2 * x < 2 * m.variables = omega arith in
+      let j : 2 * x + 1 < 2 * m.variables = omega arith in
+      let d : 2 * x + 1 ≢ 2 * x = omega arith in
+      doubled-least (value_at s x) (term_value s (2 * x)) (term_value s (2 * x + 1)) (entry_of m (2 * x + 1) (2 * x)) (type_bound (2 * x + 1) (2 * x)) (greatest_value (2 * x + 1)) (least_value (2 * x))
+      (o.bounds (2 * x + 1) (2 * x) j i) (plus-value s x) (minus-value s x) (k.most (2 * x + 1) (2 * x) j i) (type_bound-apart (2 * x + 1) (2 * x) d) (minus-greatest x) (plus-least x);
+  most = λ x h.
+      let i : 2 * x < 2 * m.variables = omega arith in
+      let j : 2 * x + 1 < 2 * m.variables = omega arith in
+      let d : 2 * x ≢ 2 * x + 1 = omega arith in
+      doubled-most (value_at s x) (term_value s (2 * x)) (term_value s (2 * x + 1)) (entry_of m (2 * x) (2 * x + 1)) (type_bound (2 * x) (2 * x + 1)) (greatest_value (2 * x)) (least_value (2 * x + 1))
+      (o.bounds (2 * x) (2 * x + 1) i j) (plus-value s x) (minus-value s x) (k.most (2 * x) (2 * x + 1) i j) (type_bound-apart (2 * x) (2 * x + 1) d) (plus-greatest x) (minus-least x);
+}
+
+-- ---- a term of a store lies between its ends
+ends_by : (e : Bool) (x : ℤ) → int_least ≤ℤ x → x ≤ℤ int_greatest → ((if e then int_least else neg_ℤ int_greatest) ≤ℤ (if e then x else neg_ℤ x)) × ((if e then x else neg_ℤ x) ≤ℤ (if e then int_greatest else neg_ℤ int_least))
+ends_by true x h k = (h, k)
+ends_by false x h k = (omega (arith, ints), omega (arith, ints))
+
+term-ends : (n : ℕ) (s : List ℤ) (a : ℕ) → IsStore n s → a < 2 * n → (least_value a ≤ℤ term_value s a) × (term_value s a ≤ℤ greatest_value a)
+term-ends n s a o h = let i : a / 2 < n = omega arith in ends_by (nat_eq (a % 2) 0) (value_at s (a / 2)) (o.least (a / 2) i) (o.most (a / 2) i)
+
+between : (p q l g : ℤ) → p ≤ℤ g → l ≤ℤ q → (p -ℤ q) ≤ℤ (g -ℤ l)
+between p q l g h k = omega (arith, ints)
+
+nothing : (p : ℤ) → (p -ℤ p) ≤ℤ pos 0
+nothing p = omega (arith, ints)
+
+within-by : (n : ℕ) (s : List ℤ) (a b : ℕ) → IsStore n s → a < 2 * n → b < 2 * n → ((nat_eq a b ≡ true) × (a ≡ b)) ⊎ ((nat_eq a b ≡ false) × (a ≢ b)) → (term_value s a -ℤ term_value s b) ≤ℤ type_bound a b
+within-by n s a b o h k (inl e) =
+    let P : ℕ → Type 0 = λ c. (term_value s a -ℤ term_value s c) ≤ℤ pos 0 in
+    let i : (term_value s a -ℤ term_value s b) ≤ℤ pos 0 = subst P (e.1) (nothing (term_value s a)) in
+    omega (arith, ints, i, type_bound-least a b)
+within-by n s a b o h k (inr e) =
+    rw (type_bound-apart a b (e.1)) (between (term_value s a) (term_value s b) (least_value b) (greatest_value a) ((term-ends n s a o h).1) ((term-ends n s b o k).0))
+
+pub store-holds : (n : ℕ) (m : MatrixValue) (s : List ℤ) → HasEntries m n type_bound → IsStore n s → Holds m s
+store-holds n m s e o = record {
+  size = o.size ∙ sym e.variables;
+  bounds = λ a b h k.
+      let h' : a < 2 * n = rw (← e.variables) h in
+      let k' : b < 2 * n = rw (← e.variables) k in
+      rw (e.entries a b h' k') (within-by n s a b o h' k' (eqb_tells a b));
+}
