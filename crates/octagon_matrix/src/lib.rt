@@ -22,7 +22,7 @@ use std::marker::Model;
 /// (coherence), and each entry lies between -2^34 and the bound that the values of `int` give.
 ///
 /// Of each pair of coherent entries one is kept, `2n(n + 1)` for `n` variables.
-#[derive(Drop)]
+#[derive(Debug, Drop)]
 pub struct Matrix {
     variables: u32,
     cells: Vec<i64>,
@@ -197,5 +197,63 @@ impl Matrix {
         let _variables = self.variables;
         let at = place(a, b);
         self.cells[at] = lesser(self.cells[at], bound);
+    }
+}
+
+#[cfg(test)]
+mod tests {
+    use super::*;
+    use std::hash::DefaultHasher;
+    use std::test::Fail;
+
+    fn fingerprint(matrix: &Matrix) -> u64 {
+        let mut state = DefaultHasher::new();
+        matrix.hash(&mut state);
+        state.finish()
+    }
+
+    // each bound is the greatest value of the first term minus the least of the second
+    #[test]
+    fn the_type_bounds(rt: HostRuntime) -> Result<(), Fail> {
+        let top = Matrix::top(rt.alloc(), 2).map_err(|_| "memory")?;
+        assert_eq!(rt; top.variables(), 2);
+        let table = [
+            (0, 0, 0),
+            (0, 1, 4294967294),
+            (1, 0, 4294967296),
+            (0, 2, 4294967295),
+            (0, 3, 4294967294),
+            (2, 1, 4294967294),
+            (1, 2, 4294967296),
+            (3, 0, 4294967296),
+            (3, 1, 4294967295),
+        ];
+        for (a, b, bound) in table {
+            assert!(rt; a < 4 && b < 4);
+            assert_eq!(rt; top.entry(a, b), bound, "at {a} and {b}");
+        }
+        Ok(())
+    }
+
+    #[test]
+    fn meets_and_copies(rt: HostRuntime) -> Result<(), Fail> {
+        let top = Matrix::top(rt.alloc(), 2).map_err(|_| "memory")?;
+        let mut met = top.copy(rt.alloc()).map_err(|_| "memory")?;
+        assert!(rt; met == top);
+        assert_eq!(rt; met.variables(), 2);
+        met.meet_entry(0, 3, 1);
+        met.meet_entry(0, 3, 5);
+        assert_eq!(rt; met.entry(0, 3), 1);
+        assert_eq!(rt; met.entry(2, 1), 1);
+        assert_eq!(rt; met.entry(3, 0), 4294967296);
+        assert_eq!(rt; met.entry(0, 2), 4294967295);
+        assert!(rt; met != top);
+        let mut other = top.copy(rt.alloc()).map_err(|_| "memory")?;
+        assert_eq!(rt; other.variables(), 2);
+        other.meet_entry(2, 1, 1);
+        assert!(rt; other == met);
+        assert_eq!(rt; fingerprint(&other), fingerprint(&met));
+        assert_ne!(rt; fingerprint(&other), fingerprint(&top));
+        Ok(())
     }
 }
