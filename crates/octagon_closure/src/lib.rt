@@ -1,7 +1,7 @@
 //! Tight closure of Miné's octagons over whole numbers, after Bagnara, Hill and Zaffanella.
 #![tactic(auto)]
 
-ghost use Rattle.std.specs.Prelude.{◌≡◌, ◌+◌, ◌*◌, ◌<◌, ◌≤◌, ◌^◌, ◌↔◌, ℕ, ℤ, List, pos, neg_ℤ, ◌≤ℤ◌};
+ghost use Rattle.std.specs.Prelude.{◌≡◌, ◌+◌, ◌*◌, ◌<◌, ◌≤◌, ◌^◌, ◌↔◌, ℕ, ℤ, List, pos, neg_ℤ, ◌≤ℤ◌, IfOk};
 ghost use Rattle.std.specs.Int.{int_min};
 ghost use Rattle.octagon_matrix.specs.Matrices.{MatrixValue, entry_of, IsMatrix, HasEntries};
 ghost use Rattle.octagon_matrix.specs.Stores.{Holds, IsStore};
@@ -169,4 +169,96 @@ pub fn close_after_one(matrix: &mut Matrix, a: u32, b: u32) -> Closed
         Closed::Closed => {}
     }
     tighten(matrix)
+}
+
+#[cfg(test)]
+mod tests {
+    use super::*;
+    use std::alloc::Global;
+    use std::process::Abort;
+    use std::test::Fail;
+
+    /// What `close` answers and leaves after these meets on the matrix of two variables.
+    fn closed(
+        rt: &impl Abort,
+        alloc: Global,
+        meets: &[(u32, u32, i64)],
+    ) -> Result<(Closed, Matrix), Fail>
+        ensures { IfOk result (λ r. r.1.variables ≡ 2) }
+    {
+        let mut matrix = Matrix::top(alloc, 2).map_err(|_| "memory")?;
+        for &(a, b, bound) in meets {
+            assert!(rt; a < 4 && b < 4 && a != b && bound >= -1);
+            matrix.meet_entry(a, b, bound);
+        }
+        let answer = close(&mut matrix);
+        Ok((answer, matrix))
+    }
+
+    // the terms 0 to 3 are +x, -x, +y and -y
+    #[test]
+    fn best_bounds(rt: HostRuntime) -> Result<(), Fail> {
+        let table = [
+            (
+                [(0, 3, 1), (0, 2, 0)],
+                [
+                    (0, 1, 0),
+                    (1, 0, 4294967296),
+                    (2, 3, 4294967294),
+                    (3, 2, 4294967296),
+                ],
+            ),
+            (
+                [(0, 1, 0), (3, 2, 0)],
+                [(0, 2, 0), (3, 1, 0), (0, 1, 0), (3, 2, 0)],
+            ),
+        ];
+        for (meets, entries) in table {
+            let (answer, matrix) = closed(&rt, rt.alloc(), &meets)?;
+            assert_eq!(rt; answer, Closed::Closed, "after {meets:?}");
+            for (a, b, bound) in entries {
+                assert!(rt; a < 4 && b < 4);
+                assert_eq!(rt; matrix.entry(a, b), bound, "after {meets:?} at {a} and {b}");
+            }
+        }
+        let (answer, matrix) = closed(&rt, rt.alloc(), &[])?;
+        assert_eq!(rt; answer, Closed::Closed);
+        assert_eq!(rt; matrix, Matrix::top(rt.alloc(), 2).map_err(|_| "memory")?);
+        Ok(())
+    }
+
+    #[test]
+    fn no_store(rt: HostRuntime) -> Result<(), Fail> {
+        for meets in [[(0, 2, -1), (2, 0, 0)], [(0, 1, 1), (1, 0, -1)]] {
+            let (answer, _) = closed(&rt, rt.alloc(), &meets)?;
+            assert_eq!(rt; answer, Closed::Empty, "after {meets:?}");
+        }
+        Ok(())
+    }
+
+    #[test]
+    fn closed_after_each_meet(rt: HostRuntime) -> Result<(), Fail> {
+        let mut matrix = Matrix::top(rt.alloc(), 2).map_err(|_| "memory")?;
+        match close(&mut matrix) {
+            Closed::Empty => return Err(Fail::new("empty")),
+            Closed::Closed => {}
+        }
+        matrix.meet_entry(0, 3, 1);
+        match close_after_one(&mut matrix, 0, 3) {
+            Closed::Empty => return Err(Fail::new("empty")),
+            Closed::Closed => {}
+        }
+        matrix.meet_entry(0, 2, 0);
+        assert_eq!(rt; close_after_one(&mut matrix, 0, 2), Closed::Closed);
+        for (a, b, bound) in [
+            (0, 1, 0),
+            (1, 0, 4294967296),
+            (2, 3, 4294967294),
+            (3, 2, 4294967296),
+        ] {
+            assert!(rt; a < 4 && b < 4);
+            assert_eq!(rt; matrix.entry(a, b), bound, "at {a} and {b}");
+        }
+        Ok(())
+    }
 }
