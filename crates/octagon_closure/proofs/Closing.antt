@@ -1,12 +1,11 @@
 -- The closure, step by step, over the values that contracts see.
-use Rattle.std.proofs.Common.{◌≡◌, ℕ, ℤ, pos, ◌+ℤ◌, ◌*◌, ◌<◌, arith, ◌∙◌, sym, subst, refl, List, Bool, true}
+use Rattle.std.proofs.Common.{◌≡◌, ℕ, ℤ, pos, ◌*◌, ◌<◌, arith, ◌∙◌, sym, subst, refl, List, Bool, true}
 use Rattle.octagon_closure.proofs.Extending.{with_pair}
 use Rattle.std.proofs.lemmas.Int.{ints}
-use Rattle.octagon_matrix.specs.Terms.{opposite}
 use Rattle.octagon_matrix.specs.Matrices.{MatrixValue, entry_of, IsMatrix, HasEntries}
 use Rattle.octagon_matrix.specs.Stores.{Holds, term_value}
 use Rattle.octagon_closure.specs.Best.{IsUnmet, Reaches, IsBest, CameByOne}
-use Rattle.octagon_closure.specs.Sweeps.{row_from, lowered, through, halves, tightened, bound_at, IsRow, HasNegative}
+use Rattle.octagon_closure.specs.Sweeps.{lowered, through, halves, tightened, bound_at, IsRow, HasNegative}
 use Rattle.octagon_closure.proofs.Octagons.{IsCoherent, IsClosedBy, IsTight, Meets, IsPassed, all}
 use Rattle.octagon_closure.proofs.Rows.{lowered-same}
 use Rattle.octagon_closure.proofs.Steps.{ClosedBy-less, passed-closed, halved-meets, halved-tight, closed-by-all, IsTight-same}

@@ -1,5 +1,5 @@
 -- The walks through one entry that was lowered close a closed matrix again: Miné's incremental closure, in one sweep.
-use Rattle.std.proofs.Common.{◌≡◌, ◌≢◌, ◌⊎◌, inl, inr, ℕ, ℤ, pos, ◌+ℤ◌, ◌-ℤ◌, ◌≤ℤ◌, ◌*◌, ◌<◌, arith, ◌∙◌, ap, sym, subst, refl, Bool, true, false, if◌then◌else◌}
+use Rattle.std.proofs.Common.{◌≡◌, ◌≢◌, ◌⊎◌, inl, inr, ℕ, ℤ, pos, ◌+ℤ◌, ◌≤ℤ◌, ◌*◌, ◌<◌, arith, ◌∙◌, ap, sym, subst, refl, Bool, true, false, if◌then◌else◌}
 use Rattle.std.proofs.lemmas.Int.{ints, clamps}
 use Rattle.std.specs.Int.{int_min}
 use Rattle.octagon_matrix.specs.Terms.{opposite, is_pair}
@@ -8,10 +8,10 @@ use Rattle.octagon_matrix.specs.Stores.{term_value}
 use Rattle.octagon_matrix.proofs.Terms.{opposite-opposite, opposite-below, opposite-differs, opposite-same}
 use Rattle.octagon_matrix.proofs.Places.{IsSame}
 use Rattle.octagon_matrix.proofs.Cells.{pair_tells}
-use Rattle.octagon_closure.specs.Sweeps.{row_from, sums, lowered, through}
+use Rattle.octagon_closure.specs.Sweeps.{row_from, sums, through}
 use Rattle.octagon_closure.specs.Best.{Reaches, IsBest, CameByOne}
 use Rattle.octagon_closure.proofs.Octagons.{IsCoherent, IsClosed, IsClosedBy, IsOdd, all}
-use Rattle.octagon_closure.proofs.Passing.{near, over, Loops, triangle-of, kept-triangle, near-less}
+use Rattle.octagon_closure.proofs.Passing.{near, Loops, triangle-of, kept-triangle}
 use Rattle.octagon_closure.proofs.Stores.{terms-odd}
 use Rattle.octagon_closure.proofs.Walks.{to_entry, to_twin, by_entry, by_twin, walks, walks-are}
 

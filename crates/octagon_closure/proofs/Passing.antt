@@ -1,5 +1,5 @@
 -- Shortest walks, after Miné: the ways by one variable's two terms close a coherent matrix by way of these, and keep what was closed.
-use Rattle.std.proofs.Common.{◌≡◌, ℕ, ℤ, pos, ◌+ℤ◌, ◌≤ℤ◌, ◌*◌, ◌<◌, arith, ◌∙◌, ap, sym, subst, refl, Bool, true}
+use Rattle.std.proofs.Common.{◌≡◌, ℕ, ℤ, pos, ◌+ℤ◌, ◌≤ℤ◌, ◌*◌, ◌<◌, arith, ap, subst, Bool, true}
 use Rattle.std.proofs.lemmas.Int.{ints, clamps}
 use Rattle.std.specs.Int.{int_min}
 use Rattle.octagon_matrix.specs.Terms.{opposite}

@@ -1,12 +1,12 @@
 -- What a sweep through an entry computes: the walks through the entry, its coherent twin, or both.
-use Rattle.std.proofs.Common.{◌≡◌, ℕ, ℤ, pos, ◌+ℤ◌, ◌-ℤ◌, ◌≤ℤ◌, ◌*◌, ◌<◌, arith, ◌∙◌, ap, sym, refl}
+use Rattle.std.proofs.Common.{◌≡◌, ℕ, ℤ, pos, ◌+ℤ◌, ◌-ℤ◌, ◌≤ℤ◌, ◌*◌, ◌<◌, arith, ◌∙◌, ap, refl}
 use Rattle.std.proofs.lemmas.Int.{ints, clamps}
 use Rattle.std.specs.Int.{int_min}
 use Rattle.octagon_matrix.specs.Terms.{opposite}
 use Rattle.octagon_matrix.proofs.Terms.{opposite-opposite, opposite-below}
 use Rattle.octagon_closure.specs.Sweeps.{row_from, sums, lowered, through}
 use Rattle.octagon_closure.proofs.Octagons.{IsCoherent, Meets}
-use Rattle.octagon_closure.proofs.Passing.{near, over, passed, coherent-turned}
+use Rattle.octagon_closure.proofs.Passing.{near, passed, coherent-turned}
 
 -- ---- the two rows, over plain numbers: d is the entry, z the way back from its end to its beginning
 row-to : (d x y z : ℤ) → int_min (pos 0 +ℤ x) ((z +ℤ d) +ℤ y) ≡ near x (d +ℤ z) y

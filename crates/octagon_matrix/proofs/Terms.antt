@@ -1,5 +1,5 @@
 -- Opposite terms, the ends of a term, and the bounds that the type gives.
-use Rattle.std.proofs.Common.{◌/◌, ◌^◌, ℤ, neg_ℤ, ◌-ℤ◌, refl, sym, ap, ◌∙◌, Bool, true, false, nat_eq, if◌then◌else◌, ◌≡◌, ◌≢◌, ℕ, pos, ◌≤ℤ◌, ◌+◌, ◌*◌, ◌-◌, ◌%◌, ◌<◌, arith}
+use Rattle.std.proofs.Common.{◌/◌, ◌^◌, ℤ, neg_ℤ, ◌-ℤ◌, refl, sym, ap, ◌∙◌, Bool, true, false, nat_eq, if◌then◌else◌, ◌≡◌, ◌≢◌, ℕ, pos, ◌≤ℤ◌, ◌*◌, ◌-◌, ◌%◌, ◌<◌, arith}
 use Rattle.std.proofs.lemmas.Int.{ints}
 use Rattle.std.proofs.lemmas.Bool.{ne_eqb}
 use Rattle.std.proofs.lemmas.Bool.Decides.{nat_tests, eqb_tells}

@@ -1,5 +1,4 @@
 use Rattle.std.proofs.Common.{refl}
-use Rattle.octagon_matrix.specs.Matrices.{MatrixValue}
 use Rattle.octagon_closure.specs.declared.Closed.TheVariants.{Empty}
 use Rattle.octagon_closure.proofs.Octagons.{IsPassed, all}
 use Rattle.octagon_closure.proofs.Closing.{one-step, one-negative, halved-negative, closed-best}

@@ -1,10 +1,10 @@
-use Rattle.std.proofs.Common.{arith, ◌≡◌, ◌<◌, ◌*◌, ℕ, ℤ, pos, ◌+ℤ◌, ◌∙◌, ap, subst, sym, List}
+use Rattle.std.proofs.Common.{arith, ◌<◌, ◌*◌, ℕ, pos, ◌+ℤ◌}
 use Rattle.std.proofs.lemmas.Int.{ints}
 use Rattle.octagon_matrix.specs.Terms.{opposite}
 use Rattle.octagon_matrix.specs.Matrices.{entry_of}
 use Rattle.octagon_matrix.proofs.Terms.{opposite-below}
-use Rattle.octagon_closure.specs.Sweeps.{IsSmall, row_from, IsRow}
-use Rattle.octagon_closure.proofs.Rows.{IsEntry, entry-is, sum-is, sum_twice-is, sum-small, sum_twice-small, entry_alone-small, plain-entry, zero-small, row-own}
+use Rattle.octagon_closure.specs.Sweeps.{row_from, IsRow}
+use Rattle.octagon_closure.proofs.Rows.{IsEntry, entry-is, sum-is, sum_twice-is, sum-small, sum_twice-small, entry_alone-small, plain-entry, row-own}
 use Rattle.octagon_closure.proofs.Closing.{entries-same, negative-same}
 use Rattle.octagon_closure.proofs.pass.Goals as goal
 
