@@ -6,18 +6,12 @@ use Rattle.std.proofs.lemmas.Bool.Decides.{eqb_tells}
 use Rattle.std.proofs.lemmas.List.FromFn.{get_or-map-range_with_len, length-map-range_with_len}
 use Rattle.octagon_matrix.specs.Terms.{opposite}
 use Rattle.octagon_matrix.specs.Matrices.{MatrixValue, entry_of}
-use Rattle.octagon_matrix.proofs.Terms.{opposite-half, sign-flips, sign-flips_back}
-use Rattle.octagon_matrix.specs.Stores.{value_at, term_value, Holds}
+use Rattle.octagon_matrix.proofs.Stores.{term-opposite}
+use Rattle.octagon_matrix.specs.Stores.{term_value, Holds}
 use Rattle.octagon_closure.proofs.Octagons.{IsOdd, Meets}
 
-flipped : (i j : Bool) (x : ℤ) → (i ≡ true → j ≡ false) → (i ≡ false → j ≡ true) → (if j then x else neg_ℤ x) ≡ neg_ℤ (if i then x else neg_ℤ x)
-flipped true j x h k = rw (h refl) refl
-flipped false j x h k = rw (k refl) (omega (arith, ints))
-
 pub terms-odd : (s : List ℤ) → IsOdd (term_value s)
-terms-odd s = record {
-  odd = λ a. rw (opposite-half a) (flipped (nat_eq (a % 2) 0) (nat_eq (opposite a % 2) 0) (value_at s (a / 2)) (sign-flips a) (sign-flips_back a));
-}
+terms-odd s = record { odd = λ a. term-opposite s a }
 
 pub holds-meets : (m : MatrixValue) (s : List ℤ) → Holds m s → Meets m.variables (entry_of m) (term_value s)
 holds-meets m s h = record { odd = terms-odd s; meets = h.bounds }

@@ -1,11 +1,14 @@
--- The stores that meet a matrix have values within `int`, and the matrix of the type's bounds is met by all of these.
-use Rattle.std.proofs.Common.{◌≡◌, ◌≢◌, ◌⊎◌, inl, inr, ℕ, ℤ, pos, neg_ℤ, ◌-ℤ◌, ◌≤ℤ◌, ◌+◌, ◌*◌, ◌/◌, ◌%◌, ◌<◌, arith, ◌∙◌, sym, subst, refl, Bool, true, false, nat_eq, if◌then◌else◌, List}
-use Rattle.std.proofs.lemmas.Int.{ints}
+-- The stores that meet a matrix: their values lie within `int`, all such stores meet the type's bounds, and what a meet leaves out.
+use Rattle.std.proofs.Common.{◌≡◌, ◌≢◌, ◌⊎◌, inl, inr, ℕ, ℤ, pos, neg_ℤ, ◌-ℤ◌, ◌≤ℤ◌, ◌+◌, ◌*◌, ◌/◌, ◌%◌, ◌<◌, arith, ◌∙◌, sym, subst, refl, Bool, true, false, nat_eq, if◌then◌else◌, List, ◌↔◌}
+use Rattle.std.proofs.lemmas.Int.{ints, clamps}
+use Rattle.std.specs.Int.{int_min}
 use Rattle.std.proofs.lemmas.Bool.Decides.{eqb_tells}
-use Rattle.octagon_matrix.specs.Terms.{int_least, int_greatest, least_value, greatest_value, type_bound}
-use Rattle.octagon_matrix.specs.Matrices.{MatrixValue, entry_of, IsMatrix, HasEntries}
+use Rattle.octagon_matrix.specs.Terms.{opposite, is_pair, int_least, int_greatest, least_value, greatest_value, type_bound}
+use Rattle.octagon_matrix.specs.Matrices.{MatrixValue, entry_of, met_entry, IsMatrix, HasEntries}
 use Rattle.octagon_matrix.specs.Stores.{value_at, term_value, IsStore, Holds}
-use Rattle.octagon_matrix.proofs.Terms.{type_bound-apart, type_bound-least}
+use Rattle.octagon_matrix.proofs.Terms.{type_bound-apart, type_bound-least, opposite-half, sign-flips, sign-flips_back}
+use Rattle.octagon_matrix.proofs.Places.{IsSame}
+use Rattle.octagon_matrix.proofs.Cells.{pair_tells}
 
 -- ---- the two terms of a variable
 plus-value : (s : List ℤ) (x : ℕ) → term_value s (2 * x) ≡ value_at s x
@@ -80,3 +83,47 @@ store-holds n m s e o = record {
       let k' : b < 2 * n = rw (← e.variables) k in
       rw (e.entries a b h' k') (within-by n s a b o h' k' (eqb_tells a b));
 }
+
+-- ---- opposite terms have opposite values
+flipped : (i j : Bool) (x : ℤ) → (i ≡ true → j ≡ false) → (i ≡ false → j ≡ true) → (if j then x else neg_ℤ x) ≡ neg_ℤ (if i then x else neg_ℤ x)
+flipped true j x h k = rw (h refl) refl
+flipped false j x h k = rw (k refl) (omega (arith, ints))
+
+pub term-opposite : (s : List ℤ) (a : ℕ) → term_value s (opposite a) ≡ neg_ℤ (term_value s a)
+term-opposite s a = rw (opposite-half a) (flipped (nat_eq (a % 2) 0) (nat_eq (opposite a % 2) 0) (value_at s (a / 2)) (sign-flips a) (sign-flips_back a))
+
+-- ---- a store meets what a meet leaves exactly where it met the matrix and meets the bound
+met_below : (q : Bool) (x v : ℤ) → (if q then int_min x v else x) ≤ℤ x
+met_below true x v = omega (arith, ints, clamps)
+met_below false x v = omega (arith, ints)
+
+holds-before : (m next : MatrixValue) (a b : ℕ) (v : ℤ) (s : List ℤ) → HasEntries next m.variables (met_entry m a b v) → Holds next s → Holds m s
+holds-before m next a b v s e h = record {
+  size = h.size ∙ e.variables;
+  bounds = λ c d i j. omega (arith, ints, h.bounds c d (rw (e.variables) i) (rw (e.variables) j), e.entries c d i j, met_below (is_pair a b c d) (entry_of m c d) v);
+}
+
+met-by : (m : MatrixValue) (a b c d : ℕ) (v t u : ℤ) (s : List ℤ) → t ≡ term_value s a -ℤ term_value s b → t ≤ℤ v → u ≡ term_value s c -ℤ term_value s d → u ≤ℤ entry_of m c d
+    → ((is_pair a b c d ≡ true) × IsSame a b c d) ⊎ ((is_pair a b c d ≡ false) × (IsSame a b c d → ⊥)) → u ≤ℤ met_entry m a b v c d
+met-by m a b c d v t u s e h f k (inr p) = rw (p.0) k
+met-by m a b c d v t u s e h f k (inl p) = rw (p.0) (omega (arith, ints, clamps, same-difference a b c d s (p.1)))
+  where
+    same-difference : (a b c d : ℕ) (s : List ℤ) → IsSame a b c d → term_value s c -ℤ term_value s d ≡ term_value s a -ℤ term_value s b
+    same-difference a b c d s (inl q) = rw (q.0, q.1) refl
+    same-difference a b c d s (inr q) = rw (q.0, q.1) (omega (arith, ints, term-opposite s a, term-opposite s b))
+
+at-entry : (m : MatrixValue) (a b : ℕ) (v : ℤ) → ((is_pair a b a b ≡ true) × IsSame a b a b) ⊎ ((is_pair a b a b ≡ false) × (IsSame a b a b → ⊥)) → met_entry m a b v a b ≤ℤ v
+at-entry m a b v (inl p) = rw (p.0) (omega (arith, ints, clamps))
+at-entry m a b v (inr p) = absurd (p.1 (inl (refl, refl)))
+
+pub met-stores : (m next : MatrixValue) (a b : ℕ) (v : ℤ) (s : List ℤ) → HasEntries next m.variables (met_entry m a b v) → a < 2 * m.variables → b < 2 * m.variables → Holds next s ↔ (Holds m s × ((term_value s a -ℤ term_value s b) ≤ℤ v))
+met-stores m next a b v s e p q = (
+  λ h. (holds-before m next a b v s e h, omega (arith, ints, h.bounds a b (rw (e.variables) p) (rw (e.variables) q), e.entries a b p q, at-entry m a b v (pair_tells a b a b))),
+  λ h. record {
+    size = h.0.size ∙ sym e.variables;
+    bounds = λ c d i j.
+        let i' : c < 2 * m.variables = rw (← e.variables) i in
+        let j' : d < 2 * m.variables = rw (← e.variables) j in
+        rw (e.entries c d i' j') (met-by m a b c d v (term_value s a -ℤ term_value s b) (term_value s c -ℤ term_value s d) s refl (h.1) refl (h.0.bounds c d i' j') (pair_tells a b c d));
+  },
+)

@@ -1,11 +1,11 @@
 //! Coherent matrices of Miné's octagons, of which each pair of coherent entries is kept once.
 #![tactic(auto)]
 
-ghost use Rattle.std.specs.Prelude.{◌≡◌, ◌≢◌, ◌≤◌, ◌<◌, ◌*◌, ◌^◌, ◌↔◌, ℤ, List, pos, neg_ℤ, ◌≤ℤ◌, IfOk};
+ghost use Rattle.std.specs.Prelude.{◌≡◌, ◌≢◌, ◌≤◌, ◌<◌, ◌*◌, ◌^◌, ◌↔◌, ℤ, List, pos, neg_ℤ, ◌-ℤ◌, ◌≤ℤ◌, IfOk};
 ghost use Rattle.std.specs.Int.{int_min};
 ghost use Rattle.octagon_matrix.specs.Terms.{opposite, greatest_value, least_value, type_bound};
 ghost use Rattle.octagon_matrix.specs.Matrices.{entry_of, IsMatrix, met_entry, HasEntries};
-ghost use Rattle.octagon_matrix.specs.Stores.{Holds, IsStore};
+ghost use Rattle.octagon_matrix.specs.Stores.{term_value, Holds, IsStore};
 ghost use Rattle.octagon_matrix.specs.Equality.{same_matrix, matrix_partial, matrix_equiv, fed_matrix, matrix_alike};
 ghost use Rattle.octagon_matrix.specs.View.{row_of, place_of, IsFilled};
 
@@ -186,12 +186,14 @@ impl Matrix {
     }
 
     /// Lowers the entry `(a, b)` and its coherent twin to `bound` where it is less, and leaves all others.
+    /// So a store meets the matrix where it met it before, and term `a` minus term `b` is at most `bound`.
     pub fn meet_entry(&mut self, a: u32, b: u32, bound: i64)
         requires first { a < 2 * self.old.variables }
         requires second { b < 2 * self.old.variables }
         requires apart { a ≢ b }
         requires least { neg_ℤ (pos (2 ^ 34)) ≤ℤ bound }
         ensures entries { HasEntries self.new self.old.variables (met_entry self.old a b bound) }
+        ensures stores { (s : List ℤ) → Holds self.new s ↔ (Holds self.old s × ((term_value s a -ℤ term_value s b) ≤ℤ bound)) }
         ensures kept { IsMatrix self.new }
     {
         let _variables = self.variables;

@@ -3,6 +3,7 @@ use Rattle.octagon_matrix.specs.Matrices.{MatrixValue, IsMatrix, HasEntries, met
 use Rattle.octagon_matrix.specs.View.{place_of, IsHalf}
 use Rattle.octagon_matrix.proofs.Inside.{IsLowered, lowering, lowered-sound, lowered-value, value_of, value-matrix}
 use Rattle.octagon_matrix.proofs.Places.{place-below}
+use Rattle.octagon_matrix.proofs.Stores.{met-stores}
 use Rattle.octagon_matrix.proofs.Matrix.meet_entry.Goals as goal
 
 pub index-requires : goal.index-requires
@@ -41,3 +42,7 @@ returns-clause-kept c =
     lowering n cells c.args.a c.args.b c.place-at.result c.args.bound c.index.result.now c.lesser.result c.self.invariant (rw (← c.self.view_is) at c.requires.first) (rw (← c.self.view_is) at c.requires.second) c.requires.apart c.requires.least c.ranges.bound c.place-at.ensures c.index.ensures c.lesser.ensures in
     let P : ℕ → Type 0 = λ i. IsMatrix (value_of n (slice_set cells i w)) in
     subst P (sym c.place-at.ensures) (value-matrix n (slice_set cells (place_of c.args.a c.args.b) w) (lowered-sound n cells c.args.a c.args.b c.args.bound w l))
+
+pub returns-clause-stores : goal.returns-clause-stores
+returns-clause-stores c = λ s.
+    met-stores _ _ c.args.a c.args.b c.args.bound s (returns-clause-entries c) c.requires.first c.requires.second
