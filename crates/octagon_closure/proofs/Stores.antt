@@ -1,5 +1,5 @@
 -- Stores as values of the terms, and back.
-use Rattle.std.proofs.Common.{◌≡◌, ◌≢◌, ◌⊎◌, inl, inr, ℕ, ℤ, pos, neg_ℤ, ◌*◌, ◌/◌, ◌%◌, ◌<◌, arith, ◌∙◌, ap, refl, Bool, true, false, nat_eq, if◌then◌else◌, List, map, slice_index_or}
+use Rattle.std.proofs.Common.{◌≡◌, ◌≢◌, ◌⊎◌, inl, inr, ℕ, ℤ, pos, neg_ℤ, ◌*◌, ◌/◌, ◌%◌, ◌<◌, arith, ◌∙◌, ap, true, false, nat_eq, List, map, slice_index_or}
 use Rattle.std.proofs.lemmas.Int.{ints}
 use Rattle.std.specs.List.{range_with_len}
 use Rattle.std.proofs.lemmas.Bool.Decides.{eqb_tells}
