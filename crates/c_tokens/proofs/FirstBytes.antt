@@ -1,0 +1,55 @@
+-- The first byte of a lexeme is no white space.
+use Rattle.std.proofs.Common.{◌≡◌, ℕ, zero, suc, ◌<◌, ◌≤◌, inl, inr, true, false, eqb, leb, List, [], ◌∷◌, take, refl, arith}
+use Rattle.std.specs.Prelude.{◌||◌, ◌&&◌, codes}
+use Rattle.std.specs.List.{list_all}
+use Rattle.std.proofs.lemmas.Bool.{and_parts, or_cases, eqb-true, leb-true, false_from_ne_true}
+use Rattle.c_tokens.specs.Bytes.{is_space, is_digit, is_nondigit, is_word_byte, is_one_of}
+use Rattle.c_tokens.specs.Lexemes.{is_lexeme, is_run, is_mark, is_pair}
+
+space_below : (b : ℕ) → is_space b ≡ true → b ≤ 32
+space_below b e = elim (or_cases (eqb b 32) (leb 9 b && leb b 13) e) [
+  | inl h ↦ omega (arith, eqb-true b 32 h)
+  | inr h ↦ let p = and_parts (leb 9 b) (leb b 13) h in omega (arith, leb-true b 13 p.1)
+]
+
+within_above : (low high b : ℕ) → 33 ≤ low → (leb low b && leb b high) ≡ true → 33 ≤ b
+within_above low high b h e = let p = and_parts (leb low b) (leb b high) e in omega (arith, leb-true low b p.0)
+
+word_above : (b : ℕ) → is_word_byte b ≡ true → 33 ≤ b
+word_above b e = elim (or_cases (is_nondigit b) (is_digit b) e) [
+  | inl h ↦ elim (or_cases ((eqb b 95) || (leb 97 b && leb b 122)) (leb 65 b && leb b 90) h) [
+    | inl i ↦ elim (or_cases (eqb b 95) (leb 97 b && leb b 122) i) [ inl j ↦ omega (arith, eqb-true b 95 j) | inr j ↦ within_above 97 122 b (omega arith) j ]
+    | inr i ↦ within_above 65 90 b (omega arith) i
+  ]
+  | inr h ↦ within_above 48 57 b (omega arith) h
+]
+
+one_above : (ms : List ℕ) (b : ℕ) → list_all (λ m. leb 33 m) ms ≡ true → is_one_of ms b ≡ true → 33 ≤ b
+one_above [] b all e = absurd cc
+one_above (m ∷ ms) b all e =
+    let p = and_parts (leb 33 m) (list_all (λ m. leb 33 m) ms) all in
+    elim (or_cases (eqb b m) (is_one_of ms b) e) [ inl h ↦ omega (arith, eqb-true b m h, leb-true 33 m p.0) | inr h ↦ one_above ms b p.1 h ]
+
+pair_above : (b c : ℕ) → is_pair b c ≡ true → 33 ≤ b
+pair_above b c e = elim (or_cases (is_one_of (codes "=!<>+-") b && eqb c 61) (is_one_of (codes "&|+-") b && eqb c b) e) [
+  | inl h ↦ one_above (codes "=!<>+-") b refl (and_parts (is_one_of (codes "=!<>+-") b) (eqb c 61) h).0
+  | inr h ↦ one_above (codes "&|+-") b refl (and_parts (is_one_of (codes "&|+-") b) (eqb c b) h).0
+]
+
+mark_above : (b : ℕ) (xs : List ℕ) → is_mark (b ∷ xs) ≡ true → 33 ≤ b
+mark_above b [] e = one_above (codes "(){};,=<>+-*/%!") b refl e
+mark_above b (c ∷ []) e = pair_above b c e
+mark_above b (c ∷ d ∷ xs) e = absurd cc
+
+lexeme_above : (b : ℕ) (xs : List ℕ) → is_lexeme (b ∷ xs) ≡ true → 33 ≤ b
+lexeme_above b xs e = elim (or_cases (is_run (b ∷ xs)) (is_mark (b ∷ xs)) e) [
+  | inl h ↦ word_above b (and_parts (is_word_byte b) (list_all is_word_byte xs) h).0
+  | inr h ↦ mark_above b xs h
+]
+
+pub no_space : (b : ℕ) (xs : List ℕ) → is_lexeme (b ∷ xs) ≡ true → is_space b ≡ false
+no_space b xs e = false_from_ne_true (is_space b) (λ s. let h = space_below b s in let k = lexeme_above b xs e in absurd (omega arith))
+
+pub no_space_first : (b : ℕ) (bs : List ℕ) (n : ℕ) → 0 < n → is_lexeme (take n (b ∷ bs)) ≡ true → is_space b ≡ false
+no_space_first b bs zero lt e = absurd (omega arith)
+no_space_first b bs (suc n) lt e = no_space b (take n bs) e

@@ -1,0 +1,12 @@
+pub mod Longest
+pub mod Marks
+pub mod Lexing
+pub mod Literals
+pub mod Placing
+pub mod Scan
+pub mod FirstBytes
+pub mod Readings
+pub mod OneReading
+pub mod Decimals
+pub mod Rising
+pub mod Lining

@@ -1,0 +1,23 @@
+-- Kinds of bytes in code.
+use Rattle.std.specs.Prelude.{ℕ, Bool, false, ◌&&◌, ◌||◌, ◌==◌, nat_le, List, [], ◌∷◌}
+
+-- space, tab, newline, vertical tab, form feed and carriage return
+abbrev pub is_space : ℕ → Bool
+is_space b = (b == 32) || (nat_le 9 b && nat_le b 13)
+
+-- ISO/IEC 9899:2011, 6.4.2.1: a digit
+abbrev pub is_digit : ℕ → Bool
+is_digit b = nat_le 48 b && nat_le b 57
+
+-- ISO/IEC 9899:2011, 6.4.2.1: a nondigit (an underscore or a letter)
+abbrev pub is_nondigit : ℕ → Bool
+is_nondigit b = (b == 95) || (nat_le 97 b && nat_le b 122) || (nat_le 65 b && nat_le b 90)
+
+-- a letter, a digit or an underscore
+abbrev pub is_word_byte : ℕ → Bool
+is_word_byte b = is_nondigit b || is_digit b
+
+-- whether the byte is one of the list
+abbrev pub is_one_of : List ℕ → ℕ → Bool
+is_one_of [] b = false
+is_one_of (m ∷ ms) b = (b == m) || is_one_of ms b

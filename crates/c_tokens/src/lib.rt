@@ -1,0 +1,11 @@
+//! Tokens of code by longest match (ISO/IEC 9899:2011, 6.4, paragraph 4).
+#![tactic(auto)]
+
+mod bytes;
+pub mod laws;
+mod lexemes;
+pub mod scanner;
+pub mod token;
+
+pub use scanner::tokens;
+pub use token::{Token, TokenKind, Tokens};

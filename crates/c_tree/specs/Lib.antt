@@ -1,0 +1,8 @@
+pub mod Tree
+pub mod View
+pub mod Value
+pub mod Places
+pub mod Fit
+pub mod Whole
+pub mod Run
+pub mod Straight

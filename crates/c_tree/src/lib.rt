@@ -1,0 +1,13 @@
+//! The syntax trees of C programs with groups, and the definitions of values and runs.
+//!
+//! Contracts see an expression, a list of statements and a program as the plain trees of
+//! `specs/Tree.antt`, without boxes and capacities. `specs/Value.antt` says what value an
+//! expression has at a store, and `specs/Run.antt` what a run of a plain program does, so that
+//! the analyses can speak of runs without the crate that runs them.
+#![tactic(auto)]
+
+pub mod lists;
+pub mod tree;
+
+pub use lists::{Declarations, Guards, Names};
+pub use tree::{Declared, Expr, Guard, Kind, Mode, Op, Program, Stmt};

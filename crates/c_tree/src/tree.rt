@@ -1,0 +1,120 @@
+//! Expressions, statements and programs.
+#![tactic(auto)]
+
+use crate::lists::{Declarations, Guards, Names};
+use fam_outer::{Place, Values};
+
+/// A binary operator.
+#[derive(Clone, Copy, Debug, PartialEq, Eq)]
+pub enum Op {
+    Add,
+    Sub,
+    Mul,
+    Div,
+    Rem,
+    Lt,
+    Le,
+    Gt,
+    Ge,
+    Eq,
+    Ne,
+    And,
+    Or,
+}
+
+/// An expression. A literal is from 0 to 2147483647, and a variable is numbered from 0 in the
+/// order of the program's names.
+#[derive(Debug, Drop)]
+pub enum Expr {
+    Number(i64),
+    Var(u32),
+    Neg(Box<Expr>),
+    Not(Box<Expr>),
+    Binary(Op, Box<Expr>, Box<Expr>),
+}
+
+/// A statement. Its place is that of its first token. `Cond` is a section of groups: `yes` where
+/// the condition of this number is true, else `no`.
+#[derive(Debug, Drop)]
+pub enum Stmt {
+    Assign {
+        place: Place,
+        target: u32,
+        value: Expr,
+    },
+    Input {
+        place: Place,
+        target: u32,
+    },
+    Assert {
+        place: Place,
+        test: Expr,
+    },
+    If {
+        place: Place,
+        test: Expr,
+        yes: Vec<Stmt>,
+        no: Vec<Stmt>,
+    },
+    While {
+        place: Place,
+        test: Expr,
+        body: Vec<Stmt>,
+    },
+    Block {
+        place: Place,
+        body: Vec<Stmt>,
+    },
+    Skip {
+        place: Place,
+    },
+    Cond {
+        number: u32,
+        yes: Vec<Stmt>,
+        no: Vec<Stmt>,
+    },
+}
+
+/// What a group asks of the truths of the conditions: that the truth of this number is
+/// `positive`.
+#[derive(Clone, Copy, Debug, PartialEq, Eq)]
+pub struct Guard {
+    pub number: u32,
+    pub positive: bool,
+}
+
+/// A declarator in the code of a family: the variable, its start value, and the guards of the
+/// groups around it.
+#[derive(Debug, Drop)]
+pub struct Declared {
+    pub target: u32,
+    pub value: i64,
+    pub guards: Guards,
+}
+
+/// A program. `start` has one start value for each name, and `end` is the place of the closing
+/// brace of `main`. In a plain program `declared` is empty and no statement is a `Cond`.
+#[derive(Debug, Drop)]
+pub struct Program {
+    pub names: Names,
+    pub start: Values,
+    pub declared: Declarations,
+    pub body: Vec<Stmt>,
+    pub end: Place,
+}
+
+/// Why a run stops.
+#[derive(Clone, Copy, Debug, PartialEq, Eq, PartialOrd, Ord, Hash)]
+pub enum Kind {
+    Overflow,
+    ZeroDivisor,
+    Assertion,
+}
+
+/// What an overflow of a negation, a sum, a difference or a product does: it stops the run, or
+/// the result wraps around.
+#[derive(Clone, Copy, Debug, PartialEq, Eq)]
+pub enum Mode {
+    Stop,
+    Wrap,
+}

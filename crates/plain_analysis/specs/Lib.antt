@@ -1,0 +1,4 @@
+pub mod Ranges
+pub mod Leaves
+pub mod Transfer
+pub mod Straight
