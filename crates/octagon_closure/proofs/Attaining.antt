@@ -1,4 +1,4 @@
--- Each entry of a tight matrix is reached by values that meet the whole matrix.
+-- A tight matrix is exact: each entry is reached by values that meet the whole matrix.
 use Rattle.std.proofs.Common.{◌≡◌, ◌≢◌, inl, inr, ℕ, zero, suc, ℤ, pos, neg_ℤ, ◌+ℤ◌, ◌-ℤ◌, ◌≤ℤ◌, ◌*◌, ◌<◌, ◌≤◌, arith, ◌∙◌, ap, sym, refl, Bool, true, false}
 use Rattle.std.proofs.lemmas.Int.{ints, clamps}
 use Rattle.std.specs.Int.{int_max}

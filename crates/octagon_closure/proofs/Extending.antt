@@ -1,4 +1,4 @@
--- The second fact: values of some terms extend to one more.
+-- Values of some terms that meet a tight matrix extend to one term more: each lower bound is at most each upper bound.
 use Rattle.std.proofs.Common.{◌≡◌, ◌≢◌, ◌⊎◌, inl, inr, ℕ, zero, suc, ℤ, pos, neg_ℤ, ◌+ℤ◌, ◌-ℤ◌, ◌≤ℤ◌, ◌*◌, ◌<◌, arith, ◌∙◌, ap, sym, subst, refl, Bool, true, false, cond, ◌||◌, nat_eq}
 use Rattle.std.proofs.lemmas.Int.{ints, clamps}
 use Rattle.std.specs.Int.{int_max}

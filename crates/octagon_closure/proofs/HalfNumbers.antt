@@ -1,4 +1,4 @@
--- Halves.
+-- Halves rounded down.
 use Rattle.std.proofs.Common.{ℤ, pos, negsuc, ◌+ℤ◌, ◌≤ℤ◌, arith}
 use Rattle.std.proofs.lemmas.Int.{ints}
 use Rattle.octagon_closure.specs.Sweeps.{half}

@@ -1,4 +1,4 @@
--- Rows of bounds.
+-- Rows of bounds, as the code makes them.
 use Rattle.std.proofs.Common.{◌≡◌, ◌≢◌, ◌⊎◌, inl, inr, ℕ, ℤ, pos, neg_ℤ, ◌+ℤ◌, ◌≤ℤ◌, ◌+◌, ◌*◌, ◌<◌, ◌^◌, arith, ◌∙◌, ap, sym, refl, List, length, slice_set}
 use Rattle.std.proofs.lemmas.Int.{ints, clamps}
 use Rattle.std.specs.Int.{int_min, int_div_euclid}

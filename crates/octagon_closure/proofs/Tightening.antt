@@ -1,4 +1,4 @@
--- The first fact: the rounding and the halving keep the triangle inequalities.
+-- After Bagnara, Hill and Zaffanella: one rounding and halving of a closed matrix keeps the triangle inequalities, so it is tight.
 use Rattle.std.proofs.Common.{◌≡◌, ℕ, ℤ, pos, ◌+ℤ◌, ◌≤ℤ◌, ◌*◌, ◌<◌, arith, ◌∙◌, ap, sym}
 use Rattle.std.proofs.lemmas.Int.{ints, clamps}
 use Rattle.std.specs.Int.{int_min}

@@ -75,8 +75,12 @@ fn sums(variables: u32, first: &[i64; 32], second: &[i64; 32], a: u32, b: u32) -
 fn meet_sums(matrix: &mut Matrix, first: &[i64; 32], second: &[i64; 32]) -> Closed
     requires first_row { IsRow matrix.old.variables first.now (bound_at first.now) }
     requires second_row { IsRow matrix.old.variables second.now (bound_at second.now) }
-    ensures lowered { result ≡ Closed.Closed → HasEntries matrix.new matrix.old.variables (lowered (entry_of matrix.old) (bound_at first.now) (bound_at second.now)) }
-    ensures empty { result ≡ Closed.Empty → HasNegative matrix.old.variables (lowered (entry_of matrix.old) (bound_at first.now) (bound_at second.now)) }
+    ensures lowered { result ≡ Closed.Closed
+        → HasEntries matrix.new matrix.old.variables
+        (lowered (entry_of matrix.old) (bound_at first.now) (bound_at second.now)) }
+    ensures empty { result ≡ Closed.Empty
+        → HasNegative matrix.old.variables
+        (lowered (entry_of matrix.old) (bound_at first.now) (bound_at second.now)) }
     ensures kept { IsMatrix matrix.new }
     ensures variables { matrix.new.variables ≡ matrix.old.variables }
 {
@@ -100,8 +104,10 @@ fn meet_sums(matrix: &mut Matrix, first: &[i64; 32], second: &[i64; 32]) -> Clos
 fn pass(matrix: &mut Matrix, a: u32, b: u32) -> Closed
     requires first { a < 2 * matrix.old.variables }
     requires second { b < 2 * matrix.old.variables }
-    ensures lowered { result ≡ Closed.Closed → HasEntries matrix.new matrix.old.variables (through (entry_of matrix.old) a b) }
-    ensures empty { result ≡ Closed.Empty → HasNegative matrix.old.variables (through (entry_of matrix.old) a b) }
+    ensures lowered { result ≡ Closed.Closed
+        → HasEntries matrix.new matrix.old.variables (through (entry_of matrix.old) a b) }
+    ensures empty { result ≡ Closed.Empty
+        → HasNegative matrix.old.variables (through (entry_of matrix.old) a b) }
     ensures kept { IsMatrix matrix.new }
     ensures variables { matrix.new.variables ≡ matrix.old.variables }
 {
@@ -119,8 +125,10 @@ fn pass(matrix: &mut Matrix, a: u32, b: u32) -> Closed
 /// Rounds each entry `(a, -a)` down to an even number, and lets each entry `(a, b)` be the least of itself
 /// and half of `(a, -a)` plus `(-b, b)`, both in one sweep.
 fn tighten(matrix: &mut Matrix) -> Closed
-    ensures lowered { result ≡ Closed.Closed → HasEntries matrix.new matrix.old.variables (tightened (entry_of matrix.old)) }
-    ensures empty { result ≡ Closed.Empty → HasNegative matrix.old.variables (tightened (entry_of matrix.old)) }
+    ensures lowered { result ≡ Closed.Closed
+        → HasEntries matrix.new matrix.old.variables (tightened (entry_of matrix.old)) }
+    ensures empty { result ≡ Closed.Empty
+        → HasNegative matrix.old.variables (tightened (entry_of matrix.old)) }
     ensures kept { IsMatrix matrix.new }
     ensures variables { matrix.new.variables ≡ matrix.old.variables }
 {
@@ -129,7 +137,7 @@ fn tighten(matrix: &mut Matrix) -> Closed
 }
 
 /// Tight closure: makes each entry the greatest difference of its two terms over all stores that meet the
-/// matrix. Answers Empty exactly where no store meets it; such stores have values within `int`.
+/// matrix. Answers Empty exactly where no store meets it. All stores that meet it have values within `int`.
 ///
 /// Shortest walks by way of one variable after another, as A. Miné, "The octagon abstract domain"; then the
 /// rounding and the halving of R. Bagnara, P. M. Hill and E. Zaffanella, "An improved tight closure
@@ -160,7 +168,8 @@ pub fn close_after_one(matrix: &mut Matrix, a: u32, b: u32) -> Closed
     ensures empty { (result ≡ Closed.Empty) ↔ IsUnmet matrix.old }
     ensures best { result ≡ Closed.Closed → IsBest matrix.old matrix.new }
     // whatever `close` may answer and leave is what this answers and leaves
-    ensures same { (answer : Answer) (next : MatrixValue) → IsClosure matrix.old answer next → (answer ≡ result) × (result ≡ Closed.Closed → next ≡ matrix.new) }
+    ensures same { (answer : Answer) (next : MatrixValue) → IsClosure matrix.old answer next
+        → (answer ≡ result) × (result ≡ Closed.Closed → next ≡ matrix.new) }
     ensures kept { IsMatrix matrix.new }
     ensures variables { matrix.new.variables ≡ matrix.old.variables }
 {

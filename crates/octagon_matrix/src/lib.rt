@@ -193,7 +193,8 @@ impl Matrix {
         requires apart { a ≢ b }
         requires least { neg_ℤ (pos (2 ^ 34)) ≤ℤ bound }
         ensures entries { HasEntries self.new self.old.variables (met_entry self.old a b bound) }
-        ensures stores { (s : List ℤ) → Holds self.new s ↔ (Holds self.old s × ((term_value s a -ℤ term_value s b) ≤ℤ bound)) }
+        ensures stores { (s : List ℤ) →
+            Holds self.new s ↔ (Holds self.old s × ((term_value s a -ℤ term_value s b) ≤ℤ bound)) }
         ensures kept { IsMatrix self.new }
     {
         let _variables = self.variables;
