@@ -1,0 +1,5 @@
+pub mod Terms
+pub mod Matrices
+pub mod Stores
+pub mod View
+pub mod Equality
