@@ -35,7 +35,7 @@ pub enum Progress {
 }
 
 /// How a run of a bounded number of steps ended.
-#[derive(Drop)]
+#[derive(Debug, Drop)]
 pub enum RunEnd {
     At(Place, Values),
     Stopped(Place, Kind),
