@@ -1,0 +1,4 @@
+pub mod Signed
+pub mod ArithmeticLemmas
+pub mod CutLemmas
+pub mod Wrapping

@@ -1,0 +1,4 @@
+pub mod Ranges
+pub mod Compares
+pub mod Forms
+pub mod Leaves

@@ -1,0 +1,12 @@
+//! Ranges, comparisons, linear forms, and the trait of leaves with its laws.
+#![tactic(auto)]
+
+pub mod compare;
+pub mod form;
+pub mod leaf;
+pub mod range;
+
+pub use compare::{Compare, cut, mirror};
+pub use form::{Form, Terms};
+pub use leaf::Leaf;
+pub use range::{Range, arithmetic, arithmetic_is_sound};
