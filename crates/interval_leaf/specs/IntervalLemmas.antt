@@ -1,15 +1,13 @@
 -- Facts on lists of ranges.
-use Rattle.std.proofs.Common.{◌≡◌, ◌⊎◌, inl, inr, ℕ, zero, suc, ◌+◌, ◌*◌, ◌<◌, ◌≤◌, ℤ, pos, ◌≤ℤ◌, ◌<ℤ◌, int_lt, int_le, Bool, true, false, ◌&&◌, ◌||◌, List, [], ◌∷◌, Option, Some, None, length, map, slice_set, slice_index_or, refl, ap, sym, ◌∙◌, arith, if◌then◌else◌, All}
-use Rattle.std.specs.List.{list_all, list_any, zip}
-use Rattle.std.specs.Ordering.{int_eq}
+use Rattle.std.proofs.Common.{◌≡◌, ℕ, zero, suc, ◌+◌, ◌*◌, ◌<◌, ◌≤◌, ℤ, pos, Bool, true, false, ◌&&◌, ◌||◌, List, [], ◌∷◌, length, map, slice_set, slice_index_or, refl, ap, sym, ◌∙◌, arith, All}
+use Rattle.std.specs.List.{list_any, zip}
 use Rattle.std.proofs.lemmas.Int.{ints, clamps}
 use Rattle.std.proofs.lemmas.List.Elements.{All-head, All-tail}
 use Rattle.leaf_domain.specs.declared.range.Range.{Range}
-use Rattle.c_tree.specs.Value.{least, greatest}
-use Rattle.leaf_domain.specs.Ranges.{Within, IsInInt, is_empty_range, range_at, cover_of, empty_range}
+use Rattle.leaf_domain.specs.Ranges.{Within, is_empty_range, cover_of, empty_range}
 use Rattle.c_tree.specs.Value.{IsInt}
-use Rattle.leaf_domain.specs.Leaves.{LeafValue, nothing_of, is_nothing_of}
-use Rattle.interval_leaf.specs.Intervals.{numbers_of, pairs_of, interval_of, ranges_of, IsOwn, AllOwn, HasEnds, AllEnds, point_of, covers, lies_in, all_lie_in, widened, narrowed, widened_all, narrowed_all, settled, interval_join, interval_widen, interval_narrow, interval_leq, interval_bounds, interval_with, IsInterval, AllWithinRanges, own_ends, own_bounds_in}
+use Rattle.leaf_domain.specs.Leaves.{LeafValue}
+use Rattle.interval_leaf.specs.Intervals.{numbers_of, pairs_of, interval_of, IsOwn, AllOwn, HasEnds, AllEnds, point_of, covers, lies_in, all_lie_in, widened, narrowed, widened_all, narrowed_all, settled, interval_join, interval_widen, interval_narrow, interval_leq, interval_bounds, interval_with, IsInterval, AllWithinRanges, own_ends, own_bounds_in}
 
 pub pairs_numbers : (rs : List Range) → pairs_of (numbers_of rs) ≡ rs
 pairs_numbers [] = refl

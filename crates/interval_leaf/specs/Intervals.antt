@@ -1,11 +1,10 @@
 -- A leaf with one range per variable.
-use Rattle.std.specs.Prelude.{◌≡◌, ◌⊎◌, ℕ, ◌<◌, ◌≤◌, ◌+◌, ◌*◌, ℤ, pos, ◌≤ℤ◌, int_lt, int_le, Bool, true, false, not, ◌&&◌, if◌then◌else◌, List, [], ◌∷◌, Option, Some, None, length, slice_index_or, slice_set, map, zip, MatchOption, ⊤, ◌-◌, nat_eq}
+use Rattle.std.specs.Prelude.{◌≡◌, ℕ, ◌≤◌, ◌+◌, ◌*◌, ℤ, ◌≤ℤ◌, int_lt, int_le, Bool, true, false, ◌&&◌, if◌then◌else◌, List, [], ◌∷◌, Option, Some, None, length, slice_index_or, slice_set, map, zip, ⊤}
 use Rattle.std.specs.List.{list_all, list_any}
 use Rattle.std.specs.Ordering.{int_eq}
 use Rattle.c_tree.specs.Value.{least, greatest}
 use Rattle.leaf_domain.specs.declared.range.Range.{Range}
-use Rattle.leaf_domain.specs.Ranges.{Within, IsInInt, is_empty_range, empty_range, range_at, cover_of, meet_of}
-use Rattle.c_tree.specs.Value.{IsInt}
+use Rattle.leaf_domain.specs.Ranges.{Within, is_empty_range, empty_range, range_at, cover_of, meet_of}
 use Rattle.leaf_domain.specs.Leaves.{LeafValue, LeafMeaning, nothing_of, is_nothing_of}
 
 -- a low and a high for each variable, as one list of numbers
@@ -151,11 +150,15 @@ intervals = record {
   start = interval_start;
   bound_count = twice;
   own_bounds = interval_own_bounds;
+  best = λ v. v;
   leq = interval_leq;
   join = interval_join;
   widen = interval_widen;
   narrow = interval_narrow;
   bounds_of = interval_bounds;
+  form_range = λ v f. None;
   meet_range = interval_meet;
+  meet_form = λ v f op. v;
   set_range = interval_with;
+  set_form = λ v x f r. interval_with v x r;
 }

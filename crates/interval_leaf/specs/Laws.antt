@@ -1,13 +1,13 @@
 -- The laws of intervals.
-use Rattle.std.proofs.Common.{◌≡◌, ◌⊎◌, inl, inr, ◌↔◌, ℕ, ◌≤◌, ◌<◌, ◌*◌, ℤ, pos, Bool, true, false, List, [], ◌∷◌, Option, Some, None, length, slice_index_or, slice_set, map, refl, ap, sym, ◌∙◌, subst, arith, All, if◌then◌else◌}
+use Rattle.std.proofs.Common.{◌≡◌, ◌⊎◌, inl, inr, ◌↔◌, ℕ, ◌≤◌, ◌<◌, ◌*◌, ℤ, pos, Bool, true, false, List, Option, Some, None, length, slice_index_or, slice_set, map, refl, sym, ◌∙◌, arith, if◌then◌else◌}
 use Rattle.std.specs.List.{list_any}
 use Rattle.std.proofs.lemmas.Int.{ints, clamps}
 use Rattle.std.proofs.lemmas.List.{length-map}
 use Rattle.leaf_domain.specs.declared.range.Range.{Range}
 use Rattle.leaf_domain.specs.Ranges.{Within, IsInInt, is_empty_range, empty_range, cover_of, meet_of}
-use Rattle.c_tree.specs.Value.{IsInt}
-use Rattle.leaf_domain.specs.Leaves.{LeafValue, LeafLaws, Alike, Answers, nothing_of, is_nothing_of}
-use Rattle.interval_leaf.specs.Intervals.{intervals, pairs_of, numbers_of, interval_of, IsInterval, IsIntervalContent, AllWithinRanges, ContentHolds, interval_holds, interval_start, interval_leq, interval_join, interval_widen, interval_narrow, interval_bounds, interval_meet, interval_with, interval_own_bounds, own_bounds_in, covers, widened, widened_all, narrowed, narrowed_all, settled, all_lie_in, point_of, AllOwn, IsOwn, HasEnds}
+use Rattle.leaf_domain.specs.Forms.{form_at}
+use Rattle.leaf_domain.specs.Leaves.{LeafValue, LeafLaws, Answers, nothing_of, is_nothing_of}
+use Rattle.interval_leaf.specs.Intervals.{intervals, pairs_of, interval_of, IsInterval, AllWithinRanges, ContentHolds, interval_holds, interval_start, interval_leq, interval_join, interval_widen, interval_narrow, interval_bounds, interval_meet, interval_with, interval_own_bounds, covers, widened, widened_all, narrowed, narrowed_all, settled, point_of, AllOwn, IsOwn, HasEnds}
 use Rattle.interval_leaf.specs.IntervalLemmas.{pairs_numbers, length_zipped, is_interval, covers_own, widened_all_own, narrowed_all_ends, own_from_all_ends, own_from_ends, own_set, own_points, covers_first, covers_second, inside_holds, widened_all_first, widened_all_second, narrowed_all_hold, none_empty, points_hold, points_alone, lows, lows_hold, held_length, widened_all_fewer, own_bounds_le, read_within, read_own, set_within, kept_within, length_replaced}
 
 abbrev at : ℕ → Option (List ℤ) → LeafValue
@@ -146,6 +146,13 @@ leq_nothing : (n m : ℕ) (c : Option (List ℤ)) → interval_leq (at n c) (not
 leq_nothing n m None e = refl
 leq_nothing n m (Some us) e = cc
 
+-- intervals give a form no range
+abbrev no_form_range : Option Range
+no_form_range = None
+
+no_range : (r : Range) (P : Type 0) → no_form_range ≡ Some r → P
+no_range r P e = cc
+
 pub interval_laws : LeafLaws intervals
 interval_laws = record {
   valid_few = λ a p. p.0;
@@ -156,6 +163,9 @@ interval_laws = record {
   nothing_holds = λ n s h. h;
   some_holds = λ a. some_holds a.variables a.content;
   holds_length = λ a. holds_length a.variables a.content;
+  best_answers = λ a p. record { valid = p; same = refl };
+  best_holds = λ a s p. (λ h. h, λ h. h);
+  best_nothing = λ n. refl;
   leq_holds = λ a b s k. leq_holds a.variables b.variables a.content b.content s k.first k.second k.same;
   nothing_leq = λ n a. refl;
   leq_nothing = λ n a. leq_nothing a.variables n a.content;
@@ -173,10 +183,18 @@ interval_laws = record {
   bounds_in_int = λ a x. bounds_in_int a.variables a.content x;
   bounds_hold = λ a x s. bounds_hold a.variables a.content x s;
   bounds_nothing = λ n x. refl;
+  form_holds = λ a f r s p g h e. no_range r (Within (form_at f s) r) e;
+  form_nothing = λ n f r e. no_range r (is_empty_range r ≡ true) e;
   meet_answers = λ a x r p l h. with_answers a.variables a.content x _ _ refl p (meet_ends _ r (bounds_ends a.variables a.content x p l) h);
   meet_holds = λ a x r s p l h. meet_holds a.variables a.content x r s p l;
   meet_nothing = λ n x r. refl;
+  meet_form_answers = λ a f op p g. record { valid = p; same = refl };
+  meet_form_holds = λ a f op s p g h e. h;
+  meet_form_nothing = λ n f op. refl;
   set_answers = λ a x r p l h. with_answers a.variables a.content x r _ refl p (h.low.low, h.high.high);
   set_holds = λ a x r s n p l h. set_holds a.variables a.content x r s n;
   set_nothing = λ n x r. refl;
+  set_form_answers = λ a x f r p l g h. with_answers a.variables a.content x r _ refl p (h.low.low, h.high.high);
+  set_form_holds = λ a x f r s p l g h. set_holds a.variables a.content x r s (form_at f s);
+  set_form_nothing = λ n x f r. refl;
 }

@@ -1,3 +1,6 @@
+//! A leaf with one range per variable.
+#![tactic(auto)]
+
 ghost use Rattle.std.specs.Prelude.{◌≡◌, ◌≤◌, ◌<◌, IfOk, IfSome, IfNone, length, All};
 ghost use Rattle.leaf_domain.specs.Ranges.{IsInInt};
 ghost use Rattle.c_tree.specs.Value.{IsInt};
@@ -8,15 +11,17 @@ ghost use Rattle.std.specs.Prelude.{refl};
 ghost use Rattle.leaf_domain.specs.Leaves.{same_leaf};
 ghost use Rattle.interval_leaf.specs.Equality.{leaf_partial, leaf_equiv, fed_leaf, leaf_alike};
 
-use crate::{
+use crate::ranges::{
     are_inside, are_same, covered, has_empty, narrowed_ranges, points, replaced, widened_ranges,
 };
-use leaf_domain::{Leaf, NoMemory, Range};
-use std::alloc::{AllocError, Global};
+use fam_outer::NoMemory;
+use leaf_domain::{Compare, Form, Leaf, Range};
+use std::alloc::Global;
 use std::hash::{Hash, Hasher};
 use std::marker::Model;
 
-/// A leaf with one range per variable.
+/// A leaf with one range for each variable, or Nothing, which holds no store. It keeps no form: a
+/// comparison of a form changes nothing, and the value of a form is known by its range alone.
 #[derive(Drop)]
 pub struct IntervalLeaf {
     variables: u32,
@@ -191,6 +196,10 @@ impl Leaf for IntervalLeaf {
         }
     }
 
+    fn best(&self, alloc: Global) -> Result<IntervalLeaf, NoMemory> {
+        self.copy(alloc)
+    }
+
     fn leq(&self, other: &IntervalLeaf) -> bool {
         let Some(ranges) = self.items() else {
             return true;
@@ -238,11 +247,29 @@ impl Leaf for IntervalLeaf {
         }
     }
 
+    fn form_range(&self, _f: &Form) -> Option<Range> {
+        None
+    }
+
     fn meet_range(&self, alloc: Global, x: u32, r: Range) -> Result<IntervalLeaf, NoMemory> {
         self.with(alloc, x, self.bounds_of(x).meet(r))
     }
 
+    fn meet_form(&self, alloc: Global, _f: &Form, _op: Compare) -> Result<IntervalLeaf, NoMemory> {
+        self.copy(alloc)
+    }
+
     fn set_range(&self, alloc: Global, x: u32, r: Range) -> Result<IntervalLeaf, NoMemory> {
+        self.with(alloc, x, r)
+    }
+
+    fn set_form(
+        &self,
+        alloc: Global,
+        x: u32,
+        _f: &Form,
+        r: Range,
+    ) -> Result<IntervalLeaf, NoMemory> {
         self.with(alloc, x, r)
     }
 }

@@ -1,6 +1,6 @@
 -- The arithmetic of ranges holds each result.
-use Rattle.std.proofs.Common.{◌≡◌, ◌⊎◌, inl, inr, ℕ, zero, suc, ℤ, pos, negsuc, neg_ℤ, ◌+ℤ◌, ◌-ℤ◌, ◌*ℤ◌, ◌≤ℤ◌, ◌<ℤ◌, ◌+◌, ◌*◌, ◌/◌, ◌%◌, ◌≤◌, ◌<◌, arith, int_div, int_rem, int_lt, int_le, unsigned_abs, ◌≢◌, ◌∙◌, ap, sym, subst, Bool, true, false, if◌then◌else◌, ◌&&◌, ◌||◌, Option, Some, None, refl}
-use Rattle.std.proofs.Math.Nat.{div-mul-le_self, mul-le-mul_right, mul-le-mul_left, mod-eq_of_lt, mod-lt, mod-le}
+use Rattle.std.proofs.Common.{◌≡◌, ◌⊎◌, inl, inr, ℕ, zero, suc, ℤ, pos, negsuc, neg_ℤ, ◌+ℤ◌, ◌-ℤ◌, ◌*ℤ◌, ◌≤ℤ◌, ◌<ℤ◌, ◌/◌, ◌≤◌, ◌<◌, arith, int_div, int_rem, int_lt, unsigned_abs, ◌≢◌, ◌∙◌, ap, sym, Bool, true, false, if◌then◌else◌, ◌&&◌, ◌||◌, Some, None, refl}
+use Rattle.std.proofs.Math.Nat.{div-mul-le_self, mul-le-mul_right, mul-le-mul_left, mod-eq_of_lt, mod-le}
 use Rattle.std.proofs.Math.IntN.{*ℤ_comm}
 use Rattle.std.proofs.lemmas.Nat.{le-div}
 use Rattle.std.proofs.lemmas.Int.{ints, clamps, rem_below}
@@ -8,7 +8,7 @@ use Rattle.std.specs.Ordering.{int_eq}
 use Rattle.std.specs.Int.{int_min, int_max}
 use borrow.Author.Differences.{le_out}
 use Rattle.leaf_domain.specs.declared.range.Range.{Range}
-use Rattle.leaf_domain.specs.Ranges.{Within, between_of, spread_of, cover_of, hull_of, is_empty_range, sums_of, differences_of, products_of, quotients_of, all_quotients_of, HasOneSign, remainders_of, size_of, greatest_size_of, least_divisor_of, low_left_of, high_left_of, is_zero_range, is_single, is_smaller_of, bounded_remainders, remainder_of_singles, empty_range, arithmetic_range, arithmetic_of, ArithmeticHolds}
+use Rattle.leaf_domain.specs.Ranges.{Within, spread_of, hull_of, is_empty_range, sums_of, differences_of, products_of, quotients_of, all_quotients_of, remainders_of, size_of, greatest_size_of, least_divisor_of, low_left_of, high_left_of, is_zero_range, is_single, is_smaller_of, bounded_remainders, remainder_of_singles, empty_range, arithmetic_range, arithmetic_of, ArithmeticHolds}
 use Rattle.std.proofs.lemmas.Bool.{false≢true}
 use Rattle.c_tree.specs.declared.tree.Op.{Op}
 use Rattle.c_tree.specs.declared.tree.Op.TheVariants.{Add, Sub, Mul, Div, Rem}

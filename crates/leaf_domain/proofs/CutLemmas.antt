@@ -1,12 +1,12 @@
 -- What a comparison leaves of a range.
-use Rattle.std.proofs.Common.{◌≡◌, ℤ, pos, ◌+ℤ◌, ◌-ℤ◌, ◌≤ℤ◌, ◌<ℤ◌, int_lt, int_le, Bool, true, false, not, ◌∙◌, ap, sym, refl, arith, if◌then◌else◌}
+use Rattle.std.proofs.Common.{◌≡◌, ℤ, pos, ◌+ℤ◌, ◌-ℤ◌, ◌≤ℤ◌, int_lt, Bool, true, false, not, ap, refl, arith, if◌then◌else◌}
 use Rattle.std.specs.Int.{int_min, int_max}
 use Rattle.std.specs.Ordering.{int_eq}
 use Rattle.std.proofs.lemmas.Int.{ints, clamps}
 use Rattle.leaf_domain.specs.declared.range.Range.{Range}
 use Rattle.leaf_domain.specs.declared.compare.Compare.{Compare}
 use Rattle.leaf_domain.specs.declared.compare.Compare.TheVariants.{Lt, Le, Gt, Ge, Eq, Ne}
-use Rattle.leaf_domain.specs.Ranges.{Within, IsInInt, range_of_ends, range_at, empty_range, meet_of, is_single}
+use Rattle.leaf_domain.specs.Ranges.{Within, IsInInt, range_of_ends, range_at, empty_range, is_single}
 use Rattle.c_tree.specs.Value.{IsInt}
 use Rattle.leaf_domain.specs.Compares.{holds_between, mirror_of, negation_of, cut_of, raised_past, lowered_past, without_number, CutHolds}
 

@@ -1,8 +1,7 @@
 -- Signed numbers that were passed or computed are themselves.
-use Rattle.std.proofs.Common.{◌≡◌, ℕ, ℤ, pos, negsuc, neg_ℤ, ◌+ℤ◌, ◌-ℤ◌, ◌*ℤ◌, ◌≤ℤ◌, ◌<ℤ◌, ◌≤◌, ◌<◌, ◌^◌, ◌*◌, FitsSigned, to_z, of_z, w64, arith, int_div, unsigned_abs, lit<, ◌≢◌, ◌∙◌, ap, sym, suc, int_lt, Bool, true, false, if◌then◌else◌, ◌&&◌}
+use Rattle.std.proofs.Common.{◌≡◌, ℤ, pos, negsuc, ◌+ℤ◌, ◌-ℤ◌, ◌*ℤ◌, ◌≤◌, FitsSigned, to_z, of_z, w64, arith, int_div, unsigned_abs, lit<, ◌∙◌, ap, suc, int_lt, true, false, if◌then◌else◌, ◌&&◌}
 use Rattle.std.proofs.Math.Nat.{div-le_self}
 use Rattle.std.proofs.lemmas.Int.{ints, to_z-of_z, fits_signed_mul, fits_signed_from_abs}
-use Rattle.c_tree.specs.Value.{least, greatest}
 use Rattle.leaf_domain.specs.declared.range.Range.{Range}
 use Rattle.leaf_domain.specs.Ranges.{quotients_of, spread_of, empty_range, is_zero_range, is_single, remainders_of, remainder_of_singles, is_smaller_of, bounded_remainders, hull_of, all_quotients_of, greatest_size_of, low_left_of, high_left_of, range_at, range_of_ends}
 use Rattle.c_tree.specs.Value.{IsInt}

@@ -1,5 +1,5 @@
 -- Ranges of whole numbers, and what the arithmetic of `int` makes of them.
-use Rattle.std.specs.Prelude.{Option, Some, None, ◌≡◌, ◌⊎◌, ◌≢◌, nat_lt, ◌-◌, ℕ, ℤ, pos, negsuc, neg_ℤ, ◌+ℤ◌, ◌-ℤ◌, ◌*ℤ◌, ◌≤ℤ◌, ◌<ℤ◌, int_div, int_rem, int_lt, int_le, Bool, true, false, if◌then◌else◌, ◌&&◌, ◌||◌, not, IsTrue, unsigned_abs, max, min}
+use Rattle.std.specs.Prelude.{Option, Some, None, ◌≡◌, ◌⊎◌, ℤ, pos, negsuc, neg_ℤ, ◌+ℤ◌, ◌-ℤ◌, ◌*ℤ◌, ◌≤ℤ◌, ◌<ℤ◌, int_div, int_rem, int_lt, int_le, Bool, true, false, if◌then◌else◌, ◌&&◌, ◌||◌, unsigned_abs}
 use Rattle.std.specs.Int.{int_min, int_max}
 use Rattle.std.specs.Ordering.{int_eq}
 use Rattle.c_tree.specs.declared.tree.Op.{Op}

@@ -10,3 +10,6 @@ pub use compare::{Compare, cut, mirror};
 pub use form::{Form, Terms};
 pub use leaf::Leaf;
 pub use range::{Range, arithmetic, arithmetic_is_sound};
+
+#[cfg(test)]
+mod tests;

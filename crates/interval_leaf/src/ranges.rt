@@ -1,0 +1,124 @@
+//! Lists of ranges, one for each variable.
+#![tactic(auto)]
+
+ghost use Rattle.std.specs.Prelude.{◌≡◌, ◌≤◌, ◌<◌, IfOk, length, All, map, zip, slice_set};
+ghost use Rattle.std.specs.List.{list_all, list_any};
+ghost use Rattle.leaf_domain.specs.Ranges.{cover_of, is_empty_range};
+ghost use Rattle.c_tree.specs.Value.{IsInt};
+ghost use Rattle.leaf_domain.specs.Leaves.{same_numbers};
+ghost use Rattle.interval_leaf.specs.Intervals.{numbers_of, widened, narrowed, covers, all_lie_in, widened_all, narrowed_all, lies_in, point_of, IsOwn};
+
+use leaf_domain::Range;
+use std::alloc::{AllocError, Global};
+
+const LOW: i64 = -2147483648;
+
+const HIGH: i64 = 2147483647;
+
+/// The ranges of single numbers.
+pub(crate) fn points(alloc: Global, values: &[i64]) -> Result<Vec<Range>, AllocError>
+    ensures { IfOk result (λ v. v.items ≡ map point_of values.now) }
+{
+    values
+        .iter()
+        .map(|n| Range { low: *n, high: *n })
+        .collect(alloc)
+}
+
+/// The least ranges that have both, one by one.
+pub(crate) fn covered(alloc: Global, a: &[Range], b: &[Range]) -> Result<Vec<Range>, AllocError>
+    ensures { IfOk result (λ v. v.items ≡ covers a.now b.now) }
+{
+    a.iter().zip(b).map(|(p, q)| p.cover(*q)).collect(alloc)
+}
+
+/// Whether the first lies in the second.
+fn is_inside(a: Range, b: Range) -> bool
+    ensures { result ≡ lies_in a b }
+{
+    b.low <= a.low && a.high <= b.high
+}
+
+/// Whether each lies in its own of the others.
+pub(crate) fn are_inside(a: &[Range], b: &[Range]) -> bool
+    ensures { result ≡ all_lie_in a.now b.now }
+{
+    a.iter().zip(b).all(|(p, q)| is_inside(*p, *q))
+}
+
+/// A range with each bound that the other moves put as that of `int`.
+fn widened_range(x: Range, g: Range) -> Range
+    ensures { result ≡ widened x g }
+{
+    Range {
+        low: if g.low < x.low { LOW } else { x.low },
+        high: if x.high < g.high { HIGH } else { x.high },
+    }
+}
+
+/// A range with each bound that is that of `int` put as the other's.
+fn narrowed_range(x: Range, g: Range) -> Range
+    ensures { result ≡ narrowed x g }
+{
+    Range {
+        low: if x.low == LOW { g.low } else { x.low },
+        high: if x.high == HIGH { g.high } else { x.high },
+    }
+}
+
+/// The ranges widened one by one.
+pub(crate) fn widened_ranges(
+    alloc: Global,
+    a: &[Range],
+    b: &[Range],
+) -> Result<Vec<Range>, AllocError>
+    ensures { IfOk result (λ v. v.items ≡ widened_all a.now b.now) }
+{
+    a.iter()
+        .zip(b)
+        .map(|(x, g)| widened_range(*x, *g))
+        .collect(alloc)
+}
+
+/// The ranges narrowed one by one.
+pub(crate) fn narrowed_ranges(
+    alloc: Global,
+    a: &[Range],
+    b: &[Range],
+) -> Result<Vec<Range>, AllocError>
+    ensures { IfOk result (λ v. v.items ≡ narrowed_all a.now b.now) }
+{
+    a.iter()
+        .zip(b)
+        .map(|(x, g)| narrowed_range(*x, *g))
+        .collect(alloc)
+}
+
+/// Whether one of the ranges is empty.
+pub(crate) fn has_empty(a: &[Range]) -> bool
+    ensures { result ≡ list_any is_empty_range a.now }
+{
+    a.iter().any(|r| r.is_empty())
+}
+
+/// The ranges with that of `x` replaced.
+pub(crate) fn replaced(
+    alloc: Global,
+    a: &[Range],
+    x: u32,
+    r: Range,
+) -> Result<Vec<Range>, AllocError>
+    requires { x < length a.now }
+    ensures { IfOk result (λ v. v.items ≡ slice_set a.now x r) }
+{
+    let mut changed = a.to_vec(alloc)?;
+    changed[x as usize] = r;
+    Ok(changed)
+}
+
+/// Whether the ranges are the same.
+pub(crate) fn are_same(a: &[Range], b: &[Range]) -> bool
+    ensures { result ≡ same_numbers (numbers_of a.now) (numbers_of b.now) }
+{
+    a == b
+}
