@@ -128,3 +128,13 @@ module _ {L : Type 0} where
   new_listed es fs k t x u e is same =
       subst (λ ts. IsListed ts u) (sym (trees_more es fs k t e)) (subst (λ n. IsListed (trees es ++ erase (numbered t) ∷ []) n) (sym same)
       (listed_last (trees es) (numbered t) (length es) (sym (length-mapped tree_of es)) (ap root is) (subst (ChildrenListed (trees es)) (sym is) tt)))
+
+  -- a forest with one more entry keeps all that it had
+  pub keeps_more : (es fs : List (Key L × Tree L)) (k : Key L) (t : Tree L) (v : List (Plain L)) → fs ≡ es ++ (k, t) ∷ [] → trees es ≡ v → AreEntries fs → Keeps v (trees fs)
+  keeps_more es fs k t v e f ok =
+      let begins : trees fs ≡ v ++ erase (numbered t) ∷ [] = trees_more es fs k t e ∙ ap (λ ts. ts ++ erase (numbered t) ∷ []) f in
+      record {
+        more = erase (numbered t) ∷ [];
+        begins = begins;
+        stay = λ u h. record { listed = subst (λ ts. IsListed ts u) (sym begins) (listed_more v (erase (numbered t) ∷ []) u h.listed); distinct = ok.distinct };
+      }

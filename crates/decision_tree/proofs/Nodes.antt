@@ -1,9 +1,10 @@
 -- A forest with one more node.
-use Rattle.std.proofs.Common.{◌≡◌, ◌≢◌, ℕ, ◌+◌, ◌&&◌, Bool, true, false, cond, eqb, List, [], ◌∷◌, ◌++◌, length, slice_get, Some, None, refl, sym, ◌∙◌, ap, subst, inl, inr, arith, true≢false}
+use Rattle.std.proofs.Common.{◌≤◌, slice_index_or, ◌≡◌, ◌≢◌, ℕ, ◌+◌, ◌&&◌, Bool, true, false, cond, eqb, List, [], ◌∷◌, ◌++◌, length, slice_get, Some, None, refl, sym, ◌∙◌, ap, subst, inl, inr, arith, true≢false}
 use Rattle.std.specs.Map.{lookup}
 use Rattle.std.proofs.lemmas.Map.Entries.{place_from_lookup}
 use Rattle.std.proofs.lemmas.Bool.Decides.{nat_tests, eqb_tells}
-use Rattle.decision_tree.specs.Plain.{Plain, leaf, node}
+use Rattle.decision_tree.specs.Plain.{Plain, leaf, node, leaf_of, IsReducedFrom, IsNodeOf}
+use Rattle.decision_tree.proofs.Reduced.{lower_bound}
 use Rattle.decision_tree.specs.declared.forest.Key.{Key}
 use Rattle.decision_tree.specs.declared.forest.Key.TheVariants as key
 use Rattle.decision_tree.specs.declared.tree.Tree.{Tree}
@@ -117,3 +118,15 @@ module _ {L : Type 0} where
 
   pub grown : (es fs : List (Key L × Tree L)) (q : Key L) (t : Tree L) (v : List (Plain L)) → fs ≡ es ++ (q, t) ∷ [] → trees es ≡ v → (more : List (Plain L)) × (trees fs ≡ v ++ more)
   grown es fs q t v e f = (erase (numbered t) ∷ [], trees_more es fs q t e ∙ ap (λ ts. ts ++ erase (numbered t) ∷ []) f)
+
+  pub reduced_of_made : (k : ℕ) (low high t : Plain L) → IsReducedFrom (k + 1) low → IsReducedFrom (k + 1) high → IsNodeOf k low high t → IsReducedFrom k t
+  reduced_of_made k low high t r s (inl h) = subst (IsReducedFrom k) (sym h.1) (lower_bound low (k + 1) k (omega arith) r)
+  reduced_of_made k low high t r s (inr h) = subst (IsReducedFrom k) (sym h.1) (omega arith, h.0, r, s)
+
+  same_sides : (b : Bool) (x y : L) → x ≡ y → x ≡ cond b y x
+  same_sides true x y e = e
+  same_sides false x y e = refl
+
+  pub leads_of_made : (k : ℕ) (low high t : Plain L) → IsNodeOf k low high t → (v : List Bool) → leaf_of t v ≡ leaf_of (node k low high) v
+  leads_of_made k low high t (inl h) v = ap (λ u. leaf_of u v) h.1 ∙ same_sides (slice_index_or v k false) (leaf_of low v) (leaf_of high v) (ap (λ u. leaf_of u v) h.0)
+  leads_of_made k low high t (inr h) v = ap (λ u. leaf_of u v) h.1

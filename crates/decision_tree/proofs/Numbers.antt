@@ -1,8 +1,8 @@
 -- What the numbers of a forest's trees tell.
-use Rattle.std.proofs.Common.{◌≡◌, ◌↔◌, ℕ, List, sym, ◌∙◌, refl, subst, inl, inr}
+use Rattle.std.proofs.Common.{◌≡◌, ◌↔◌, ℕ, List, [], ◌++◌, sym, ◌∙◌, ap, refl, subst, inl, inr, append-nil, append_assoc}
 use Rattle.decision_tree.specs.Plain.{Plain}
 use Rattle.decision_tree.specs.Numbered.{Numbered, kept, branch, erase, root, IsWithin, IsNumbered}
-use Rattle.decision_tree.specs.Listed.{IsListed, IsOf}
+use Rattle.decision_tree.specs.Listed.{IsListed, IsOf, Keeps}
 use Rattle.decision_tree.proofs.Nodes.{same_root, same_tree}
 
 module _ {L : Type 0} where
@@ -18,4 +18,18 @@ module _ {L : Type 0} where
   pub numbered_in : (ts : List (Plain L)) (t : Numbered L) → IsOf ts t → IsNumbered t
   numbered_in ts t h = record {
     tells = λ a b v w. (same_tree ts a b (listed_within ts t a h.listed v) (listed_within ts t b h.listed w), same_root ts a b h.distinct (listed_within ts t a h.listed v) (listed_within ts t b h.listed w));
+  }
+
+  -- a tree of a forest stays one
+  pub stays : (before after : List (Plain L)) (t : Numbered L) → Keeps before after → IsOf before t → IsOf after t
+  stays before after t k h = k.stay t h
+
+  pub keeps_same : (before after : List (Plain L)) → after ≡ before → Keeps before after
+  keeps_same before after e = record { more = []; begins = e ∙ sym (append-nil before); stay = λ t h. subst (λ ts. IsOf ts t) (sym e) h }
+
+  pub keeps_both : (before between after : List (Plain L)) → Keeps before between → Keeps between after → Keeps before after
+  keeps_both before between after h k = record {
+    more = h.more ++ k.more;
+    begins = k.begins ∙ (ap (λ ts. ts ++ k.more) h.begins ∙ append_assoc before h.more k.more);
+    stay = λ t i. k.stay t (h.stay t i);
   }

@@ -126,8 +126,8 @@ impl<L: Eq + Hash + Drop> Forest<L> {
             return no.share();
         }
         let key = Key::Node(test, no.number(), yes.number());
-        if let Some(found) = find(&self.entries, &key) {
-            return found.share();
+        if let Some(known) = find(&self.entries, &key) {
+            return known.share();
         }
         let number = self.entries.len() as u64 + 1;
         let no = no.share()?;
