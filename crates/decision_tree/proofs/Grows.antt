@@ -1,5 +1,5 @@
 -- A forest with one more entry.
-use Rattle.std.proofs.Common.{◌≡◌, ◌≢◌, ◌⊎◌, ℕ, zero, suc, ◌+◌, ◌<◌, Bool, true, false, cond, List, [], ◌∷◌, ◌++◌, length, slice_get, Option, Some, None, refl, sym, ◌∙◌, ap, subst, inl, inr, arith, true≢false}
+use Rattle.std.proofs.Common.{◌≡◌, ◌≢◌, ℕ, ◌+◌, Bool, true, false, List, [], ◌∷◌, ◌++◌, length, slice_get, Some, None, refl, sym, ◌∙◌, ap, subst, inl, inr, true≢false}
 use Rattle.std.specs.Map.{lookup}
 use Rattle.std.proofs.lemmas.Map.Entries.{place_from_lookup}
 use Rattle.decision_tree.specs.Plain.{Plain, leaf, node, IsExact}
@@ -10,7 +10,7 @@ use Rattle.decision_tree.specs.declared.tree.Kept.{Kept}
 use Rattle.std.specs.declared.rc.Rc.{Rc}
 use Rattle.std.specs.declared.alloc.Global.{Global}
 use Rattle.decision_tree.specs.Numbered.{Numbered, kept, branch, erase, root}
-use Rattle.decision_tree.specs.Listed.{StandsAt, IsListed, IsDistinct, IsOf, Keeps}
+use Rattle.decision_tree.specs.Listed.{IsListed, Keeps}
 use Rattle.decision_tree.specs.View.{numbered}
 use Rattle.decision_tree.specs.Keys.{same_key}
 use Rattle.decision_tree.specs.Entries.{IsEntry, trees, AreEntries}

@@ -1,5 +1,5 @@
 -- What the numbers of a forest's trees tell.
-use Rattle.std.proofs.Common.{◌≡◌, ◌↔◌, ℕ, List, [], ◌++◌, sym, ◌∙◌, ap, refl, subst, inl, inr, append-nil, append_assoc}
+use Rattle.std.proofs.Common.{◌≡◌, ◌↔◌, List, [], ◌++◌, sym, ◌∙◌, ap, subst, inl, inr, append-nil, append_assoc}
 use Rattle.decision_tree.specs.Plain.{Plain}
 use Rattle.decision_tree.specs.Numbered.{Numbered, kept, branch, erase, root, IsWithin, IsNumbered}
 use Rattle.decision_tree.specs.Listed.{IsListed, IsOf, Keeps}

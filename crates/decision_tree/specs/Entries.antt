@@ -1,5 +1,5 @@
 -- The entries of a forest.
-use Rattle.std.specs.Prelude.{◌≡◌, ℕ, ◌+◌, List, Option, Some, slice_get, map}
+use Rattle.std.specs.Prelude.{◌≡◌, ℕ, ◌+◌, List, Some, slice_get, map}
 use Rattle.decision_tree.specs.Plain.{Plain}
 use Rattle.decision_tree.specs.declared.forest.Key.{Key}
 use Rattle.decision_tree.specs.declared.forest.Key.TheVariants as key

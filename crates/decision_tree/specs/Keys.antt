@@ -1,5 +1,5 @@
 -- When two keys are the same.
-use Rattle.std.specs.Prelude.{ℕ, Bool, false, ◌==◌, ◌&&◌}
+use Rattle.std.specs.Prelude.{Bool, false, ◌==◌, ◌&&◌}
 use Rattle.decision_tree.specs.declared.forest.Key.{Key}
 use Rattle.decision_tree.specs.declared.forest.Key.TheVariants as key
 

@@ -1,5 +1,5 @@
 -- The trees of a forest, which contracts see as the list of its leaves and nodes: number i stands at place i - 1.
-use Rattle.std.specs.Prelude.{◌≡◌, ℕ, ◌+◌, List, ◌++◌, Option, Some, slice_get}
+use Rattle.std.specs.Prelude.{◌≡◌, ℕ, ◌+◌, List, ◌++◌, Some, slice_get}
 use Rattle.decision_tree.specs.Plain.{Plain, leaf, node}
 use Rattle.decision_tree.specs.Numbered.{Numbered, kept, branch, erase}
 

@@ -1,11 +1,11 @@
-use Rattle.std.proofs.Common.{rules, List, Bool, arith, ◌≡◌, ◌+◌, ◌++◌, ◌∷◌, [], length, refl, sym, ◌∙◌, ap, subst, Some, inr}
+use Rattle.std.proofs.Common.{rules, List, Bool, ◌≡◌, sym, ◌∙◌, ap, subst, Some, inr}
 use Rattle.std.specs.Map.{lookup}
 use Rattle.std.proofs.lemmas.Result.{IfOk-weaker}
 use Rattle.decision_tree.specs.Plain.{node, leaf_of, IsNodeOf, IsReducedFrom}
 use Rattle.decision_tree.specs.declared.forest.Key.TheVariants as key
 use Rattle.decision_tree.specs.Keys.{same_key}
 use Rattle.decision_tree.specs.Entries.{trees, AreEntries}
-use Rattle.decision_tree.specs.Numbered.{erase, root, branch}
+use Rattle.decision_tree.specs.Numbered.{erase, root}
 use Rattle.decision_tree.specs.Listed.{IsListed, IsOf}
 use Rattle.decision_tree.specs.View.{numbered}
 use Rattle.decision_tree.proofs.Grows.{keeps_more}
