@@ -1,0 +1,9 @@
+pub mod Entries
+pub mod Keys
+pub mod Listed
+pub mod Numbered
+pub mod Paths
+pub mod Plain
+pub mod PlainCode
+pub mod Shown
+pub mod View

@@ -1,0 +1,31 @@
+-- The trees of a forest, which contracts see as the list of its leaves and nodes: number i stands at place i - 1.
+use Rattle.std.specs.Prelude.{◌≡◌, ℕ, ◌+◌, List, ◌++◌, Some, slice_get}
+use Rattle.decision_tree.specs.Plain.{Plain, leaf, node}
+use Rattle.decision_tree.specs.Numbered.{Numbered, kept, branch, erase}
+
+module _ {L : Type 0} where
+  -- t stands in the list at place n, counted from 1
+  pub record StandsAt (ts : List (Plain L)) (n : ℕ) (t : Plain L) : Type 0 where
+    pub place : ℕ
+    pub counted : n ≡ place + 1
+    pub there : slice_get ts place ≡ Some t
+
+  -- each subtree stands in the list at its number
+  abbrev pub IsListed : List (Plain L) → Numbered L → Type 0
+  IsListed ts (kept n x) = StandsAt ts n (leaf x)
+  IsListed ts (branch n test low high) = StandsAt ts n (node test (erase low) (erase high)) × IsListed ts low × IsListed ts high
+
+  -- no tree stands twice
+  abbrev pub IsDistinct : List (Plain L) → Type 0
+  IsDistinct ts = (i j : ℕ) (t : Plain L) → slice_get ts i ≡ Some t → slice_get ts j ≡ Some t → i ≡ j
+
+  -- t is a tree of the forest
+  pub record IsOf (forest : List (Plain L)) (t : Numbered L) : Type 0 where
+    pub listed : IsListed forest t
+    pub distinct : IsDistinct forest
+
+  -- the later forest has all that the earlier one had, in its place, and each tree of the earlier one is a tree of it
+  pub record Keeps (earlier later : List (Plain L)) : Type 0 where
+    pub more : List (Plain L)
+    pub begins : later ≡ earlier ++ more
+    pub stay : (t : Numbered L) → IsOf earlier t → IsOf later t

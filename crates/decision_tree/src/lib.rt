@@ -1,0 +1,13 @@
+//! Shared reduced decision trees, and forests that make each tree once.
+#![tactic(auto)]
+
+pub mod forest;
+pub mod paths;
+pub mod tree;
+
+pub use forest::Forest;
+pub use paths::{Path, Turns};
+pub use tree::{Kept, Node, Tree};
+
+#[cfg(test)]
+mod tests;

@@ -1,0 +1,124 @@
+ghost use Rattle.std.specs.Prelude.{◌≡◌, ◌+◌, ◌<◌, IfOk};
+ghost use Rattle.decision_tree.specs.Plain.{leaf, TestsBelow, IsReducedFrom};
+ghost use Rattle.decision_tree.specs.Listed.{IsOf, Keeps};
+ghost use Rattle.decision_tree.specs.View.{numbered, plain};
+
+use super::*;
+use fam_outer::NoMemory;
+use std::alloc::Global;
+use std::test::Fail;
+
+/// The tree of "not test 1, or test 0".
+fn formula_tree(alloc: Global) -> Result<Tree<bool>, NoMemory>
+    ensures { IfOk result (λ t. TestsBelow 2 (plain t)) }
+{
+    let on = Tree::leaf(alloc, true)?;
+    let off = Tree::leaf(alloc, false)?;
+    let low = Tree::node(alloc, 1, &on, &off)?;
+    Tree::node(alloc, 0, &low, &on)
+}
+
+/// The same, once more after want of memory.
+fn formula_tree_again(alloc: Global) -> Result<Tree<bool>, NoMemory>
+    ensures { IfOk result (λ t. TestsBelow 2 (plain t)) }
+{
+    match formula_tree(alloc) {
+        Ok(tree) => Ok(tree),
+        Err(NoMemory) => formula_tree(alloc),
+    }
+}
+
+/// A leaf of the forest, once more after want of memory.
+#[tactic(auto, using(crate::proofs::Numbers::keeps_same, crate::proofs::Numbers::keeps_both))]
+fn leaf_again(forest: &mut Forest<u32>, value: u32) -> Result<Tree<u32>, NoMemory>
+    ensures same { IfOk result (λ t. plain t ≡ leaf value) }
+    ensures own { IfOk result (λ t. IsOf forest.new (numbered t)) }
+    ensures keeps { Keeps forest.old forest.new }
+{
+    match forest.leaf(value) {
+        Ok(tree) => Ok(tree),
+        Err(NoMemory) => forest.leaf(value),
+    }
+}
+
+/// A node of the forest, once more after want of memory.
+#[tactic(auto, using(crate::proofs::Numbers::stays, crate::proofs::Numbers::keeps_both))]
+fn node_again(
+    forest: &mut Forest<u32>,
+    test: u32,
+    no: &Tree<u32>,
+    yes: &Tree<u32>,
+) -> Result<Tree<u32>, NoMemory>
+    requires small { test < 64 }
+    requires no_reduced { IsReducedFrom (test + 1) (plain no.now) }
+    requires yes_reduced { IsReducedFrom (test + 1) (plain yes.now) }
+    requires no_own { IsOf forest.old (numbered no.now) }
+    requires yes_own { IsOf forest.old (numbered yes.now) }
+    ensures reduced { IfOk result (λ t. IsReducedFrom test (plain t)) }
+    ensures own { IfOk result (λ t. IsOf forest.new (numbered t)) }
+    ensures keeps { Keeps forest.old forest.new }
+{
+    match forest.node(test, no, yes) {
+        Ok(tree) => Ok(tree),
+        Err(NoMemory) => forest.node(test, no, yes),
+    }
+}
+
+#[test]
+fn nodes_and_leaves(rt: HostRuntime) -> Result<(), Fail> {
+    let one = Tree::leaf(rt.alloc(), 1u32)?;
+    let two = Tree::leaf(rt.alloc(), 2u32)?;
+    assert!(rt; !one.equal(&two));
+    let same = Tree::node(rt.alloc(), 0, &one, &one)?;
+    assert!(rt; same.equal(&one) && same.number() == 0);
+    let t = Tree::node(rt.alloc(), 0, &one, &two)?;
+    assert!(rt; !t.equal(&one) && t.share()?.equal(&t) && t.number() == 0);
+    let tree = formula_tree_again(rt.alloc())?;
+    for (a, b, leaf) in [
+        (false, false, true),
+        (false, true, false),
+        (true, false, true),
+        (true, true, true),
+    ] {
+        assert!(rt; *tree.leaf_at(&[a, b]) == leaf);
+    }
+    Ok(())
+}
+
+#[test]
+fn paths_begin_with_no(rt: HostRuntime) -> Result<(), Fail> {
+    let tree = formula_tree(rt.alloc())?;
+    let paths = match tree.paths(rt.alloc()) {
+        Ok(paths) => paths,
+        Err(NoMemory) => tree.paths(rt.alloc())?,
+    };
+    assert!(rt; paths.len() == 3);
+    assert!(rt;
+        paths[0].turns.items() == [(0, false), (1, false)].as_slice() && paths[0].leaf.value
+    );
+    assert!(rt;
+        paths[1].turns.items() == [(0, false), (1, true)].as_slice() && !paths[1].leaf.value
+    );
+    assert!(rt; paths[2].turns.items() == [(0, true)].as_slice() && paths[2].leaf.value);
+    Ok(())
+}
+
+#[test]
+#[tactic(auto, using(crate::proofs::Numbers::stays))]
+fn forests_make_each_tree_once(rt: HostRuntime) -> Result<(), Fail> {
+    let mut forest = Forest::new(rt.alloc());
+    let one = leaf_again(&mut forest, 1u32)?;
+    let two = leaf_again(&mut forest, 2u32)?;
+    let again = leaf_again(&mut forest, 1u32)?;
+    assert!(rt; one.number() == 1 && two.number() == 2 && again.number() == 1);
+    let t = node_again(&mut forest, 1, &one, &two)?;
+    let u = node_again(&mut forest, 1, &two, &one)?;
+    let same = node_again(&mut forest, 1, &one, &two)?;
+    assert!(rt; t.number() == 3 && u.number() == 4 && same.number() == 3);
+    let top = node_again(&mut forest, 0, &t, &u)?;
+    let child = node_again(&mut forest, 0, &t, &same)?;
+    assert!(rt; top.number() == 5 && child.number() == 3 && child.equal(&t));
+    let kept = Tree::node(rt.alloc(), 1, &one, &two)?;
+    assert!(rt; kept.number() == 0 && kept.equal(&t) && !kept.equal(&u));
+    Ok(())
+}
