@@ -1,0 +1,5 @@
+pub mod Integers
+pub mod Merges
+pub mod Products
+pub mod Sums
+pub mod Values
