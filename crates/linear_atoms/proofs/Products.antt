@@ -13,5 +13,8 @@ size (negsuc n) h = omega (arith, h.sfits)
 pub product_wide : (a b : ℤ) → FitsSigned w64 a → FitsSigned w64 b → FitsSigned w128 (a *ℤ b)
 product_wide a b h k = fits_signed_mul w128 a b 9223372036854775808 9223372036854775808 (size a h) (size b k) (lit< tt)
 
-pub product_back : (a b c : ℤ) → FitsSigned w64 a → FitsSigned w64 b → c ≡ b → to_z w128 (of_z w128 (to_z w128 (of_z w128 a) *ℤ to_z w128 (of_z w128 c))) ≡ a *ℤ b
-product_back a b c h k e = rw (e, wide a h, wide b k) (to_z-of_z w128 (a *ℤ b) (product_wide a b h k))
+narrow : (a : ℤ) → FitsSigned w64 a → to_z w128 (of_z w128 (to_z w64 (of_z w64 a))) ≡ a
+narrow a h = rw (to_z-of_z w64 a h) (wide a h)
+
+pub product_back : (a b : ℤ) → FitsSigned w64 a → FitsSigned w64 b → to_z w128 (of_z w128 (to_z w128 (of_z w128 (to_z w64 (of_z w64 a))) *ℤ to_z w128 (of_z w128 (to_z w64 (of_z w64 b))))) ≡ a *ℤ b
+product_back a b h k = rw (narrow a h, narrow b k) (to_z-of_z w128 (a *ℤ b) (product_wide a b h k))

@@ -127,10 +127,10 @@ first_parts : (ts us : List (ℕ × ℤ)) (n : ℕ) (a : ℤ) → ts ≡ (n, a) 
 first_parts ts us n a e r = subst IsRising e r
 
 -- a number of 64 bits at 128 bits
-pub wide : (a : ℤ) → FitsSigned w64 a → to_z w128 (of_z w128 a) ≡ a
-wide a h = to_z-of_z w128 a (record { sfits = omega (arith, h.sfits) })
+pub wide : (a : ℤ) → FitsSigned w64 a → to_z w128 (of_z w128 (to_z w64 (of_z w64 a))) ≡ a
+wide a h = rw (to_z-of_z w64 a h) (to_z-of_z w128 a (record { sfits = omega (arith, h.sfits) }))
 
-pub wide_sum : (a b : ℤ) → FitsSigned w64 a → FitsSigned w64 b → to_z w128 (of_z w128 (to_z w128 (of_z w128 a) +ℤ to_z w128 (of_z w128 b))) ≡ a +ℤ b
+pub wide_sum : (a b : ℤ) → FitsSigned w64 a → FitsSigned w64 b → to_z w128 (of_z w128 (to_z w128 (of_z w128 (to_z w64 (of_z w64 a))) +ℤ to_z w128 (of_z w128 (to_z w64 (of_z w64 b))))) ≡ a +ℤ b
 wide_sum a b h k = rw (wide a h, wide b k) (to_z-of_z w128 (a +ℤ b) (omega (arith, ints)))
 
 pub only_left : (ls rs ts : List (ℕ × ℤ)) (n : ℕ) (a d : ℤ) → ls ≡ (n, a) ∷ ts → rs ≡ [] → d ≡ a → IsRising ls → terms_sum ls rs ≡ one n d ++ terms_sum ts rs

@@ -111,7 +111,7 @@ impl Linear {
         ensures value { (values : List ℤ) → form_at (form_by by self.now) values ≡ form_at self.now values *ℤ by }
     {
         let terms = multiplied(alloc, self.terms.items(), by)?;
-        let constant = narrow(product(self.constant as i128, by))?;
+        let constant = narrow(product(self.constant, by))?;
         Ok(Linear { terms, constant })
     }
 }

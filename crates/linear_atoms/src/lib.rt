@@ -4,14 +4,13 @@
 pub mod atoms;
 pub mod forms;
 mod merging;
-//NORMAL
+pub mod normal;
+pub mod ranges;
 pub mod terms;
-//TEXTS
+pub mod texts;
 
 pub use atoms::{Atom, Config, Feature, Literal};
 pub use forms::{Linear, LinearFault};
-//NORMALUSE
+pub use normal::Normal;
 pub use terms::Terms;
 
-//CFG
-//TESTS

@@ -3,7 +3,7 @@
 
 ghost use Rattle.std.specs.Prelude.{◌≡◌, ℕ, ◌+◌, ◌<◌, ℤ, pos, ◌*ℤ◌, List, [], ◌∷◌, ◌++◌, length, MatchOption, FitsSigned};
 ghost use Rattle.std.specs.Int.{w64};
-ghost use Rattle.linear_atoms.specs.Forms.{IsRising, one, terms_sum, terms_by, TermsWithin, NumberWithin, Puts};
+ghost use Rattle.linear_atoms.specs.Forms.{IsRising, one, terms_sum, terms_by, TermsWithin, NumberWithin, Puts, is_small};
 
 use crate::forms::LinearFault;
 use crate::terms::{INLINE_TERMS, Terms};
@@ -25,6 +25,13 @@ pub(crate) fn narrow(n: i128) -> Result<i64, LinearFault>
     }
 }
 
+/// Whether the number does not pass 2^31 in size.
+pub(crate) fn is_small(n: i64) -> bool
+    ensures { result ≡ is_small n }
+{
+    n.unsigned_abs() <= 2147483648
+}
+
 /// Puts a term behind others, where its coefficient is not 0.
 fn put(
     list: &mut SmallVec<(u32, i64), INLINE_TERMS>,
@@ -41,15 +48,13 @@ fn put(
 }
 
 /// The first term and those behind it.
-fn cut(terms: &[(u32, i64)]) -> Option<(u32, i128, &[(u32, i64)])>
+pub(crate) fn cut(terms: &[(u32, i64)]) -> Option<(u32, i64, &[(u32, i64)])>
     ensures parts { MatchOption result (terms.now ≡ []) (λ x. terms.now ≡ (x.0, x.1) ∷ x.2.now) }
     ensures fits { MatchOption result (Unit {0}) (λ x. FitsSigned w64 x.1) }
 {
     match terms {
         [] => None,
-        [(number, coefficient), behind @ ..] => {
-            Some((*number, *coefficient as i128, behind))
-        }
+        [(number, coefficient), behind @ ..] => Some((*number, *coefficient, behind)),
     }
 }
 
@@ -67,12 +72,12 @@ fn next<'a>(
 {
     match (cut(left), cut(right)) {
         (None, None) => None,
-        (Some((number, a, behind)), None) => Some((number, a, behind, right)),
-        (None, Some((number, a, behind))) => Some((number, a, left, behind)),
+        (Some((number, a, behind)), None) => Some((number, a as i128, behind, right)),
+        (None, Some((number, a, behind))) => Some((number, a as i128, left, behind)),
         (Some((m, a, ms)), Some((n, b, ns))) => match m.cmp(&n) {
-            Ordering::Less => Some((m, a, ms, right)),
-            Ordering::Equal => Some((m, a + b, ms, ns)),
-            Ordering::Greater => Some((n, b, left, ns)),
+            Ordering::Less => Some((m, a as i128, ms, right)),
+            Ordering::Equal => Some((m, a as i128 + b as i128, ms, ns)),
+            Ordering::Greater => Some((n, b as i128, left, ns)),
         },
     }
 }
@@ -99,11 +104,10 @@ pub(crate) fn merged(
 
 /// The product of two numbers of 64 bits.
 #[tactic(auto, using(crate::proofs::Products::product_back, crate::proofs::Products::product_wide))]
-pub(crate) fn product(a: i128, b: i64) -> i128
-    requires { FitsSigned w64 a }
+pub(crate) fn product(a: i64, b: i64) -> i128
     ensures { result ≡ a *ℤ b }
 {
-    a * b as i128
+    a as i128 * b as i128
 }
 
 /// The terms times a number.

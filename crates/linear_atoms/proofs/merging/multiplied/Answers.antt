@@ -10,7 +10,7 @@ returns-in_err-put c =
     let p = err_from_is_err_and c.from_residual.result c.from_residual.ensures.1 in
     let f : FitsSigned w128 c.product.result = search rules in
     let g : FitsSigned w64 c.args.by = c.ranges.by in
-    let h : FitsSigned w128 c.in-Some.coefficient = search rules in
+    let h : FitsSigned w64 c.in-Some.coefficient = c.in-Some.ensures.fits in
     let e = simp to_z-of_z at c.in_err-put.ensures in
     let i = simp to_z-of_z at c.terms.invariant in
     let k = simp to_z-of_z at c.product.ensures in
@@ -21,7 +21,7 @@ pub terms-preserved : goal.terms-preserved
 terms-preserved c =
     let f : FitsSigned w128 c.product.result = search rules in
     let g : FitsSigned w64 c.args.by = c.ranges.by in
-    let h : FitsSigned w128 c.in-Some.coefficient = search rules in
+    let h : FitsSigned w64 c.in-Some.coefficient = c.in-Some.ensures.fits in
     let e = simp to_z-of_z at c.in_ok-put.ensures in
     let i = simp to_z-of_z at c.terms.invariant in
     let k = simp to_z-of_z at c.product.ensures in
