@@ -62,7 +62,7 @@ impl Linear {
     /// The feature of this number, with coefficient 1. It answers an error only for want of memory.
     pub fn feature(alloc: Global, number: u32) -> Result<Linear, NoMemory>
         ensures exact { IfOk result (λ made. made ≡ feature_form number) }
-        ensures rising { IsRising (feature_form number).terms }
+        ensures rising { IfOk result (λ made. IsRising made.terms) }
         ensures value { (values : List ℤ) → form_at (feature_form number) values ≡ slice_index_or values number (pos 0) }
     {
         let mut list = SmallVec::new(alloc);
@@ -77,6 +77,7 @@ impl Linear {
     /// `NoMemory` for want of memory.
     pub fn constant(alloc: Global, n: i64) -> Result<Linear, LinearFault>
         ensures exact { FormsWithin result (constant_form n) }
+        ensures rising { IfOk result (λ made. IsRising made.terms) }
         ensures value { (values : List ℤ) → form_at (constant_form n) values ≡ n }
     {
         let constant = narrow(n as i128)?;
@@ -86,14 +87,14 @@ impl Linear {
         })
     }
 
-    #[tactic(auto, using(crate::proofs::Values::form_sum_at, crate::proofs::Sums::terms_sum_rises))]
+    #[tactic(auto, using(crate::proofs::Values::form_sum_at))]
     /// The sum of two forms. It answers `TooLarge` exactly where a coefficient or the constant of the sum passes
     /// 2^31 in size, and `NoMemory` for want of memory.
     pub fn add(&self, alloc: Global, other: &Linear) -> Result<Linear, LinearFault>
         requires left { IsRising self.now.terms }
         requires right { IsRising other.now.terms }
         ensures exact { FormsWithin result (form_sum self.now other.now) }
-        ensures rising { IsRising (form_sum self.now other.now).terms }
+        ensures rising { IfOk result (λ made. IsRising made.terms) }
         ensures value { (values : List ℤ) → form_at (form_sum self.now other.now) values ≡ form_at self.now values +ℤ form_at other.now values }
     {
         let terms = merged(alloc, self.terms.items(), other.terms.items())?;
@@ -101,13 +102,13 @@ impl Linear {
         Ok(Linear { terms, constant })
     }
 
-    #[tactic(auto, using(crate::proofs::Values::form_by_at, crate::proofs::Sums::terms_by_rises))]
+    #[tactic(auto, using(crate::proofs::Values::form_by_at))]
     /// The form times a number. It answers `TooLarge` exactly where a coefficient or the constant of the product
     /// passes 2^31 in size, and `NoMemory` for want of memory.
     pub fn scale(&self, alloc: Global, by: i64) -> Result<Linear, LinearFault>
         requires { IsRising self.now.terms }
         ensures exact { FormsWithin result (form_by by self.now) }
-        ensures rising { IsRising (form_by by self.now).terms }
+        ensures rising { IfOk result (λ made. IsRising made.terms) }
         ensures value { (values : List ℤ) → form_at (form_by by self.now) values ≡ form_at self.now values *ℤ by }
     {
         let terms = multiplied(alloc, self.terms.items(), by)?;

@@ -14,3 +14,6 @@ pub use forms::{Linear, LinearFault};
 pub use normal::Normal;
 pub use terms::Terms;
 
+
+#[cfg(test)]
+mod tests;
