@@ -1,11 +1,10 @@
 -- The greatest common divisor of coefficients.
-use Rattle.std.proofs.Common.{◌≡◌, ◌≢◌, ℕ, zero, suc, ◌+◌, ◌*◌, ◌%◌, ◌/◌, ◌≤◌, ◌<◌, nat_eq, ℤ, pos, negsuc, unsigned_abs, Bool, true, false, ◌&&◌, if◌then◌else◌, List, [], ◌∷◌, sym, ap, subst, refl, ◌∙◌, arith}
-use Rattle.std.proofs.lemmas.Int.{ints}
+use Rattle.std.proofs.Common.{◌≡◌, ◌≢◌, ℕ, zero, suc, ◌%◌, ◌≤◌, ◌<◌, nat_eq, ℤ, pos, negsuc, unsigned_abs, Bool, true, false, ◌&&◌, if◌then◌else◌, List, [], ◌∷◌, sym, ap, subst, refl, ◌∙◌, arith}
 use Rattle.std.specs.Int.{IsGcd, ◌∣◌}
-use Rattle.std.proofs.lemmas.Bool.Decides.{nat_tests, eqb_tells}
+use Rattle.std.proofs.lemmas.Bool.Decides.{nat_tests}
 use Rattle.std.proofs.lemmas.Nat.Gcd.{mod-eq-zero_of_dvd, dvd_of_mod-eq-zero, le_of_dvd, dvd_trans, dvd-zero, dvd_refl}
 use Rattle.std.proofs.Math.Nat.{mod-zero}
-use Rattle.linear_atoms.specs.Forms.{RisesFrom, IsRising, is_small, are_small}
+use Rattle.linear_atoms.specs.Forms.{IsRising, is_small, are_small}
 use Rattle.linear_atoms.specs.Normal.{divides_all, greatest_to, common_divisor}
 
 -- the number divides each coefficient
@@ -91,10 +90,11 @@ pub dividing_more : (g g' n : ℕ) (a : ℤ) (rest behind whole : List (ℕ × �
 dividing_more g g' n a rest behind whole i e gcd = record {
   onto = λ d h k. i.onto d (dvd_trans d h gcd.0) (subst (Divides d) (sym e) (divides_cons d (n, a) behind (dvd_trans d h gcd.1) k));
   back = λ d k.
-    let p : (d ∣ g) × Divides d rest = i.back d k in
-    let q : Divides d ((n, a) ∷ behind) = subst (Divides d) e p.1 in
-    (gcd.2 d p.0 (divides_head d (n, a) behind q), divides_tail d (n, a) behind q);
-  none = λ w. no_cons n a behind (sym e ∙ (i.none w).1) }
+      let p : (d ∣ g) × Divides d rest = i.back d k in
+      let q : Divides d ((n, a) ∷ behind) = subst (Divides d) e p.1 in
+      (gcd.2 d p.0 (divides_head d (n, a) behind q), divides_tail d (n, a) behind q);
+  none = λ w. no_cons n a behind (sym e ∙ (i.none w).1);
+}
 
 pub dividing_all : (g : ℕ) (rest whole : List (ℕ × ℤ)) → Dividing g rest whole → rest ≡ [] → IsRising whole → g ≡ common_divisor whole
 dividing_all g rest whole i e r =

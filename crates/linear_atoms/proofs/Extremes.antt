@@ -1,5 +1,5 @@
 -- The least and the greatest sum over the ranges bound each sum, and are reached.
-use Rattle.std.proofs.Common.{◌≡◌, ℕ, zero, suc, ◌+◌, ◌*◌, ◌≤◌, ◌<◌, ℤ, pos, negsuc, neg_ℤ, ◌+ℤ◌, ◌-ℤ◌, ◌*ℤ◌, ◌≤ℤ◌, ◌<ℤ◌, int_lt, int_le, unsigned_abs, Bool, true, false, if◌then◌else◌, List, [], ◌∷◌, length, map, get_or, set, sym, ap, subst, refl, ◌∙◌, arith, Some, None, FitsSigned, to_z, of_z, w64}
+use Rattle.std.proofs.Common.{◌≡◌, ℕ, zero, suc, ◌*◌, ◌≤◌, ◌<◌, ℤ, pos, negsuc, ◌+ℤ◌, ◌-ℤ◌, ◌*ℤ◌, ◌≤ℤ◌, ◌<ℤ◌, int_lt, int_le, unsigned_abs, Bool, true, false, if◌then◌else◌, List, [], ◌∷◌, length, get_or, sym, ap, subst, refl, ◌∙◌, arith, Some, None, FitsSigned, to_z, of_z, w64}
 use Rattle.std.specs.Int.{w128}
 use Rattle.std.proofs.lemmas.Int.{ints, to_z-of_z}
 use Rattle.linear_atoms.proofs.Sums.{wide}
@@ -7,7 +7,7 @@ use Rattle.std.proofs.Math.IntN.{negsuc-*ℤ-pos}
 use Rattle.linear_atoms.specs.declared.atoms.Feature.{Feature}
 use Rattle.linear_atoms.specs.declared.atoms.Atom.{Atom}
 use Rattle.linear_atoms.specs.Forms.{RisesFrom, IsRising, sum_at}
-use Rattle.linear_atoms.specs.Atoms.{AreBelow, AreRanges, IsWithin, IsDecided, holds}
+use Rattle.linear_atoms.specs.Atoms.{AreBelow, AreRanges, IsWithin, IsDecided}
 use Rattle.linear_atoms.specs.Ranges.{extreme_value, extreme_at, extreme_sum}
 use Rattle.linear_atoms.proofs.Integers.{times-sum}
 
@@ -158,7 +158,8 @@ reach g fs m (t ∷ ts) h r b =
       values = put g t.1 fs k.values t.0;
       within = put_within g t.1 fs k.values t.0 h k.within;
       reached = ap (λ x. t.1 *ℤ x +ℤ sum_at ts (put g t.1 fs k.values t.0)) (put_at g t.1 fs k.values t.0 k.within b.0)
-        ∙ ap (λ x. t.1 *ℤ extreme_at g t.1 fs t.0 +ℤ x) (sum_else g t.1 fs k.values t.0 (suc t.0) ts (omega arith) r.2 ∙ k.reached) }
+          ∙ ap (λ x. t.1 *ℤ extreme_at g t.1 fs t.0 +ℤ x) (sum_else g t.1 fs k.values t.0 (suc t.0) ts (omega arith) r.2 ∙ k.reached);
+    }
 
 -- ---- the answers
 
@@ -183,9 +184,10 @@ open_still fs atom h r b l g =
     let p : Reaches true fs atom.terms = reach true fs 0 atom.terms h r b in
     let q : Reaches false fs atom.terms = reach false fs 0 atom.terms h r b in
     let e : sum_at atom.terms p.values ≡ extreme_sum true fs atom.terms = p.reached in
-    let f : sum_at atom.terms q.values ≡ extreme_sum false fs atom.terms = q.reached in
-    ((p.values, p.within, passed atom.bound (sum_at atom.terms p.values) (omega (arith, ints))),
-     (q.values, q.within, failed atom.bound (sum_at atom.terms q.values) (omega (arith, ints))))
+    let f : sum_at atom.terms q.values ≡ extreme_sum false fs atom.terms = q.reached in (
+      (p.values, p.within, passed atom.bound (sum_at atom.terms p.values) (omega (arith, ints))),
+      (q.values, q.within, failed atom.bound (sum_at atom.terms q.values) (omega (arith, ints))),
+    )
 
 -- ---- the tests as the code makes them
 

@@ -37,7 +37,8 @@ merged_more made ms ns ms' ns' whole n a m e s l r = record {
   split = append_assoc made (one n a) (terms_sum ms' ns') ∙ ap (λ x. made ++ x) (sym e) ∙ m.split;
   small = both_small made (one n a) m.small s;
   left = l;
-  right = r }
+  right = r;
+}
 
 pub merged_large : (made ms ns ms' ns' whole : List (ℕ × ℤ)) (n : ℕ) (a : ℤ) → Merging made ms ns whole → terms_sum ms ns ≡ one n a ++ terms_sum ms' ns' → are_small (one n a) ≡ false → are_small whole ≡ false
 merged_large made ms ns ms' ns' whole n a m e s = ap are_small (sym m.split ∙ ap (λ x. made ++ x) e) ∙ middle_large made (one n a) (terms_sum ms' ns') s
@@ -54,7 +55,8 @@ pub record Multiplying (k : ℤ) (made rest whole : List (ℕ × ℤ)) : Type 0 
 pub multiplied_more : (k : ℤ) (made rest behind whole : List (ℕ × ℤ)) (n : ℕ) (a b : ℤ) → Multiplying k made rest whole → rest ≡ (n, a) ∷ behind → b ≡ a *ℤ k → are_small (one n b) ≡ true → Multiplying k (made ++ one n b) behind whole
 multiplied_more k made rest behind whole n a b m e f s = record {
   split = append_assoc made (one n b) (terms_by k behind) ∙ ap (λ x. made ++ (one n x ++ terms_by k behind)) f ∙ ap (λ x. made ++ terms_by k x) (sym e) ∙ m.split;
-  small = both_small made (one n b) m.small s }
+  small = both_small made (one n b) m.small s;
+}
 
 pub multiplied_large : (k : ℤ) (made rest behind whole : List (ℕ × ℤ)) (n : ℕ) (a b : ℤ) → Multiplying k made rest whole → rest ≡ (n, a) ∷ behind → b ≡ a *ℤ k → are_small (one n b) ≡ false → are_small whole ≡ false
 multiplied_large k made rest behind whole n a b m e f s =

@@ -1,7 +1,6 @@
 -- Terms divided one by one, and the truth of the normal form.
-use Rattle.std.proofs.Common.{◌≡◌, ◌≢◌, ℕ, zero, suc, ◌+◌, ◌*◌, ◌%◌, ◌/◌, ◌≤◌, ◌<◌, ◌^◌, nat_eq, ℤ, pos, negsuc, neg_ℤ, ◌+ℤ◌, ◌-ℤ◌, ◌*ℤ◌, ◌≤ℤ◌, ◌<ℤ◌, int_le, int_lt, int_div, int_rem, unsigned_abs, Bool, true, false, not, ◌&&◌, if◌then◌else◌, List, [], ◌∷◌, ◌++◌, sym, ap, subst, refl, ◌∙◌, arith, append_assoc, FitsSigned, to_z, of_z, w64}
+use Rattle.std.proofs.Common.{◌≡◌, ℕ, ℤ, int_div, Bool, true, false, ◌&&◌, List, [], ◌∷◌, ◌++◌, sym, ap, refl, ◌∙◌, append_assoc}
 use Rattle.std.proofs.lemmas.List.{append-nil}
-use Rattle.std.proofs.lemmas.Int.{ints, to_z-of_z}
 use Rattle.linear_atoms.specs.Forms.{is_small, are_small}
 use Rattle.linear_atoms.specs.Normal.{divided}
 
@@ -23,7 +22,8 @@ first_small n a rest behind h e = and_left (is_small a) (are_small behind) (ap a
 pub divided_more : (d : ℤ) (made rest behind whole : List (ℕ × ℤ)) (n : ℕ) (a b : ℤ) → Dividing d made rest whole → rest ≡ (n, a) ∷ behind → b ≡ int_div a d → Dividing d (made ++ (n, b) ∷ []) behind whole
 divided_more d made rest behind whole n a b m e f = record {
   split = append_assoc made ((n, b) ∷ []) (divided d behind) ∙ ap (λ x. made ++ (n, x) ∷ divided d behind) f ∙ ap (λ x. made ++ divided d x) (sym e) ∙ m.split;
-  small = and_right (is_small a) (are_small behind) (ap are_small (sym e) ∙ m.small) }
+  small = and_right (is_small a) (are_small behind) (ap are_small (sym e) ∙ m.small);
+}
 
 pub divided_all : (d : ℤ) (made rest whole : List (ℕ × ℤ)) → Dividing d made rest whole → rest ≡ [] → made ≡ whole
 divided_all d made rest whole m e = sym (append-nil made) ∙ ap (λ x. made ++ divided d x) (sym e) ∙ m.split

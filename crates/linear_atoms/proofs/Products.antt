@@ -1,7 +1,7 @@
 -- Products of two numbers of 64 bits fit 128 bits.
-use Rattle.std.proofs.Common.{◌≡◌, ℕ, ◌≤◌, ◌<◌, ◌*◌, ◌^◌, ℤ, pos, negsuc, ◌*ℤ◌, FitsSigned, to_z, of_z, w64, unsigned_abs, arith, lit<}
+use Rattle.std.proofs.Common.{◌≡◌, ◌≤◌, ℤ, pos, negsuc, ◌*ℤ◌, FitsSigned, to_z, of_z, w64, unsigned_abs, arith, lit<}
 use Rattle.std.specs.Int.{w128}
-use Rattle.std.proofs.lemmas.Int.{ints, to_z-of_z, fits_signed_mul}
+use Rattle.std.proofs.lemmas.Int.{to_z-of_z, fits_signed_mul}
 
 wide : (a : ℤ) → FitsSigned w64 a → to_z w128 (of_z w128 a) ≡ a
 wide a h = to_z-of_z w128 a (record { sfits = omega (arith, h.sfits) })

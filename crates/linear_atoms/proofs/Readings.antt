@@ -1,7 +1,7 @@
 -- The sum of terms at a configuration, term by term.
-use Rattle.std.proofs.Common.{◌≡◌, ℕ, zero, suc, ◌+◌, ◌*◌, ◌≤◌, ◌<◌, ◌^◌, ℤ, pos, negsuc, neg_ℤ, ◌+ℤ◌, ◌*ℤ◌, ◌≤ℤ◌, unsigned_abs, Bool, true, false, ◌&&◌, List, [], ◌∷◌, length, get_or, sym, ap, subst, refl, ◌∙◌, arith, FitsSigned, to_z, of_z, w64}
+use Rattle.std.proofs.Common.{◌≡◌, ℕ, zero, suc, ◌+◌, ◌*◌, ◌≤◌, ◌<◌, ◌^◌, ℤ, pos, ◌+ℤ◌, ◌*ℤ◌, unsigned_abs, Bool, true, false, ◌&&◌, List, [], ◌∷◌, length, get_or, sym, ap, subst, refl, ◌∙◌, arith, FitsSigned, w64}
 use Rattle.std.specs.Int.{w128}
-use Rattle.std.proofs.lemmas.Int.{ints, to_z-of_z, unsigned_abs-mul}
+use Rattle.std.proofs.lemmas.Int.{ints, unsigned_abs-mul}
 use Rattle.std.proofs.lemmas.Nat.{mul-le}
 use Rattle.std.proofs.lemmas.Bool.Decides.{nat_tests}
 use Rattle.linear_atoms.specs.Forms.{sum_at, is_small, are_small}
@@ -59,7 +59,8 @@ summing_more f count sum s p rest behind whole n a m e j k g =
       bound = omega (arith, ints);
       small = and_right (is_small a) (are_small behind) (ap are_small (sym e) ∙ m.small);
       named = (let q : AreBelow count ((n, a) ∷ behind) = subst (AreBelow count) e m.named in q.1);
-      long = m.long }
+      long = m.long;
+    }
 
 pub value_fits : (values : List ℤ) (n : ℕ) → AreValues values → FitsSigned w64 (get_or values n (pos 0))
 value_fits values n h = let k : unsigned_abs (get_or values n (pos 0)) ≤ 1048576 = value_size values n h in omega (arith, ints)

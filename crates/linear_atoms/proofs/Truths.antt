@@ -1,10 +1,10 @@
 -- The normal form is true exactly where the form is at least 0.
-use Rattle.std.proofs.Common.{◌≡◌, ◌≢◌, ℕ, zero, suc, ◌+◌, ◌*◌, ◌-◌, ◌%◌, ◌/◌, ◌≤◌, ◌<◌, nat_eq, ℤ, pos, negsuc, neg_ℤ, ◌+ℤ◌, ◌-ℤ◌, ◌*ℤ◌, ◌≤ℤ◌, ◌<ℤ◌, int_le, int_lt, int_div, int_rem, unsigned_abs, Bool, true, false, not, ◌&&◌, if◌then◌else◌, List, [], ◌∷◌, sym, ap, subst, refl, ◌∙◌, arith, get_or, FitsSigned, to_z, of_z, w64}
+use Rattle.std.proofs.Common.{◌≡◌, ℕ, zero, suc, ◌+◌, ◌*◌, ◌-◌, ◌%◌, ◌/◌, ◌≤◌, ◌<◌, nat_eq, ℤ, pos, negsuc, neg_ℤ, ◌+ℤ◌, ◌-ℤ◌, ◌*ℤ◌, ◌≤ℤ◌, ◌<ℤ◌, int_le, int_lt, int_div, int_rem, unsigned_abs, Bool, true, false, not, ◌&&◌, if◌then◌else◌, List, [], ◌∷◌, sym, ap, subst, refl, ◌∙◌, arith, get_or, FitsSigned, to_z, of_z, w64}
 use Rattle.std.specs.Int.{int_div_euclid}
 use Rattle.std.proofs.lemmas.Int.{ints, quot-rem, to_z-of_z}
 use Rattle.std.proofs.lemmas.Nat.{div-add-mod', mod_below}
 use Rattle.std.proofs.lemmas.Bool.Decides.{nat_tests}
-use Rattle.std.proofs.Math.IntN.{+ℤ_idl, zero-*ℤ, *ℤ-zero, pos-*ℤ-pos, negsuc-*ℤ-pos, +ℤ_invr, +ℤ_invl}
+use Rattle.std.proofs.Math.IntN.{+ℤ_idl, zero-*ℤ, *ℤ-zero, pos-*ℤ-pos, negsuc-*ℤ-pos, +ℤ_invl}
 use Rattle.std.proofs.Math.Nat.{suc-mul, div-le_self}
 use Rattle.linear_atoms.specs.declared.forms.Linear.{Linear}
 use Rattle.linear_atoms.specs.declared.normal.Normal.TheVariants as normals
@@ -138,7 +138,6 @@ spread ts rest n a g k e = subst (λ x. normals.Literal (literal_by a x (pos g) 
 
 pub made_normal : (form : Linear) (rest : List (ℕ × ℤ)) (n : ℕ) (a g : ℤ) → form.terms ≡ (n, a) ∷ rest → g ≡ pos (common_divisor form.terms) → normals.Literal (literal_by a form.terms g form.constant) ≡ normal_of form
 made_normal form rest n a g e f = ap (λ x. normals.Literal (literal_by a form.terms x form.constant)) f ∙ spread form.terms rest n a (common_divisor form.terms) form.constant e
-
 
 size_small : (k : ℤ) → is_small k ≡ true → unsigned_abs k ≤ 2147483648
 size_small k h = grind (arith, nat_tests)

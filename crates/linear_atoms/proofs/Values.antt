@@ -1,13 +1,13 @@
 -- The values of sums and multiples.
-use Rattle.std.proofs.Common.{◌≡◌, ◌≢◌, ℕ, suc, zero, ◌<◌, ◌≤◌, ℤ, pos, negsuc, ◌+ℤ◌, ◌*ℤ◌, Bool, true, false, if◌then◌else◌, List, [], ◌∷◌, ◌++◌, sym, ap, subst, refl, ◌∙◌, arith, get_or}
+use Rattle.std.proofs.Common.{◌≡◌, ℕ, ◌<◌, ℤ, pos, ◌+ℤ◌, ◌*ℤ◌, Bool, true, false, if◌then◌else◌, List, [], ◌∷◌, ◌++◌, sym, ap, refl, arith, get_or}
 use Rattle.std.proofs.lemmas.Int.{ints}
 use Rattle.std.proofs.lemmas.Cmp.{ranked}
-use Rattle.std.proofs.Math.IntN.{zero-*ℤ, +ℤ_idr}
+use Rattle.std.proofs.Math.IntN.{zero-*ℤ}
 use Rattle.std.specs.declared.cmp.Ordering.{Ordering}
 use Rattle.std.specs.declared.cmp.Ordering.TheVariants.{Less, Equal, Greater}
 use Rattle.std.specs.Ordering.{nat_cmp, int_eq, MatchOrdering}
 use Rattle.linear_atoms.specs.declared.forms.Linear.{Linear}
-use Rattle.linear_atoms.specs.Forms.{one, placed, with_term, terms_sum, terms_by, sum_at, form_at, form_sum, form_by, feature_form}
+use Rattle.linear_atoms.specs.Forms.{one, placed, with_term, terms_sum, terms_by, sum_at, form_at, form_sum, form_by}
 use Rattle.linear_atoms.proofs.Integers.{sum-times, past}
 use Rattle.linear_atoms.proofs.Sums.{is_zero}
 

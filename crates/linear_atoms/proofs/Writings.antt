@@ -1,5 +1,5 @@
 -- The text of the terms so far, and the terms left.
-use Rattle.std.proofs.Common.{◌≡◌, ℕ, zero, suc, ◌<◌, ℤ, pos, Bool, true, false, ◌&&◌, List, [], ◌∷◌, ◌++◌, length, map, get_or, sym, ap, subst, refl, ◌∙◌, arith, append_assoc}
+use Rattle.std.proofs.Common.{◌≡◌, ℕ, zero, suc, ◌<◌, ℤ, Bool, true, false, ◌&&◌, List, [], ◌∷◌, ◌++◌, length, get_or, sym, ap, subst, refl, ◌∙◌, arith, append_assoc}
 use Rattle.std.proofs.lemmas.List.{append-nil}
 use Rattle.linear_atoms.specs.declared.atoms.Feature.{Feature}
 use Rattle.linear_atoms.specs.Forms.{is_small, are_small}
@@ -39,11 +39,12 @@ module _ (fs : List Feature) (first : Bool) (made : List ℕ) (rest behind : Lis
   pub written_more : (after final name : List ℕ) → after ≡ made ++ sign_text first a → final ≡ after ++ sized_text a name → name ≡ name_at fs n → Writing fs false final behind whole
   written_more after final name f g h = record {
     split =
-      ap (λ x. x ++ terms_text false fs behind) (g ∙ ap (λ x. x ++ sized_text a name) f ∙ append_assoc made (sign_text first a) (sized_text a name) ∙ ap (λ x. made ++ (sign_text first a ++ sized_text a x)) h)
-      ∙ append_assoc made (sign_text first a ++ sized_text a (name_at fs n)) (terms_text false fs behind)
-      ∙ ap (λ x. made ++ terms_text first fs x) (sym e) ∙ m.split;
+        ap (λ x. x ++ terms_text false fs behind) (g ∙ ap (λ x. x ++ sized_text a name) f ∙ append_assoc made (sign_text first a) (sized_text a name) ∙ ap (λ x. made ++ (sign_text first a ++ sized_text a x)) h)
+        ∙ append_assoc made (sign_text first a ++ sized_text a (name_at fs n)) (terms_text false fs behind)
+        ∙ ap (λ x. made ++ terms_text first fs x) (sym e) ∙ m.split;
     small = and_right (is_small a) (are_small behind) (ap are_small (sym e) ∙ m.small);
-    named = (let q : AreBelow (length fs) ((n, a) ∷ behind) = subst (AreBelow (length fs)) e m.named in q.1) }
+    named = (let q : AreBelow (length fs) ((n, a) ∷ behind) = subst (AreBelow (length fs)) e m.named in q.1);
+  }
 
 pub written_all : (fs : List Feature) (first : Bool) (made : List ℕ) (rest : List (ℕ × ℤ)) (whole : List ℕ) → Writing fs first made rest whole → rest ≡ [] → made ≡ whole
 written_all fs first made rest whole m e = sym (append-nil made) ∙ ap (λ x. made ++ terms_text first fs x) (sym e) ∙ m.split

@@ -1,5 +1,5 @@
 -- Atoms and literals at configurations, and over the ranges of the features.
-use Rattle.std.specs.Prelude.{◌≡◌, ⊤, ℕ, ◌≤◌, ◌<◌, ℤ, pos, ◌≤ℤ◌, int_le, unsigned_abs, Bool, true, false, not, if◌then◌else◌, List, [], ◌∷◌, Option, Some, None}
+use Rattle.std.specs.Prelude.{◌≡◌, ℕ, ◌≤◌, ◌<◌, ℤ, ◌≤ℤ◌, int_le, unsigned_abs, Bool, true, false, not, if◌then◌else◌, List, [], ◌∷◌, Option, Some, None}
 use Rattle.linear_atoms.specs.declared.atoms.Feature.{Feature}
 use Rattle.linear_atoms.specs.declared.atoms.Atom.{Atom}
 use Rattle.linear_atoms.specs.declared.atoms.Literal.{Literal}

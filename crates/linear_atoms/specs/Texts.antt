@@ -3,7 +3,6 @@ use Rattle.std.specs.Prelude.{ℕ, nat_eq, ℤ, pos, ◌-ℤ◌, int_lt, unsigne
 use Rattle.std.specs.Fmt.{decimal, signed_decimal}
 use Rattle.std.specs.Ordering.{int_eq}
 use Rattle.linear_atoms.specs.declared.atoms.Feature.{Feature}
-use Rattle.linear_atoms.specs.declared.atoms.Atom.{Atom}
 use Rattle.linear_atoms.specs.declared.atoms.Literal.{Literal}
 
 abbrev pub name_at : List Feature → ℕ → List ℕ

@@ -14,6 +14,5 @@ pub use forms::{Linear, LinearFault};
 pub use normal::Normal;
 pub use terms::Terms;
 
-
 #[cfg(test)]
 mod tests;

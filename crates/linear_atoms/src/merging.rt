@@ -111,11 +111,7 @@ pub(crate) fn product(a: i64, b: i64) -> i128
 }
 
 /// The terms times a number.
-pub(crate) fn multiplied(
-    alloc: Global,
-    terms: &[(u32, i64)],
-    by: i64,
-) -> Result<Terms, LinearFault>
+pub(crate) fn multiplied(alloc: Global, terms: &[(u32, i64)], by: i64) -> Result<Terms, LinearFault>
     ensures { TermsWithin result (terms_by by terms.now) }
 {
     let mut list = SmallVec::new(alloc);

@@ -14,7 +14,11 @@ fn extreme_value(feature: &Feature, coefficient: i64, is_greatest: bool) -> i64
     ensures { result ≡ extreme_value is_greatest coefficient feature.now }
 {
     if 0 < coefficient {
-        if is_greatest { feature.high } else { feature.low }
+        if is_greatest {
+            feature.high
+        } else {
+            feature.low
+        }
     } else if is_greatest {
         feature.low
     } else {

@@ -153,8 +153,17 @@ fn literals_have_texts(rt: HostRuntime) -> Result<(), Fail> {
         atom: atom(rt.alloc(), &[(1, 3)], 4)?,
         positive: true,
     };
-    assert_eq!(rt; switch.text(rt.alloc(), &features)?.bytes(), b"!A".as_slice());
-    assert_eq!(rt; sum.text(rt.alloc(), &features)?.bytes(), b"A - 2*N <= -4".as_slice());
-    assert_eq!(rt; multiple.text(rt.alloc(), &features)?.bytes(), b"3*N >= 4".as_slice());
+    assert_eq!(rt;
+        switch.text(rt.alloc(), &features)?.bytes(),
+        b"!A".as_slice()
+    );
+    assert_eq!(rt;
+        sum.text(rt.alloc(), &features)?.bytes(),
+        b"A - 2*N <= -4".as_slice()
+    );
+    assert_eq!(rt;
+        multiple.text(rt.alloc(), &features)?.bytes(),
+        b"3*N >= 4".as_slice()
+    );
     Ok(())
 }

@@ -1,4 +1,4 @@
-use Rattle.std.proofs.Common.{◌+ℤ◌, ◌∙◌, refl, ap, pos, get_or, w64, FitsSigned, rules, to_z}
+use Rattle.std.proofs.Common.{◌+ℤ◌, pos, get_or, w64, FitsSigned, rules, to_z}
 use Rattle.std.specs.Int.{w128}
 use Rattle.std.proofs.lemmas.Int.{to_z-of_z}
 use Rattle.linear_atoms.proofs.Readings.{value_fits, value_size, sum_split, summing_step, summing_fits, summing_more}
@@ -22,5 +22,5 @@ terms-preserved c =
     let s = summing_step _ _ _ _ _ _ c.in-Some.number c.in-Some.coefficient _ c.product-sum.result c.terms.invariant c.in-Some.ensures.parts p (value_size c.args.values.now c.in-Some.number c.requires.values) in
     let t : FitsSigned w128 (to_z w128 c.terms.sum-bits +ℤ c.product-sum.result) = summing_fits _ _ _ c.product-sum.result _ _ c.terms.invariant s in
     summing_more _ _ (to_z w128 c.terms.sum-bits) _ c.product-sum.result _ _ _ c.in-Some.number c.in-Some.coefficient c.terms.invariant c.in-Some.ensures.parts
-      (sum_split c.args.values.now _ _ c.in-Some.number c.in-Some.coefficient c.product-sum.result c.in-Some.ensures.parts p) s
-      (rw (to_z-of_z w128 c.product-sum.result h) (to_z-of_z w128 (to_z w128 c.terms.sum-bits +ℤ c.product-sum.result) t))
+    (sum_split c.args.values.now _ _ c.in-Some.number c.in-Some.coefficient c.product-sum.result c.in-Some.ensures.parts p) s
+    (rw (to_z-of_z w128 c.product-sum.result h) (to_z-of_z w128 (to_z w128 c.terms.sum-bits +ℤ c.product-sum.result) t))

@@ -17,4 +17,4 @@ terms-preserved c =
     let f : FitsSigned w128 c.in-Some.coefficient = search rules in
     let e = simp to_z-of_z at c.in_ok-put.ensures in
     rw e.0
-      (merged_more c.terms.list.items _ _ _ _ _ c.in-Some.number c.in-Some.coefficient c.terms.invariant c.in-Some.ensures.first e.1 c.in-Some.ensures.left c.in-Some.ensures.right)
+    (merged_more c.terms.list.items _ _ _ _ _ c.in-Some.number c.in-Some.coefficient c.terms.invariant c.in-Some.ensures.first e.1 c.in-Some.ensures.left c.in-Some.ensures.right)

@@ -1,5 +1,5 @@
-use Rattle.std.proofs.Common.{◌≡◌, ◌+◌, true, ◌++◌, length}
-use Rattle.linear_atoms.specs.Forms.{IsRising, terms_sum, are_small}
+use Rattle.std.proofs.Common.{◌+◌, length}
+use Rattle.linear_atoms.specs.Forms.{terms_sum}
 use Rattle.linear_atoms.proofs.Merges.{Merging}
 use Rattle.linear_atoms.proofs.merging.merged.Given as goal
 

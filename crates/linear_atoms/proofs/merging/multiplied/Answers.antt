@@ -15,7 +15,7 @@ returns-in_err-put c =
     let i = simp to_z-of_z at c.terms.invariant in
     let k = simp to_z-of_z at c.product.ensures in
     rw (p.1, p.2)
-      (multiplied_fails c.in_err-put.field-0.0 c.args.by c.terms.list.items c.put.new.list.items _ _ _ c.in-Some.number c.in-Some.coefficient c.product.result i c.in-Some.ensures.parts k e)
+    (multiplied_fails c.in_err-put.field-0.0 c.args.by c.terms.list.items c.put.new.list.items _ _ _ c.in-Some.number c.in-Some.coefficient c.product.result i c.in-Some.ensures.parts k e)
 
 pub terms-preserved : goal.terms-preserved
 terms-preserved c =
@@ -26,4 +26,4 @@ terms-preserved c =
     let i = simp to_z-of_z at c.terms.invariant in
     let k = simp to_z-of_z at c.product.ensures in
     rw e.0
-      (simp to_z-of_z (multiplied_more c.args.by c.terms.list.items _ _ _ c.in-Some.number c.in-Some.coefficient c.product.result i c.in-Some.ensures.parts k e.1))
+    (simp to_z-of_z (multiplied_more c.args.by c.terms.list.items _ _ _ c.in-Some.number c.in-Some.coefficient c.product.result i c.in-Some.ensures.parts k e.1))

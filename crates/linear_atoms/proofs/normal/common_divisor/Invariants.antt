@@ -1,4 +1,4 @@
-use Rattle.std.proofs.Common.{◌≡◌, [], length}
+use Rattle.std.proofs.Common.{length}
 use Rattle.linear_atoms.proofs.Divisors.{Dividing}
 use Rattle.linear_atoms.proofs.normal.common_divisor.Given as goal
 

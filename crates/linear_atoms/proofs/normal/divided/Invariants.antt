@@ -1,5 +1,4 @@
-use Rattle.std.proofs.Common.{◌≡◌, ◌++◌, true, length}
-use Rattle.linear_atoms.specs.Forms.{are_small}
+use Rattle.std.proofs.Common.{length}
 use Rattle.linear_atoms.specs.Normal.{divided}
 use Rattle.linear_atoms.proofs.Normals.{Dividing}
 use Rattle.linear_atoms.proofs.normal.divided.Given as goal

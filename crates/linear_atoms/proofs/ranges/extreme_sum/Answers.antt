@@ -29,5 +29,5 @@ terms-preserved c =
     let s = summing_step _ _ _ _ _ _ n c.in-Some.coefficient _ c.product-sum.result c.terms.invariant c.in-Some.ensures.parts p (extreme_size c.args.is_greatest c.in-Some.coefficient fs n c.requires.ranges) in
     let t : FitsSigned w128 (to_z w128 c.terms.sum-bits +ℤ c.product-sum.result) = summing_fits _ _ _ c.product-sum.result _ _ c.terms.invariant s in
     summing_more _ _ (to_z w128 c.terms.sum-bits) _ c.product-sum.result _ _ _ n c.in-Some.coefficient c.terms.invariant c.in-Some.ensures.parts
-      (extreme_split c.args.is_greatest fs _ _ n c.in-Some.coefficient c.product-sum.result c.in-Some.ensures.parts p) s
-      (rw (to_z-of_z w128 c.product-sum.result h) (to_z-of_z w128 (to_z w128 c.terms.sum-bits +ℤ c.product-sum.result) t))
+    (extreme_split c.args.is_greatest fs _ _ n c.in-Some.coefficient c.product-sum.result c.in-Some.ensures.parts p) s
+    (rw (to_z-of_z w128 c.product-sum.result h) (to_z-of_z w128 (to_z w128 c.terms.sum-bits +ℤ c.product-sum.result) t))

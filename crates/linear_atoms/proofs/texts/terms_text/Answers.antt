@@ -13,5 +13,5 @@ terms-preserved c =
     let g = simp to_z-of_z at c.in_ok-push_sized.ensures in
     let below = first_below fs c.terms.is_first made _ _ _ n c.in-Some.coefficient c.terms.invariant c.in-Some.ensures.parts in
     written_more fs c.terms.is_first made _ _ _ n c.in-Some.coefficient c.terms.invariant c.in-Some.ensures.parts _ _ c.bytes.result.now
-      (c.in_ok-extend_from_slice.ensures.items ∙ ap (λ x. made ++ x) (c.as_bytes.ensures.value ∙ s)) g
-      (c.bytes.ensures ∙ name_is fs n c.index-features-number.result below c.index-features-number.is)
+    (c.in_ok-extend_from_slice.ensures.items ∙ ap (λ x. made ++ x) (c.as_bytes.ensures.value ∙ s)) g
+    (c.bytes.ensures ∙ name_is fs n c.index-features-number.result below c.index-features-number.is)

@@ -27,5 +27,5 @@ returns-else-extreme_sum-self-2 c =
     let f : FitsSigned w128 c.extreme_sum.result = search rules in
     let g : FitsSigned w128 s.result = search rules in
     open_still fs c.args.self.now c.requires.ranges c.requires.rising c.requires.named
-      (stays_below _ c.extreme_sum.result _ b f (c.extreme_sum.ensures ∙ ap (extreme_sum false fs) c.items-terms.ensures) c.if-extreme_sum-self.false)
-      (is_not_below _ s.result _ b g (s.ensures ∙ ap (extreme_sum true fs) c.items-terms.ensures) c.if-extreme_sum-self-2.false)
+    (stays_below _ c.extreme_sum.result _ b f (c.extreme_sum.ensures ∙ ap (extreme_sum false fs) c.items-terms.ensures) c.if-extreme_sum-self.false)
+    (is_not_below _ s.result _ b g (s.ensures ∙ ap (extreme_sum true fs) c.items-terms.ensures) c.if-extreme_sum-self-2.false)
