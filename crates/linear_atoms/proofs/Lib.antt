@@ -1,0 +1,11 @@
+pub mod Divisors
+pub mod Extremes
+pub mod Integers
+pub mod Merges
+pub mod Normals
+pub mod Products
+pub mod Readings
+pub mod Sums
+pub mod Truths
+pub mod Values
+pub mod Writings

@@ -1,0 +1,40 @@
+-- Atoms and literals at configurations, and over the ranges of the features.
+use Rattle.std.specs.Prelude.{◌≡◌, ℕ, ◌≤◌, ◌<◌, ℤ, ◌≤ℤ◌, int_le, unsigned_abs, Bool, true, false, not, if◌then◌else◌, List, [], ◌∷◌, Option, Some, None}
+use Rattle.linear_atoms.specs.declared.atoms.Feature.{Feature}
+use Rattle.linear_atoms.specs.declared.atoms.Atom.{Atom}
+use Rattle.linear_atoms.specs.declared.atoms.Literal.{Literal}
+use Rattle.linear_atoms.specs.Forms.{sum_at}
+
+-- the sum of the terms is at least the bound
+abbrev pub holds : Atom → List ℤ → Bool
+holds atom values = int_le atom.bound (sum_at atom.terms values)
+
+abbrev pub literal_holds : Literal → List ℤ → Bool
+literal_holds literal values = if literal.positive then holds literal.atom values else not (holds literal.atom values)
+
+-- each feature's number is below this
+abbrev pub AreBelow : ℕ → List (ℕ × ℤ) → Type 0
+AreBelow count [] = Unit {0}
+AreBelow count (t ∷ ts) = (t.0 < count) × AreBelow count ts
+
+-- each value is at most 2^20 in size
+abbrev pub AreValues : List ℤ → Type 0
+AreValues [] = Unit {0}
+AreValues (v ∷ vs) = (unsigned_abs v ≤ 1048576) × AreValues vs
+
+-- no range is empty, and its ends are at most 2^20 in size
+abbrev pub AreRanges : List Feature → Type 0
+AreRanges [] = Unit {0}
+AreRanges (f ∷ fs) = (f.low ≤ℤ f.high) × (unsigned_abs f.low ≤ 1048576) × (unsigned_abs f.high ≤ 1048576) × AreRanges fs
+
+-- a configuration: one value per feature, in its range
+abbrev pub IsWithin : List Feature → List ℤ → Type 0
+IsWithin [] [] = Unit {0}
+IsWithin [] (v ∷ vs) = ⊥
+IsWithin (f ∷ fs) [] = ⊥
+IsWithin (f ∷ fs) (v ∷ vs) = (f.low ≤ℤ v) × (v ≤ℤ f.high) × IsWithin fs vs
+
+-- each configuration within the ranges gives this truth; with None, some give each
+abbrev pub IsDecided : List Feature → Atom → Option Bool → Type 0
+IsDecided features atom (Some truth) = (values : List ℤ) → IsWithin features values → holds atom values ≡ truth
+IsDecided features atom None = ((values : List ℤ) × IsWithin features values × (holds atom values ≡ true)) × ((values : List ℤ) × IsWithin features values × (holds atom values ≡ false))
