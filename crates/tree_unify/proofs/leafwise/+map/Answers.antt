@@ -1,0 +1,15 @@
+use Rattle.std.proofs.Common.{rules}
+use Rattle.decision_tree.specs.View.{plain}
+use Rattle.tree_unify.proofs.Mapped.{mapped_leaf_ok, mapped_node_ok, tests_node}
+use Rattle.tree_unify.proofs.leafwise.+map.Goals as goal
+
+pub returns-in_ok-made-in-Leaf-clause-mapped : goal.returns-in_ok-made-in-Leaf-clause-mapped
+returns-in_ok-made-in-Leaf-clause-mapped g t c =
+    let h = c.f in let k = c.leaf in ?
+
+pub returns-in_ok-yes-in-Node-clause-mapped : goal.returns-in_ok-yes-in-Node-clause-mapped
+returns-in_ok-yes-in-Node-clause-mapped g t c =
+    mapped_node_ok (plain c.args.t.now) c.node.result c.deref-in-Node-3.result.now.test (search rules) c.in_ok-no-in-Node.ensures.mapped c.in_ok-yes-in-Node.ensures.mapped c.node.ensures.leads
+
+pub returns-in_ok-yes-in-Node-clause-tests : goal.returns-in_ok-yes-in-Node-clause-tests
+returns-in_ok-yes-in-Node-clause-tests g t c = search (rules, tests_node)
