@@ -6,6 +6,7 @@ pub mod Remembered
 pub mod OneTest
 pub mod Selected
 pub mod SideLemmas
+pub mod Making
 pub mod Mapped
 pub mod Unified
 pub mod Within

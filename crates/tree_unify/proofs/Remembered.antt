@@ -63,7 +63,7 @@ module _ {A B C : Type 0} {P : A → B → C → Type 0} where
 
   pub memo_added : {forest : List (Plain C)} {t : Numbered A} {u : Numbered B} {es : List (Pair × Tree C)} (p : Pair) (r : Tree C) (a : Numbered A) (b : Numbered B) → IsNumbered t → IsNumbered u → IsMemo P forest t u es → IsWithin a t → IsWithin b u → p.left ≡ root a → p.right ≡ root b → IsMade P forest (erase a) (erase b) (numbered r) → IsMemo P forest t u (insert_entry same_pair es p r)
   memo_added {forest} {t} {u} {es} p r a b ht hu h v w l k made = record {
-    each = λ i e g c d x y m n. elim (inserted_at same_pair es p r i e (pair_same p p refl refl) g) [
+    each = λ i e g c d x y m n. elim (inserted_at same_pair p r es e (pair_same p p refl refl) i g) [
       | inl old ↦ h.each i e old c d x y m n
       | inr new ↦ made_same (erase a) (erase c) (erase b) (erase d) (numbered r) (numbered e.1)
           ((ht.tells a c v x).0 (sym l ∙ (pair_left p e.0 new.0 ∙ m)))
@@ -96,7 +96,7 @@ module _ {A B : Type 0} {t : Numbered A} {u : Numbered B} where
 
   pub tally_added : {C : Type 0} (es : List (Pair × Tree C)) (p : Pair) (r : Tree C) → IsTally t u (keys_of es) → IsPairOfLeaves t u p → lookup (same_pair p) es ≡ None → IsTally t u (keys_of (insert_entry same_pair es p r))
   tally_added es p r h leaves none =
-      subst (IsTally t u) (sym (ap keys_of (inserted_last same_pair es p r none) ∙ keys_pushed es p r)) (tally_pushed es p h leaves none)
+      subst (IsTally t u) (sym (ap keys_of (inserted_last same_pair p r es none) ∙ keys_pushed es p r)) (tally_pushed es p h leaves none)
 
   pub tally_empty : {C : Type 0} (es : List (Pair × Tree C)) → es ≡ [] → IsTally t u (keys_of es)
   tally_empty {C} es none = subst (λ ds. IsTally t u (keys_of ds)) (sym none) (record { leaves = λ i p g. nothing i p g; distinct = λ i j p q a b l r. cc })

@@ -36,6 +36,9 @@ module _ {A B C : Type 0} where
       elim (slice_index_or v k false) as (λ b. P (cond b (leaf_of t1 v) (leaf_of t0 v)) (cond b (leaf_of u1 v) (leaf_of u0 v)) (cond b (leaf_of q v) (leaf_of p v))) [ true ↦ g.at_each v | false ↦ f.at_each v ] in
       subst (λ x. P x (leaf_of u v) (leaf_of (node k p q) v)) (sym (a.leads v)) (subst (λ y. P (cond (slice_index_or v k false) (leaf_of t1 v) (leaf_of t0 v)) y (leaf_of (node k p q) v)) (sym (b.leads v)) here)
 
+  pub unified_of_sides : {P : A → B → C → Type 0} (k : ℕ) (t t0 t1 : Plain A) (u u0 u1 : Plain B) (p q r : Plain C) → IsSplit k t t0 t1 → IsSplit k u u0 u1 → IsUnified P t0 u0 p → IsUnified P t1 u1 q → ((v : List Bool) → leaf_of r v ≡ leaf_of (node k p q) v) → IsUnified P t u r
+  unified_of_sides {P} k t t0 t1 u u0 u1 p q r a b f g e = record { at_each = λ v. subst (P (leaf_of t v) (leaf_of u v)) (sym (e v)) (at_sides {P = P} k t t0 t1 u u0 u1 p q a b f g v) }
+
   pub unified_node : {P : A → B → C → Type 0} {E : Type 0} {k : ℕ} {t t0 t1 : Plain A} {u u0 u1 : Plain B} {p q : Plain C} (made : Result (Tree C) E) → IsSplit k t t0 t1 → IsSplit k u u0 u1 → IsUnified P t0 u0 p → IsUnified P t1 u1 q
       → IfOk made (λ r. (v : List Bool) → leaf_of (plain r) v ≡ leaf_of (node k p q) v) → IfOk made (λ r. IsUnified P t u (plain r))
   unified_node {P} {E} {k} {t} {t0} {t1} {u} {u0} {u1} {p} {q} made a b f g h =
@@ -55,7 +58,7 @@ module _ {A B C : Type 0} where
         };
       }) j
 
-  tests_of_made : (k : ℕ) (t t0 t1 : Plain A) (u u0 u1 : Plain B) (p q r : Plain C) → IsSplit k t t0 t1 → IsSplit k u u0 u1 → HasTest k t ⊎ HasTest k u → TestsAreOfEither t0 u0 p → TestsAreOfEither t1 u1 q → IsNodeOf k p q r → (j : ℕ) → HasTest j r → HasTest j t ⊎ HasTest j u
+  pub tests_of_made : (k : ℕ) (t t0 t1 : Plain A) (u u0 u1 : Plain B) (p q r : Plain C) → IsSplit k t t0 t1 → IsSplit k u u0 u1 → HasTest k t ⊎ HasTest k u → TestsAreOfEither t0 u0 p → TestsAreOfEither t1 u1 q → IsNodeOf k p q r → (j : ℕ) → HasTest j r → HasTest j t ⊎ HasTest j u
   tests_of_made k t t0 t1 u u0 u1 p q r a b here f g (inl h) j w =
       elim (f.each j (subst (HasTest j) h.1 w)) [ inl x ↦ inl (a.low_tests j x) | inr y ↦ inr (b.low_tests j y) ]
   tests_of_made k t t0 t1 u u0 u1 p q r a b here f g (inr h) j w =
@@ -71,3 +74,14 @@ module _ {A B C : Type 0} where
   tests_node_of {E} {k} {t} {t0} {t1} {u} {u0} {u1} {p} {q} made a b here f g h =
       IfOk-weaker made (λ r. IsNodeOf k p q (plain r)) (λ r. TestsAreOfEither t u (plain r))
       (λ r e. record { each = tests_of_made k t t0 t1 u u0 u1 p q (plain r) a b here f g e }) h
+
+-- what an operation gives for two leaves
+pub unified_at_leaves : {A B C : Type 0} {F E : Type 0} (g : Shared F (Bor A × (Bor B × Unit {0})) (Result C E)) (f : F) (x : Bor A) (y : Bor B) (z : C) (o : Result C E) (a : A) (b : B) → x.now ≡ a → y.now ≡ b → g.post f (x, (y, tt)) o → o ≡ Ok z → IsUnified (λ p q r. OpReturns g f p q (Ok r)) (leaf a) (leaf b) (leaf z)
+unified_at_leaves g f x y z o a b d e h i = record {
+  at_each = λ v. record {
+    first = x;
+    second = y;
+    shows = (d, e);
+    says = record { met = subst (λ s. g.post f (x, (y, tt)) s) i h };
+  };
+}

@@ -1,5 +1,6 @@
 -- What is known of trees that are made and remembered during one call.
 use Rattle.std.specs.Prelude.{◌≡◌, ℕ, Bool, List, Some, slice_get, ◌==◌, ◌&&◌}
+use Rattle.indexmap.specs.IndexMap.{insert_entry}
 use Rattle.decision_tree.specs.declared.tree.Tree.{Tree}
 use Rattle.decision_tree.specs.Plain.{Plain, IsReducedFrom}
 use Rattle.decision_tree.specs.Numbered.{Numbered, kept, erase, root, IsWithin}
@@ -34,3 +35,9 @@ pub record IsPairOfLeaves {A B : Type 0} (t : Numbered A) (u : Numbered B) (p : 
 pub record IsTally {A B : Type 0} (t : Numbered A) (u : Numbered B) (pairs : List Pair) : Type 0 where
   pub leaves : (i : ℕ) (p : Pair) → slice_get pairs i ≡ Some p → IsPairOfLeaves t u p
   pub distinct : (i j : ℕ) (p q : Pair) → slice_get pairs i ≡ Some p → slice_get pairs j ≡ Some q → p.left ≡ q.left → p.right ≡ q.right → i ≡ j
+
+-- r was noted for the pair
+pub record IsNoted {C : Type 0} (p : Pair) (r : Numbered C) (before after : List (Pair × Tree C)) : Type 0 where
+  pub tree : Tree C
+  pub same : numbered tree ≡ r
+  pub entries : after ≡ insert_entry same_pair before p tree

@@ -6,7 +6,7 @@ ghost use Rattle.decision_tree.specs.View.{plain};
 ghost use Rattle.tree_unify.specs.Calls.{IsCallableAt, IsCallableAtPairs, OpReturns};
 ghost use Rattle.tree_unify.specs.Leafwise.{IsMapped, IsUnified, IsSelected, TestsAreOfAny, TestsAreOf, TestsAreOfEither};
 
-use crate::sides::{first, side};
+use crate::sides::{first, side, value_of};
 use decision_tree::Tree;
 use fam_outer::NoMemory;
 use std::alloc::Global;
@@ -33,7 +33,7 @@ pub fn map<A, B: Eq + Drop, F: Fn(&A) -> Result<B, NoMemory>>(
 {
     match t {
         Tree::Leaf(leaf) => {
-            let made = f(&leaf.value)?;
+            let made = f(value_of(leaf))?;
             Tree::leaf(alloc, made)
         }
         Tree::Node(node) => {
@@ -70,7 +70,7 @@ pub fn unify<A, B, C: Eq + Drop, F: Fn(&A, &B) -> Result<C, NoMemory>>(
     ensures tests { IfOk result (λ r. TestsAreOfEither (plain t.now) (plain u.now) (plain r)) }
 {
     if let (Tree::Leaf(a), Tree::Leaf(b)) = (t, u) {
-        let made = op(&a.value, &b.value)?;
+        let made = op(value_of(a), value_of(b))?;
         return Tree::leaf(alloc, made);
     }
     let k = first(t).min(first(u));

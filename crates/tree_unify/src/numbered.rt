@@ -1,7 +1,7 @@
 //! Operations on numbered trees, which call the operation once for each pair of different leaves.
 ghost use Rattle.std.specs.Prelude.{◌≡◌, ℕ, ◌+◌, ◌*◌, ◌<◌, ◌≤◌, List, length, IfOk, OnOk, Ok};
 ghost use Rattle.std.specs.Fn.{FnReturnsAt};
-ghost use Rattle.decision_tree.specs.Plain.{leaf, IsReduced, IsReducedFrom, TestsBelow, IsExact};
+ghost use Rattle.decision_tree.specs.Plain.{leaf, IsNodeOf, IsReduced, IsReducedFrom, TestsBelow, IsExact};
 ghost use Rattle.decision_tree.specs.Numbered.{kept, IsWithin, IsNumbered};
 ghost use Rattle.decision_tree.specs.Listed.{IsOf, Keeps};
 ghost use Rattle.decision_tree.specs.View.{numbered, plain};
@@ -9,10 +9,10 @@ ghost use Rattle.tree_unify.specs.Calls.{IsCallableAt, IsCallableAtPairs, OpRetu
 ghost use Rattle.tree_unify.specs.Known.{IsKnown};
 ghost use Rattle.tree_unify.specs.Leafwise.{IsMapped, IsUnified, TestsAreOf, TestsAreOfEither};
 ghost use Rattle.tree_unify.specs.Leaves.{HoldsLeaves};
-ghost use Rattle.tree_unify.specs.Made.{IsMade};
+ghost use Rattle.tree_unify.specs.Made.{IsMade, IsNoted};
 
 use crate::memo::{Memo, Pair, find, remember};
-use crate::sides::{first, side};
+use crate::sides::{first, side, value_of};
 use crate::steps::Steps;
 use decision_tree::{Forest, Kept, Tree};
 use fam_outer::NoMemory;
@@ -28,7 +28,36 @@ struct Operands<'a, A, B> {
     u: &'a Tree<B>,
 }
 
-/// The leaf that the operation gives for two leaves: one step, where the pair is not known.
+/// The leaf that the operation gives for two leaves, noted for their pair.
+fn unify_new<
+    A,
+    B,
+    C: Eq + Hash + Drop,
+    F: Fn(&A, &B) -> Result<C, NoMemory>,
+>(
+    forest: &mut Forest<C>,
+    op: &F,
+    a: &Kept<A>,
+    b: &Kept<B>,
+    pair: Pair,
+    entries: &mut IndexMap<Pair, Tree<C>>,
+) -> Result<Tree<C>, NoMemory>
+    requires callable { IsCallableAtPairs F.Fn op.now (leaf a.now.value) (leaf b.now.value) }
+    requires exact { IsExact C.eq }
+    ensures made { IfOk result (λ r. IsMade (λ a b c. OpReturns F.Fn op.now a b (Ok c)) forest.new
+        (leaf a.now.value) (leaf b.now.value) (numbered r)) }
+    ensures noted { IfOk result (λ r. IsNoted pair (numbered r)
+        entries.old.entries entries.new.entries) }
+    ensures keeps { Keeps forest.old forest.new }
+{
+    let made = op(value_of(a), value_of(b))?;
+    let tree = forest.leaf(made)?;
+    let noted = tree.share()?;
+    remember(entries, pair, noted)?;
+    Ok(tree)
+}
+
+/// The leaf for two leaves, with what is known of pairs so far: one step, where their pair is not known.
 fn unify_leaves<
     A,
     B,
@@ -44,7 +73,7 @@ fn unify_leaves<
     memo: &mut Memo<C>,
     steps: &mut Steps<K>,
 ) -> Result<Tree<C>, NoMemory>
-    requires callable { IsCallableAtPairs F.Fn op.now (plain whole.now.t.now) (plain whole.now.u.now) }
+    requires callable { IsCallableAtPairs F.Fn op.now (leaf a.now.value) (leaf b.now.value) }
     requires t_numbered { IsNumbered (numbered whole.now.t.now) }
     requires u_numbered { IsNumbered (numbered whole.now.u.now) }
     requires a_within { IsWithin (kept a.now.number a.now.value) (numbered whole.now.t.now) }
@@ -73,14 +102,37 @@ fn unify_leaves<
         return known.share();
     }
     steps.tick();
-    let value = op(&a.value, &b.value)?;
-    let tree = forest.leaf(value)?;
+    unify_new(forest, op, a, b, pair, &mut memo.leaves)
+}
+
+/// The forest's tree of a test and two sides, noted for the pair that it is made of.
+fn note_node<C: Eq + Hash + Drop>(
+    forest: &mut Forest<C>,
+    test: u32,
+    no: &Tree<C>,
+    yes: &Tree<C>,
+    pair: Pair,
+    entries: &mut IndexMap<Pair, Tree<C>>,
+) -> Result<Tree<C>, NoMemory>
+    requires small { test < 64 }
+    requires no_reduced { IsReducedFrom (test + 1) (plain no.now) }
+    requires yes_reduced { IsReducedFrom (test + 1) (plain yes.now) }
+    requires no_own { IsOf forest.old (numbered no.now) }
+    requires yes_own { IsOf forest.old (numbered yes.now) }
+    ensures made { IfOk result (λ r. IsNodeOf test (plain no.now) (plain yes.now) (plain r)) }
+    ensures own { IfOk result (λ r. IsOf forest.new (numbered r)) }
+    ensures noted { IfOk result (λ r. IsNoted pair (numbered r)
+        entries.old.entries entries.new.entries) }
+    ensures keeps { Keeps forest.old forest.new }
+{
+    let tree = forest.node(test, no, yes)?;
     let noted = tree.share()?;
-    remember(&mut memo.leaves, pair, noted)?;
+    remember(entries, pair, noted)?;
     Ok(tree)
 }
 
 /// The tree that is made of two subtrees of the operands, with what is known of pairs so far.
+#[tactic(auto, using(crate::proofs::SideLemmas::small_side, crate::proofs::SideLemmas::reduced_side, crate::proofs::Pairs::fewer_of_two, crate::proofs::Pairs::callable_sides, decision_tree::proofs::Numbers::keeps_both))]
 fn unify_known<
     A,
     B,
@@ -96,7 +148,7 @@ fn unify_known<
     memo: &mut Memo<C>,
     steps: &mut Steps<K>,
 ) -> Result<Tree<C>, NoMemory>
-    requires callable { IsCallableAtPairs F.Fn op.now (plain whole.now.t.now) (plain whole.now.u.now) }
+    requires callable { IsCallableAtPairs F.Fn op.now (plain t.now) (plain u.now) }
     requires t_numbered { IsNumbered (numbered whole.now.t.now) }
     requires u_numbered { IsNumbered (numbered whole.now.u.now) }
     requires t_within { IsWithin (numbered t.now) (numbered whole.now.t.now) }
@@ -150,10 +202,7 @@ fn unify_known<
         memo,
         steps,
     )?;
-    let tree = forest.node(k, &no, &yes)?;
-    let noted = tree.share()?;
-    remember(&mut memo.nodes, pair, noted)?;
-    Ok(tree)
+    note_node(forest, k, &no, &yes, pair, &mut memo.nodes)
 }
 
 /// The forest's tree that has, at every vector, what the operation gives for the leaves of `t` and `u` there.

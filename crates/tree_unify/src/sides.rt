@@ -4,7 +4,14 @@ ghost use Rattle.decision_tree.specs.Numbered.{Numbered, IsWithin};
 ghost use Rattle.decision_tree.specs.View.{numbered, plain};
 ghost use Rattle.tree_unify.specs.Sides.{first_of, side_of};
 
-use decision_tree::Tree;
+use decision_tree::{Kept, Tree};
+
+/// The value of a leaf.
+pub fn value_of<L>(leaf: &Kept<L>) -> &L
+    ensures { result.now ≡ leaf.now.value }
+{
+    &leaf.value
+}
 
 /// The test at the root, or 64 at a leaf.
 pub fn first<L>(t: &Tree<L>) -> u32

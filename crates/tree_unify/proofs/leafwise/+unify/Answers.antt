@@ -1,6 +1,9 @@
-use Rattle.std.proofs.Common.{◌<◌, rules, arith}
+use Rattle.std.proofs.Common.{◌≡◌, ◌<◌, rules, arith, ap}
 use Rattle.std.proofs.lemmas.Grind.{common_steps}
-use Rattle.decision_tree.specs.View.{plain}
+use Rattle.std.proofs.lemmas.Result.{IfOk-weaker}
+use Rattle.decision_tree.specs.Plain.{leaf}
+use Rattle.decision_tree.specs.Numbered.{kept, erase}
+use Rattle.decision_tree.specs.View.{numbered, plain}
 use Rattle.tree_unify.proofs.SideLemmas.{split_of_sides}
 use Rattle.tree_unify.proofs.Unified.{unified_leaf, unified_node, tests_node_of}
 use Rattle.tree_unify.proofs.Pairs.{has_of_two}
@@ -8,7 +11,7 @@ use Rattle.tree_unify.proofs.leafwise.+unify.Goals as goal
 
 pub returns-in-Leaf-Leaf-clause-unified : goal.returns-in-Leaf-Leaf-clause-unified
 returns-in-Leaf-Leaf-clause-unified g t c =
-  unified_leaf g.F.Fn c.args.op.now (plain c.args.t.now) (plain c.args.u.now) c.leaf.result c.deref.result c.deref-in-Leaf-Leaf.result c.in_ok-made.made c.op.result (search rules) (search rules) (search rules) (search rules) c.leaf.ensures
+  unified_leaf g.F.Fn c.args.op.now (plain c.args.t.now) (plain c.args.u.now) c.leaf.result c.value_of.result c.value_of-in-Leaf-Leaf.result c.in_ok-made.made c.op.result (search rules) (search rules) (search rules) (search rules) (IfOk-weaker c.leaf.result (λ r. numbered r ≡ kept 0 c.in_ok-made.made) (λ r. plain r ≡ leaf c.in_ok-made.made) (λ r e. ap erase e) c.leaf.ensures)
 
 pub returns-clause-unified : goal.returns-clause-unified
 returns-clause-unified g t c =
