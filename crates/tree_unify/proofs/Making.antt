@@ -23,7 +23,7 @@ use Rattle.tree_unify.specs.Made.{same_pair, IsMade, IsMemo, IsNoted, IsPairOfLe
 use Rattle.tree_unify.specs.Sides.{first_of, side_of}
 use Rattle.tree_unify.proofs.Bound.{tally_bound}
 use Rattle.tree_unify.proofs.Places.{inserted_last, keys_pushed}
-use Rattle.tree_unify.proofs.Remembered.{memo_kept, memo_added, memo_found, tally_added, tally_pushed}
+use Rattle.tree_unify.proofs.Remembered.{memo_empty, tally_empty, memo_kept, memo_added, memo_found, tally_added, tally_pushed}
 use Rattle.tree_unify.proofs.SideLemmas.{pick, has_first, split_of_sides}
 use Rattle.tree_unify.proofs.Unified.{IsSplit, unified_at_leaves, unified_of_sides, tests_of_made}
 use Rattle.tree_unify.proofs.Pairs.{has_of_two}
@@ -157,3 +157,37 @@ module _ {A B C : Type 0} {P : A → B → C → Type 0} where
   made_found {E} {forest} shared p r a b h there v w l k =
       let m = memo_found p r a b h there v w l k in
       IfOk-weaker shared (λ s. numbered s ≡ numbered r) (λ s. IsMade P forest (erase a) (erase b) (numbered s)) (λ s e. subst (IsMade P forest (erase a) (erase b)) (sym e) m)
+
+  -- the same, of what a call answers
+  pub made_node_ok : {E : Type 0} {before middle : List (Plain C)} (after : List (Plain C)) (made : Result (Tree C) E) (t s0 s1 : Plain A) (u w0 w1 : Plain B) (k : ℕ) (p q : Numbered C) → k ≡ min (first_of t) (first_of u) → k < 64
+      → s0 ≡ side_of k false t → s1 ≡ side_of k true t → w0 ≡ side_of k false u → w1 ≡ side_of k true u
+      → IsReduced t → IsReduced u → IsMade P before s0 w0 p → IsMade P middle s1 w1 q
+      → IfOk made (λ r. IsNodeOf k (erase p) (erase q) (plain r)) → IfOk made (λ r. IsOf after (numbered r)) → IfOk made (λ r. IsMade P after t u (numbered r))
+  made_node_ok {E} {before} {middle} after made t s0 s1 u w0 w1 k p q e lt f0 f1 g0 g1 ht hu hp hq =
+      elim made as (λ o. IfOk o (λ r. IsNodeOf k (erase p) (erase q) (plain r)) → IfOk o (λ r. IsOf after (numbered r)) → IfOk o (λ r. IsMade P after t u (numbered r))) [
+        | Ok r ↦ λ m own. made_node t s0 s1 u w0 w1 k p q (numbered r) e lt f0 f1 g0 g1 (side_made t u k false s0 w0 p ht hu e f0 g0 hp) (side_made t u k true s1 w1 q ht hu e f1 g1 hq) hp hq m own
+        | Err x ↦ λ _ _. tt
+      ]
+
+  -- nothing is known yet
+  pub known_empty : (forest : List (Plain C)) (t : Numbered A) (u : Numbered B) (ls ns : List (Pair × Tree C)) → ls ≡ [] → ns ≡ [] → IsKnown P forest t u ls ns
+  known_empty forest t u ls ns e f = record { of_leaves = memo_empty ls e; of_nodes = memo_empty ns f; tally = tally_empty ls e }
+
+module _ {A B C E : Type 0} (P : A → B → C → Type 0) (forest : List (Plain C)) (made : Result (Tree C) E) where
+  abbrev MadeOf : Plain A → Plain B → Type 0
+  MadeOf t u = IfOk made (λ r. IsMade P forest t u (numbered r))
+
+  pub made_at_leaves : (t : Plain A) (u : Plain B) (x : A) (y : B) → t ≡ leaf x → u ≡ leaf y → MadeOf (leaf x) (leaf y) → MadeOf t u
+  made_at_leaves t u x y e f h = subst (λ s. MadeOf s u) (sym e) (subst (λ s. MadeOf (leaf x) s) (sym f) h)
+
+  pub made_unified : (t : Plain A) (u : Plain B) → MadeOf t u → IfOk made (λ r. IsUnified P t u (plain r))
+  made_unified t u h = IfOk-weaker made (λ r. IsMade P forest t u (numbered r)) (λ r. IsUnified P t u (plain r)) (λ r m. m.unified) h
+
+  pub made_reduced : (t : Plain A) (u : Plain B) → MadeOf t u → IfOk made (λ r. (m : ℕ) → IsReducedFrom m t → IsReducedFrom m u → IsReducedFrom m (plain r))
+  made_reduced t u h = IfOk-weaker made (λ r. IsMade P forest t u (numbered r)) (λ r. (m : ℕ) → IsReducedFrom m t → IsReducedFrom m u → IsReducedFrom m (plain r)) (λ r m. m.reduced) h
+
+  pub made_tests : (t : Plain A) (u : Plain B) → MadeOf t u → IfOk made (λ r. TestsAreOfEither t u (plain r))
+  made_tests t u h = IfOk-weaker made (λ r. IsMade P forest t u (numbered r)) (λ r. TestsAreOfEither t u (plain r)) (λ r m. m.tests) h
+
+  pub made_own : (t : Plain A) (u : Plain B) → MadeOf t u → IfOk made (λ r. IsOf forest (numbered r))
+  made_own t u h = IfOk-weaker made (λ r. IsMade P forest t u (numbered r)) (λ r. IsOf forest (numbered r)) (λ r m. m.own) h

@@ -210,6 +210,7 @@ fn unify_known<
 /// One call of the operation is one step, and there is at most one for each leaf value of `t` with each of `u`, at want
 /// of memory too. The conditions are those of `unify`, and that `t` and `u` are numbered; they may be of other forests.
 /// After want of memory the forest has all that it had, and may have more.
+#[tactic(auto, using(crate::proofs::Making::known_empty, crate::proofs::Within::within_self))]
 pub fn unify_in<
     A,
     B,
@@ -257,6 +258,7 @@ pub fn unify_in<
 /// One call of the operation is one step, and there is at most one for each leaf value of `t`, at want of memory too. The
 /// conditions are those of `map`, and that `t` is numbered; it may be of another forest. After want of memory the forest
 /// has all that it had, and may have more.
+#[tactic(auto, using(crate::proofs::Within::numbered_leaf, decision_tree::proofs::Numbers::keeps_same))]
 pub fn map_in<A, B: Eq + Hash + Drop, K: Ledger, F: Fn(&A) -> Result<B, NoMemory>>(
     alloc: Global,
     forest: &mut Forest<B>,
