@@ -3,6 +3,7 @@ pub mod Callable
 pub mod Pairs
 pub mod Places
 pub mod Remembered
+pub mod OneOperand
 pub mod OneTest
 pub mod Selected
 pub mod SideLemmas

@@ -282,12 +282,11 @@ pub fn map_in<A, B: Eq + Hash + Drop, K: Ledger, F: Fn(&A) -> Result<B, NoMemory
         → steps.new ≤ steps.old + length xs }
 {
     let unit = Tree::leaf(alloc, ())?;
-    unify_in(
-        alloc,
-        forest,
-        &|value: &A, _unit: &()| f(value),
-        t,
-        &unit,
-        steps,
-    )
+    let of_first = |value: &A, _unit: &()| -> Result<B, NoMemory>
+        requires { F.pre f.now value }
+        ensures { FnReturnsAt F.Fn f.entry.now value.now result }
+    {
+        f(value)
+    };
+    unify_in(alloc, forest, &of_first, t, &unit, steps)
 }
