@@ -1,0 +1,25 @@
+-- A map as an operation whose second operand is one leaf without a value.
+use Rattle.std.proofs.Common.{◌≡◌, ℕ, ◌+◌, ◌*◌, ◌<◌, ◌≤◌, List, [], ◌∷◌, length, refl, subst, inl, inr, arith, Result, IfOk}
+use Rattle.std.proofs.lemmas.Result.{IfOk-weaker}
+use Rattle.decision_tree.specs.declared.tree.Tree.{Tree}
+use Rattle.decision_tree.specs.Plain.{Plain, leaf, leaf_of, HasTest}
+use Rattle.decision_tree.specs.View.{plain}
+use Rattle.tree_unify.specs.Leafwise.{IsMapped, IsUnified, TestsAreOf, TestsAreOfEither}
+use Rattle.tree_unify.specs.Leaves.{HoldsLeaves}
+
+pub all_units : (u : Plain (Unit {0})) → HoldsLeaves (tt ∷ []) u
+all_units u = record { each = λ x w. (0, omega arith, refl) }
+
+pub one_column : (n s d : ℕ) → d ≤ s + n * length {A = Unit {0}} (tt ∷ []) → d ≤ s + n
+one_column n s d h = omega arith
+
+module _ {A B E : Type 0} (made : Result (Tree B) E) (t : Plain A) (u : Plain (Unit {0})) where
+  pub tests_of_one : u ≡ leaf tt → IfOk made (λ r. TestsAreOfEither t u (plain r)) → IfOk made (λ r. TestsAreOf t (plain r))
+  tests_of_one e h =
+      IfOk-weaker made (λ r. TestsAreOfEither t u (plain r)) (λ r. TestsAreOf t (plain r))
+      (λ r m. record { each = λ k w. elim (m.each k w) [ inl x ↦ x | inr y ↦ absurd (subst (HasTest k) e y) ] }) h
+
+  pub mapped_of_one : (P : A → Unit {0} → B → Type 0) (Q : A → B → Type 0) → ((a : A) (x : Unit {0}) (b : B) → P a x b → Q a b) → IfOk made (λ r. IsUnified P t u (plain r)) → IfOk made (λ r. IsMapped Q t (plain r))
+  mapped_of_one P Q f h =
+      IfOk-weaker made (λ r. IsUnified P t u (plain r)) (λ r. IsMapped Q t (plain r))
+      (λ r m. record { at_each = λ v. f (leaf_of t v) (leaf_of u v) (leaf_of (plain r) v) (m.at_each v) }) h

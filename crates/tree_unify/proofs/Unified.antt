@@ -1,0 +1,87 @@
+-- What the two sides of a test say of two trees and the tree that is made of them.
+use Rattle.std.proofs.Common.{◌≡◌, ◌⊎◌, ℕ, Bool, true, false, List, cond, slice_index_or, refl, sym, ◌∙◌, ap, subst, inl, inr, Result, IfOk, Ok}
+use Rattle.std.specs.Borrow.{Bor}
+use Rattle.std.specs.Fn.{Shared}
+use Rattle.std.proofs.lemmas.Result.{IfOk-weaker}
+use Rattle.decision_tree.specs.declared.tree.Tree.{Tree}
+use Rattle.decision_tree.specs.Plain.{Plain, leaf, node, leaf_of, HasTest, IsNodeOf}
+use Rattle.decision_tree.specs.View.{plain}
+use Rattle.tree_unify.specs.Calls.{OpReturns}
+use Rattle.tree_unify.specs.Leafwise.{IsUnified, TestsAreOfEither}
+
+-- at a test, t leads on to low or to high
+pub record IsSplit {A : Type 0} (k : ℕ) (t low high : Plain A) : Type 0 where
+  pub leads : (v : List Bool) → leaf_of t v ≡ cond (slice_index_or v k false) (leaf_of high v) (leaf_of low v)
+  pub low_tests : (j : ℕ) → HasTest j low → HasTest j t
+  pub high_tests : (j : ℕ) → HasTest j high → HasTest j t
+
+pub split_node : {A : Type 0} (t : Plain A) (k : ℕ) (low high : Plain A) → t ≡ node k low high → IsSplit k t low high
+split_node t k low high e =
+    subst (λ x. IsSplit k x low high) (sym e) (record { leads = λ v. refl; low_tests = λ j w. inr (inl w); high_tests = λ j w. inr (inr w) })
+
+same_cond : {A : Type 0} (b : Bool) (x : A) → x ≡ cond b x x
+same_cond true x = refl
+same_cond false x = refl
+
+pub split_same : {A : Type 0} (k : ℕ) (t : Plain A) → IsSplit k t t t
+split_same k t = record { leads = λ v. same_cond (slice_index_or v k false) (leaf_of t v); low_tests = λ j w. w; high_tests = λ j w. w }
+
+pub has_of_node : {A : Type 0} (t : Plain A) (k : ℕ) (low high : Plain A) → t ≡ node k low high → HasTest k t
+has_of_node t k low high e = subst (HasTest k) (sym e) (inl refl)
+
+module _ {A B C : Type 0} where
+  at_sides : {P : A → B → C → Type 0} (k : ℕ) (t t0 t1 : Plain A) (u u0 u1 : Plain B) (p q : Plain C) → IsSplit k t t0 t1 → IsSplit k u u0 u1 → IsUnified P t0 u0 p → IsUnified P t1 u1 q → (v : List Bool) → P (leaf_of t v) (leaf_of u v) (leaf_of (node k p q) v)
+  at_sides {P} k t t0 t1 u u0 u1 p q a b f g v =
+      let here : P (cond (slice_index_or v k false) (leaf_of t1 v) (leaf_of t0 v)) (cond (slice_index_or v k false) (leaf_of u1 v) (leaf_of u0 v)) (cond (slice_index_or v k false) (leaf_of q v) (leaf_of p v)) =
+      elim (slice_index_or v k false) as (λ b. P (cond b (leaf_of t1 v) (leaf_of t0 v)) (cond b (leaf_of u1 v) (leaf_of u0 v)) (cond b (leaf_of q v) (leaf_of p v))) [ true ↦ g.at_each v | false ↦ f.at_each v ] in
+      subst (λ x. P x (leaf_of u v) (leaf_of (node k p q) v)) (sym (a.leads v)) (subst (λ y. P (cond (slice_index_or v k false) (leaf_of t1 v) (leaf_of t0 v)) y (leaf_of (node k p q) v)) (sym (b.leads v)) here)
+
+  pub unified_of_sides : {P : A → B → C → Type 0} (k : ℕ) (t t0 t1 : Plain A) (u u0 u1 : Plain B) (p q r : Plain C) → IsSplit k t t0 t1 → IsSplit k u u0 u1 → IsUnified P t0 u0 p → IsUnified P t1 u1 q → ((v : List Bool) → leaf_of r v ≡ leaf_of (node k p q) v) → IsUnified P t u r
+  unified_of_sides {P} k t t0 t1 u u0 u1 p q r a b f g e = record { at_each = λ v. subst (P (leaf_of t v) (leaf_of u v)) (sym (e v)) (at_sides {P = P} k t t0 t1 u u0 u1 p q a b f g v) }
+
+  pub unified_node : {P : A → B → C → Type 0} {E : Type 0} {k : ℕ} {t t0 t1 : Plain A} {u u0 u1 : Plain B} {p q : Plain C} (made : Result (Tree C) E) → IsSplit k t t0 t1 → IsSplit k u u0 u1 → IsUnified P t0 u0 p → IsUnified P t1 u1 q
+      → IfOk made (λ r. (v : List Bool) → leaf_of (plain r) v ≡ leaf_of (node k p q) v) → IfOk made (λ r. IsUnified P t u (plain r))
+  unified_node {P} {E} {k} {t} {t0} {t1} {u} {u0} {u1} {p} {q} made a b f g h =
+      IfOk-weaker made (λ r. (v : List Bool) → leaf_of (plain r) v ≡ leaf_of (node k p q) v) (λ r. IsUnified P t u (plain r))
+      (λ r e. record { at_each = λ v. subst (P (leaf_of t v) (leaf_of u v)) (sym (e v)) (at_sides k t t0 t1 u u0 u1 p q a b f g v) }) h
+
+  pub unified_leaf : {F E D : Type 0} (g : Shared F (Bor A × (Bor B × Unit {0})) (Result C E)) (f : F) (t : Plain A) (u : Plain B) (made : Result (Tree C) D) (x : Bor A) (y : Bor B) (z : C) (o : Result C E) → t ≡ leaf x.now → u ≡ leaf y.now → g.post f (x, (y, tt)) o → o ≡ Ok z
+      → IfOk made (λ r. plain r ≡ leaf z) → IfOk made (λ r. IsUnified (λ a b c. OpReturns g f a b (Ok c)) t u (plain r))
+  unified_leaf g f t u made x y z o d e h i j =
+      IfOk-weaker made (λ r. plain r ≡ leaf z) (λ r. IsUnified (λ a b c. OpReturns g f a b (Ok c)) t u (plain r))
+      (λ r m. record {
+        at_each = λ v. record {
+          first = x;
+          second = y;
+          shows = (ap (λ s. leaf_of s v) (sym d), ap (λ s. leaf_of s v) (sym e));
+          says = record { met = subst (λ s. g.post f (x, (y, tt)) s) (i ∙ ap (λ s. Ok (leaf_of s v)) (sym m)) h };
+        };
+      }) j
+
+  pub tests_of_made : (k : ℕ) (t t0 t1 : Plain A) (u u0 u1 : Plain B) (p q r : Plain C) → IsSplit k t t0 t1 → IsSplit k u u0 u1 → HasTest k t ⊎ HasTest k u → TestsAreOfEither t0 u0 p → TestsAreOfEither t1 u1 q → IsNodeOf k p q r → (j : ℕ) → HasTest j r → HasTest j t ⊎ HasTest j u
+  tests_of_made k t t0 t1 u u0 u1 p q r a b here f g (inl h) j w =
+      elim (f.each j (subst (HasTest j) h.1 w)) [ inl x ↦ inl (a.low_tests j x) | inr y ↦ inr (b.low_tests j y) ]
+  tests_of_made k t t0 t1 u u0 u1 p q r a b here f g (inr h) j w =
+      let has : HasTest j (node k p q) = subst (HasTest j) h.1 w in
+      elim has [
+        | inl same ↦ subst (λ i. HasTest i t ⊎ HasTest i u) (sym same) here
+        | inr (inl x) ↦ elim (f.each j x) [ inl y ↦ inl (a.low_tests j y) | inr y ↦ inr (b.low_tests j y) ]
+        | inr (inr x) ↦ elim (g.each j x) [ inl y ↦ inl (a.high_tests j y) | inr y ↦ inr (b.high_tests j y) ]
+      ]
+
+  pub tests_node_of : {E : Type 0} {k : ℕ} {t t0 t1 : Plain A} {u u0 u1 : Plain B} {p q : Plain C} (made : Result (Tree C) E) → IsSplit k t t0 t1 → IsSplit k u u0 u1 → HasTest k t ⊎ HasTest k u → TestsAreOfEither t0 u0 p → TestsAreOfEither t1 u1 q
+      → IfOk made (λ r. IsNodeOf k p q (plain r)) → IfOk made (λ r. TestsAreOfEither t u (plain r))
+  tests_node_of {E} {k} {t} {t0} {t1} {u} {u0} {u1} {p} {q} made a b here f g h =
+      IfOk-weaker made (λ r. IsNodeOf k p q (plain r)) (λ r. TestsAreOfEither t u (plain r))
+      (λ r e. record { each = tests_of_made k t t0 t1 u u0 u1 p q (plain r) a b here f g e }) h
+
+-- what an operation gives for two leaves
+pub unified_at_leaves : {A B C : Type 0} {F E : Type 0} (g : Shared F (Bor A × (Bor B × Unit {0})) (Result C E)) (f : F) (x : Bor A) (y : Bor B) (z : C) (o : Result C E) (a : A) (b : B) → x.now ≡ a → y.now ≡ b → g.post f (x, (y, tt)) o → o ≡ Ok z → IsUnified (λ p q r. OpReturns g f p q (Ok r)) (leaf a) (leaf b) (leaf z)
+unified_at_leaves g f x y z o a b d e h i = record {
+  at_each = λ v. record {
+    first = x;
+    second = y;
+    shows = (d, e);
+    says = record { met = subst (λ s. g.post f (x, (y, tt)) s) i h };
+  };
+}

@@ -1,0 +1,21 @@
+use Rattle.std.proofs.Common.{◌≡◌, ◌+◌, ◌*◌, ◌≤◌, [], ◌∷◌, length, rules, arith, refl, subst, Ok}
+use Rattle.std.specs.Fn.{FnReturnsAt}
+use Rattle.std.proofs.lemmas.Fn.{says_at}
+use Rattle.decision_tree.specs.Plain.{leaf}
+use Rattle.decision_tree.specs.View.{numbered, plain}
+use Rattle.tree_unify.specs.Calls.{OpReturns}
+use Rattle.tree_unify.proofs.OneOperand.{all_units, one_column, tests_of_one, mapped_of_one}
+use Rattle.tree_unify.proofs.numbered.map_in.Goals as goal
+
+pub unify_in-requires-clause-callable : goal.unify_in-requires-clause-callable
+unify_in-requires-clause-callable g c = record { each = λ p q w x. let h = c.requires.callable.each p w in search rules }
+
+pub returns-clause-mapped : goal.returns-clause-mapped
+returns-clause-mapped g c =
+    mapped_of_one c.unify_in.result (plain c.args.t.now) (plain c.in_ok-unit.unit) _ (λ a b. FnReturnsAt g.F.Fn c.args.f.now a (Ok b)) (λ a x b h. let k = h.says in let e = h.shows.0 in subst (λ y. FnReturnsAt g.F.Fn c.args.f.now y (Ok b)) h.shows.0 (search rules)) c.unify_in.ensures.unified
+
+pub returns-clause-tests : goal.returns-clause-tests
+returns-clause-tests g c = tests_of_one c.unify_in.result (plain c.args.t.now) (plain c.in_ok-unit.unit) (search rules) c.unify_in.ensures.tests
+
+pub returns-clause-steps : goal.returns-clause-steps
+returns-clause-steps g c = λ xs hx. one_column (length xs) c.args.steps.now c.unify_in.new.steps (c.unify_in.ensures.steps xs (tt ∷ []) hx (all_units (plain c.in_ok-unit.unit)))

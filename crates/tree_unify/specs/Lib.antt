@@ -1,0 +1,6 @@
+pub mod Calls
+pub mod Known
+pub mod Leafwise
+pub mod Leaves
+pub mod Made
+pub mod Sides

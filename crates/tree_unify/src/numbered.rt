@@ -1,0 +1,267 @@
+//! Operations on numbered trees, which call the operation once for each pair of different leaves.
+ghost use Rattle.std.specs.Prelude.{◌≡◌, ℕ, ◌+◌, ◌*◌, ◌<◌, ◌≤◌, List, length, IfOk, OnOk, Ok};
+ghost use Rattle.std.specs.Fn.{FnReturnsAt};
+ghost use Rattle.decision_tree.specs.Plain.{leaf, IsNodeOf, IsReduced, IsReducedFrom, TestsBelow, IsExact};
+ghost use Rattle.decision_tree.specs.Numbered.{kept, IsWithin, IsNumbered};
+ghost use Rattle.decision_tree.specs.Listed.{IsOf, Keeps};
+ghost use Rattle.decision_tree.specs.View.{numbered, plain};
+ghost use Rattle.tree_unify.specs.Calls.{IsCallableAt, IsCallableAtPairs, OpReturns};
+ghost use Rattle.tree_unify.specs.Known.{IsKnown};
+ghost use Rattle.tree_unify.specs.Leafwise.{IsMapped, IsUnified, TestsAreOf, TestsAreOfEither};
+ghost use Rattle.tree_unify.specs.Leaves.{HoldsLeaves};
+ghost use Rattle.tree_unify.specs.Made.{IsMade, IsNoted};
+
+use crate::memo::{Memo, Pair, find, remember};
+use crate::sides::{first, side, value_of};
+use crate::steps::Steps;
+use decision_tree::{Forest, Kept, Tree};
+use fam_outer::NoMemory;
+use indexmap::IndexMap;
+use std::alloc::Global;
+use std::hash::Hash;
+use std::sync::ledger::Ledger;
+
+/// The operands of a call, whose subtrees its memo knows by their numbers.
+#[derive(Drop)]
+struct Operands<'a, A, B> {
+    t: &'a Tree<A>,
+    u: &'a Tree<B>,
+}
+
+/// The leaf that the operation gives for two leaves, noted for their pair.
+fn unify_new<A, B, C: Eq + Hash + Drop, F: Fn(&A, &B) -> Result<C, NoMemory>>(
+    forest: &mut Forest<C>,
+    op: &F,
+    a: &Kept<A>,
+    b: &Kept<B>,
+    pair: Pair,
+    entries: &mut IndexMap<Pair, Tree<C>>,
+) -> Result<Tree<C>, NoMemory>
+    requires callable { IsCallableAtPairs F.Fn op.now (leaf a.now.value) (leaf b.now.value) }
+    requires exact { IsExact C.eq }
+    ensures made { IfOk result (λ r. IsMade (λ a b c. OpReturns F.Fn op.now a b (Ok c)) forest.new
+        (leaf a.now.value) (leaf b.now.value) (numbered r)) }
+    ensures noted { IfOk result (λ r. IsNoted pair (numbered r)
+        entries.old.entries entries.new.entries) }
+    ensures keeps { Keeps forest.old forest.new }
+{
+    let made = op(value_of(a), value_of(b))?;
+    let tree = forest.leaf(made)?;
+    let noted = tree.share()?;
+    remember(entries, pair, noted)?;
+    Ok(tree)
+}
+
+/// The leaf for two leaves, with what is known of pairs so far: one step, where their pair is not known.
+fn unify_leaves<A, B, C: Eq + Hash + Drop, K: Ledger, F: Fn(&A, &B) -> Result<C, NoMemory>>(
+    forest: &mut Forest<C>,
+    op: &F,
+    whole: &Operands<'_, A, B>,
+    a: &Kept<A>,
+    b: &Kept<B>,
+    memo: &mut Memo<C>,
+    steps: &mut Steps<K>,
+) -> Result<Tree<C>, NoMemory>
+    requires callable { IsCallableAtPairs F.Fn op.now (leaf a.now.value) (leaf b.now.value) }
+    requires t_numbered { IsNumbered (numbered whole.now.t.now) }
+    requires u_numbered { IsNumbered (numbered whole.now.u.now) }
+    requires a_within { IsWithin (kept a.now.number a.now.value) (numbered whole.now.t.now) }
+    requires b_within { IsWithin (kept b.now.number b.now.value) (numbered whole.now.u.now) }
+    requires exact { IsExact C.eq }
+    requires known { IsKnown (λ a b c. OpReturns F.Fn op.now a b (Ok c)) forest.old
+        (numbered whole.now.t.now) (numbered whole.now.u.now)
+        memo.old.leaves.entries memo.old.nodes.entries }
+    ensures made { IfOk result (λ r. IsMade (λ a b c. OpReturns F.Fn op.now a b (Ok c)) forest.new
+        (leaf a.now.value) (leaf b.now.value) (numbered r)) }
+    ensures known { OnOk result (IsKnown (λ a b c. OpReturns F.Fn op.now a b (Ok c)) forest.new
+        (numbered whole.now.t.now) (numbered whole.now.u.now)
+        memo.new.leaves.entries memo.new.nodes.entries) }
+    ensures counted { OnOk result (steps.new + length memo.old.leaves.entries
+        ≡ steps.old + length memo.new.leaves.entries) }
+    ensures bounded { (xs : List A) (ys : List B)
+        → HoldsLeaves xs (plain whole.now.t.now) → HoldsLeaves ys (plain whole.now.u.now)
+        → steps.new + length memo.old.leaves.entries ≤ steps.old + length xs * length ys }
+    ensures keeps { Keeps forest.old forest.new }
+{
+    let pair = Pair {
+        left: a.number,
+        right: b.number,
+    };
+    if let Some(known) = find(&memo.leaves, &pair) {
+        return known.share();
+    }
+    steps.tick();
+    unify_new(forest, op, a, b, pair, &mut memo.leaves)
+}
+
+/// The forest's tree of a test and two sides, noted for the pair that it is made of.
+fn note_node<C: Eq + Hash + Drop>(
+    forest: &mut Forest<C>,
+    test: u32,
+    no: &Tree<C>,
+    yes: &Tree<C>,
+    pair: Pair,
+    entries: &mut IndexMap<Pair, Tree<C>>,
+) -> Result<Tree<C>, NoMemory>
+    requires small { test < 64 }
+    requires no_reduced { IsReducedFrom (test + 1) (plain no.now) }
+    requires yes_reduced { IsReducedFrom (test + 1) (plain yes.now) }
+    requires no_own { IsOf forest.old (numbered no.now) }
+    requires yes_own { IsOf forest.old (numbered yes.now) }
+    ensures made { IfOk result (λ r. IsNodeOf test (plain no.now) (plain yes.now) (plain r)) }
+    ensures own { IfOk result (λ r. IsOf forest.new (numbered r)) }
+    ensures noted { IfOk result (λ r. IsNoted pair (numbered r)
+        entries.old.entries entries.new.entries) }
+    ensures keeps { Keeps forest.old forest.new }
+{
+    let tree = forest.node(test, no, yes)?;
+    let noted = tree.share()?;
+    remember(entries, pair, noted)?;
+    Ok(tree)
+}
+
+/// The tree that is made of two subtrees of the operands, with what is known of pairs so far.
+#[tactic(auto, using(crate::proofs::SideLemmas::small_side, crate::proofs::SideLemmas::reduced_side, crate::proofs::Pairs::fewer_of_two, crate::proofs::Pairs::callable_sides, decision_tree::proofs::Numbers::keeps_both))]
+fn unify_known<A, B, C: Eq + Hash + Drop, K: Ledger, F: Fn(&A, &B) -> Result<C, NoMemory>>(
+    forest: &mut Forest<C>,
+    op: &F,
+    whole: &Operands<'_, A, B>,
+    t: &Tree<A>,
+    u: &Tree<B>,
+    memo: &mut Memo<C>,
+    steps: &mut Steps<K>,
+) -> Result<Tree<C>, NoMemory>
+    requires callable { IsCallableAtPairs F.Fn op.now (plain t.now) (plain u.now) }
+    requires t_numbered { IsNumbered (numbered whole.now.t.now) }
+    requires u_numbered { IsNumbered (numbered whole.now.u.now) }
+    requires t_within { IsWithin (numbered t.now) (numbered whole.now.t.now) }
+    requires u_within { IsWithin (numbered u.now) (numbered whole.now.u.now) }
+    requires t_small { TestsBelow 64 (plain t.now) }
+    requires u_small { TestsBelow 64 (plain u.now) }
+    requires t_reduced { IsReduced (plain t.now) }
+    requires u_reduced { IsReduced (plain u.now) }
+    requires exact { IsExact C.eq }
+    requires known { IsKnown (λ a b c. OpReturns F.Fn op.now a b (Ok c)) forest.old
+        (numbered whole.now.t.now) (numbered whole.now.u.now)
+        memo.old.leaves.entries memo.old.nodes.entries }
+    ensures made { IfOk result (λ r. IsMade (λ a b c. OpReturns F.Fn op.now a b (Ok c)) forest.new
+        (plain t.now) (plain u.now) (numbered r)) }
+    ensures known { OnOk result (IsKnown (λ a b c. OpReturns F.Fn op.now a b (Ok c)) forest.new
+        (numbered whole.now.t.now) (numbered whole.now.u.now)
+        memo.new.leaves.entries memo.new.nodes.entries) }
+    ensures counted { OnOk result (steps.new + length memo.old.leaves.entries
+        ≡ steps.old + length memo.new.leaves.entries) }
+    ensures bounded { (xs : List A) (ys : List B)
+        → HoldsLeaves xs (plain whole.now.t.now) → HoldsLeaves ys (plain whole.now.u.now)
+        → steps.new + length memo.old.leaves.entries ≤ steps.old + length xs * length ys }
+    ensures keeps { Keeps forest.old forest.new }
+{
+    if let (Tree::Leaf(a), Tree::Leaf(b)) = (t, u) {
+        return unify_leaves(forest, op, whole, a, b, memo, steps);
+    }
+    let pair = Pair {
+        left: t.number(),
+        right: u.number(),
+    };
+    if let Some(known) = find(&memo.nodes, &pair) {
+        return known.share();
+    }
+    let k = first(t).min(first(u));
+    let no = unify_known(
+        forest,
+        op,
+        whole,
+        side(t, k, false),
+        side(u, k, false),
+        memo,
+        steps,
+    )?;
+    let yes = unify_known(
+        forest,
+        op,
+        whole,
+        side(t, k, true),
+        side(u, k, true),
+        memo,
+        steps,
+    )?;
+    note_node(forest, k, &no, &yes, pair, &mut memo.nodes)
+}
+
+/// The forest's tree that has, at every vector, what the operation gives for the leaves of `t` and `u` there.
+///
+/// One call of the operation is one step, and there is at most one for each leaf value of `t` with each of `u`, at want
+/// of memory too. The conditions are those of `unify`, and that `t` and `u` are numbered; they may be of other forests.
+/// After want of memory the forest has all that it had, and may have more.
+#[tactic(auto, using(crate::proofs::Making::known_empty, crate::proofs::Within::within_self))]
+pub fn unify_in<A, B, C: Eq + Hash + Drop, K: Ledger, F: Fn(&A, &B) -> Result<C, NoMemory>>(
+    alloc: Global,
+    forest: &mut Forest<C>,
+    op: &F,
+    t: &Tree<A>,
+    u: &Tree<B>,
+    steps: &mut Steps<K>,
+) -> Result<Tree<C>, NoMemory>
+    requires callable { IsCallableAtPairs F.Fn op.now (plain t.now) (plain u.now) }
+    requires t_small { TestsBelow 64 (plain t.now) }
+    requires u_small { TestsBelow 64 (plain u.now) }
+    requires t_reduced { IsReduced (plain t.now) }
+    requires u_reduced { IsReduced (plain u.now) }
+    requires t_numbered { IsNumbered (numbered t.now) }
+    requires u_numbered { IsNumbered (numbered u.now) }
+    requires exact { IsExact C.eq }
+    ensures unified { IfOk result
+        (λ r. IsUnified (λ a b c. OpReturns F.Fn op.now a b (Ok c))
+        (plain t.now) (plain u.now) (plain r)) }
+    ensures reduced { IfOk result
+        (λ r. (m : ℕ) → IsReducedFrom m (plain t.now) → IsReducedFrom m (plain u.now)
+        → IsReducedFrom m (plain r)) }
+    ensures tests { IfOk result (λ r. TestsAreOfEither (plain t.now) (plain u.now) (plain r)) }
+    ensures own { IfOk result (λ r. IsOf forest.new (numbered r)) }
+    ensures keeps { Keeps forest.old forest.new }
+    ensures steps { (xs : List A) (ys : List B)
+        → HoldsLeaves xs (plain t.now) → HoldsLeaves ys (plain u.now)
+        → steps.new ≤ steps.old + length xs * length ys }
+{
+    let mut memo = Memo {
+        leaves: IndexMap::new(alloc),
+        nodes: IndexMap::new(alloc),
+    };
+    unify_known(forest, op, &Operands { t, u }, t, u, &mut memo, steps)
+}
+
+/// The forest's tree that has, at every vector, what the operation gives for the leaf of `t` there.
+///
+/// One call of the operation is one step, and there is at most one for each leaf value of `t`, at want of memory too. The
+/// conditions are those of `map`, and that `t` is numbered; it may be of another forest. After want of memory the forest
+/// has all that it had, and may have more.
+#[tactic(auto, using(crate::proofs::Within::numbered_leaf, decision_tree::proofs::Numbers::keeps_same))]
+pub fn map_in<A, B: Eq + Hash + Drop, K: Ledger, F: Fn(&A) -> Result<B, NoMemory>>(
+    alloc: Global,
+    forest: &mut Forest<B>,
+    f: &F,
+    t: &Tree<A>,
+    steps: &mut Steps<K>,
+) -> Result<Tree<B>, NoMemory>
+    requires callable { IsCallableAt F.Fn f.now (plain t.now) }
+    requires small { TestsBelow 64 (plain t.now) }
+    requires is_reduced { IsReduced (plain t.now) }
+    requires is_numbered { IsNumbered (numbered t.now) }
+    requires exact { IsExact B.eq }
+    ensures mapped { IfOk result
+        (λ r. IsMapped (λ a b. FnReturnsAt F.Fn f.now a (Ok b)) (plain t.now) (plain r)) }
+    ensures reduced { IfOk result
+        (λ r. (m : ℕ) → IsReducedFrom m (plain t.now) → IsReducedFrom m (plain r)) }
+    ensures tests { IfOk result (λ r. TestsAreOf (plain t.now) (plain r)) }
+    ensures own { IfOk result (λ r. IsOf forest.new (numbered r)) }
+    ensures keeps { Keeps forest.old forest.new }
+    ensures steps { (xs : List A) → HoldsLeaves xs (plain t.now)
+        → steps.new ≤ steps.old + length xs }
+{
+    let unit = Tree::leaf(alloc, ())?;
+    let of_first = |value: &A, _unit: &()| -> Result<B, NoMemory>
+        requires { F.pre f.now value }
+        ensures { FnReturnsAt F.Fn f.entry.now value.now result }
+    { f(value) };
+    unify_in(alloc, forest, &of_first, t, &unit, steps)
+}

@@ -1,0 +1,129 @@
+ghost use Rattle.std.specs.Prelude.{◌≡◌, ◌+◌, ◌<◌, ◌≤◌, IfOk};
+ghost use Rattle.decision_tree.specs.Plain.{TestsBelow, IsReducedFrom};
+ghost use Rattle.decision_tree.specs.Listed.{IsOf, Keeps};
+ghost use Rattle.decision_tree.specs.View.{numbered, plain};
+
+use super::*;
+use decision_tree::{Forest, Tree};
+use fam_outer::NoMemory;
+use std::alloc::Global;
+use std::cell::Cell;
+use std::marker::Brand;
+use std::sync::ledger::{Blank, Ledger};
+use std::test::Fail;
+
+#[test]
+fn operations_are_leafwise(rt: HostRuntime) -> Result<(), Fail> {
+    let one = Tree::leaf(rt.alloc(), 1u32)?;
+    let two = Tree::leaf(rt.alloc(), 2u32)?;
+    let t = Tree::node(rt.alloc(), 0, &one, &two)?;
+    let u = Tree::node(rt.alloc(), 0, &two, &one)?;
+    let sum = unify(
+        rt.alloc(),
+        &|a: &u32, b: &u32| Ok(a.wrapping_add(*b)),
+        &t,
+        &u,
+    )?;
+    let three = Tree::leaf(rt.alloc(), 3u32)?;
+    assert!(rt; sum.equal(&three));
+    let turned = map(rt.alloc(), &|a: &u32| Ok(3u32.wrapping_sub(*a)), &t)?;
+    assert!(rt; turned.equal(&u));
+    let no = Tree::leaf(rt.alloc(), false)?;
+    let yes = Tree::leaf(rt.alloc(), true)?;
+    let test = Tree::node(rt.alloc(), 1, &no, &yes)?;
+    let chosen = select(rt.alloc(), &test, &one, &t)?;
+    let low = Tree::node(rt.alloc(), 1, &one, &one)?;
+    let high = Tree::node(rt.alloc(), 1, &two, &one)?;
+    let wanted = Tree::node(rt.alloc(), 0, &low, &high)?;
+    assert!(rt; chosen.equal(&wanted));
+    Ok(())
+}
+
+#[test]
+fn restricted_trees_have_no_test(rt: HostRuntime) -> Result<(), Fail> {
+    let on = Tree::leaf(rt.alloc(), true)?;
+    let off = Tree::leaf(rt.alloc(), false)?;
+    let low = Tree::node(rt.alloc(), 1, &on, &off)?;
+    let tree = Tree::node(rt.alloc(), 0, &low, &on)?;
+    let rest = restrict(rt.alloc(), &tree, 0, false)?;
+    assert!(rt; rest.equal(&low));
+    let rest = restrict(rt.alloc(), &tree, 1, false)?;
+    assert!(rt; rest.equal(&on));
+    Ok(())
+}
+
+/// The trees over the tests from one on whose leaf is 0 or `odd` by the number of true tests: for an even number 0 and
+/// for an odd one `odd`, and the other way round.
+#[derive(Drop)]
+struct Parity {
+    even: Tree<u32>,
+    odd: Tree<u32>,
+}
+
+#[tactic(auto, using(decision_tree::proofs::Numbers::stays, decision_tree::proofs::Numbers::keeps_both, decision_tree::proofs::Reduced::below_of_made))]
+fn parity_trees(
+    forest: &mut Forest<u32>,
+    first: u32,
+    end: u32,
+    odd: u32,
+) -> Result<Parity, NoMemory>
+    requires order { first ≤ end }
+    requires small { end ≤ 64 }
+    ensures even_reduced { IfOk result (λ p. IsReducedFrom first (plain p.even)) }
+    ensures odd_reduced { IfOk result (λ p. IsReducedFrom first (plain p.odd)) }
+    ensures even_small { IfOk result (λ p. TestsBelow 64 (plain p.even)) }
+    ensures odd_small { IfOk result (λ p. TestsBelow 64 (plain p.odd)) }
+    ensures even_own { IfOk result (λ p. IsOf forest.new (numbered p.even)) }
+    ensures odd_own { IfOk result (λ p. IsOf forest.new (numbered p.odd)) }
+    ensures keeps { Keeps forest.old forest.new }
+{
+    if first == end {
+        let no = forest.leaf(0)?;
+        let yes = forest.leaf(odd)?;
+        return Ok(Parity { even: no, odd: yes });
+    }
+    let rest = parity_trees(forest, first + 1, end, odd)?;
+    let no = forest.node(first, &rest.even, &rest.odd)?;
+    let yes = forest.node(first, &rest.odd, &rest.even)?;
+    Ok(Parity { even: no, odd: yes })
+}
+
+/// Whether the sum of the parity of some tests with itself is that with 0 and 2, made by two calls of the addition: one
+/// for two leaves 0, and one for two leaves 1. The double of each leaf takes two calls too. Trees of one forest are
+/// compared by their numbers, and by all their paths where these are few.
+#[tactic(auto, using(decision_tree::proofs::Numbers::numbered_in, decision_tree::proofs::Reduced::reduced_from))]
+fn doubles<K: Ledger>(alloc: Global, blank: Blank, tests: u32) -> Result<bool, NoMemory>
+    requires name { blank.name ≡ K.name }
+    requires parts { blank.parts ≡ K.parts }
+    requires some { 0 < K.parts }
+    requires small { tests ≤ 64 }
+{
+    let mut steps = Steps::<K>::new(blank);
+    let mut ones = Forest::new(alloc);
+    let mut twos = Forest::new(alloc);
+    let wanted = parity_trees(&mut twos, 0, tests, 2)?.even;
+    let t = parity_trees(&mut ones, 0, tests, 1)?.even;
+    let calls = Cell::new(0u32);
+    let add = |a: &u32, b: &u32| {
+        calls.set(calls.get().wrapping_add(1));
+        Ok(a.wrapping_add(*b))
+    };
+    let sum = unify_in(alloc, &mut twos, &add, &t, &t, &mut steps)?;
+    let double = |a: &u32| {
+        calls.set(calls.get().wrapping_add(1));
+        Ok(a.wrapping_add(*a))
+    };
+    let mapped = map_in(alloc, &mut twos, &double, &t, &mut steps)?;
+    let same = sum.number() == wanted.number() && mapped.number() == wanted.number();
+    let equal = tests > 10 || (sum.equal(&wanted) && mapped.equal(&wanted));
+    Ok(same && equal && calls.get() == 4)
+}
+
+#[test]
+fn shared_trees_take_few_steps(rt: HostRuntime) -> Result<(), Fail> {
+    let few = doubles::<Brand>(rt.alloc(), Blank::new(1), 10)?;
+    assert!(rt; few);
+    let many = doubles::<Brand>(rt.alloc(), Blank::new(1), 40)?;
+    assert!(rt; many);
+    Ok(())
+}
