@@ -1,11 +1,11 @@
 -- How many pairs of leaves there can be.
-use Rattle.std.proofs.Common.{◌≡◌, ◌⊎◌, ℕ, zero, suc, ◌+◌, ◌*◌, ◌<◌, ◌≤◌, List, [], ◌∷◌, length, slice_get, slice_index_or, Option, Some, None, refl, sym, ◌∙◌, ap, subst, inl, inr, arith}
+use Rattle.std.proofs.Common.{◌≡◌, ℕ, zero, suc, ◌+◌, ◌*◌, ◌<◌, ◌≤◌, List, [], ◌∷◌, length, slice_get, Some, refl, sym, ◌∙◌, ap, subst, inl, inr, arith}
 use Rattle.std.proofs.lemmas.Bool.{cases_order}
 use Rattle.std.proofs.lemmas.Option.{slice_get-get_or}
 use Rattle.std.specs.List.{Contains}
 use Rattle.indexmap.proofs.IndexTableLemmas.Probe.{pigeonhole}
 use Rattle.decision_tree.specs.Plain.{leaf}
-use Rattle.decision_tree.specs.Numbered.{Numbered, kept, erase, root, IsWithin, IsNumbered}
+use Rattle.decision_tree.specs.Numbered.{Numbered, kept, erase, IsWithin, IsNumbered}
 use Rattle.tree_unify.specs.declared.memo.Pair.{Pair}
 use Rattle.tree_unify.specs.Leaves.{HoldsLeaves}
 use Rattle.tree_unify.specs.Made.{IsPairOfLeaves, IsTally}
@@ -30,9 +30,9 @@ module _ {X : Type 0} (R : X → ℕ → Type 0) (m : ℕ) where
   at_most ps h one =
       pigeonhole (length ps) m (number_at ps h) (λ i lt. (number_there ps h i lt).2)
       (λ i j lt mt e.
-        let a = number_there ps h i lt in
-        let b = number_there ps h j mt in
-        one i j a.0 b.0 (number_at ps h i) a.1 b.1 a.3 (subst (R b.0) (sym e) b.3))
+      let a = number_there ps h i lt in
+      let b = number_there ps h j mt in
+      one i j a.0 b.0 (number_at ps h i) a.1 b.1 a.3 (subst (R b.0) (sym e) b.3))
 
 -- two numbers as one
 below_product : (i j n l : ℕ) → i < n → j < l → i * l + j < n * l
@@ -72,19 +72,22 @@ module _ {A B : Type 0} (t : Numbered A) (u : Numbered B) (xs : List A) (ys : Li
   numbers : HoldsLeaves xs (erase t) → HoldsLeaves ys (erase u) → (p : Pair) → IsPairOfLeaves t u p → (n : ℕ) × (n < length xs * length ys) × HasNumber p n
   numbers hx hy p h =
       let a = place_of xs h.first (hx.each h.first (leaf_within t p.left h.first h.left)) in
-      let b = place_of ys h.second (hy.each h.second (leaf_within u p.right h.second h.right)) in
-      (a.0 * length ys + b.0, below_product a.0 b.0 (length xs) (length ys) a.1 b.1, record {
-        row = a.0;
-        column = b.0;
-        narrow = b.1;
-        is = refl;
-        first = h.first;
-        second = h.second;
-        left = h.left;
-        right = h.right;
-        at_row = a.2;
-        at_column = b.2;
-      })
+      let b = place_of ys h.second (hy.each h.second (leaf_within u p.right h.second h.right)) in (
+        a.0 * length ys + b.0,
+        below_product a.0 b.0 (length xs) (length ys) a.1 b.1,
+        record {
+          row = a.0;
+          column = b.0;
+          narrow = b.1;
+          is = refl;
+          first = h.first;
+          second = h.second;
+          left = h.left;
+          right = h.right;
+          at_row = a.2;
+          at_column = b.2;
+        },
+      )
 
   number_of_leaf : {L : Type 0} (whole : Numbered L) (m n : ℕ) (x y : L) → IsNumbered whole → IsWithin (kept m x) whole → IsWithin (kept n y) whole → x ≡ y → m ≡ n
   number_of_leaf whole m n x y h v w e = (h.tells (kept m x) (kept n y) v w).1 (ap leaf e)

@@ -1,12 +1,12 @@
 -- What is remembered of pairs of subtrees.
-use Rattle.std.proofs.Common.{◌≡◌, ◌⊎◌, ℕ, ◌+◌, Bool, true, false, ◌&&◌, eqb, List, [], ◌∷◌, ◌++◌, length, slice_get, Option, Some, None, refl, sym, ◌∙◌, ap, subst, inl, inr, arith, true≢false}
+use Rattle.std.proofs.Common.{◌≡◌, ℕ, Bool, true, false, ◌&&◌, eqb, List, [], ◌∷◌, ◌++◌, slice_get, Some, None, refl, sym, ◌∙◌, ap, subst, inl, inr, arith, true≢false}
 use Rattle.std.proofs.lemmas.Bool.Decides.{nat_tests, eqb_tells}
 use Rattle.std.proofs.lemmas.Map.Entries.{place_from_lookup}
 use Rattle.std.specs.Map.{lookup, keys_of}
 use Rattle.indexmap.specs.IndexMap.{insert_entry}
 use Rattle.decision_tree.specs.declared.tree.Tree.{Tree}
 use Rattle.decision_tree.specs.Plain.{Plain}
-use Rattle.decision_tree.specs.Numbered.{Numbered, kept, erase, root, IsWithin, IsNumbered}
+use Rattle.decision_tree.specs.Numbered.{Numbered, erase, root, IsWithin, IsNumbered}
 use Rattle.decision_tree.specs.Listed.{Keeps}
 use Rattle.decision_tree.specs.View.{numbered}
 use Rattle.decision_tree.proofs.Places.{pushed_at, mapped_at, absent_at}
@@ -78,8 +78,8 @@ module _ {A B : Type 0} {t : Numbered A} {u : Numbered B} where
   tally_pushed {C} es p h leaves none =
       let apart : (i : ℕ) (q : Pair) → slice_get (keys_of es) i ≡ Some q → p.left ≡ q.left → p.right ≡ q.right → ⊥ =
       λ i q g l r.
-          let at = mapped_at (λ (e : Pair × Tree C). e.0) es i q g in
-          true≢false (sym (pair_same p q l r) ∙ (ap (same_pair p) (sym at.2) ∙ absent_at (same_pair p) es i at.0 none at.1)) in
+      let at = mapped_at (λ (e : Pair × Tree C). e.0) es i q g in
+      true≢false (sym (pair_same p q l r) ∙ (ap (same_pair p) (sym at.2) ∙ absent_at (same_pair p) es i at.0 none at.1)) in
       record {
         leaves = λ i q g. elim (pushed_at (keys_of es) p i q g) [ inl old ↦ h.leaves i q old | inr new ↦ subst (IsPairOfLeaves t u) (sym new.1) leaves ];
         distinct = λ i j q s a b l r. elim (pushed_at (keys_of es) p i q a) [

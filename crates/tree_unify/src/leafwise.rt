@@ -63,10 +63,10 @@ pub fn unify<A, B, C: Eq + Drop, F: Fn(&A, &B) -> Result<C, NoMemory>>(
     requires exact { IsExact C.eq }
     ensures unified { IfOk result
         (λ r. IsUnified (λ a b c. OpReturns F.Fn op.now a b (Ok c))
-            (plain t.now) (plain u.now) (plain r)) }
+        (plain t.now) (plain u.now) (plain r)) }
     ensures reduced { IfOk result
         (λ r. (m : ℕ) → IsReducedFrom m (plain t.now) → IsReducedFrom m (plain u.now)
-            → IsReducedFrom m (plain r)) }
+        → IsReducedFrom m (plain r)) }
     ensures tests { IfOk result (λ r. TestsAreOfEither (plain t.now) (plain u.now) (plain r)) }
 {
     if let (Tree::Leaf(a), Tree::Leaf(b)) = (t, u) {
@@ -100,7 +100,7 @@ pub fn select<L: Eq + Drop>(
     ensures selected { IfOk result (λ r. IsSelected (plain test.now) (plain t.now) (plain u.now) (plain r)) }
     ensures reduced { IfOk result
         (λ r. (m : ℕ) → IsReducedFrom m (plain test.now) → IsReducedFrom m (plain t.now)
-            → IsReducedFrom m (plain u.now) → IsReducedFrom m (plain r)) }
+        → IsReducedFrom m (plain u.now) → IsReducedFrom m (plain r)) }
     ensures tests { IfOk result
         (λ r. TestsAreOfAny (plain test.now) (plain t.now) (plain u.now) (plain r)) }
 {

@@ -24,10 +24,7 @@ pub struct Memo<C> {
 }
 
 /// The tree that was made for a pair.
-pub fn find<'a, C>(
-    entries: &'a IndexMap<Pair, Tree<C>>,
-    pair: &Pair,
-) -> Option<&'a Tree<C>>
+pub fn find<'a, C>(entries: &'a IndexMap<Pair, Tree<C>>, pair: &Pair) -> Option<&'a Tree<C>>
     ensures { option_copied result ≡ lookup (same_pair pair.now) entries.now.entries }
 {
     entries.get(pair)

@@ -29,12 +29,7 @@ struct Operands<'a, A, B> {
 }
 
 /// The leaf that the operation gives for two leaves, noted for their pair.
-fn unify_new<
-    A,
-    B,
-    C: Eq + Hash + Drop,
-    F: Fn(&A, &B) -> Result<C, NoMemory>,
->(
+fn unify_new<A, B, C: Eq + Hash + Drop, F: Fn(&A, &B) -> Result<C, NoMemory>>(
     forest: &mut Forest<C>,
     op: &F,
     a: &Kept<A>,
@@ -58,13 +53,7 @@ fn unify_new<
 }
 
 /// The leaf for two leaves, with what is known of pairs so far: one step, where their pair is not known.
-fn unify_leaves<
-    A,
-    B,
-    C: Eq + Hash + Drop,
-    K: Ledger,
-    F: Fn(&A, &B) -> Result<C, NoMemory>,
->(
+fn unify_leaves<A, B, C: Eq + Hash + Drop, K: Ledger, F: Fn(&A, &B) -> Result<C, NoMemory>>(
     forest: &mut Forest<C>,
     op: &F,
     whole: &Operands<'_, A, B>,
@@ -133,13 +122,7 @@ fn note_node<C: Eq + Hash + Drop>(
 
 /// The tree that is made of two subtrees of the operands, with what is known of pairs so far.
 #[tactic(auto, using(crate::proofs::SideLemmas::small_side, crate::proofs::SideLemmas::reduced_side, crate::proofs::Pairs::fewer_of_two, crate::proofs::Pairs::callable_sides, decision_tree::proofs::Numbers::keeps_both))]
-fn unify_known<
-    A,
-    B,
-    C: Eq + Hash + Drop,
-    K: Ledger,
-    F: Fn(&A, &B) -> Result<C, NoMemory>,
->(
+fn unify_known<A, B, C: Eq + Hash + Drop, K: Ledger, F: Fn(&A, &B) -> Result<C, NoMemory>>(
     forest: &mut Forest<C>,
     op: &F,
     whole: &Operands<'_, A, B>,
@@ -211,13 +194,7 @@ fn unify_known<
 /// of memory too. The conditions are those of `unify`, and that `t` and `u` are numbered; they may be of other forests.
 /// After want of memory the forest has all that it had, and may have more.
 #[tactic(auto, using(crate::proofs::Making::known_empty, crate::proofs::Within::within_self))]
-pub fn unify_in<
-    A,
-    B,
-    C: Eq + Hash + Drop,
-    K: Ledger,
-    F: Fn(&A, &B) -> Result<C, NoMemory>,
->(
+pub fn unify_in<A, B, C: Eq + Hash + Drop, K: Ledger, F: Fn(&A, &B) -> Result<C, NoMemory>>(
     alloc: Global,
     forest: &mut Forest<C>,
     op: &F,
@@ -235,10 +212,10 @@ pub fn unify_in<
     requires exact { IsExact C.eq }
     ensures unified { IfOk result
         (λ r. IsUnified (λ a b c. OpReturns F.Fn op.now a b (Ok c))
-            (plain t.now) (plain u.now) (plain r)) }
+        (plain t.now) (plain u.now) (plain r)) }
     ensures reduced { IfOk result
         (λ r. (m : ℕ) → IsReducedFrom m (plain t.now) → IsReducedFrom m (plain u.now)
-            → IsReducedFrom m (plain r)) }
+        → IsReducedFrom m (plain r)) }
     ensures tests { IfOk result (λ r. TestsAreOfEither (plain t.now) (plain u.now) (plain r)) }
     ensures own { IfOk result (λ r. IsOf forest.new (numbered r)) }
     ensures keeps { Keeps forest.old forest.new }
@@ -285,8 +262,6 @@ pub fn map_in<A, B: Eq + Hash + Drop, K: Ledger, F: Fn(&A) -> Result<B, NoMemory
     let of_first = |value: &A, _unit: &()| -> Result<B, NoMemory>
         requires { F.pre f.now value }
         ensures { FnReturnsAt F.Fn f.entry.now value.now result }
-    {
-        f(value)
-    };
+    { f(value) };
     unify_in(alloc, forest, &of_first, t, &unit, steps)
 }

@@ -18,7 +18,12 @@ fn operations_are_leafwise(rt: HostRuntime) -> Result<(), Fail> {
     let two = Tree::leaf(rt.alloc(), 2u32)?;
     let t = Tree::node(rt.alloc(), 0, &one, &two)?;
     let u = Tree::node(rt.alloc(), 0, &two, &one)?;
-    let sum = unify(rt.alloc(), &|a: &u32, b: &u32| Ok(a.wrapping_add(*b)), &t, &u)?;
+    let sum = unify(
+        rt.alloc(),
+        &|a: &u32, b: &u32| Ok(a.wrapping_add(*b)),
+        &t,
+        &u,
+    )?;
     let three = Tree::leaf(rt.alloc(), 3u32)?;
     assert!(rt; sum.equal(&three));
     let turned = map(rt.alloc(), &|a: &u32| Ok(3u32.wrapping_sub(*a)), &t)?;
@@ -56,7 +61,12 @@ struct Parity {
 }
 
 #[tactic(auto, using(decision_tree::proofs::Numbers::stays, decision_tree::proofs::Numbers::keeps_both, decision_tree::proofs::Reduced::below_of_made))]
-fn parity_trees(forest: &mut Forest<u32>, first: u32, end: u32, odd: u32) -> Result<Parity, NoMemory>
+fn parity_trees(
+    forest: &mut Forest<u32>,
+    first: u32,
+    end: u32,
+    odd: u32,
+) -> Result<Parity, NoMemory>
     requires order { first ≤ end }
     requires small { end ≤ 64 }
     ensures even_reduced { IfOk result (λ p. IsReducedFrom first (plain p.even)) }
