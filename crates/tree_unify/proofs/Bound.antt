@@ -1,11 +1,11 @@
 -- How many pairs of leaves there can be.
-use Rattle.std.proofs.Common.{◌≡◌, ◌⊎◌, ℕ, zero, suc, ◌+◌, ◌*◌, ◌<◌, ◌≤◌, List, [], ◌∷◌, length, slice_get, slice_index_or, Option, Some, None, refl, sym, ◌∙◌, ap, subst, inl, inr, arith}
+use Rattle.std.proofs.Common.{◌≡◌, ℕ, zero, suc, ◌+◌, ◌*◌, ◌<◌, ◌≤◌, List, [], ◌∷◌, length, slice_get, Some, refl, sym, ◌∙◌, ap, subst, inl, inr, arith}
 use Rattle.std.proofs.lemmas.Bool.{cases_order}
 use Rattle.std.proofs.lemmas.Option.{slice_get-get_or}
 use Rattle.std.specs.List.{Contains}
 use Rattle.indexmap.proofs.IndexTableLemmas.Probe.{pigeonhole}
 use Rattle.decision_tree.specs.Plain.{leaf}
-use Rattle.decision_tree.specs.Numbered.{Numbered, kept, erase, root, IsWithin, IsNumbered}
+use Rattle.decision_tree.specs.Numbered.{Numbered, kept, erase, IsWithin, IsNumbered}
 use Rattle.tree_unify.specs.declared.memo.Pair.{Pair}
 use Rattle.tree_unify.specs.Leaves.{HoldsLeaves}
 use Rattle.tree_unify.specs.Made.{IsPairOfLeaves, IsTally}

@@ -1,13 +1,12 @@
 -- Trees that are made of two trees, and noted.
-use Rattle.std.proofs.Common.{◌≡◌, ◌⊎◌, ℕ, zero, suc, ◌+◌, ◌*◌, ◌<◌, ◌≤◌, min, Bool, true, false, List, [], ◌∷◌, ◌++◌, cond, slice_index_or, length, refl, sym, ◌∙◌, ap, subst, inl, inr, arith, Result, Ok, Err, IfOk, Option, None, Some, length-append}
+use Rattle.std.proofs.Common.{◌≡◌, ℕ, ◌+◌, ◌*◌, ◌<◌, ◌≤◌, min, Bool, true, false, List, [], ◌∷◌, ◌++◌, cond, length, refl, sym, ◌∙◌, ap, subst, inl, inr, arith, Result, Ok, Err, IfOk, None, Some}
 use Rattle.std.proofs.lemmas.Result.{IfOk-weaker}
 use Rattle.std.specs.Borrow.{Bor}
 use Rattle.std.specs.Fn.{Shared}
 use Rattle.std.specs.Map.{lookup, keys_of}
 use Rattle.std.proofs.lemmas.Bool.Decides.{eqb_tells}
-use Rattle.indexmap.specs.IndexMap.{insert_entry}
 use Rattle.decision_tree.specs.declared.tree.Tree.{Tree}
-use Rattle.decision_tree.specs.Plain.{Plain, leaf, node, leaf_of, HasTest, IsNodeOf, IsReduced, IsReducedFrom}
+use Rattle.decision_tree.specs.Plain.{Plain, leaf, node, IsNodeOf, IsReduced, IsReducedFrom}
 use Rattle.decision_tree.specs.Numbered.{Numbered, kept, erase, root, IsWithin, IsNumbered}
 use Rattle.decision_tree.specs.Listed.{IsOf, Keeps}
 use Rattle.decision_tree.specs.View.{numbered, plain}
@@ -22,10 +21,10 @@ use Rattle.tree_unify.specs.Leaves.{HoldsLeaves}
 use Rattle.tree_unify.specs.Made.{same_pair, IsMade, IsMemo, IsNoted, IsPairOfLeaves, IsTally}
 use Rattle.tree_unify.specs.Sides.{first_of, side_of}
 use Rattle.tree_unify.proofs.Bound.{tally_bound}
-use Rattle.tree_unify.proofs.Places.{inserted_last, keys_pushed}
+use Rattle.tree_unify.proofs.Places.{inserted_last}
 use Rattle.tree_unify.proofs.Remembered.{memo_empty, tally_empty, memo_kept, memo_added, memo_found, tally_added, tally_pushed}
-use Rattle.tree_unify.proofs.SideLemmas.{pick, has_first, split_of_sides}
-use Rattle.tree_unify.proofs.Unified.{IsSplit, unified_at_leaves, unified_of_sides, tests_of_made}
+use Rattle.tree_unify.proofs.SideLemmas.{pick, split_of_sides}
+use Rattle.tree_unify.proofs.Unified.{unified_at_leaves, unified_of_sides, tests_of_made}
 use Rattle.tree_unify.proofs.Pairs.{has_of_two}
 
 -- the leaf that an operation gives

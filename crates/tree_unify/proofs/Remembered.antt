@@ -1,12 +1,12 @@
 -- What is remembered of pairs of subtrees.
-use Rattle.std.proofs.Common.{◌≡◌, ◌⊎◌, ℕ, ◌+◌, Bool, true, false, ◌&&◌, eqb, List, [], ◌∷◌, ◌++◌, length, slice_get, Option, Some, None, refl, sym, ◌∙◌, ap, subst, inl, inr, arith, true≢false}
+use Rattle.std.proofs.Common.{◌≡◌, ℕ, Bool, true, false, ◌&&◌, eqb, List, [], ◌∷◌, ◌++◌, slice_get, Some, None, refl, sym, ◌∙◌, ap, subst, inl, inr, arith, true≢false}
 use Rattle.std.proofs.lemmas.Bool.Decides.{nat_tests, eqb_tells}
 use Rattle.std.proofs.lemmas.Map.Entries.{place_from_lookup}
 use Rattle.std.specs.Map.{lookup, keys_of}
 use Rattle.indexmap.specs.IndexMap.{insert_entry}
 use Rattle.decision_tree.specs.declared.tree.Tree.{Tree}
 use Rattle.decision_tree.specs.Plain.{Plain}
-use Rattle.decision_tree.specs.Numbered.{Numbered, kept, erase, root, IsWithin, IsNumbered}
+use Rattle.decision_tree.specs.Numbered.{Numbered, erase, root, IsWithin, IsNumbered}
 use Rattle.decision_tree.specs.Listed.{Keeps}
 use Rattle.decision_tree.specs.View.{numbered}
 use Rattle.decision_tree.proofs.Places.{pushed_at, mapped_at, absent_at}

@@ -1,6 +1,6 @@
 -- Subtrees of subtrees.
 use Rattle.std.proofs.Common.{◌≡◌, ℕ, refl, sym, subst, inl, inr}
-use Rattle.decision_tree.specs.Plain.{leaf, HasLeaf}
+use Rattle.decision_tree.specs.Plain.{HasLeaf}
 use Rattle.decision_tree.specs.Numbered.{Numbered, kept, branch, erase, root, IsWithin, IsNumbered}
 
 module _ {L : Type 0} where

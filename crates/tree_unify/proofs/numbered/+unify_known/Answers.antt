@@ -1,4 +1,4 @@
-use Rattle.std.proofs.Common.{true, false, ◌≡◌, ◌+◌, ◌<◌, rules, arith, refl, IfOk, None, Some, ap}
+use Rattle.std.proofs.Common.{true, false, ◌≡◌, ◌<◌, rules, arith, refl, Some}
 use Rattle.std.proofs.lemmas.Grind.{common_steps}
 use Rattle.std.specs.Map.{lookup}
 use Rattle.decision_tree.specs.Numbered.{root}

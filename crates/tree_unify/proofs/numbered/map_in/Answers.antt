@@ -1,9 +1,6 @@
-use Rattle.std.proofs.Common.{◌≡◌, ◌+◌, ◌*◌, ◌≤◌, [], ◌∷◌, length, rules, arith, refl, subst, Ok}
+use Rattle.std.proofs.Common.{[], ◌∷◌, length, rules, subst, Ok}
 use Rattle.std.specs.Fn.{FnReturnsAt}
-use Rattle.std.proofs.lemmas.Fn.{says_at}
-use Rattle.decision_tree.specs.Plain.{leaf}
-use Rattle.decision_tree.specs.View.{numbered, plain}
-use Rattle.tree_unify.specs.Calls.{OpReturns}
+use Rattle.decision_tree.specs.View.{plain}
 use Rattle.tree_unify.proofs.OneOperand.{all_units, one_column, tests_of_one, mapped_of_one}
 use Rattle.tree_unify.proofs.numbered.map_in.Goals as goal
 

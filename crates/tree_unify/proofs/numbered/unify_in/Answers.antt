@@ -1,5 +1,5 @@
-use Rattle.std.proofs.Common.{◌≡◌, ◌+◌, ◌*◌, ◌≤◌, length, rules, arith}
-use Rattle.decision_tree.specs.View.{numbered, plain}
+use Rattle.std.proofs.Common.{arith}
+use Rattle.decision_tree.specs.View.{plain}
 use Rattle.tree_unify.proofs.Making.{made_unified, made_reduced, made_tests, made_own}
 use Rattle.tree_unify.proofs.numbered.unify_in.Goals as goal
 

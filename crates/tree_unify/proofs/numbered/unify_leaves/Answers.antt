@@ -1,10 +1,8 @@
-use Rattle.std.proofs.Common.{◌≡◌, ◌+◌, rules, arith, refl, IfOk, None, Some, ap}
-use Rattle.std.proofs.lemmas.Result.{IfOk-weaker}
+use Rattle.std.proofs.Common.{◌≡◌, rules, refl, None, Some}
 use Rattle.std.specs.Map.{lookup}
 use Rattle.decision_tree.specs.Numbered.{kept}
-use Rattle.decision_tree.specs.View.{numbered, plain}
-use Rattle.decision_tree.specs.Plain.{leaf}
-use Rattle.tree_unify.specs.Made.{same_pair, IsMade}
+use Rattle.decision_tree.specs.View.{numbered}
+use Rattle.tree_unify.specs.Made.{same_pair}
 use Rattle.tree_unify.proofs.Making.{known_leaf, counted_leaf, bounded_leaf, bounded_known, made_found}
 use Rattle.tree_unify.proofs.numbered.unify_leaves.Goals as goal
 
