@@ -1,0 +1,4 @@
+pub mod Numbering
+pub mod Propositions
+pub mod Validity
+pub mod View
