@@ -1,3 +1,5 @@
+pub mod Expressions
+pub mod Meaning
 pub mod Numbering
 pub mod Propositions
 pub mod Validity

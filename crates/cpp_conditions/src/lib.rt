@@ -3,6 +3,7 @@
 
 pub mod conditions;
 pub mod formulas;
+pub mod laws;
 pub mod models;
 
 pub use conditions::Condition;

@@ -1,24 +1,24 @@
 //! Conditions over `A` (Boolean) and `N` (from 0 to 7), with ample memory.
 
-ghost use Rattle.std.specs.Prelude.{◌≡◌, pos, ◌∷◌, [], IfOk};
-
 use crate::*;
-use fam_outer::{NoMemory, Text, Values};
-use linear_atoms::{Atom, Config, Feature, Terms};
-use smallvec::SmallVec;
+use fam_outer::{Text, Values};
+use linear_atoms::{Atom, Config, Feature, Linear, Literal, Normal};
 use std::alloc::Global;
 use std::test::Fail;
 
-/// The atom "the feature's value is at least the bound".
-fn at_least(alloc: Global, number: u32, bound: i64) -> Result<Atom, NoMemory>
-    ensures { IfOk result (λ made. made.terms ≡ (number, pos 1) ∷ []) }
-{
-    let mut list = SmallVec::new(alloc);
-    list.push((number, 1))?;
-    Ok(Atom {
-        terms: Terms::from_vec(list),
-        bound,
-    })
+/// The atom "the feature's value is at least the bound", where this is the bound negated.
+fn at_least(alloc: Global, number: u32, negated: i64) -> Result<Atom, Fail> {
+    let constant = Linear::constant(alloc, negated)?;
+    match Linear::feature(alloc, number)?
+        .add(alloc, &constant)?
+        .normal(alloc)?
+    {
+        Normal::Const(_) => Err("a truth")?,
+        Normal::Literal(literal) => {
+            let Literal { atom, .. } = literal;
+            Ok(atom)
+        }
+    }
 }
 
 #[test]
@@ -35,7 +35,7 @@ fn formulas_have_truths(rt: HostRuntime) -> Result<(), Fail> {
 #[test]
 fn atoms_are_numbered(rt: HostRuntime) -> Result<(), Fail> {
     let alloc = rt.alloc();
-    let atoms = [at_least(alloc, 0, 1)?, at_least(alloc, 1, 3)?];
+    let atoms = [at_least(alloc, 0, -1)?, at_least(alloc, 1, -3)?];
     let condition = Condition::Test(atoms[1].copy(alloc)?);
     let formula = number(alloc, &condition, &atoms)?;
     assert!(rt; matches!(formula, Formula::Test(1)));
