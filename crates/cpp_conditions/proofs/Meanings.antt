@@ -208,8 +208,8 @@ module _ (fs : List Feature) (values : List ℤ) where
       let s = and_right (is_linear fs a && is_linear fs b) ((not (is_truth a) && not (is_truth b)) && not (names_feature fs a && names_feature fs b)) l in
       let m = and_left (not (is_truth a) && not (is_truth b)) (not (names_feature fs a && names_feature fs b)) s in
       product_value a b (and_right (not (is_truth a) && not (is_truth b)) (not (names_feature fs a && names_feature fs b)) s)
-        (form_value a (not_true (is_truth a) (and_left (not (is_truth a)) (not (is_truth b)) m)) (and_left (is_linear fs a) (is_linear fs b) k))
-        (form_value b (not_true (is_truth b) (and_right (not (is_truth a)) (not (is_truth b)) m)) (and_right (is_linear fs a) (is_linear fs b) k))
+      (form_value a (not_true (is_truth a) (and_left (not (is_truth a)) (not (is_truth b)) m)) (and_left (is_linear fs a) (is_linear fs b) k))
+      (form_value b (not_true (is_truth b) (and_right (not (is_truth a)) (not (is_truth b)) m)) (and_right (is_linear fs a) (is_linear fs b) k))
   form_value (Binary Plus a b) t l =
       let k = and_left (is_linear fs a && is_linear fs b) (not (is_truth a) && not (is_truth b)) l in
       let m = and_right (is_linear fs a && is_linear fs b) (not (is_truth a) && not (is_truth b)) l in
@@ -220,8 +220,8 @@ module _ (fs : List Feature) (values : List ℤ) where
       let k = and_left (is_linear fs a && is_linear fs b) (not (is_truth a) && not (is_truth b)) l in
       let m = and_right (is_linear fs a && is_linear fs b) (not (is_truth a) && not (is_truth b)) l in
       difference_value a b
-        (form_value a (not_true (is_truth a) (and_left (not (is_truth a)) (not (is_truth b)) m)) (and_left (is_linear fs a) (is_linear fs b) k))
-        (form_value b (not_true (is_truth b) (and_right (not (is_truth a)) (not (is_truth b)) m)) (and_right (is_linear fs a) (is_linear fs b) k))
+      (form_value a (not_true (is_truth a) (and_left (not (is_truth a)) (not (is_truth b)) m)) (and_left (is_linear fs a) (is_linear fs b) k))
+      (form_value b (not_true (is_truth b) (and_right (not (is_truth a)) (not (is_truth b)) m)) (and_right (is_linear fs a) (is_linear fs b) k))
   form_value (Binary Less a b) t l = cc
   form_value (Binary AtMost a b) t l = cc
   form_value (Binary Greater a b) t l = cc
@@ -237,8 +237,8 @@ module _ (fs : List Feature) (values : List ℤ) where
       let k = and_left (is_linear fs a && is_linear fs b) (not (is_truth a) && not (is_truth b)) l in
       let m = and_right (is_linear fs a && is_linear fs b) (not (is_truth a) && not (is_truth b)) l in
       difference_value a b
-        (form_value a (not_true (is_truth a) (and_left (not (is_truth a)) (not (is_truth b)) m)) (and_left (is_linear fs a) (is_linear fs b) k))
-        (form_value b (not_true (is_truth b) (and_right (not (is_truth a)) (not (is_truth b)) m)) (and_right (is_linear fs a) (is_linear fs b) k))
+      (form_value a (not_true (is_truth a) (and_left (not (is_truth a)) (not (is_truth b)) m)) (and_left (is_linear fs a) (is_linear fs b) k))
+      (form_value b (not_true (is_truth b) (and_right (not (is_truth a)) (not (is_truth b)) m)) (and_right (is_linear fs a) (is_linear fs b) k))
 
   -- ---- tests
 

@@ -13,5 +13,4 @@ ghost use Rattle.cpp_conditions.specs.Propositions.{true_at};
 /// product has a feature on both sides.
 pub fn conditions_have_values()
     ensures { (features : List Feature) (values : List ℤ) (e : Expression) → IsWithin features values → is_linear features e ≡ true → true_at values (cond features e) ≡ is_nonzero (value features values e) }
-{
-}
+{}
