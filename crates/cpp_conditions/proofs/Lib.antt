@@ -1,3 +1,3 @@
 pub mod Meanings
 pub mod Numbers
-pub mod Tests
+pub mod Signs

@@ -1,16 +1,15 @@
 -- The condition that an expression means is true exactly where its value is not 0.
-use Rattle.std.proofs.Common.{◌≡◌, ◌≢◌, ℕ, zero, suc, ◌<◌, ◌≤◌, ◌*◌, ℤ, pos, negsuc, neg_ℤ, ◌+ℤ◌, ◌-ℤ◌, ◌*ℤ◌, ◌≤ℤ◌, ◌<ℤ◌, int_lt, int_le, Bool, true, false, not, ◌&&◌, ◌||◌, if◌then◌else◌, List, [], ◌∷◌, Option, Some, None, is_some, sym, ap, subst, refl, ◌∙◌, arith, get_or}
+use Rattle.std.proofs.Common.{◌≡◌, ℕ, suc, ◌*◌, ℤ, pos, negsuc, neg_ℤ, ◌+ℤ◌, ◌-ℤ◌, ◌*ℤ◌, ◌≤ℤ◌, ◌<ℤ◌, int_lt, int_le, Bool, true, false, not, ◌&&◌, ◌||◌, if◌then◌else◌, List, [], Option, Some, None, is_some, sym, ap, refl, ◌∙◌, arith, get_or}
 use Rattle.std.proofs.lemmas.Int.{ints}
 use Rattle.std.proofs.Math.IntN.{*ℤ_comm, +ℤ_idl, pos-*ℤ-pos, negsuc-*ℤ-pos}
 use Rattle.std.specs.Ordering.{int_eq}
 use Rattle.linear_atoms.specs.declared.forms.Linear.{Linear}
 use Rattle.linear_atoms.specs.declared.atoms.Atom.{Atom}
-use Rattle.linear_atoms.specs.declared.atoms.Literal.{Literal}
 use Rattle.linear_atoms.specs.declared.atoms.Feature.{Feature}
 use Rattle.linear_atoms.specs.declared.normal.Normal.{Normal}
 use Rattle.linear_atoms.specs.declared.normal.Normal.TheVariants as normals
 use Rattle.linear_atoms.specs.Forms.{IsRising, form_at, sum_at, constant_form, feature_form, form_sum, form_by, terms_sum, terms_by}
-use Rattle.linear_atoms.specs.Atoms.{holds, literal_holds, IsWithin}
+use Rattle.linear_atoms.specs.Atoms.{holds, IsWithin}
 use Rattle.linear_atoms.specs.Normal.{normal_of, normal_holds}
 use Rattle.linear_atoms.specs.Ranges.{extreme_sum}
 use Rattle.linear_atoms.specs.Texts.{boolean_at}
@@ -18,10 +17,10 @@ use Rattle.linear_atoms.proofs.Extremes.{always, never}
 use Rattle.linear_atoms.proofs.Sums.{terms_sum_rises, terms_by_rises}
 use Rattle.linear_atoms.proofs.Truths.{truth_kept}
 use Rattle.linear_atoms.proofs.Values.{form_sum_at, form_by_at}
-use Rattle.cpp_conditions.specs.Propositions.{Proposition, Const, Test, Not, And, Or, truth, true_at}
-use Rattle.cpp_conditions.specs.Expressions.{Operator, Times, Plus, Minus, Less, AtMost, Greater, AtLeast, Equal, Differs, Both, Either, Prefix, Positive, Negative, Inverse, Expression, Number, Name, IsDefined, Unary, Binary, found, value_at, defined_at, bit, is_nonzero, before, between, value}
-use Rattle.cpp_conditions.specs.Meaning.{is_truth, is_boolean, names_feature, suits_prefix, suits_operator, is_linear, name_form, defined_form, difference, form_before, form_between, form, decided_of, kept, signed, test_of, at_least_zero, less_one, is_zero, joined, meant, cond_before, cond}
-use Rattle.cpp_conditions.proofs.Tests.{minus_one, at_least, greater, at_most, less, bit_of, zero_test, equal_test}
+use Rattle.cpp_conditions.specs.Propositions.{Proposition, Not, true_at}
+use Rattle.cpp_conditions.specs.Expressions.{Operator, Times, Plus, Minus, Less, AtMost, Greater, AtLeast, Equal, Differs, Both, Either, Prefix, Positive, Negative, Inverse, Expression, Number, Name, IsDefined, Unary, Binary, found, value_at, defined_at, is_nonzero, value}
+use Rattle.cpp_conditions.specs.Meaning.{is_truth, is_boolean, names_feature, is_linear, name_form, defined_form, difference, form_before, form_between, form, decided_of, kept, signed, test_of, at_least_zero, less_one, is_zero, cond}
+use Rattle.cpp_conditions.proofs.Signs.{minus_one, at_least, greater, at_most, less, bit_of, zero_test, equal_test}
 
 times_one : (v : ℤ) → v *ℤ pos 1 ≡ v
 times_one (pos n) = let e : n * 1 ≡ n = omega arith in pos-*ℤ-pos n 1 ∙ ap pos e

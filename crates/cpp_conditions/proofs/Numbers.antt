@@ -1,5 +1,5 @@
 -- A condition and the same with numbers have one truth.
-use Rattle.std.proofs.Common.{◌≡◌, ℕ, zero, suc, ◌<◌, ◌+◌, ℤ, Bool, true, false, not, ◌&&◌, ◌||◌, ◌⊎◌, List, [], ◌∷◌, length, map, get_or, slice_get, Option, Some, None, sym, ap, subst, refl, ◌∙◌, arith, nat_eq, inl, inr}
+use Rattle.std.proofs.Common.{◌≡◌, ℕ, zero, suc, ◌<◌, ◌+◌, ℤ, true, false, not, ◌&&◌, ◌||◌, List, [], ◌∷◌, length, get_or, slice_get, Some, sym, ap, subst, ◌∙◌, arith, nat_eq, inl, inr}
 use Rattle.std.proofs.lemmas.Bool.{false≢true}
 use Rattle.std.specs.Bool.{Decides}
 use Rattle.std.specs.Ordering.{int_eq}
@@ -8,7 +8,7 @@ use Rattle.std.proofs.lemmas.Bool.Decides.{Decides-like, Decides-and, Decides-eq
 use Rattle.linear_atoms.specs.Order.{same_term, same_terms}
 use Rattle.linear_atoms.specs.declared.atoms.Atom.{Atom}
 use Rattle.linear_atoms.specs.Atoms.{holds}
-use Rattle.cpp_conditions.specs.Propositions.{Proposition, Const, Test, Not, And, Or, truth, true_at, true_on, IsBelow}
+use Rattle.cpp_conditions.specs.Propositions.{Proposition, Const, Test, Not, And, Or, true_at, true_on, IsBelow}
 use Rattle.cpp_conditions.specs.Numbering.{IsAmong, IsNumbered, vector_at}
 
 place_below : (atoms : List Atom) (n : ℕ) (a : Atom) → slice_get atoms n ≡ Some a → n < length atoms

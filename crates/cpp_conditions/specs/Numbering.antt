@@ -1,5 +1,5 @@
 -- Conditions whose atoms stand in a list, and the same with the atoms' numbers.
-use Rattle.std.specs.Prelude.{◌≡◌, ⊤, ℕ, ℤ, Bool, ◌⊎◌, List, [], ◌∷◌, length, map, slice_get, Some, Result, Ok, Err}
+use Rattle.std.specs.Prelude.{◌≡◌, ℕ, ℤ, Bool, ◌⊎◌, List, [], ◌∷◌, map, slice_get, Some}
 use Rattle.linear_atoms.specs.declared.atoms.Atom.{Atom}
 use Rattle.linear_atoms.specs.Atoms.{holds}
 use Rattle.cpp_conditions.specs.Propositions.{Proposition, Const, Test, Not, And, Or}

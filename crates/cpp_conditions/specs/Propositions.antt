@@ -1,7 +1,7 @@
 -- Propositions over tests of any kind.
-use Rattle.std.specs.Prelude.{◌≡◌, ℕ, ◌<◌, ℤ, Bool, true, false, not, ◌&&◌, ◌||◌, List, slice_index_or, length}
+use Rattle.std.specs.Prelude.{◌≡◌, ℕ, ◌<◌, ℤ, Bool, true, false, not, ◌&&◌, ◌||◌, List, slice_index_or}
 use Rattle.linear_atoms.specs.declared.atoms.Atom.{Atom}
-use Rattle.linear_atoms.specs.Forms.{IsRising, are_small}
+use Rattle.linear_atoms.specs.Forms.{are_small}
 use Rattle.linear_atoms.specs.Atoms.{holds, AreBelow}
 
 pub data Proposition (X : Type 0) : Type 0 where

@@ -1,5 +1,5 @@
 -- Valid configurations of a model.
-use Rattle.std.specs.Prelude.{◌≡◌, ℕ, ◌≤◌, ℤ, int_le, Bool, true, false, ◌&&◌, List, [], ◌∷◌}
+use Rattle.std.specs.Prelude.{ℕ, ℤ, int_le, Bool, true, false, ◌&&◌, List, [], ◌∷◌}
 use Rattle.linear_atoms.specs.declared.atoms.Feature.{Feature}
 use Rattle.cpp_conditions.specs.declared.conditions.Condition.{Condition}
 use Rattle.cpp_conditions.specs.Propositions.{IsFit, true_at}
