@@ -1,0 +1,107 @@
+-- Which bytes spell a condition, and which refusal the others have.
+use Rattle.std.specs.Prelude.{ℕ, suc, ◌≤◌, ◌<◌, nat_eq, pos, negsuc, Bool, true, false, ◌&&◌, ◌||◌, if◌then◌else◌, List, [], ◌∷◌, ◌++◌, Result, Ok, Err}
+use Rattle.fam_outer.specs.declared.faults.ConditionFault.{ConditionFault}
+use Rattle.fam_outer.specs.declared.faults.ConditionFault.TheVariants as faults
+use Rattle.linear_atoms.specs.declared.atoms.Atom.{Atom}
+use Rattle.linear_atoms.specs.declared.atoms.Feature.{Feature}
+use Rattle.linear_atoms.specs.declared.forms.Linear.{Linear}
+use Rattle.linear_atoms.specs.Forms.{form_by, is_small, is_small_form}
+use Rattle.cpp_conditions.specs.Propositions.{Proposition}
+use Rattle.cpp_conditions.specs.Expressions.{Operator, Times, Plus, Minus, Less, AtMost, Greater, AtLeast, Equal, Differs, Both, Either, Prefix, Positive, Negative, Inverse, Expression, Number, Name, IsDefined, Unary, Binary}
+use Rattle.cpp_conditions.specs.Meaning.{is_truth, is_linear, form, difference, less_one, cond}
+use Rattle.cpp_conditions.specs.Tokens.{Token, Digits, Word, Defined, Open, Close, Bang, Oper, SpellsTokens, weight_behind}
+
+-- the level of the right operand: 0 is unary, 1 product, 2 sum, 3 relation, 4 equality, 5 and, 6 or
+abbrev pub tighter : Operator → ℕ
+tighter Times = 0
+tighter Plus = 1
+tighter Minus = 1
+tighter Less = 2
+tighter AtMost = 2
+tighter Greater = 2
+tighter AtLeast = 2
+tighter Equal = 3
+tighter Differs = 3
+tighter Both = 4
+tighter Either = 5
+
+abbrev pub sign : Prefix → Token
+sign Positive = Oper Plus
+sign Negative = Oper Minus
+sign Inverse = Bang
+
+-- binary operators group to the left
+pub data Spells : ℕ → List Token → Expression → Type 0 where
+  number : (n : ℕ) → Spells 0 (Digits n ∷ []) (Number n)
+  name : (x : List ℕ) → Spells 0 (Word x ∷ []) (Name x)
+  defined : (x : List ℕ) → Spells 0 (Defined ∷ Word x ∷ []) (IsDefined x)
+  defined_group : (x : List ℕ) → Spells 0 (Defined ∷ Open ∷ Word x ∷ Close ∷ []) (IsDefined x)
+  group : {ts : List Token} {e : Expression} → Spells 6 ts e → Spells 0 (Open ∷ (ts ++ Close ∷ [])) e
+  prefix : (u : Prefix) {ts : List Token} {e : Expression} → Spells 0 ts e → Spells 0 (sign u ∷ ts) (Unary u e)
+  loose : {k : ℕ} {ts : List Token} {e : Expression} → Spells k ts e → Spells (suc k) ts e
+  binary : (op : Operator) {ts us : List Token} {a b : Expression} → Spells (suc (tighter op)) ts a → Spells (tighter op) us b → Spells (suc (tighter op)) (ts ++ Oper op ∷ us) (Binary op a b)
+
+-- the bytes spell the expression
+pub record CSpells (e : Expression) (bytes : List ℕ) : Type 0 where
+  pub tokens : List Token
+  pub read : SpellsTokens bytes tokens
+  pub spells : Spells 6 tokens e
+
+-- ---- reserved names
+
+abbrev pub is_reserved : List ℕ → Bool
+is_reserved (a ∷ b ∷ bs) = nat_eq a 95 && nat_eq b 95
+is_reserved _ = false
+
+abbrev pub has_reserved : Expression → Bool
+has_reserved (Number n) = false
+has_reserved (Name x) = is_reserved x
+has_reserved (IsDefined x) = is_reserved x
+has_reserved (Unary u e) = has_reserved e
+has_reserved (Binary op a b) = has_reserved a || has_reserved b
+
+-- ---- sizes
+
+-- a form and the form less one, as a number is used as a truth value
+abbrev pub is_small_zero : Linear → Bool
+is_small_zero a = is_small_form a && is_small_form (less_one a)
+
+abbrev pub is_small_truth : List Feature → Expression → Bool
+is_small_truth features e = if is_truth e then true else is_small_zero (form features e)
+
+-- the forms that the operator puts in normal form, or that of its number
+abbrev pub is_small_operator : List Feature → Operator → Expression → Expression → Bool
+is_small_operator features Both a b = is_small_truth features a && is_small_truth features b
+is_small_operator features Either a b = is_small_truth features a && is_small_truth features b
+is_small_operator features AtLeast a b = is_small_form (difference (form features a) (form features b))
+is_small_operator features Greater a b = is_small_form (less_one (difference (form features a) (form features b)))
+is_small_operator features AtMost a b = is_small_form (form_by (negsuc 0) (difference (form features a) (form features b)))
+is_small_operator features Less a b = is_small_form (less_one (form_by (negsuc 0) (difference (form features a) (form features b))))
+is_small_operator features Equal a b = is_small_zero (difference (form features a) (form features b))
+is_small_operator features Differs a b = is_small_zero (difference (form features a) (form features b))
+is_small_operator features op a b = is_small_form (form features (Binary op a b))
+
+-- no literal, no number of a subexpression's form or of a form that is put in normal form passes 2^31 in size
+abbrev pub are_small_forms : List Feature → Expression → Bool
+are_small_forms features (Number n) = is_small (pos n)
+are_small_forms features (Name x) = true
+are_small_forms features (IsDefined x) = true
+are_small_forms features (Unary Inverse e) = are_small_forms features e && is_small_truth features e
+are_small_forms features (Unary u e) = are_small_forms features e && is_small_form (form features (Unary u e))
+are_small_forms features (Binary op a b) = (are_small_forms features a && are_small_forms features b) && is_small_operator features op a b
+
+abbrev pub is_small_condition : List Feature → Expression → Bool
+is_small_condition features e = are_small_forms features e && is_small_truth features e
+
+-- ---- what bytes are read as, the refusals in their order
+
+abbrev pub judged : List Feature → Expression → Result (Proposition Atom) ConditionFault
+judged features e =
+    if has_reserved e then Err faults.ReservedName
+    else (if is_linear features e then (if is_small_condition features e then Ok (cond features e) else Err faults.TooLarge) else Err faults.NonLinear)
+
+pub data ReadsAs (features : List Feature) (bytes : List ℕ) : Result (Proposition Atom) ConditionFault → Type 0 where
+  no_tokens : ((ts : List Token) → SpellsTokens bytes ts → ⊥) → ReadsAs features bytes (Err faults.Syntax)
+  too_deep : (ts : List Token) → SpellsTokens bytes ts → 64 < weight_behind false ts → ReadsAs features bytes (Err faults.TooDeep)
+  no_condition : (ts : List Token) → SpellsTokens bytes ts → weight_behind false ts ≤ 64 → ((e : Expression) → Spells 6 ts e → ⊥) → ReadsAs features bytes (Err faults.Syntax)
+  read : (ts : List Token) (e : Expression) → SpellsTokens bytes ts → weight_behind false ts ≤ 64 → Spells 6 ts e → ReadsAs features bytes (judged features e)

@@ -1,0 +1,143 @@
+-- The condition over atoms that an expression means.
+use Rattle.std.specs.Prelude.{ℕ, pos, negsuc, ◌-ℤ◌, int_lt, int_le, Bool, true, false, not, ◌&&◌, ◌||◌, if◌then◌else◌, List, Option, Some, None, is_some}
+use Rattle.linear_atoms.specs.declared.forms.Linear.{Linear}
+use Rattle.linear_atoms.specs.declared.atoms.Atom.{Atom}
+use Rattle.linear_atoms.specs.declared.atoms.Feature.{Feature}
+use Rattle.linear_atoms.specs.declared.normal.Normal.{Normal}
+use Rattle.linear_atoms.specs.declared.normal.Normal.TheVariants as normals
+use Rattle.linear_atoms.specs.Forms.{constant_form, feature_form, form_sum, form_by}
+use Rattle.linear_atoms.specs.Normal.{normal_of}
+use Rattle.linear_atoms.specs.Ranges.{extreme_sum}
+use Rattle.linear_atoms.specs.Texts.{boolean_at}
+use Rattle.cpp_conditions.specs.Propositions.{Proposition, Const, Test, Not, And, Or}
+use Rattle.cpp_conditions.specs.Expressions.{Operator, Times, Plus, Less, AtMost, Greater, AtLeast, Equal, Differs, Both, Either, Prefix, Positive, Negative, Inverse, Expression, Number, Name, IsDefined, Unary, Binary, found}
+
+-- ---- truth values, and products of two features
+
+abbrev pub is_truth : Expression → Bool
+is_truth (Unary Inverse e) = true
+is_truth (Binary Less a b) = true
+is_truth (Binary AtMost a b) = true
+is_truth (Binary Greater a b) = true
+is_truth (Binary AtLeast a b) = true
+is_truth (Binary Equal a b) = true
+is_truth (Binary Differs a b) = true
+is_truth (Binary Both a b) = true
+is_truth (Binary Either a b) = true
+is_truth _ = false
+
+abbrev pub is_boolean : List Feature → Option ℕ → Bool
+is_boolean features None = false
+is_boolean features (Some n) = boolean_at features n
+
+-- an integer feature under `defined` does not count
+abbrev pub names_feature : List Feature → Expression → Bool
+names_feature features (Number n) = false
+names_feature features (Name name) = is_some (found name features)
+names_feature features (IsDefined name) = is_boolean features (found name features)
+names_feature features (Unary u e) = names_feature features e
+names_feature features (Binary op a b) = names_feature features a || names_feature features b
+
+abbrev pub suits_prefix : Prefix → Expression → Bool
+suits_prefix Inverse e = true
+suits_prefix _ e = not (is_truth e)
+
+abbrev pub suits_operator : List Feature → Operator → Expression → Expression → Bool
+suits_operator features Both a b = true
+suits_operator features Either a b = true
+suits_operator features Times a b = (not (is_truth a) && not (is_truth b)) && not (names_feature features a && names_feature features b)
+suits_operator features _ a b = not (is_truth a) && not (is_truth b)
+
+-- no truth value is used as a number, and no product has a feature on both sides
+abbrev pub is_linear : List Feature → Expression → Bool
+is_linear features (Unary u e) = is_linear features e && suits_prefix u e
+is_linear features (Binary op a b) = (is_linear features a && is_linear features b) && suits_operator features op a b
+is_linear features _ = true
+
+-- ---- linear forms of numbers
+
+abbrev pub name_form : Option ℕ → Linear
+name_form None = constant_form (pos 0)
+name_form (Some n) = feature_form n
+
+abbrev pub defined_form : List Feature → Option ℕ → Linear
+defined_form features None = constant_form (pos 0)
+defined_form features (Some n) = if boolean_at features n then feature_form n else constant_form (pos 1)
+
+abbrev pub difference : Linear → Linear → Linear
+difference a b = form_sum a (form_by (negsuc 0) b)
+
+abbrev pub form_before : Prefix → Linear → Linear
+form_before Positive a = a
+form_before Negative a = form_by (negsuc 0) a
+form_before Inverse a = a
+
+-- of a product the side that names a feature is multiplied by the constant of the other
+abbrev pub form_between : Operator → Bool → Linear → Linear → Linear
+form_between Times named a b = if named then form_by b.constant a else form_by a.constant b
+form_between Plus named a b = form_sum a b
+form_between _ named a b = difference a b
+
+abbrev pub form : List Feature → Expression → Linear
+form features (Number n) = constant_form (pos n)
+form features (Name name) = name_form (found name features)
+form features (IsDefined name) = defined_form features (found name features)
+form features (Unary u e) = form_before u (form features e)
+form features (Binary op a b) = form_between op (names_feature features a) (form features a) (form features b)
+
+-- ---- tests
+
+-- whether the ranges decide the atom
+abbrev pub decided_of : List Feature → Atom → Option Bool
+decided_of features atom =
+    if int_le atom.bound (extreme_sum false features atom.terms) then Some true
+    else (if int_lt (extreme_sum true features atom.terms) atom.bound then Some false else None)
+
+-- an atom that the ranges decide is replaced by its truth
+abbrev pub kept : Atom → Option Bool → Proposition Atom
+kept atom (Some b) = Const b
+kept atom None = Test atom
+
+abbrev pub signed : Bool → Proposition Atom → Proposition Atom
+signed true p = p
+signed false p = Not p
+
+abbrev pub test_of : List Feature → Normal → Proposition Atom
+test_of features (normals.Const b) = Const b
+test_of features (normals.Literal literal) = signed literal.positive (kept literal.atom (decided_of features literal.atom))
+
+-- the form is at least 0
+abbrev pub at_least_zero : List Feature → Linear → Proposition Atom
+at_least_zero features a = test_of features (normal_of a)
+
+abbrev pub less_one : Linear → Linear
+less_one a = record { terms = a.terms; constant = a.constant -ℤ pos 1 }
+
+abbrev pub is_zero : List Feature → Linear → Proposition Atom
+is_zero features d = And (at_least_zero features d) (Not (at_least_zero features (less_one d)))
+
+-- what an operator makes of the forms of its operands and their conditions
+abbrev pub joined : List Feature → Operator → Linear → Linear → Proposition Atom → Proposition Atom → Proposition Atom
+joined features AtLeast a b p q = at_least_zero features (difference a b)
+joined features Greater a b p q = at_least_zero features (less_one (difference a b))
+joined features AtMost a b p q = at_least_zero features (form_by (negsuc 0) (difference a b))
+joined features Less a b p q = at_least_zero features (less_one (form_by (negsuc 0) (difference a b)))
+joined features Equal a b p q = is_zero features (difference a b)
+joined features Differs a b p q = Not (is_zero features (difference a b))
+joined features Both a b p q = And p q
+joined features Either a b p q = Or p q
+joined features _ a b p q = Const true
+
+-- a number used as a truth value is unequal to 0
+abbrev pub meant : List Feature → Expression → Proposition Atom → Proposition Atom
+meant features e p = if is_truth e then p else Not (is_zero features (form features e))
+
+abbrev pub cond_before : Prefix → Proposition Atom → Proposition Atom
+cond_before Inverse p = Not p
+cond_before _ p = p
+
+-- the condition that the expression means
+abbrev pub cond : List Feature → Expression → Proposition Atom
+cond features (Unary u e) = meant features (Unary u e) (cond_before u (cond features e))
+cond features (Binary op a b) = meant features (Binary op a b) (joined features op (form features a) (form features b) (cond features a) (cond features b))
+cond features e = meant features e (Const true)

@@ -1,0 +1,14 @@
+//! Conditions over features, as they stand behind `#if` (ISO/IEC 9899:2011, 6.10.1).
+#![tactic(auto)]
+
+pub mod conditions;
+pub mod formulas;
+pub mod laws;
+pub mod models;
+
+pub use conditions::Condition;
+pub use formulas::{Formula, number};
+pub use models::{Conditions, Features, Model, is_valid};
+
+#[cfg(test)]
+mod tests;
