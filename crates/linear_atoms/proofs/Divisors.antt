@@ -22,15 +22,15 @@ and_right false b e = cc
 and_both : (a b : Bool) → a ≡ true → b ≡ true → (a && b) ≡ true
 and_both a b p q = ap (λ x. x && b) p ∙ q
 
-divides_head : (d : ℕ) (t : ℕ × ℤ) (ts : List (ℕ × ℤ)) → Divides d (t ∷ ts) → d ∣ unsigned_abs t.1
+pub divides_head : (d : ℕ) (t : ℕ × ℤ) (ts : List (ℕ × ℤ)) → Divides d (t ∷ ts) → d ∣ unsigned_abs t.1
 divides_head d t ts h =
     let e : nat_eq (unsigned_abs t.1 % d) 0 ≡ true = and_left _ _ h.all in
     dvd_of_mod-eq-zero d (grind (arith, nat_tests))
 
-divides_tail : (d : ℕ) (t : ℕ × ℤ) (ts : List (ℕ × ℤ)) → Divides d (t ∷ ts) → Divides d ts
+pub divides_tail : (d : ℕ) (t : ℕ × ℤ) (ts : List (ℕ × ℤ)) → Divides d (t ∷ ts) → Divides d ts
 divides_tail d t ts h = record { all = and_right (nat_eq (unsigned_abs t.1 % d) 0) (divides_all d ts) h.all }
 
-divides_cons : (d : ℕ) (t : ℕ × ℤ) (ts : List (ℕ × ℤ)) → d ∣ unsigned_abs t.1 → Divides d ts → Divides d (t ∷ ts)
+pub divides_cons : (d : ℕ) (t : ℕ × ℤ) (ts : List (ℕ × ℤ)) → d ∣ unsigned_abs t.1 → Divides d ts → Divides d (t ∷ ts)
 divides_cons d t ts h k =
     let z : unsigned_abs t.1 % d ≡ 0 = mod-eq-zero_of_dvd d h in
     record { all = and_both (nat_eq (unsigned_abs t.1 % d) 0) (divides_all d ts) (grind (arith, nat_tests)) k.all }
@@ -55,12 +55,12 @@ pub greatest_is : (n g : ℕ) (ts : List (ℕ × ℤ)) → IsGreatest g ts → 0
 greatest_is zero g ts h p q = absurd (omega arith)
 greatest_is (suc n) g ts h p q = greatest_by (divides_all (suc n) ts) n g ts refl h p q (λ r. greatest_is n g ts h p r)
 
-pos_size : (a : ℤ) → a ≢ pos 0 → 0 < unsigned_abs a
+pub pos_size : (a : ℤ) → a ≢ pos 0 → 0 < unsigned_abs a
 pos_size (pos zero) h = absurd (h refl)
 pos_size (pos (suc n)) h = omega arith
 pos_size (negsuc n) h = omega arith
 
-pos_divisor : (g n : ℕ) → g ∣ n → 0 < n → 0 < g
+pub pos_divisor : (g n : ℕ) → g ∣ n → 0 < n → 0 < g
 pos_divisor zero n h p = let z : n % 0 ≡ 0 = mod-eq-zero_of_dvd 0 h in absurd (omega (arith, mod-zero n))
 pos_divisor (suc g) n h p = omega arith
 
@@ -103,7 +103,7 @@ dividing_all g rest whole i e r =
 
 -- ---- its bounds
 
-one_divides : (ts : List (ℕ × ℤ)) → divides_all 1 ts ≡ true
+pub one_divides : (ts : List (ℕ × ℤ)) → divides_all 1 ts ≡ true
 one_divides [] = refl
 one_divides (t ∷ ts) = and_both _ _ (let z : unsigned_abs t.1 % 1 ≡ 0 = omega arith in grind (arith, nat_tests)) (one_divides ts)
 

@@ -1,3 +1,4 @@
+pub mod Coprimes
 pub mod Divisors
 pub mod Extremes
 pub mod Integers

@@ -20,7 +20,7 @@ rem_zero : (a d : ℤ) → unsigned_abs a % unsigned_abs d ≡ 0 → int_rem a d
 rem_zero (pos a) d h = ap pos h
 rem_zero (negsuc a) d h = ap (λ x. neg_ℤ (pos x)) h
 
-exact : (a d : ℤ) → unsigned_abs a % unsigned_abs d ≡ 0 → int_div a d *ℤ d ≡ a
+pub exact : (a d : ℤ) → unsigned_abs a % unsigned_abs d ≡ 0 → int_div a d *ℤ d ≡ a
 exact a d h =
     let e : int_div a d *ℤ d +ℤ int_rem a d ≡ a = quot-rem a d in
     let f : int_rem a d ≡ pos 0 = rem_zero a d h in
@@ -34,7 +34,7 @@ and_right : (a b : Bool) → (a && b) ≡ true → b ≡ true
 and_right true b e = e
 and_right false b e = cc
 
-is_zero : (n : ℕ) → nat_eq n 0 ≡ true → n ≡ 0
+pub is_zero : (n : ℕ) → nat_eq n 0 ≡ true → n ≡ 0
 is_zero n h = grind (arith, nat_tests)
 
 divided-at : (d : ℤ) (values : List ℤ) (ts : List (ℕ × ℤ)) → divides_all (unsigned_abs d) ts ≡ true → sum_at ts values ≡ sum_at (divided d ts) values *ℤ d
@@ -110,7 +110,7 @@ down s k g h =
 
 -- ---- the law
 
-size_of_neg : (g : ℕ) → unsigned_abs (neg_ℤ (pos g)) ≡ g
+pub size_of_neg : (g : ℕ) → unsigned_abs (neg_ℤ (pos g)) ≡ g
 size_of_neg zero = refl
 size_of_neg (suc g) = refl
 

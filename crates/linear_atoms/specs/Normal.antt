@@ -1,13 +1,14 @@
 -- The normal form of "this is at least 0".
-use Rattle.std.specs.Prelude.{◌≡◌, ⊤, ℕ, zero, suc, ◌%◌, nat_eq, ℤ, pos, neg_ℤ, ◌-ℤ◌, unsigned_abs, int_div, int_lt, int_le, Bool, true, false, ◌&&◌, if◌then◌else◌, List, [], ◌∷◌, Result, Ok, Err}
+use Rattle.std.specs.Prelude.{◌≡◌, ⊤, ℕ, zero, suc, ◌%◌, nat_eq, ℤ, pos, neg_ℤ, ◌-ℤ◌, unsigned_abs, int_div, int_lt, int_le, Bool, true, false, ◌&&◌, if◌then◌else◌, List, [], ◌∷◌, Result, Ok, Err, ◌<ℤ◌}
 use Rattle.std.specs.Int.{int_div_euclid}
 use Rattle.linear_atoms.specs.declared.forms.Linear.{Linear}
 use Rattle.linear_atoms.specs.declared.forms.LinearFault.{LinearFault}
 use Rattle.linear_atoms.specs.declared.forms.LinearFault.TheVariants as faults
+use Rattle.linear_atoms.specs.declared.atoms.Atom.{Atom}
 use Rattle.linear_atoms.specs.declared.atoms.Literal.{Literal}
 use Rattle.linear_atoms.specs.declared.normal.Normal.{Normal}
 use Rattle.linear_atoms.specs.declared.normal.Normal.TheVariants as normals
-use Rattle.linear_atoms.specs.Forms.{is_small_form}
+use Rattle.linear_atoms.specs.Forms.{IsRising, is_small_form}
 use Rattle.linear_atoms.specs.Atoms.{literal_holds}
 
 -- ---- the greatest common divisor of the coefficients
@@ -60,3 +61,19 @@ abbrev pub NormalWithin : Result Normal LinearFault → Linear → Type 0
 NormalWithin (Ok made) form = (made ≡ normal_of form) × (is_small_form form ≡ true)
 NormalWithin (Err faults.NoMemory) form = ⊤
 NormalWithin (Err faults.TooLarge) form = is_small_form form ≡ false
+
+-- ---- atoms in normal form
+
+abbrev pub LeadsPositive : List (ℕ × ℤ) → Type 0
+LeadsPositive [] = ⊥
+LeadsPositive (t ∷ ts) = pos 0 <ℤ t.1
+
+-- terms rise, the first coefficient is positive, and the coefficients are coprime
+pub record IsNormalAtom (atom : Atom) : Type 0 where
+  pub rising : IsRising atom.terms
+  pub positive : LeadsPositive atom.terms
+  pub coprime : common_divisor atom.terms ≡ 1
+
+abbrev pub IsNormal : Normal → Type 0
+IsNormal (normals.Const truth) = Unit {0}
+IsNormal (normals.Literal literal) = IsNormalAtom literal.atom

@@ -4,7 +4,7 @@
 ghost use Rattle.std.specs.Prelude.{◌≡◌, ◌≢◌, ℕ, ◌<◌, ◌≤◌, ◌∷◌, ℤ, pos, negsuc, int_le, ◌≤ℤ◌, ◌<ℤ◌, List, true, IfOk};
 ghost use Rattle.std.specs.Int.{IsGcd};
 ghost use Rattle.linear_atoms.specs.Forms.{IsRising, form_at, is_small, are_small, is_small_form};
-ghost use Rattle.linear_atoms.specs.Normal.{common_divisor, divided, rounded_up, literal_by, normal_of, normal_holds, NormalWithin};
+ghost use Rattle.linear_atoms.specs.Normal.{common_divisor, divided, rounded_up, literal_by, normal_of, normal_holds, NormalWithin, IsNormal};
 
 use crate::atoms::{Atom, Literal};
 use crate::forms::{Linear, LinearFault};
@@ -126,19 +126,21 @@ fn literal(
 }
 
 impl Linear {
-    #[tactic(auto, using(crate::proofs::Truths::truth_kept))]
+    #[tactic(auto, using(crate::proofs::Truths::truth_kept, crate::proofs::Coprimes::normal_kept))]
     /// The normal form of "this is at least 0".
     ///
     /// Let `g` be the greatest common divisor of the coefficients and `k` the constant. Where the first
     /// coefficient is positive, it is the literal "terms `a/g` at least `-k/g` rounded up". Where it is
     /// negative, it is the negation of "terms `-a/g` at least `1 - r`", with `r` equal to `-k/g` rounded up.
-    /// It is true at a configuration exactly where the form is at least 0.
+    /// It is true at a configuration exactly where the form is at least 0. The literal's coefficients are coprime,
+    /// and the first is positive.
     ///
     /// It answers `TooLarge` exactly where a coefficient or the constant passes 2^31 in size, and `NoMemory`
     /// for want of memory.
     pub fn normal(&self, alloc: Global) -> Result<Normal, LinearFault>
         requires { IsRising self.now.terms }
         ensures exact { NormalWithin result self.now }
+        ensures normal { IsNormal (normal_of self.now) }
         ensures truth { (values : List ℤ) → normal_holds (normal_of self.now) values ≡ int_le (pos 0) (form_at self.now values) }
     {
         let terms = self.terms.items();
