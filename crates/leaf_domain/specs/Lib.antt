@@ -2,3 +2,6 @@ pub mod Ranges
 pub mod Compares
 pub mod Forms
 pub mod Leaves
+pub mod Transfer
+pub mod Stops
+pub mod Soundness
