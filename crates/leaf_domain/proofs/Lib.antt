@@ -2,3 +2,6 @@ pub mod Signed
 pub mod ArithmeticLemmas
 pub mod CutLemmas
 pub mod Wrapping
+mod Products
+mod FormValues
+mod Results
