@@ -5,3 +5,4 @@ pub mod Wrapping
 mod Products
 mod FormValues
 mod Results
+mod Comparisons

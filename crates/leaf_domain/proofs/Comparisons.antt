@@ -1,0 +1,153 @@
+-- A leaf that is met with a comparison keeps each store at which it holds.
+use Rattle.std.proofs.Common.{◌≡◌, ℕ, ◌<◌, ℤ, pos, ◌-ℤ◌, Bool, true, false, not, ◌||◌, if◌then◌else◌, List, Option, Some, None, Result, Ok, refl, ap, sym, ◌∙◌, subst, arith}
+use Rattle.std.specs.Ordering.{int_eq}
+use Rattle.std.proofs.lemmas.Int.{ints}
+use Rattle.c_tree.specs.declared.tree.Mode.{Mode}
+use Rattle.c_tree.specs.declared.tree.Op.TheVariants.{Sub}
+use Rattle.c_tree.specs.Tree.{Term, Number, Var, Neg, Not, Binary}
+use Rattle.c_tree.specs.Value.{value_of}
+use Rattle.c_tree.specs.Fit.{IsTermOf}
+use Rattle.leaf_domain.specs.declared.form.Form.{Form}
+use Rattle.leaf_domain.specs.declared.range.Range.{Range}
+use Rattle.leaf_domain.specs.declared.compare.Compare.{Compare}
+use Rattle.leaf_domain.specs.declared.compare.Compare.TheVariants as compares
+use Rattle.leaf_domain.specs.Ranges.{Within, IsInInt, is_empty_range}
+use Rattle.leaf_domain.specs.Compares.{holds_between, mirror_of, cut_of}
+use Rattle.leaf_domain.specs.Forms.{IsForm}
+use Rattle.leaf_domain.specs.Leaves.{LeafValue, LeafMeaning, LeafLaws, Answers, nothing_of, is_nothing_of}
+use Rattle.leaf_domain.specs.Transfer.{where_some, variable_of, form_where, met, form_met, compared}
+use Rattle.leaf_domain.proofs.CutLemmas.{cut_in_int, cut_holds, mirrored}
+use Rattle.leaf_domain.proofs.ArithmeticLemmas.{not_empty}
+use Rattle.leaf_domain.proofs.FormValues.{Comes}
+use Rattle.leaf_domain.proofs.Results.{gives_same}
+
+-- the form, where there is one, is a form over so many variables
+abbrev pub AreForms : ℕ → Option Form → Type 0
+AreForms n f = (d : Form) → f ≡ Some d → IsForm n d
+
+pub forms_where : (n : ℕ) (t : Bool) (f : Option Form) → AreForms n f → AreForms n (form_where t f)
+forms_where n true f h d e = h d e
+forms_where n false f h d e = cc
+
+pub comes_where : (s : List ℤ) (t : Bool) (f : Option Form) (n : ℤ) → (t ≡ true → Comes s f n) → Comes s (form_where t f) n
+comes_where s true f n h d e = h refl d e
+comes_where s false f n h d e = cc
+
+-- a comparison of two numbers is one of their difference with 0
+pub between_difference : (op : Compare) (n m : ℤ) → holds_between op n m ≡ true → holds_between op (n -ℤ m) (pos 0) ≡ true
+between_difference compares.Lt n m e = grind (arith, ints)
+between_difference compares.Le n m e = grind (arith, ints)
+between_difference compares.Gt n m e = grind (arith, ints)
+between_difference compares.Ge n m e = grind (arith, ints)
+between_difference compares.Eq n m e = grind (arith, ints)
+between_difference compares.Ne n m e = by_test (int_eq (n -ℤ m) (pos 0)) refl
+  where
+    by_test : (t : Bool) → int_eq (n -ℤ m) (pos 0) ≡ t → not t ≡ true
+    by_test true g = let h : n ≡ m = grind (arith, ints) in absurd (contrary (int_eq n m) (grind (arith, ints)) e)
+      where
+        contrary : (b : Bool) → b ≡ true → not b ≡ true → ⊥
+        contrary true p q = cc
+        contrary false p q = cc
+    by_test false g = refl
+
+module _ (M : LeafMeaning) (laws : LeafLaws M) where
+  -- a leaf that holds a store is not Nothing
+  held_content : (n : ℕ) (c : Option (List ℤ)) (s : List ℤ) → M.holds (record { variables = n; content = c }) s → is_nothing_of (record { variables = n; content = c }) ≡ false
+  held_content n None s h = absurd (laws.nothing_holds n s h)
+  held_content n (Some ns) s h = refl
+
+  pub held : (v : LeafValue) (s : List ℤ) → M.holds v s → is_nothing_of v ≡ false
+  held v s h = held_content v.variables v.content s h
+
+  pub answers_self : (v : LeafValue) → M.valid v → Answers M v v
+  answers_self v h = record { valid = h; same = refl }
+
+  pub answers_then : (u v w : LeafValue) → Answers M u v → Answers M v w → Answers M u w
+  answers_then u v w h k = record { valid = k.valid; same = k.same ∙ h.same }
+
+  pub term_over : (e : Term) (v w : LeafValue) → Answers M v w → IsTermOf v.variables e → IsTermOf w.variables e
+  term_over e v w h o = subst (λ (n : ℕ). IsTermOf n e) (sym h.same) o
+
+  forms_over : (f : Option Form) (v w : LeafValue) → Answers M v w → AreForms v.variables f → AreForms w.variables f
+  forms_over f v w h o d e = subst (λ (n : ℕ). IsForm n d) (sym h.same) (o d e)
+
+  pub where_answers : (v w : LeafValue) → M.valid v → Answers M v w → Answers M v (where_some v w)
+  where_answers v w h k = by_test (is_nothing_of v)
+    where
+      by_test : (t : Bool) → Answers M v (if t then v else w)
+      by_test true = answers_self v h
+      by_test false = k
+
+  pub where_holds : (v w : LeafValue) (s : List ℤ) → M.holds v s → M.holds w s → M.holds (where_some v w) s
+  where_holds v w s h k = rw (held v s h) k
+
+  pub nothing_answers : (v : LeafValue) → M.valid v → Answers M v (nothing_of v.variables)
+  nothing_answers v h = record { valid = laws.nothing_valid v.variables (laws.valid_few v h); same = refl }
+
+  met_answers : (e : Term) (r : Range) (v : LeafValue) → M.valid v → IsTermOf v.variables e → IsInInt r → Answers M v (met M (variable_of e) r v)
+  met_answers (Var x) r v h o i = laws.meet_answers v x r h o i
+  met_answers (Number n) r v h o i = answers_self v h
+  met_answers (Neg a) r v h o i = answers_self v h
+  met_answers (Not a) r v h o i = answers_self v h
+  met_answers (Binary op a b) r v h o i = answers_self v h
+
+  met_holds : (mode : Mode) (e : Term) (r : Range) (v : LeafValue) (s : List ℤ) (n : ℤ) → M.valid v → IsTermOf v.variables e → IsInInt r → M.holds v s → value_of e s mode ≡ Ok n → Within n r → M.holds (met M (variable_of e) r v) s
+  met_holds mode (Var x) r v s n h o i k g w = laws.meet_holds v x r s h o i k (subst (λ (m : ℤ). Within m r) (sym (gives_same g)) w)
+  met_holds mode (Number m) r v s n h o i k g w = k
+  met_holds mode (Neg a) r v s n h o i k g w = k
+  met_holds mode (Not a) r v s n h o i k g w = k
+  met_holds mode (Binary op a b) r v s n h o i k g w = k
+
+  form_met_answers : (f : Option Form) (op : Compare) (v : LeafValue) → M.valid v → AreForms v.variables f → Answers M v (form_met M f op v)
+  form_met_answers None op v h k = answers_self v h
+  form_met_answers (Some d) op v h k = laws.meet_form_answers v d op h (k d refl)
+
+  form_met_holds : (f : Option Form) (op : Compare) (v : LeafValue) (s : List ℤ) (n : ℤ) → M.valid v → AreForms v.variables f → M.holds v s → Comes s f n → holds_between op n (pos 0) ≡ true → M.holds (form_met M f op v) s
+  form_met_holds None op v s n h k w c e = w
+  form_met_holds (Some d) op v s n h k w c e = laws.meet_form_holds v d op s h (k d refl) w (subst (λ (x : ℤ). holds_between op x (pos 0) ≡ true) (sym (c d refl)) e)
+
+  -- the leaf met with two operands' ranges, before the form
+  abbrev narrowed : Compare → Term → Term → Range → Range → LeafValue → LeafValue
+  narrowed op a b p q v = met M (variable_of b) (cut_of (mirror_of op) q p) (met M (variable_of a) (cut_of op p q) (M.best v))
+
+  first_answers : (op : Compare) (a : Term) (p q : Range) (v : LeafValue) → M.valid v → IsTermOf v.variables a → IsInInt p → IsInInt q → Answers M v (met M (variable_of a) (cut_of op p q) (M.best v))
+  first_answers op a p q v h o i j =
+      let t = laws.best_answers v h in
+      answers_then v (M.best v) _ t (met_answers a (cut_of op p q) (M.best v) t.valid (term_over a v (M.best v) t o) (cut_in_int op p q i j))
+
+  narrowed_answers : (op : Compare) (a b : Term) (p q : Range) (v : LeafValue) → M.valid v → IsTermOf v.variables a → IsTermOf v.variables b → IsInInt p → IsInInt q → Answers M v (narrowed op a b p q v)
+  narrowed_answers op a b p q v h oa ob i j =
+      let t = first_answers op a p q v h oa i j in
+      answers_then v _ _ t (met_answers b (cut_of (mirror_of op) q p) _ t.valid (term_over b v _ t ob) (cut_in_int (mirror_of op) q p j i))
+
+  pub compared_answers : (op : Compare) (a b : Term) (p q : Range) (f : Option Form) (v : LeafValue) → M.valid v → IsTermOf v.variables a → IsTermOf v.variables b → IsInInt p → IsInInt q → AreForms v.variables f → Answers M v (compared M op (variable_of a) (variable_of b) p q f v)
+  compared_answers op a b p q f v h oa ob i j k =
+      let t = narrowed_answers op a b p q v h oa ob i j in
+      by_test (is_empty_range p || is_empty_range q || is_empty_range (cut_of op p q)) (answers_then v _ _ t (form_met_answers f op (narrowed op a b p q v) t.valid (forms_over f v _ t k)))
+    where
+      by_test : (t : Bool) → Answers M v (form_met M f op (narrowed op a b p q v)) → Answers M v (if t then nothing_of v.variables else form_met M f op (narrowed op a b p q v))
+      by_test true g = nothing_answers v h
+      by_test false g = g
+
+  pub compared_holds : (mode : Mode) (op : Compare) (a b : Term) (p q : Range) (f : Option Form) (v : LeafValue) (s : List ℤ) (n m : ℤ) → M.valid v → IsTermOf v.variables a → IsTermOf v.variables b → IsInInt p → IsInInt q → AreForms v.variables f
+      → M.holds v s → value_of a s mode ≡ Ok n → value_of b s mode ≡ Ok m → Within n p → Within m q → Comes s f (n -ℤ m) → holds_between op n m ≡ true → M.holds (compared M op (variable_of a) (variable_of b) p q f v) s
+  compared_holds mode op a b p q f v s n m h oa ob i j fs k ga gb wp wq c e =
+      rw (not_empty n p wp, not_empty m q wq, not_empty n (cut_of op p q) cut) (form_met_holds f op (narrowed op a b p q v) s (n -ℤ m) last.valid (forms_over f v _ last fs) (second_holds (first_holds (laws.best_holds v s h).1)) c (between_difference op n m e))
+    where
+      cut : Within n (cut_of op p q)
+      cut = cut_holds op p q n m wp wq e
+
+      best : Answers M v (M.best v)
+      best = laws.best_answers v h
+
+      first : Answers M v (met M (variable_of a) (cut_of op p q) (M.best v))
+      first = first_answers op a p q v h oa i j
+
+      last : Answers M v (narrowed op a b p q v)
+      last = narrowed_answers op a b p q v h oa ob i j
+
+      first_holds : (M.holds v s → M.holds (M.best v) s) → M.holds (met M (variable_of a) (cut_of op p q) (M.best v)) s
+      first_holds g = met_holds mode a (cut_of op p q) (M.best v) s n best.valid (term_over a v _ best oa) (cut_in_int op p q i j) (g k) ga cut
+
+      second_holds : M.holds (met M (variable_of a) (cut_of op p q) (M.best v)) s → M.holds (narrowed op a b p q v) s
+      second_holds g = met_holds mode b (cut_of (mirror_of op) q p) _ s m first.valid (term_over b v _ first ob) (cut_in_int (mirror_of op) q p j i) g gb (cut_holds (mirror_of op) q p m n wq wp (mirrored op n m ∙ e))
