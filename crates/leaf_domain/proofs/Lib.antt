@@ -6,3 +6,5 @@ mod Products
 mod FormValues
 mod Results
 mod Comparisons
+mod Nodes
+mod SoundLemmas

@@ -1,0 +1,310 @@
+-- Transfer is sound: each value is in its range, and each store where an expression is as wanted is kept.
+use Rattle.std.proofs.Common.{◌≡◌, ◌≢◌, ◌⊎◌, inl, inr, ℕ, ◌<◌, ℤ, pos, negsuc, neg_ℤ, ◌+ℤ◌, ◌-ℤ◌, ◌*ℤ◌, ◌≤ℤ◌, Bool, true, false, not, ◌&&◌, if◌then◌else◌, List, Option, Some, None, Result, Ok, Err, refl, ap, sym, ◌∙◌, subst, arith, slice_set, slice_index_or}
+use Rattle.std.proofs.lemmas.Int.{ints}
+use Rattle.c_tree.specs.declared.tree.Kind.{Kind}
+use Rattle.c_tree.specs.declared.tree.Mode.{Mode}
+use Rattle.c_tree.specs.declared.tree.Mode.TheVariants.{Stop, Wrap}
+use Rattle.c_tree.specs.declared.tree.Op.{Op}
+use Rattle.c_tree.specs.declared.tree.Op.TheVariants.{Add, Sub, Mul, Div, Rem, Lt, Le, Gt, Ge, Eq, Ne, And, Or}
+use Rattle.c_tree.specs.Tree.{Term, Number, Var, Neg, Not, Binary}
+use Rattle.c_tree.specs.Value.{value_of, result_in, truth_of, greatest, IsInt, is_zero, quotient_of, remainder_of, ◌>>=◌}
+use Rattle.c_tree.specs.Fit.{IsTermOf}
+use Rattle.leaf_domain.specs.declared.form.Form.{Form}
+use Rattle.leaf_domain.specs.declared.range.Range.{Range}
+use Rattle.leaf_domain.specs.declared.compare.Compare.TheVariants as compares
+use Rattle.leaf_domain.specs.Ranges.{Within, IsInInt, exact, range_at, empty_range, is_empty_range, whole_int, clip_of, arithmetic_range}
+use Rattle.leaf_domain.specs.Forms.{form_of_term, IsForm}
+use Rattle.leaf_domain.specs.Leaves.{LeafValue, LeafMeaning, LeafLaws, Answers, nothing_of, is_nothing_of}
+use Rattle.leaf_domain.specs.Transfer.{Transfer, transfer, where_some, range_where_some, range_of_sides, truth_range, fits_in, form_where, logical, numeric, divided, negated_range, range_of_term, fits_term, assumed, assigned, form_set, forgotten}
+use Rattle.leaf_domain.specs.Soundness.{FormsAreForms, IsWanted, Suits, TransferAnswers}
+use Rattle.leaf_domain.proofs.ArithmeticLemmas.{arithmetic_holds, not_empty}
+use Rattle.leaf_domain.proofs.FormValues.{Comes, number_comes, variable_comes, neg_comes, add_comes, sub_comes, mul_comes}
+use Rattle.leaf_domain.proofs.Results.{gives, gives_same, then_gives, BothGive, both_give, truth_two, truth_one, truth_zero, zero_from_test, nonzero_from_test, and_left, and_right, negated_holds, clip_in_int, clip_holds, in_int_at, whole_in_int, Divides, quotient_gives, remainder_gives}
+use Rattle.leaf_domain.proofs.Comparisons.{AreForms, forms_where, comes_where, nothing_answers, answers_self}
+use Rattle.leaf_domain.proofs.Nodes.{Sound, Results, both_gives, either_gives, numeric_sound, logical_sound, modular_sound, comparison_sound, both_sound, either_sound}
+
+-- every expression fits where overflows stop
+pub stop_fits : (M : LeafMeaning) (e : Term) (v : LeafValue) → fits_term M Stop e v ≡ true
+stop_fits M (Number n) v = refl
+stop_fits M (Var x) v = refl
+stop_fits M (Neg a) v = refl
+stop_fits M (Not a) v = refl
+stop_fits M (Binary Add a b) v = refl
+stop_fits M (Binary Sub a b) v = refl
+stop_fits M (Binary Mul a b) v = refl
+stop_fits M (Binary Div a b) v = refl
+stop_fits M (Binary Rem a b) v = refl
+stop_fits M (Binary Lt a b) v = refl
+stop_fits M (Binary Le a b) v = refl
+stop_fits M (Binary Gt a b) v = refl
+stop_fits M (Binary Ge a b) v = refl
+stop_fits M (Binary Eq a b) v = refl
+stop_fits M (Binary Ne a b) v = refl
+stop_fits M (Binary And a b) v = refl
+stop_fits M (Binary Or a b) v = refl
+
+fits_always : (M : LeafMeaning) (mode : Mode) (e : Term) (v : LeafValue) → mode ≡ Stop → fits_term M mode e v ≡ true
+fits_always M mode e v q = subst (λ (m : Mode). fits_term M m e v ≡ true) (sym q) (stop_fits M e v)
+
+module _ (M : LeafMeaning) (laws : LeafLaws M) (mode : Mode) (forms : FormsAreForms) where
+  number_sound : (n : ℤ) → Sound M mode (Number n) (transfer M mode (Number n))
+  number_sound n = numeric_sound M laws mode forms (Number n) (λ v. true) (λ v. range_at n n) (λ v. range_at n n)
+      (λ v h o. let i = in_int n o in record { low = i; high = i })
+      (λ v s m h o k g. subst (λ (x : ℤ). Within x (range_at n n)) (gives_same g) (record { low = omega (arith, ints); high = omega (arith, ints) }))
+      (λ v s m h o k f g. subst (λ (x : ℤ). Comes s (form_of_term (Number n)) x) (gives_same g) (number_comes s n))
+    where
+      in_int : (i : ℤ) → (pos 0 ≤ℤ i) × (i ≤ℤ greatest) → IsInt i
+      in_int i o = record { low = omega (arith, ints, o.0); high = o.1 }
+
+  variable_sound : (x : ℕ) → Sound M mode (Var x) (transfer M mode (Var x))
+  variable_sound x = numeric_sound M laws mode forms (Var x) (λ v. true) (λ v. M.bounds_of v x) (λ v. M.bounds_of v x)
+      (λ v h o. laws.bounds_in_int v x h o)
+      (λ v s n h o k g. subst (λ (y : ℤ). Within y (M.bounds_of v x)) (gives_same g) (laws.bounds_hold v x s h o k))
+      (λ v s n h o k f g. subst (λ (y : ℤ). Comes s (form_of_term (Var x)) y) (gives_same g) (variable_comes s x))
+
+  neg_sound : (a : Term) → Sound M mode a (transfer M mode a) → Sound M mode (Neg a) (transfer M mode (Neg a))
+  neg_sound a d = modular_sound M laws mode forms (Neg a) (transfer M mode a).fits (λ v. negated_range ((transfer M mode a).range v)) refl (fits_always M mode a)
+      (λ v s k h o w g.
+        let t = then_gives (value_of a s mode) (λ n. result_in mode (neg_ℤ n)) k g in
+        record { whole = neg_ℤ t.0; within = negated_holds t.0 _ (d.range_holds v s t.0 h o w t.1); is = t.2; comes = λ f. neg_comes s a t.0 (d.form_comes v s t.0 h o w f t.1) })
+
+  -- a sum, a difference or a product
+  abbrev BothFit : Term → Term → LeafValue → Bool
+  BothFit a b v = (transfer M mode a).fits v && (transfer M mode b).fits v
+
+  abbrev ranges_of : Op → Term → Term → LeafValue → Range
+  ranges_of op a b v = arithmetic_range op ((transfer M mode a).range v) ((transfer M mode b).range v)
+
+  both_fit : (a b : Term) (v : LeafValue) → mode ≡ Stop → BothFit a b v ≡ true
+  both_fit a b v q = ap (λ t. t && (transfer M mode b).fits v) (fits_always M mode a v q) ∙ fits_always M mode b v q
+
+  exact_within : (op : Op) (a b : Term) (v : LeafValue) (n m j : ℤ) → Within n ((transfer M mode a).range v) → Within m ((transfer M mode b).range v) → exact op n m ≡ Some j → op ≢ Rem → Within j (ranges_of op a b v)
+  exact_within op a b v n m j p q e r = arithmetic_holds op _ _ n m j p q e (λ t. absurd (r t))
+
+  add_sound : (a b : Term) → Sound M mode a (transfer M mode a) → Sound M mode b (transfer M mode b) → Sound M mode (Binary Add a b) (transfer M mode (Binary Add a b))
+  add_sound a b da db = modular_sound M laws mode forms (Binary Add a b) (BothFit a b) (ranges_of Add a b) refl (both_fit a b)
+      (λ v s k h o w g.
+        let t = both_give (value_of a s mode) (value_of b s mode) (λ n m. result_in mode (n +ℤ m)) k g in
+        record {
+          whole = t.first +ℤ t.second;
+          within = exact_within Add a b v t.first t.second (t.first +ℤ t.second) (da.range_holds v s t.first h o.0 w t.first_is) (db.range_holds v s t.second h o.1 w t.second_is) refl (λ q. cc);
+          is = t.is;
+          comes = λ f. add_comes s a b t.first t.second (da.form_comes v s t.first h o.0 w (and_left _ _ f) t.first_is) (db.form_comes v s t.second h o.1 w (and_right _ _ f) t.second_is);
+        })
+
+  sub_sound : (a b : Term) → Sound M mode a (transfer M mode a) → Sound M mode b (transfer M mode b) → Sound M mode (Binary Sub a b) (transfer M mode (Binary Sub a b))
+  sub_sound a b da db = modular_sound M laws mode forms (Binary Sub a b) (BothFit a b) (ranges_of Sub a b) refl (both_fit a b)
+      (λ v s k h o w g.
+        let t = both_give (value_of a s mode) (value_of b s mode) (λ n m. result_in mode (n -ℤ m)) k g in
+        record {
+          whole = t.first -ℤ t.second;
+          within = exact_within Sub a b v t.first t.second (t.first -ℤ t.second) (da.range_holds v s t.first h o.0 w t.first_is) (db.range_holds v s t.second h o.1 w t.second_is) refl (λ q. cc);
+          is = t.is;
+          comes = λ f. sub_comes s a b t.first t.second (da.form_comes v s t.first h o.0 w (and_left _ _ f) t.first_is) (db.form_comes v s t.second h o.1 w (and_right _ _ f) t.second_is);
+        })
+
+  mul_sound : (a b : Term) → Sound M mode a (transfer M mode a) → Sound M mode b (transfer M mode b) → Sound M mode (Binary Mul a b) (transfer M mode (Binary Mul a b))
+  mul_sound a b da db = modular_sound M laws mode forms (Binary Mul a b) (BothFit a b) (ranges_of Mul a b) refl (both_fit a b)
+      (λ v s k h o w g.
+        let t = both_give (value_of a s mode) (value_of b s mode) (λ n m. result_in mode (n *ℤ m)) k g in
+        record {
+          whole = t.first *ℤ t.second;
+          within = exact_within Mul a b v t.first t.second (t.first *ℤ t.second) (da.range_holds v s t.first h o.0 w t.first_is) (db.range_holds v s t.second h o.1 w t.second_is) refl (λ q. cc);
+          is = t.is;
+          comes = λ f. mul_comes s a b t.first t.second (da.form_comes v s t.first h o.0 w (and_left _ _ f) t.first_is) (db.form_comes v s t.second h o.1 w (and_right _ _ f) t.second_is);
+        })
+
+  -- a quotient or a remainder
+  divided_sound : (op : Op) (a b : Term) → form_of_term (Binary op a b) ≡ None
+      → ((v : LeafValue) (s : List ℤ) (k : ℤ) → M.valid v → IsTermOf v.variables a × IsTermOf v.variables b → M.holds v s → value_of (Binary op a b) s mode ≡ Ok k → Within k (ranges_of op a b v) × IsInt k)
+      → Sound M mode (Binary op a b) (numeric M None (form_of_term (Binary op a b)) (λ v. fits_in mode false) (ranges_of op a b) (λ v. clip_of (ranges_of op a b v)))
+  divided_sound op a b none holds = numeric_sound M laws mode forms (Binary op a b) (λ v. fits_in mode false) (ranges_of op a b) (λ v. clip_of (ranges_of op a b v))
+      (λ v h o. clip_in_int (ranges_of op a b v))
+      (λ v s k h o w g. let p = holds v s k h o w g in clip_holds k (ranges_of op a b v) p.0 p.1)
+      (λ v s k h o w f g d q. absurd (differ d (sym none ∙ q)))
+    where
+      differ : (d : Form) → None ≡ Some d → ⊥
+      differ d q = cc
+
+  div_sound : (a b : Term) → Sound M mode a (transfer M mode a) → Sound M mode b (transfer M mode b) → Sound M mode (Binary Div a b) (transfer M mode (Binary Div a b))
+  div_sound a b da db = divided_sound Div a b refl (λ v s k h o w g.
+      let t = both_give (value_of a s mode) (value_of b s mode) (λ n m. quotient_of n m) k g in
+      let u = quotient_gives t.first t.second k t.is in (
+        arithmetic_holds Div _ _ t.first t.second k (da.range_holds v s t.first h o.0 w t.first_is) (db.range_holds v s t.second h o.1 w t.second_is) u.exact_is u.rem_is,
+        u.int,
+      ))
+
+  rem_sound : (a b : Term) → Sound M mode a (transfer M mode a) → Sound M mode b (transfer M mode b) → Sound M mode (Binary Rem a b) (transfer M mode (Binary Rem a b))
+  rem_sound a b da db = divided_sound Rem a b refl (λ v s k h o w g.
+      let t = both_give (value_of a s mode) (value_of b s mode) (λ n m. remainder_of n m) k g in
+      let p = da.range_holds v s t.first h o.0 w t.first_is in
+      let u = remainder_gives t.first t.second k (in_int_at t.first _ p (da.range_in_int v h o.0)) t.is in (
+        arithmetic_holds Rem _ _ t.first t.second k p (db.range_holds v s t.second h o.1 w t.second_is) u.exact_is u.rem_is,
+        u.int,
+      ))
+
+  not_sound : (a : Term) → Sound M mode a (transfer M mode a) → Sound M mode (Not a) (transfer M mode (Not a))
+  not_sound a d = logical_sound M laws mode forms (Not a) (transfer M mode a).when_false (transfer M mode a).when_true refl
+      (λ s k g. let t = then_gives (value_of a s mode) (λ n. gives (truth_of (is_zero n))) k g in truth_two (is_zero t.0) k t.2)
+      d.false_answers d.true_answers
+      (λ v s h o w g. let t = then_gives (value_of a s mode) (λ n. gives (truth_of (is_zero n))) (pos 1) g in
+      d.false_holds v s h o w (t.1 ∙ ap gives (zero_from_test t.0 (truth_one _ t.2))))
+      (λ v s h o w g. let t = then_gives (value_of a s mode) (λ n. gives (truth_of (is_zero n))) (pos 0) g in
+      d.true_holds v s t.0 h o w t.1 (nonzero_from_test t.0 (truth_zero _ t.2)))
+
+  pub transfer_sound : (e : Term) → Sound M mode e (transfer M mode e)
+  transfer_sound (Number n) = number_sound n
+  transfer_sound (Var x) = variable_sound x
+  transfer_sound (Neg a) = neg_sound a (transfer_sound a)
+  transfer_sound (Not a) = not_sound a (transfer_sound a)
+  transfer_sound (Binary Add a b) = add_sound a b (transfer_sound a) (transfer_sound b)
+  transfer_sound (Binary Sub a b) = sub_sound a b (transfer_sound a) (transfer_sound b)
+  transfer_sound (Binary Mul a b) = mul_sound a b (transfer_sound a) (transfer_sound b)
+  transfer_sound (Binary Div a b) = div_sound a b (transfer_sound a) (transfer_sound b)
+  transfer_sound (Binary Rem a b) = rem_sound a b (transfer_sound a) (transfer_sound b)
+  transfer_sound (Binary Lt a b) = comparison_sound M laws mode forms (Binary Lt a b) a b compares.Lt (transfer M mode a) (transfer M mode b) refl (λ n o. o) (λ s. refl) (transfer_sound a) (transfer_sound b)
+  transfer_sound (Binary Le a b) = comparison_sound M laws mode forms (Binary Le a b) a b compares.Le (transfer M mode a) (transfer M mode b) refl (λ n o. o) (λ s. refl) (transfer_sound a) (transfer_sound b)
+  transfer_sound (Binary Gt a b) = comparison_sound M laws mode forms (Binary Gt a b) a b compares.Gt (transfer M mode a) (transfer M mode b) refl (λ n o. o) (λ s. refl) (transfer_sound a) (transfer_sound b)
+  transfer_sound (Binary Ge a b) = comparison_sound M laws mode forms (Binary Ge a b) a b compares.Ge (transfer M mode a) (transfer M mode b) refl (λ n o. o) (λ s. refl) (transfer_sound a) (transfer_sound b)
+  transfer_sound (Binary Eq a b) = comparison_sound M laws mode forms (Binary Eq a b) a b compares.Eq (transfer M mode a) (transfer M mode b) refl (λ n o. o) (λ s. refl) (transfer_sound a) (transfer_sound b)
+  transfer_sound (Binary Ne a b) = comparison_sound M laws mode forms (Binary Ne a b) a b compares.Ne (transfer M mode a) (transfer M mode b) refl (λ n o. o) (λ s. refl) (transfer_sound a) (transfer_sound b)
+  transfer_sound (Binary And a b) = both_sound M laws mode forms (Binary And a b) a b (transfer M mode a) (transfer M mode b) refl (λ n o. o) (transfer_sound a) (transfer_sound b) (λ s k g. both_gives (value_of a s mode) (value_of b s mode) k g)
+  transfer_sound (Binary Or a b) = either_sound M laws mode forms (Binary Or a b) a b (transfer M mode a) (transfer M mode b) refl (λ n o. o) (transfer_sound a) (transfer_sound b) (λ s k g. either_gives (value_of a s mode) (value_of b s mode) k g)
+
+  -- ---- the transfer functions
+
+  pub range_within : (e : Term) (v : LeafValue) (s : List ℤ) (n : ℤ) → Suits M e v → M.holds v s → value_of e s mode ≡ Ok n → Within n (range_of_term M mode e v)
+  range_within e v s n u w g = (transfer_sound e).range_holds v s n u.valid u.term w g
+
+  pub assumed_holds : (e : Term) (want : Bool) (v : LeafValue) (s : List ℤ) (n : ℤ) → Suits M e v → M.holds v s → value_of e s mode ≡ Ok n → IsWanted want n → M.holds (assumed M mode e want v) s
+  assumed_holds e true v s n u w g z = (transfer_sound e).true_holds v s n u.valid u.term w g z
+  assumed_holds e false v s n u w g z = (transfer_sound e).false_holds v s u.valid u.term w (g ∙ ap gives z)
+
+  assumed_answers : (e : Term) (want : Bool) (v : LeafValue) → Suits M e v → Answers M v (assumed M mode e want v)
+  assumed_answers e true v u = (transfer_sound e).true_answers v u.valid u.term
+  assumed_answers e false v u = (transfer_sound e).false_answers v u.valid u.term
+
+  form_set_answers : (x : ℕ) (f : Option Form) (r : Range) (v : LeafValue) → x < v.variables → M.valid v → AreForms v.variables f → IsInInt r → Answers M v (form_set M x f r v)
+  form_set_answers x None r v l h k i = laws.set_answers v x r h l i
+  form_set_answers x (Some d) r v l h k i = laws.set_form_answers v x d r h l (k d refl) i
+
+  form_set_holds : (x : ℕ) (f : Option Form) (r : Range) (v : LeafValue) (s : List ℤ) (n : ℤ) → x < v.variables → M.valid v → AreForms v.variables f → IsInInt r → M.holds v s → Comes s f n → Within n r → M.holds (form_set M x f r v) (slice_set s x n)
+  form_set_holds x None r v s n l h k i w c p = laws.set_holds v x r s n h l i w p
+  form_set_holds x (Some d) r v s n l h k i w c p =
+      subst (λ (m : ℤ). M.holds (M.set_form v x d r) (slice_set s x m)) (c d refl) (laws.set_form_holds v x d r s h l (k d refl) i w (subst (λ (m : ℤ). Within m r) (sym (c d refl)) p))
+
+  set_forms : (e : Term) (v : LeafValue) → Suits M e v → AreForms v.variables (form_where (fits_term M mode e v) (form_of_term e))
+  set_forms e v u = forms_where v.variables (fits_term M mode e v) (form_of_term e) (λ d g. forms v.variables e d u.term g)
+
+  assigned_answers : (x : ℕ) (e : Term) (v : LeafValue) → x < v.variables → Suits M e v → Answers M v (assigned M mode x e v)
+  assigned_answers x e v l u = by_test (is_empty_range (range_of_term M mode e v))
+    where
+      by_test : (t : Bool) → Answers M v (if t then nothing_of v.variables else form_set M x (form_where (fits_term M mode e v) (form_of_term e)) (range_of_term M mode e v) v)
+      by_test true = nothing_answers M laws v u.valid
+      by_test false = form_set_answers x _ (range_of_term M mode e v) v l u.valid (set_forms e v u) ((transfer_sound e).range_in_int v u.valid u.term)
+
+  pub assigned_holds : (x : ℕ) (e : Term) (v : LeafValue) (s : List ℤ) (n : ℤ) → x < v.variables → Suits M e v → M.holds v s → value_of e s mode ≡ Ok n → M.holds (assigned M mode x e v) (slice_set s x n)
+  assigned_holds x e v s n l u w g =
+      let p = range_within e v s n u w g in
+      rw (not_empty n (range_of_term M mode e v) p) (form_set_holds x _ (range_of_term M mode e v) v s n l u.valid (set_forms e v u) ((transfer_sound e).range_in_int v u.valid u.term) w
+      (comes_where s (fits_term M mode e v) (form_of_term e) n (λ f. (transfer_sound e).form_comes v s n u.valid u.term w f g)) p)
+
+  pub forgotten_holds : (x : ℕ) (v : LeafValue) (s : List ℤ) (n : ℤ) → x < v.variables → M.valid v → M.holds v s → IsInt n → M.holds (forgotten M x v) (slice_set s x n)
+  forgotten_holds x v s n l h w i = laws.set_holds v x whole_int s n h l whole_in_int w (record { low = i.low; high = i.high })
+
+  -- ---- Nothing
+
+  where_nothing : (v w : LeafValue) → is_nothing_of v ≡ true → where_some v w ≡ v
+  where_nothing v w e = ap (λ t. if t then v else w) e
+
+  range_where_nothing : (v : LeafValue) (r : Range) → is_nothing_of v ≡ true → range_where_some v r ≡ empty_range
+  range_where_nothing v r e = ap (λ t. if t then empty_range else r) e
+
+  sides_nothing : (v u w : LeafValue) → is_nothing_of v ≡ true → range_of_sides (where_some v u) (where_some v w) ≡ empty_range
+  sides_nothing v u w e =
+      ap (λ x. range_of_sides x (where_some v w)) (where_nothing v u e) ∙ ap (λ x. range_of_sides v x) (where_nothing v w e)
+      ∙ ap (λ t. truth_range (not t) (not t)) e
+
+  range_of_nothing : (e : Term) (v : LeafValue) → is_nothing_of v ≡ true → range_of_term M mode e v ≡ empty_range
+  range_of_nothing (Number n) v h = range_where_nothing v _ h
+  range_of_nothing (Var x) v h = range_where_nothing v _ h
+  range_of_nothing (Neg a) v h = range_where_nothing v _ h
+  range_of_nothing (Not a) v h = sides_nothing v _ _ h
+  range_of_nothing (Binary Add a b) v h = range_where_nothing v _ h
+  range_of_nothing (Binary Sub a b) v h = range_where_nothing v _ h
+  range_of_nothing (Binary Mul a b) v h = range_where_nothing v _ h
+  range_of_nothing (Binary Div a b) v h = range_where_nothing v _ h
+  range_of_nothing (Binary Rem a b) v h = range_where_nothing v _ h
+  range_of_nothing (Binary Lt a b) v h = sides_nothing v _ _ h
+  range_of_nothing (Binary Le a b) v h = sides_nothing v _ _ h
+  range_of_nothing (Binary Gt a b) v h = sides_nothing v _ _ h
+  range_of_nothing (Binary Ge a b) v h = sides_nothing v _ _ h
+  range_of_nothing (Binary Eq a b) v h = sides_nothing v _ _ h
+  range_of_nothing (Binary Ne a b) v h = sides_nothing v _ _ h
+  range_of_nothing (Binary And a b) v h = sides_nothing v _ _ h
+  range_of_nothing (Binary Or a b) v h = sides_nothing v _ _ h
+
+  true_of_nothing : (e : Term) (v : LeafValue) → is_nothing_of v ≡ true → (transfer M mode e).when_true v ≡ v
+  true_of_nothing (Number n) v h = where_nothing v _ h
+  true_of_nothing (Var x) v h = where_nothing v _ h
+  true_of_nothing (Neg a) v h = where_nothing v _ h
+  true_of_nothing (Not a) v h = where_nothing v _ h
+  true_of_nothing (Binary Add a b) v h = where_nothing v _ h
+  true_of_nothing (Binary Sub a b) v h = where_nothing v _ h
+  true_of_nothing (Binary Mul a b) v h = where_nothing v _ h
+  true_of_nothing (Binary Div a b) v h = where_nothing v _ h
+  true_of_nothing (Binary Rem a b) v h = where_nothing v _ h
+  true_of_nothing (Binary Lt a b) v h = where_nothing v _ h
+  true_of_nothing (Binary Le a b) v h = where_nothing v _ h
+  true_of_nothing (Binary Gt a b) v h = where_nothing v _ h
+  true_of_nothing (Binary Ge a b) v h = where_nothing v _ h
+  true_of_nothing (Binary Eq a b) v h = where_nothing v _ h
+  true_of_nothing (Binary Ne a b) v h = where_nothing v _ h
+  true_of_nothing (Binary And a b) v h = where_nothing v _ h
+  true_of_nothing (Binary Or a b) v h = where_nothing v _ h
+
+  false_of_nothing : (e : Term) (v : LeafValue) → is_nothing_of v ≡ true → (transfer M mode e).when_false v ≡ v
+  false_of_nothing (Number n) v h = where_nothing v _ h
+  false_of_nothing (Var x) v h = where_nothing v _ h
+  false_of_nothing (Neg a) v h = where_nothing v _ h
+  false_of_nothing (Not a) v h = where_nothing v _ h
+  false_of_nothing (Binary Add a b) v h = where_nothing v _ h
+  false_of_nothing (Binary Sub a b) v h = where_nothing v _ h
+  false_of_nothing (Binary Mul a b) v h = where_nothing v _ h
+  false_of_nothing (Binary Div a b) v h = where_nothing v _ h
+  false_of_nothing (Binary Rem a b) v h = where_nothing v _ h
+  false_of_nothing (Binary Lt a b) v h = where_nothing v _ h
+  false_of_nothing (Binary Le a b) v h = where_nothing v _ h
+  false_of_nothing (Binary Gt a b) v h = where_nothing v _ h
+  false_of_nothing (Binary Ge a b) v h = where_nothing v _ h
+  false_of_nothing (Binary Eq a b) v h = where_nothing v _ h
+  false_of_nothing (Binary Ne a b) v h = where_nothing v _ h
+  false_of_nothing (Binary And a b) v h = where_nothing v _ h
+  false_of_nothing (Binary Or a b) v h = where_nothing v _ h
+
+  assumed_of_nothing : (e : Term) (want : Bool) (v : LeafValue) → is_nothing_of v ≡ true → assumed M mode e want v ≡ v
+  assumed_of_nothing e true v h = true_of_nothing e v h
+  assumed_of_nothing e false v h = false_of_nothing e v h
+
+  -- a leaf without a list is Nothing
+  nothing_is : (n : ℕ) (c : Option (List ℤ)) → is_nothing_of (record { variables = n; content = c }) ≡ true → record { variables = n; content = c } ≡ nothing_of n
+  nothing_is n None e = refl
+  nothing_is n (Some ns) e = cc
+
+  forgotten_of_nothing : (x : ℕ) (v : LeafValue) → is_nothing_of v ≡ true → is_nothing_of (forgotten M x v) ≡ true
+  forgotten_of_nothing x v h = ap (λ w. is_nothing_of (M.set_range w x whole_int)) (nothing_is v.variables v.content h) ∙ ap is_nothing_of (laws.set_nothing v.variables x whole_int)
+
+  assigned_of_nothing : (x : ℕ) (e : Term) (v : LeafValue) → is_nothing_of v ≡ true → is_nothing_of (assigned M mode x e v) ≡ true
+  assigned_of_nothing x e v h = ap (λ r. is_nothing_of (if is_empty_range r then nothing_of v.variables else form_set M x (form_where (fits_term M mode e v) (form_of_term e)) r v)) (range_of_nothing e v h)
+
+  pub transfer_answers : TransferAnswers M mode
+  transfer_answers = record {
+    range_in_int = λ e v u. (transfer_sound e).range_in_int v u.valid u.term;
+    assumed_answers = assumed_answers;
+    assigned_answers = assigned_answers;
+    forgotten_answers = λ x v l h. laws.set_answers v x whole_int h l whole_in_int;
+    range_of_nothing = range_of_nothing;
+    assumed_of_nothing = assumed_of_nothing;
+    assigned_of_nothing = assigned_of_nothing;
+    forgotten_of_nothing = forgotten_of_nothing;
+  }
