@@ -8,3 +8,4 @@ mod Results
 mod Comparisons
 mod Nodes
 mod SoundLemmas
+mod StopLemmas

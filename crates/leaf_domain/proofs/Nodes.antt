@@ -158,7 +158,7 @@ module _ (M : LeafMeaning) (laws : LeafLaws M) (mode : Mode) (forms : FormsAreFo
 
   -- ---- a negation, a sum, a difference or a product
 
-  raw_holds : (f : Option Form) (t : Bool) (r : Range) (v : LeafValue) (s : List ℤ) (j : ℤ) → M.valid v → AreForms v.variables f → M.holds v s → (t ≡ true → Comes s f j) → Within j r → Within j (raw_of_sum M f t r v)
+  pub raw_holds : (f : Option Form) (t : Bool) (r : Range) (v : LeafValue) (s : List ℤ) (j : ℤ) → M.valid v → AreForms v.variables f → M.holds v s → (t ≡ true → Comes s f j) → Within j r → Within j (raw_of_sum M f t r v)
   raw_holds f false r v s j h k w c i = i
   raw_holds None true r v s j h k w c i = i
   raw_holds (Some d) true r v s j h k w c i = by_range (M.form_range v d) refl

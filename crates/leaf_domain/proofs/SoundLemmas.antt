@@ -69,16 +69,16 @@ module _ (M : LeafMeaning) (laws : LeafLaws M) (mode : Mode) (forms : FormsAreFo
         record { whole = neg_ℤ t.0; within = negated_holds t.0 _ (d.range_holds v s t.0 h o w t.1); is = t.2; comes = λ f. neg_comes s a t.0 (d.form_comes v s t.0 h o w f t.1) })
 
   -- a sum, a difference or a product
-  abbrev BothFit : Term → Term → LeafValue → Bool
+  abbrev pub BothFit : Term → Term → LeafValue → Bool
   BothFit a b v = (transfer M mode a).fits v && (transfer M mode b).fits v
 
-  abbrev ranges_of : Op → Term → Term → LeafValue → Range
+  abbrev pub ranges_of : Op → Term → Term → LeafValue → Range
   ranges_of op a b v = arithmetic_range op ((transfer M mode a).range v) ((transfer M mode b).range v)
 
   both_fit : (a b : Term) (v : LeafValue) → mode ≡ Stop → BothFit a b v ≡ true
   both_fit a b v q = ap (λ t. t && (transfer M mode b).fits v) (fits_always M mode a v q) ∙ fits_always M mode b v q
 
-  exact_within : (op : Op) (a b : Term) (v : LeafValue) (n m j : ℤ) → Within n ((transfer M mode a).range v) → Within m ((transfer M mode b).range v) → exact op n m ≡ Some j → op ≢ Rem → Within j (ranges_of op a b v)
+  pub exact_within : (op : Op) (a b : Term) (v : LeafValue) (n m j : ℤ) → Within n ((transfer M mode a).range v) → Within m ((transfer M mode b).range v) → exact op n m ≡ Some j → op ≢ Rem → Within j (ranges_of op a b v)
   exact_within op a b v n m j p q e r = arithmetic_holds op _ _ n m j p q e (λ t. absurd (r t))
 
   add_sound : (a b : Term) → Sound M mode a (transfer M mode a) → Sound M mode b (transfer M mode b) → Sound M mode (Binary Add a b) (transfer M mode (Binary Add a b))
@@ -180,7 +180,7 @@ module _ (M : LeafMeaning) (laws : LeafLaws M) (mode : Mode) (forms : FormsAreFo
   assumed_holds e true v s n u w g z = (transfer_sound e).true_holds v s n u.valid u.term w g z
   assumed_holds e false v s n u w g z = (transfer_sound e).false_holds v s u.valid u.term w (g ∙ ap gives z)
 
-  assumed_answers : (e : Term) (want : Bool) (v : LeafValue) → Suits M e v → Answers M v (assumed M mode e want v)
+  pub assumed_answers : (e : Term) (want : Bool) (v : LeafValue) → Suits M e v → Answers M v (assumed M mode e want v)
   assumed_answers e true v u = (transfer_sound e).true_answers v u.valid u.term
   assumed_answers e false v u = (transfer_sound e).false_answers v u.valid u.term
 
