@@ -9,3 +9,4 @@ mod Comparisons
 mod Nodes
 mod SoundLemmas
 mod StopLemmas
+mod FitLemmas

@@ -138,23 +138,23 @@ of_zero : (kind : Kind) → kind ≡ ZeroDivisor → is_of_value kind ≡ true
 of_zero kind e = ap is_of_value e
 
 module _ (M : LeafMeaning) (laws : LeafLaws M) (mode : Mode) (forms : FormsAreForms) where
-  sound : (e : Term) → Sound M mode e (transfer M mode e)
+  pub sound : (e : Term) → Sound M mode e (transfer M mode e)
   sound e = transfer_sound M laws mode forms e
 
   -- ---- the whole result lies in the range before clipping
 
-  raw_neg : (a : Term) (v : LeafValue) (s : List ℤ) (n : ℤ) → M.valid v → IsTermOf v.variables a → M.holds v s → value_of a s mode ≡ Ok n → Within (neg_ℤ n) (raw_of_term M mode (Neg a) v)
+  pub raw_neg : (a : Term) (v : LeafValue) (s : List ℤ) (n : ℤ) → M.valid v → IsTermOf v.variables a → M.holds v s → value_of a s mode ≡ Ok n → Within (neg_ℤ n) (raw_of_term M mode (Neg a) v)
   raw_neg a v s n h o w g = rw (held M laws v s w)
       (raw_holds M laws mode forms (form_of_term (Neg a)) ((transfer M mode a).fits v) (negated_range (range_of_term M mode a v)) v s (neg_ℤ n) h (λ d q. forms v.variables (Neg a) d o q) w
       (λ f. neg_comes s a n ((sound a).form_comes v s n h o w f g)) (negated_holds n _ ((sound a).range_holds v s n h o w g)))
 
   -- two operands that have values in a leaf
-  record Given (a b : Term) (v : LeafValue) (s : List ℤ) (n m : ℤ) : Type 0 where
-    valid : M.valid v
-    over : IsTermOf v.variables a × IsTermOf v.variables b
-    held_at : M.holds v s
-    left_is : value_of a s mode ≡ Ok n
-    right_is : value_of b s mode ≡ Ok m
+  pub record Given (a b : Term) (v : LeafValue) (s : List ℤ) (n m : ℤ) : Type 0 where
+    pub valid : M.valid v
+    pub over : IsTermOf v.variables a × IsTermOf v.variables b
+    pub held_at : M.holds v s
+    pub left_is : value_of a s mode ≡ Ok n
+    pub right_is : value_of b s mode ≡ Ok m
 
   left_within : (a b : Term) (v : LeafValue) (s : List ℤ) (n m : ℤ) → Given a b v s n m → Within n (range_of_term M mode a v)
   left_within a b v s n m p = (sound a).range_holds v s n p.valid p.over.0 p.held_at p.left_is
@@ -168,19 +168,19 @@ module _ (M : LeafMeaning) (laws : LeafLaws M) (mode : Mode) (forms : FormsAreFo
   right_comes : (a b : Term) (v : LeafValue) (s : List ℤ) (n m : ℤ) → Given a b v s n m → BothFit M laws mode forms a b v ≡ true → Comes s (form_of_term b) m
   right_comes a b v s n m p f = (sound b).form_comes v s m p.valid p.over.1 p.held_at (and_right _ _ f) p.right_is
 
-  raw_add : (a b : Term) (v : LeafValue) (s : List ℤ) (n m : ℤ) → Given a b v s n m → Within (n +ℤ m) (raw_of_term M mode (Binary Add a b) v)
+  pub raw_add : (a b : Term) (v : LeafValue) (s : List ℤ) (n m : ℤ) → Given a b v s n m → Within (n +ℤ m) (raw_of_term M mode (Binary Add a b) v)
   raw_add a b v s n m p = rw (held M laws v s p.held_at)
       (raw_holds M laws mode forms (form_of_term (Binary Add a b)) (BothFit M laws mode forms a b v) (ranges_of M laws mode forms Add a b v) v s (n +ℤ m) p.valid (λ d q. forms v.variables (Binary Add a b) d p.over q) p.held_at
       (λ f. add_comes s a b n m (left_comes a b v s n m p f) (right_comes a b v s n m p f))
       (exact_within M laws mode forms Add a b v n m (n +ℤ m) (left_within a b v s n m p) (right_within a b v s n m p) refl (λ q. cc)))
 
-  raw_sub : (a b : Term) (v : LeafValue) (s : List ℤ) (n m : ℤ) → Given a b v s n m → Within (n -ℤ m) (raw_of_term M mode (Binary Sub a b) v)
+  pub raw_sub : (a b : Term) (v : LeafValue) (s : List ℤ) (n m : ℤ) → Given a b v s n m → Within (n -ℤ m) (raw_of_term M mode (Binary Sub a b) v)
   raw_sub a b v s n m p = rw (held M laws v s p.held_at)
       (raw_holds M laws mode forms (form_of_term (Binary Sub a b)) (BothFit M laws mode forms a b v) (ranges_of M laws mode forms Sub a b v) v s (n -ℤ m) p.valid (λ d q. forms v.variables (Binary Sub a b) d p.over q) p.held_at
       (λ f. sub_comes s a b n m (left_comes a b v s n m p f) (right_comes a b v s n m p f))
       (exact_within M laws mode forms Sub a b v n m (n -ℤ m) (left_within a b v s n m p) (right_within a b v s n m p) refl (λ q. cc)))
 
-  raw_mul : (a b : Term) (v : LeafValue) (s : List ℤ) (n m : ℤ) → Given a b v s n m → Within (n *ℤ m) (raw_of_term M mode (Binary Mul a b) v)
+  pub raw_mul : (a b : Term) (v : LeafValue) (s : List ℤ) (n m : ℤ) → Given a b v s n m → Within (n *ℤ m) (raw_of_term M mode (Binary Mul a b) v)
   raw_mul a b v s n m p = rw (held M laws v s p.held_at)
       (raw_holds M laws mode forms (form_of_term (Binary Mul a b)) (BothFit M laws mode forms a b v) (ranges_of M laws mode forms Mul a b v) v s (n *ℤ m) p.valid (λ d q. forms v.variables (Binary Mul a b) d p.over q) p.held_at
       (λ f. mul_comes s a b n m (left_comes a b v s n m p f) (right_comes a b v s n m p f))
@@ -386,7 +386,7 @@ module _ (M : LeafMeaning) (laws : LeafLaws M) (mode : Mode) (forms : FormsAreFo
   input_moves place p kind (Some n) go e = cc
   input_moves place p kind None go e = cc
 
-  code_may : (c : Code) (v : LeafValue) (s inputs : List ℤ) (taken : ℕ) (place : Place) (kind : Kind) → M.valid v → IsCodeOf v.variables c → M.holds v s
+  pub code_may : (c : Code) (v : LeafValue) (s inputs : List ℤ) (taken : ℕ) (place : Place) (kind : Kind) → M.valid v → IsCodeOf v.variables c → M.holds v s
       → step_of mode inputs c s taken ≡ Stopped place kind → may_at M mode kind c v ≡ true
   code_may tree.Done v s inputs taken p kind h o w g = cc
   code_may (tree.Assign place x e rest) v s inputs taken p kind h o w g = test_may e kind v s h o.1 w (value_stops place p kind (value_of e s mode) _ (λ n. moves _ p kind) g)

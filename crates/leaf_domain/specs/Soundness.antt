@@ -43,7 +43,7 @@ pub record TransferAnswers (M : LeafMeaning) (mode : Mode) : Type 0 where
 
 -- each value of an expression is in its range; each store at which it is as wanted is kept; the leaf after an assignment and
 -- after an input holds each store that these leave; where a store stops, the statement may stop; and where an expression
--- fits in wrapping mode, no store makes a sum or a product in it leave `int`
+-- fits in wrapping mode, no store makes a sum or a product in it leave `int`: it has the value that it has where overflows stop
 pub record TransferHolds (M : LeafMeaning) (mode : Mode) : Type 0 where
   pub range_holds : (e : Term) (v : LeafValue) (s : List ℤ) (n : ℤ) → Suits M e v → M.holds v s → value_of e s mode ≡ Ok n → Within n (range_of_term M mode e v)
   pub assumed_holds : (e : Term) (want : Bool) (v : LeafValue) (s : List ℤ) (n : ℤ) → Suits M e v → M.holds v s → value_of e s mode ≡ Ok n → IsWanted want n → M.holds (assumed M mode e want v) s
@@ -51,4 +51,5 @@ pub record TransferHolds (M : LeafMeaning) (mode : Mode) : Type 0 where
   pub forgotten_holds : (x : ℕ) (v : LeafValue) (s : List ℤ) (n : ℤ) → x < v.variables → M.valid v → M.holds v s → IsInt n → M.holds (forgotten M x v) (slice_set s x n)
   pub may_holds : (c : Code) (v : LeafValue) (s inputs : List ℤ) (taken : ℕ) (place : Place) (kind : Kind) → M.valid v → IsCodeOf v.variables c → M.holds v s
       → step_of mode inputs c s taken ≡ Stopped place kind → may_at M mode kind c v ≡ true
-  pub fits_holds : (e : Term) (v : LeafValue) (s : List ℤ) → Suits M e v → M.holds v s → mode ≡ Wrap → fits_term M mode e v ≡ true → value_of e s Stop ≡ value_of e s Wrap
+  pub fits_holds : (e : Term) (v : LeafValue) (s : List ℤ) → Suits M e v → M.holds v s → mode ≡ Wrap → fits_term M mode e v ≡ true
+      → (n : ℤ) × (value_of e s Stop ≡ Ok n) × (value_of e s Wrap ≡ Ok n)
