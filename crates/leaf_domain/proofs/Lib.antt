@@ -2,3 +2,4 @@ pub mod Signed
 pub mod ArithmeticLemmas
 pub mod CutLemmas
 pub mod Wrapping
+pub mod FormLemmas

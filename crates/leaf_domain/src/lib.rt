@@ -5,11 +5,15 @@ pub mod compare;
 pub mod form;
 pub mod leaf;
 pub mod range;
+pub mod stops;
+pub mod transfer;
 
 pub use compare::{Compare, cut, mirror};
 pub use form::{Form, Terms};
 pub use leaf::Leaf;
 pub use range::{Range, arithmetic, arithmetic_is_sound};
+pub use stops::may;
+pub use transfer::{assign, assume, fits, forget, range_of, raw_of};
 
 #[cfg(test)]
 mod tests;
