@@ -1,10 +1,11 @@
 -- Sums and multiples of rising terms rise, and the form of an expression is a form over its variables.
-use Rattle.std.proofs.Common.{◌≡◌, ◌≢◌, ℕ, ◌+◌, ◌<◌, ◌≤◌, ◌<ℤ◌, ℤ, pos, negsuc, ◌+ℤ◌, ◌*ℤ◌, ◌≤ℤ◌, int_le, Bool, true, false, ◌&&◌, if◌then◌else◌, List, [], ◌∷◌, ◌++◌, sym, ap, subst, refl, ◌∙◌, arith, Option, Some, None, IfSome}
+use Rattle.std.proofs.Common.{◌≡◌, ◌≢◌, ℕ, ◌+◌, ◌<◌, ◌≤◌, ◌<ℤ◌, ℤ, pos, negsuc, ◌+ℤ◌, ◌*ℤ◌, ◌≤ℤ◌, int_le, Bool, true, false, ◌&&◌, if◌then◌else◌, List, [], ◌∷◌, ◌++◌, sym, ap, subst, refl, ◌∙◌, arith, Option, Some, None, IfSome, IfOk, Result, Ok, Err}
 use Rattle.std.proofs.lemmas.Int.{ints}
 use Rattle.std.proofs.lemmas.Cmp.{ranked, int_ranked}
 use Rattle.std.specs.declared.cmp.Ordering.{Ordering}
 use Rattle.std.specs.declared.cmp.Ordering.TheVariants.{Less, Equal, Greater}
 use Rattle.std.specs.Ordering.{nat_cmp, int_cmp, int_eq, is_eq, MatchOrdering}
+use Rattle.fam_outer.specs.declared.text.NoMemory.{NoMemory}
 use Rattle.c_tree.specs.declared.tree.Op.{Op}
 use Rattle.c_tree.specs.declared.tree.Op.TheVariants.{Add, Sub, Mul, Div, Rem, Lt, Le, Gt, Ge, Eq, Ne, And, Or}
 use Rattle.c_tree.specs.Tree.{Term, Number, Var, Neg, Not, Binary}
@@ -154,3 +155,8 @@ term_is_form count (Binary op a b) h = binary_is_form count op (form_of_term a) 
 
 pub forms_are_forms : FormsAreForms
 forms_are_forms count e f h i = subst (λ o. HasForm count o) i (term_is_form count e h)
+
+-- what is known of the form that a function answers for an expression
+pub answered_form : (r : Result (Option Form) NoMemory) (e : Term) → IfOk r (λ f. f ≡ form_of_term e) → (count : ℕ) → IsTermOf count e → IfOk r (HasForm count)
+answered_form (Ok f) e i count h = rw i (term_is_form count e h)
+answered_form (Err fault) e i count h = tt

@@ -3,3 +3,4 @@ pub mod ArithmeticLemmas
 pub mod CutLemmas
 pub mod Wrapping
 pub mod FormLemmas
+pub mod Merges

@@ -14,3 +14,8 @@ kept_terms ts = if are_form_numbers ts then Some ts else None
 -- a form over so many variables, where there is one
 abbrev pub HasForm : ℕ → Option Form → Type 0
 HasForm count f = IfSome f (IsForm count)
+
+-- the form of these terms and this constant, where there are both
+abbrev pub formed : Option (List (ℕ × ℤ)) → Option ℤ → Option Form
+formed (Some ts) (Some n) = Some (record { terms = ts; constant = n })
+formed ts n = None

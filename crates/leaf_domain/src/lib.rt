@@ -4,13 +4,16 @@
 pub mod compare;
 pub mod form;
 pub mod leaf;
+pub mod linear;
 pub mod range;
 pub mod stops;
+mod terms;
 pub mod transfer;
 
 pub use compare::{Compare, cut, mirror};
 pub use form::{Form, Terms};
 pub use leaf::Leaf;
+pub use linear::form_of;
 pub use range::{Range, arithmetic, arithmetic_is_sound};
 pub use stops::may;
 pub use transfer::{assign, assume, fits, forget, range_of, raw_of};

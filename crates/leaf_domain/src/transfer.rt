@@ -53,13 +53,7 @@ pub fn assume<L: Leaf>(
 }
 
 /// The leaf after `x = e`.
-pub fn assign<L: Leaf>(
-    alloc: Global,
-    leaf: &L,
-    x: u32,
-    e: &Expr,
-    mode: Mode,
-) -> Result<L, NoMemory>
+pub fn assign<L: Leaf>(alloc: Global, leaf: &L, x: u32, e: &Expr, mode: Mode) -> Result<L, NoMemory>
     requires x { x < (L.value leaf.now).variables }
     requires e { IsTermOf (L.value leaf.now).variables (term e.now) }
     ensures value { IfOk result (λ made. L.value made ≡ transfer.assigned L.meaning mode x (term e.now) (L.value leaf.now)) }
