@@ -2,6 +2,8 @@ pub mod Signed
 pub mod ArithmeticLemmas
 pub mod CutLemmas
 pub mod Wrapping
+pub mod FormLemmas
+pub mod Merges
 mod Products
 mod FormValues
 mod Results

@@ -3,13 +3,22 @@
 
 pub mod compare;
 pub mod form;
+pub mod laws;
 pub mod leaf;
+pub mod linear;
 pub mod range;
+pub mod stops;
+mod terms;
+pub mod transfer;
 
 pub use compare::{Compare, cut, mirror};
 pub use form::{Form, Terms};
+pub use laws::transfer_is_sound;
 pub use leaf::Leaf;
+pub use linear::form_of;
 pub use range::{Range, arithmetic, arithmetic_is_sound};
+pub use stops::may;
+pub use transfer::{assign, assume, fits, forget, range_of, raw_of};
 
 #[cfg(test)]
 mod tests;

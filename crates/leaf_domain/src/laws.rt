@@ -1,0 +1,19 @@
+//! What transfer keeps.
+#![tactic(auto)]
+
+ghost use Rattle.c_tree.specs.declared.tree.Mode as mode;
+ghost use Rattle.leaf_domain.specs.Soundness.{FormsAreForms, TransferAnswers, TransferHolds};
+
+use crate::leaf::Leaf;
+
+/// The laws of transfer, over the laws of a kind of leaf and in both modes. The form of an
+/// expression is a form over its variables. The transfer functions answer leaves of the kind, and
+/// Nothing on Nothing. A range has each value of its expression; an assumed leaf keeps each store
+/// at which the expression is as wanted; the leaves after an assignment and after an input hold each
+/// store that these leave; a statement at which a store of the leaf stops may stop with that kind;
+/// and an expression that fits, where overflows wrap, has the value that it has where they stop.
+pub fn transfer_is_sound<L: Leaf>()
+    ensures forms { FormsAreForms }
+    ensures answers { (m : mode.Mode) → TransferAnswers L.meaning m }
+    ensures holds { (m : mode.Mode) → TransferHolds L.meaning m }
+{}
