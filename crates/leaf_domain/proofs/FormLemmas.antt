@@ -160,3 +160,14 @@ forms_are_forms count e f h i = subst (λ o. HasForm count o) i (term_is_form co
 pub answered_form : (r : Result (Option Form) NoMemory) (e : Term) → IfOk r (λ f. f ≡ form_of_term e) → (count : ℕ) → IsTermOf count e → IfOk r (HasForm count)
 answered_form (Ok f) e i count h = rw i (term_is_form count e h)
 answered_form (Err fault) e i count h = tt
+
+pub more_variables : (n m : ℕ) (e : Term) → n ≤ m → IsTermOf n e → IsTermOf m e
+more_variables n m (Number k) l h = h
+more_variables n m (Var x) l h = let i : x < n = h in let g : x < m = omega arith in g
+more_variables n m (Neg a) l h = more_variables n m a l h
+more_variables n m (Not a) l h = more_variables n m a l h
+more_variables n m (Binary op a b) l h = (more_variables n m a l h.0, more_variables n m b l h.1)
+
+pub answered_difference : (count : ℕ) (r : Result (Option Form) NoMemory) (f g : Option Form) → IfOk r (λ k. k ≡ difference_form f g) → HasForm count f → HasForm count g → IfOk r (HasForm count)
+answered_difference count (Ok k) f g i h j = rw i (difference_is_form count f g h j)
+answered_difference count (Err fault) f g i h j = tt

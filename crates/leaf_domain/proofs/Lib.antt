@@ -4,3 +4,4 @@ pub mod CutLemmas
 pub mod Wrapping
 pub mod FormLemmas
 pub mod Merges
+pub mod Nodes

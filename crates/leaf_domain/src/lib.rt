@@ -2,10 +2,13 @@
 #![tactic(auto)]
 
 pub mod compare;
+mod differences;
+mod evaluation;
 pub mod form;
 pub mod leaf;
 pub mod linear;
 pub mod range;
+mod sides;
 pub mod stops;
 mod terms;
 pub mod transfer;
