@@ -5,3 +5,4 @@ pub mod Wrapping
 pub mod FormLemmas
 pub mod Merges
 pub mod Nodes
+pub mod StopLemmas

@@ -174,3 +174,44 @@ rank_of_evaluate e = 2 * operators_of e + (if is_truth_term e then 1 else 0)
 
 abbrev pub rank_of_split : Term → ℕ
 rank_of_split e = 2 * operators_of e + (if is_truth_term e then 0 else 1)
+
+-- ---- what a pass has found
+
+pub arithmetic_is : (M : LeafMeaning) (mode : Mode) (e : Term) (op : Op) (a b : Term) (v : LeafValue) (f : Option Form) (left right found : Evaluation) → e ≡ Binary op a b → is_truth_term e ≡ false → f ≡ form_of_term e
+    → left ≡ evaluation_of (transfer M mode a) v → right ≡ evaluation_of (transfer M mode b) v → found ≡ arithmetic_at M mode op f left right v → found ≡ evaluation_of (transfer M mode e) v
+arithmetic_is M mode e op a b v f left right found i t ef el er h =
+    h ∙ ap (λ k. arithmetic_at M mode op k left right v) ef ∙ ap (λ k. arithmetic_at M mode op (form_of_term e) k right v) el
+    ∙ ap (λ k. arithmetic_at M mode op (form_of_term e) (evaluation_of (transfer M mode a) v) k v) er
+    ∙ ap (λ k. arithmetic_at M mode op (form_of_term k) (evaluation_of (transfer M mode a) v) (evaluation_of (transfer M mode b) v) v) i
+    ∙ sym (arithmetic_node M mode op a b v (sym (ap is_truth_term i) ∙ t)) ∙ ap (λ k. evaluation_of (transfer M mode k) v) (sym i)
+
+pub number_true_is : (M : LeafMeaning) (mode : Mode) (e : Term) (v w : LeafValue) (found : Evaluation) → is_nothing_of v ≡ false → is_truth_term e ≡ false → found ≡ evaluation_of (transfer M mode e) v
+    → w ≡ compared_zero M compares.Ne e found v → w ≡ (transfer M mode e).when_true v
+number_true_is M mode e v w found n t i h = h ∙ ap (λ k. compared_zero M compares.Ne e k v) i ∙ number_true M mode e v n t
+
+pub number_false_is : (M : LeafMeaning) (mode : Mode) (e : Term) (v w : LeafValue) (found : Evaluation) → is_nothing_of v ≡ false → is_truth_term e ≡ false → found ≡ evaluation_of (transfer M mode e) v
+    → w ≡ compared_zero M compares.Eq e found v → w ≡ (transfer M mode e).when_false v
+number_false_is M mode e v w found n t i h = h ∙ ap (λ k. compared_zero M compares.Eq e k v) i ∙ number_false M mode e v n t
+
+found_both : (M : LeafMeaning) (mode : Mode) (op : Compare) (a b : Term) (v : LeafValue) (left right : Evaluation) → left ≡ evaluation_of (transfer M mode a) v → right ≡ evaluation_of (transfer M mode b) v
+    → compared_terms M op a b left right v ≡ compared_terms M op a b (evaluation_of (transfer M mode a) v) (evaluation_of (transfer M mode b) v) v
+found_both M mode op a b v left right el er = ap (λ k. compared_terms M op a b k right v) el ∙ ap (λ k. compared_terms M op a b (evaluation_of (transfer M mode a) v) k v) er
+
+pub comparison_true_is : (M : LeafMeaning) (mode : Mode) (e : Term) (op : Op) (a b a1 b1 a2 b2 : Term) (v w : LeafValue) (c : Compare) (left right : Evaluation) → e ≡ Binary op a b → a1 ≡ a → b1 ≡ b → a2 ≡ a → b2 ≡ b
+    → is_nothing_of v ≡ false → is_truth_term e ≡ true → (op ≡ And → ⊥) → (op ≡ Or → ⊥) → left ≡ evaluation_of (transfer M mode a1) v → right ≡ evaluation_of (transfer M mode b1) v → c ≡ compare_of_op op
+    → w ≡ compared_terms M c a2 b2 left right v → w ≡ (transfer M mode e).when_true v
+comparison_true_is M mode e op a b a1 b1 a2 b2 v w c left right i p1 q1 p2 q2 n t j k el er ec h =
+    comparison_true M mode op a b v w n (sym (ap is_truth_term i) ∙ t) j k
+    (h ∙ ap (λ x. compared_terms M x a2 b2 left right v) ec ∙ ap (λ x. compared_terms M (compare_of_op op) x b2 left right v) p2 ∙ ap (λ x. compared_terms M (compare_of_op op) a x left right v) q2
+    ∙ found_both M mode (compare_of_op op) a b v left right (el ∙ ap (λ x. evaluation_of (transfer M mode x) v) p1) (er ∙ ap (λ x. evaluation_of (transfer M mode x) v) q1))
+    ∙ ap (λ x. (transfer M mode x).when_true v) (sym i)
+
+pub comparison_false_is : (M : LeafMeaning) (mode : Mode) (e : Term) (op : Op) (a b a1 b1 a2 b2 : Term) (v w : LeafValue) (c : Compare) (left right : Evaluation) → e ≡ Binary op a b → a1 ≡ a → b1 ≡ b → a2 ≡ a → b2 ≡ b
+    → is_nothing_of v ≡ false → is_truth_term e ≡ true → (op ≡ And → ⊥) → (op ≡ Or → ⊥) → left ≡ evaluation_of (transfer M mode a1) v → right ≡ evaluation_of (transfer M mode b1) v → c ≡ compare_of_op op
+    → w ≡ compared_terms M (negation_of c) a2 b2 left right v → w ≡ (transfer M mode e).when_false v
+comparison_false_is M mode e op a b a1 b1 a2 b2 v w c left right i p1 q1 p2 q2 n t j k el er ec h =
+    comparison_false M mode op a b v w n (sym (ap is_truth_term i) ∙ t) j k
+    (h ∙ ap (λ x. compared_terms M (negation_of x) a2 b2 left right v) ec ∙ ap (λ x. compared_terms M (negation_of (compare_of_op op)) x b2 left right v) p2
+    ∙ ap (λ x. compared_terms M (negation_of (compare_of_op op)) a x left right v) q2
+    ∙ found_both M mode (negation_of (compare_of_op op)) a b v left right (el ∙ ap (λ x. evaluation_of (transfer M mode x) v) p1) (er ∙ ap (λ x. evaluation_of (transfer M mode x) v) q1))
+    ∙ ap (λ x. (transfer M mode x).when_false v) (sym i)

@@ -26,6 +26,24 @@ pub(crate) fn form_in<L: Leaf>(alloc: Global, leaf: &L, e: &Expr) -> Result<Opti
     form_of(alloc, e)
 }
 
+/// The form of an expression, where it counts.
+pub(crate) fn counted_form_in<L: Leaf>(
+    alloc: Global,
+    leaf: &L,
+    e: &Expr,
+    counts: bool,
+) -> Result<Option<Form>, NoMemory>
+    requires { IsTermOf (L.value leaf.now).variables (term e.now) }
+    ensures value { IfOk result (λ f. f ≡ form_where counts (form_of_term (term e.now))) }
+    ensures form { IfOk result (HasForm (L.value leaf.now).variables) }
+{
+    if counts {
+        form_in(alloc, leaf, e)
+    } else {
+        Ok(None)
+    }
+}
+
 /// The form of the difference of two expressions, where it counts.
 pub(crate) fn difference_in<L: Leaf>(
     alloc: Global,
