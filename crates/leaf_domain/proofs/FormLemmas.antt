@@ -1,5 +1,5 @@
 -- Sums and multiples of rising terms rise, and the form of an expression is a form over its variables.
-use Rattle.std.proofs.Common.{◌≡◌, ◌≢◌, ℕ, ◌+◌, ◌<◌, ◌≤◌, ◌<ℤ◌, ℤ, pos, negsuc, ◌+ℤ◌, ◌*ℤ◌, ◌≤ℤ◌, int_le, Bool, true, false, ◌&&◌, if◌then◌else◌, List, [], ◌∷◌, ◌++◌, sym, ap, subst, refl, ◌∙◌, arith, Option, Some, None, IfSome, IfOk, Result, Ok, Err}
+use Rattle.std.proofs.Common.{◌≡◌, ◌≢◌, ℕ, ◌+◌, ◌<◌, ◌≤◌, ◌<ℤ◌, ℤ, pos, negsuc, ◌+ℤ◌, ◌*ℤ◌, int_le, Bool, true, false, ◌&&◌, if◌then◌else◌, List, [], ◌∷◌, ◌++◌, sym, subst, refl, arith, Option, Some, None, IfOk, Result, Ok, Err}
 use Rattle.std.proofs.lemmas.Int.{ints}
 use Rattle.std.proofs.lemmas.Cmp.{ranked, int_ranked}
 use Rattle.std.specs.declared.cmp.Ordering.{Ordering}
@@ -11,7 +11,7 @@ use Rattle.c_tree.specs.declared.tree.Op.TheVariants.{Add, Sub, Mul, Div, Rem, L
 use Rattle.c_tree.specs.Tree.{Term, Number, Var, Neg, Not, Binary}
 use Rattle.c_tree.specs.Fit.{IsTermOf}
 use Rattle.leaf_domain.specs.declared.form.Form.{Form}
-use Rattle.leaf_domain.specs.Forms.{IsFormNumber, AreTerms, IsForm, one, placed, with_term, terms_sum, terms_by, constant_form, variable_form, form_sum, form_by, is_form_number, are_form_numbers, kept_form, sum_form, multiple_form, difference_form, has_no_term, product_of, product_form, binary_form, form_of_term}
+use Rattle.leaf_domain.specs.Forms.{IsFormNumber, AreTerms, IsForm, one, placed, with_term, terms_sum, terms_by, constant_form, variable_form, form_sum, form_by, is_form_number, are_form_numbers, kept_form, sum_form, multiple_form, difference_form, has_no_term, product_form, binary_form, form_of_term}
 use Rattle.leaf_domain.specs.Sums.{HasForm}
 use Rattle.leaf_domain.specs.Soundness.{FormsAreForms}
 

@@ -1,26 +1,24 @@
 -- The definitions of transfer by the kind of a node, at Nothing and elsewhere.
-use Rattle.std.proofs.Common.{◌≡◌, ℕ, ◌+◌, ◌*◌, ◌-◌, ◌<◌, ◌≤◌, ℤ, pos, ◌+ℤ◌, ◌-ℤ◌, ◌≤ℤ◌, ◌<ℤ◌, int_lt, int_le, Bool, true, false, ◌&&◌, not, if◌then◌else◌, refl, ap, sym, ◌∙◌, arith, Option, Some, None, IfSome, IfOk, Result, Ok, Err}
-use Rattle.std.proofs.lemmas.Int.{ints, clamps}
-use Rattle.std.specs.Int.{int_min, int_max}
-use Rattle.fam_outer.specs.declared.text.NoMemory.{NoMemory}
+use Rattle.std.proofs.Common.{◌≡◌, ℕ, ◌+◌, ◌*◌, ◌<◌, ℤ, pos, ◌+ℤ◌, ◌-ℤ◌, ◌≤ℤ◌, int_lt, int_le, Bool, true, false, ◌&&◌, not, if◌then◌else◌, refl, ap, sym, ◌∙◌, arith, Option, Some, None, IfSome}
+use Rattle.std.proofs.lemmas.Int.{ints}
 use Rattle.c_tree.specs.declared.tree.Mode.{Mode}
 use Rattle.c_tree.specs.declared.tree.Op.{Op}
 use Rattle.c_tree.specs.declared.tree.Op.TheVariants.{Add, Sub, Mul, Div, Rem, Lt, Le, Gt, Ge, Eq, Ne, And, Or}
 use Rattle.c_tree.specs.Tree.{Term, Number, Var, Neg, Not, Binary}
 use Rattle.c_tree.specs.Fit.{IsTermOf}
-use Rattle.c_tree.specs.Value.{least, greatest, IsInt, wrapped}
+use Rattle.c_tree.specs.Value.{greatest, IsInt, wrapped}
 use Rattle.c_tree.proofs.Values.{IsInt-wrapped}
 use Rattle.leaf_domain.specs.declared.form.Form.{Form}
 use Rattle.leaf_domain.specs.declared.range.Range.{Range}
 use Rattle.leaf_domain.specs.declared.compare.Compare.{Compare}
 use Rattle.leaf_domain.specs.declared.compare.Compare.TheVariants as compares
 use Rattle.leaf_domain.specs.declared.evaluation.Evaluation.{Evaluation}
-use Rattle.leaf_domain.specs.Ranges.{IsInInt, empty_range, is_empty_range, range_at, whole_int, upward_of, shifted_of, fold_of, clip_of, arithmetic_range, is_arithmetic}
+use Rattle.leaf_domain.specs.Ranges.{IsInInt, empty_range, range_at, whole_int, upward_of, shifted_of, fold_of, clip_of, arithmetic_range, is_arithmetic}
 use Rattle.leaf_domain.specs.Compares.{negation_of}
-use Rattle.leaf_domain.specs.Forms.{form_of_term, difference_form}
+use Rattle.leaf_domain.specs.Forms.{form_of_term}
 use Rattle.leaf_domain.specs.Leaves.{LeafValue, LeafMeaning, is_nothing_of}
-use Rattle.leaf_domain.specs.Transfer.{Transfer, transfer, where_some, range_where_some, variable_of, form_where, form_less_zero, zero_range, compared, negated_range, raw_of_sum, results_in, fits_in, is_inside}
-use Rattle.leaf_domain.specs.Evaluations.{evaluation_of, is_truth_term, truth_at, number_at, arithmetic_at, negation_at, compare_of_op, compared_terms, compared_zero}
+use Rattle.leaf_domain.specs.Transfer.{transfer, where_some, range_where_some, variable_of, form_where, form_less_zero, zero_range, compared, negated_range, raw_of_sum, results_in, fits_in, is_inside}
+use Rattle.leaf_domain.specs.Evaluations.{evaluation_of, is_truth_term, truth_at, arithmetic_at, compare_of_op, compared_terms, compared_zero}
 
 -- ---- ranges within `int`
 

@@ -1,15 +1,14 @@
 -- Whether an expression may stop, by the kind of its node.
-use Rattle.std.proofs.Common.{◌≡◌, Bool, true, false, ◌||◌, ◌&&◌, not, if◌then◌else◌, refl, ap, sym, ◌∙◌}
+use Rattle.std.proofs.Common.{◌≡◌, Bool, true, false, if◌then◌else◌, refl, ap, sym, ◌∙◌}
 use Rattle.c_tree.specs.declared.tree.Kind.{Kind}
 use Rattle.c_tree.specs.declared.tree.Mode.{Mode}
 use Rattle.c_tree.specs.declared.tree.Op.{Op}
-use Rattle.c_tree.specs.declared.tree.Op.TheVariants.{Add, Sub, Mul, Div, Rem, Lt, Le, Gt, Ge, Eq, Ne, And, Or}
+use Rattle.c_tree.specs.declared.tree.Op.TheVariants.{Add, And, Or}
 use Rattle.c_tree.specs.Tree.{Term, Number, Var, Neg, Not, Binary}
-use Rattle.leaf_domain.specs.declared.range.Range.{Range}
 use Rattle.leaf_domain.specs.declared.evaluation.Evaluation.{Evaluation}
 use Rattle.leaf_domain.specs.Leaves.{LeafValue, LeafMeaning, is_nothing_of}
 use Rattle.leaf_domain.specs.Transfer.{transfer}
-use Rattle.leaf_domain.specs.Stops.{may_leave, stops_at, either_stops, unless_nothing, may_term}
+use Rattle.leaf_domain.specs.Stops.{stops_at, either_stops, unless_nothing, may_term}
 use Rattle.leaf_domain.specs.Evaluations.{evaluation_of}
 
 at_nothing : (v : LeafValue) (b : Bool) → is_nothing_of v ≡ true → false ≡ unless_nothing v b

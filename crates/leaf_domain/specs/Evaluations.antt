@@ -1,9 +1,9 @@
 -- What one pass over an expression answers in a leaf, by the kind of its node.
-use Rattle.std.specs.Prelude.{ℕ, ◌<◌, ℤ, Bool, true, false, ◌&&◌, ◌||◌, not, Option, None, IfSome}
+use Rattle.std.specs.Prelude.{ℕ, ◌<◌, Bool, true, false, ◌&&◌, not, Option, None, IfSome}
 use Rattle.c_tree.specs.declared.tree.Mode.{Mode}
 use Rattle.c_tree.specs.declared.tree.Op.{Op}
-use Rattle.c_tree.specs.declared.tree.Op.TheVariants.{Div, Rem, Lt, Le, Gt, Ge, Eq, Ne, And, Or}
-use Rattle.c_tree.specs.Tree.{Term, Number, Var, Neg, Not, Binary}
+use Rattle.c_tree.specs.declared.tree.Op.TheVariants.{Div, Rem, Lt, Le, Gt, Ge, Eq}
+use Rattle.c_tree.specs.Tree.{Term, Not, Binary}
 use Rattle.leaf_domain.specs.declared.form.Form.{Form}
 use Rattle.leaf_domain.specs.declared.range.Range.{Range}
 use Rattle.leaf_domain.specs.declared.compare.Compare.{Compare}

@@ -1,4 +1,4 @@
-use Rattle.std.proofs.Common.{sym, ap, ◌∙◌, rules, not, true, false, arith, ◌≡◌}
+use Rattle.std.proofs.Common.{sym, ap, ◌∙◌, true, false, ◌≡◌}
 use Rattle.std.proofs.lemmas.Result.{IfOk-weaker}
 use Rattle.c_tree.specs.View.{term}
 use Rattle.leaf_domain.specs.Evaluations.{evaluation_of, is_truth_term}
