@@ -15,7 +15,7 @@ use Rattle.leaf_domain.specs.Soundness.{FormsAreForms, Suits, TransferHolds}
 use Rattle.leaf_domain.proofs.Results.{gives, in_range_of_int, wrapped_int, and_left, and_right, int_inside}
 use Rattle.leaf_domain.proofs.Comparisons.{held}
 use Rattle.leaf_domain.proofs.SoundLemmas.{range_within, assumed_holds, assigned_holds, forgotten_holds}
-use Rattle.leaf_domain.proofs.StopLemmas.{Given, raw_neg, raw_add, raw_sub, raw_mul, code_may}
+use Rattle.leaf_domain.proofs.SoundStops.{Given, raw_neg, raw_add, raw_sub, raw_mul, code_may}
 
 -- an expression has a value, and the same one in both modes
 record HasValue (e : Term) (s : List ℤ) : Type 0 where

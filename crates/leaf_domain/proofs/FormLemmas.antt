@@ -1,5 +1,5 @@
 -- Sums and multiples of rising terms rise, and the form of an expression is a form over its variables.
-use Rattle.std.proofs.Common.{◌≡◌, ◌≢◌, ℕ, ◌+◌, ◌<◌, ◌≤◌, ◌<ℤ◌, ℤ, pos, negsuc, ◌+ℤ◌, ◌*ℤ◌, ◌≤ℤ◌, int_le, Bool, true, false, ◌&&◌, if◌then◌else◌, List, [], ◌∷◌, ◌++◌, sym, ap, subst, refl, ◌∙◌, arith, Option, Some, None, IfSome, IfOk, Result, Ok, Err}
+use Rattle.std.proofs.Common.{◌≡◌, ◌≢◌, ℕ, ◌+◌, ◌<◌, ◌≤◌, ◌<ℤ◌, ℤ, pos, negsuc, ◌+ℤ◌, ◌*ℤ◌, int_le, Bool, true, false, ◌&&◌, if◌then◌else◌, List, [], ◌∷◌, ◌++◌, sym, subst, refl, arith, Option, Some, None, IfOk, Result, Ok, Err}
 use Rattle.std.proofs.lemmas.Int.{ints}
 use Rattle.std.proofs.lemmas.Cmp.{ranked, int_ranked}
 use Rattle.std.specs.declared.cmp.Ordering.{Ordering}
@@ -11,7 +11,7 @@ use Rattle.c_tree.specs.declared.tree.Op.TheVariants.{Add, Sub, Mul, Div, Rem, L
 use Rattle.c_tree.specs.Tree.{Term, Number, Var, Neg, Not, Binary}
 use Rattle.c_tree.specs.Fit.{IsTermOf}
 use Rattle.leaf_domain.specs.declared.form.Form.{Form}
-use Rattle.leaf_domain.specs.Forms.{IsFormNumber, AreTerms, IsForm, one, placed, with_term, terms_sum, terms_by, constant_form, variable_form, form_sum, form_by, is_form_number, are_form_numbers, kept_form, sum_form, multiple_form, difference_form, has_no_term, product_of, product_form, binary_form, form_of_term}
+use Rattle.leaf_domain.specs.Forms.{IsFormNumber, AreTerms, IsForm, one, placed, with_term, terms_sum, terms_by, constant_form, variable_form, form_sum, form_by, is_form_number, are_form_numbers, kept_form, sum_form, multiple_form, difference_form, has_no_term, product_form, binary_form, form_of_term}
 use Rattle.leaf_domain.specs.Sums.{HasForm}
 use Rattle.leaf_domain.specs.Soundness.{FormsAreForms}
 
@@ -160,3 +160,14 @@ forms_are_forms count e f h i = subst (λ o. HasForm count o) i (term_is_form co
 pub answered_form : (r : Result (Option Form) NoMemory) (e : Term) → IfOk r (λ f. f ≡ form_of_term e) → (count : ℕ) → IsTermOf count e → IfOk r (HasForm count)
 answered_form (Ok f) e i count h = rw i (term_is_form count e h)
 answered_form (Err fault) e i count h = tt
+
+pub more_variables : (n m : ℕ) (e : Term) → n ≤ m → IsTermOf n e → IsTermOf m e
+more_variables n m (Number k) l h = h
+more_variables n m (Var x) l h = let i : x < n = h in let g : x < m = omega arith in g
+more_variables n m (Neg a) l h = more_variables n m a l h
+more_variables n m (Not a) l h = more_variables n m a l h
+more_variables n m (Binary op a b) l h = (more_variables n m a l h.0, more_variables n m b l h.1)
+
+pub answered_difference : (count : ℕ) (r : Result (Option Form) NoMemory) (f g : Option Form) → IfOk r (λ k. k ≡ difference_form f g) → HasForm count f → HasForm count g → IfOk r (HasForm count)
+answered_difference count (Ok k) f g i h j = rw i (difference_is_form count f g h j)
+answered_difference count (Err fault) f g i h j = tt

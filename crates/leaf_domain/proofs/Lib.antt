@@ -4,11 +4,13 @@ pub mod CutLemmas
 pub mod Wrapping
 pub mod FormLemmas
 pub mod Merges
+pub mod Nodes
+pub mod StopLemmas
 mod Products
 mod FormValues
 mod Results
 mod Comparisons
-mod Nodes
+mod SoundNodes
 mod SoundLemmas
-mod StopLemmas
+mod SoundStops
 mod FitLemmas

@@ -21,7 +21,7 @@ use Rattle.leaf_domain.proofs.ArithmeticLemmas.{arithmetic_holds, not_empty}
 use Rattle.leaf_domain.proofs.FormValues.{Comes, number_comes, variable_comes, neg_comes, add_comes, sub_comes, mul_comes}
 use Rattle.leaf_domain.proofs.Results.{gives, gives_same, then_gives, BothGive, both_give, truth_two, truth_one, truth_zero, zero_from_test, nonzero_from_test, and_left, and_right, negated_holds, clip_in_int, clip_holds, in_int_at, whole_in_int, Divides, quotient_gives, remainder_gives}
 use Rattle.leaf_domain.proofs.Comparisons.{AreForms, forms_where, comes_where, nothing_answers, answers_self}
-use Rattle.leaf_domain.proofs.Nodes.{Sound, Results, both_gives, either_gives, numeric_sound, logical_sound, modular_sound, comparison_sound, both_sound, either_sound}
+use Rattle.leaf_domain.proofs.SoundNodes.{Sound, Results, both_gives, either_gives, numeric_sound, logical_sound, modular_sound, comparison_sound, both_sound, either_sound}
 
 -- every expression fits where overflows stop
 pub stop_fits : (M : LeafMeaning) (e : Term) (v : LeafValue) → fits_term M Stop e v ≡ true

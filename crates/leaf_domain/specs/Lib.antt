@@ -4,5 +4,6 @@ pub mod Forms
 pub mod Sums
 pub mod Leaves
 pub mod Transfer
+pub mod Evaluations
 pub mod Stops
 pub mod Soundness

@@ -1,6 +1,5 @@
 -- What transfer keeps, over the laws of a kind of leaf.
-use Rattle.std.specs.Prelude.{◌≡◌, ℕ, ◌<◌, ℤ, pos, Bool, true, false, List, Option, Some, Result, Ok, Err, slice_set}
-use Rattle.std.specs.List.{All}
+use Rattle.std.specs.Prelude.{◌≡◌, ℕ, ◌<◌, ℤ, pos, Bool, true, false, List, Some, Ok, slice_set}
 use Rattle.fam_outer.specs.declared.faults.Place.{Place}
 use Rattle.c_tree.specs.declared.tree.Kind.{Kind}
 use Rattle.c_tree.specs.declared.tree.Mode.{Mode}
@@ -10,7 +9,7 @@ use Rattle.c_tree.specs.Value.{value_of, IsInt}
 use Rattle.c_tree.specs.Fit.{IsTermOf, IsCodeOf}
 use Rattle.c_tree.specs.Run.{step_of, Stopped}
 use Rattle.leaf_domain.specs.declared.form.Form.{Form}
-use Rattle.leaf_domain.specs.Ranges.{Within, IsInInt, is_empty_range, empty_range}
+use Rattle.leaf_domain.specs.Ranges.{Within, IsInInt, empty_range}
 use Rattle.leaf_domain.specs.Forms.{form_of_term, IsForm}
 use Rattle.leaf_domain.specs.Leaves.{LeafValue, LeafMeaning, Answers, is_nothing_of}
 use Rattle.leaf_domain.specs.Transfer.{range_of_term, fits_term, assumed, assigned, forgotten}

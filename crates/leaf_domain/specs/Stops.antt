@@ -3,7 +3,7 @@ use Rattle.std.specs.Prelude.{ℤ, pos, negsuc, int_le, Bool, true, false, if◌
 use Rattle.c_tree.specs.declared.tree.Kind.{Kind}
 use Rattle.c_tree.specs.declared.tree.Kind.TheVariants.{Overflow, ZeroDivisor, Assertion}
 use Rattle.c_tree.specs.declared.tree.Mode.{Mode}
-use Rattle.c_tree.specs.declared.tree.Mode.TheVariants.{Stop, Wrap}
+use Rattle.c_tree.specs.declared.tree.Mode.TheVariants.{Stop}
 use Rattle.c_tree.specs.declared.tree.Op.{Op}
 use Rattle.c_tree.specs.declared.tree.Op.TheVariants.{Add, Sub, Mul, Div, Rem, And, Or}
 use Rattle.c_tree.specs.Tree.{Term, Number, Var, Neg, Not, Binary, Code, Assign, Assert, If, While}

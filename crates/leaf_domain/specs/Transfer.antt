@@ -1,9 +1,9 @@
 -- What an expression does to a leaf, over the meanings of the leaf's operations.
-use Rattle.std.specs.Prelude.{ℕ, ℤ, pos, neg_ℤ, int_le, Bool, true, false, if◌then◌else◌, ◌&&◌, ◌||◌, not, Option, Some, None}
+use Rattle.std.specs.Prelude.{ℕ, pos, neg_ℤ, int_le, Bool, true, false, if◌then◌else◌, ◌&&◌, ◌||◌, not, Option, Some, None}
 use Rattle.c_tree.specs.declared.tree.Mode.{Mode}
 use Rattle.c_tree.specs.declared.tree.Mode.TheVariants.{Stop, Wrap}
 use Rattle.c_tree.specs.declared.tree.Op.{Op}
-use Rattle.c_tree.specs.declared.tree.Op.TheVariants.{Add, Sub, Mul, Div, Rem, Lt, Le, Gt, Ge, Eq, Ne, And, Or}
+use Rattle.c_tree.specs.declared.tree.Op.TheVariants.{Div, Rem, Lt, Le, Gt, Ge, Eq, Ne, And, Or}
 use Rattle.c_tree.specs.Tree.{Term, Number, Var, Neg, Not, Binary}
 use Rattle.c_tree.specs.Value.{least, greatest}
 use Rattle.leaf_domain.specs.declared.form.Form.{Form}

@@ -5,7 +5,7 @@ ghost use Rattle.std.specs.Prelude.{◌≡◌, pos, ◌+ℤ◌, ◌-ℤ◌};
 ghost use Rattle.std.specs.Int.{int_min, int_max};
 ghost use Rattle.c_tree.specs.Value.{IsInt};
 ghost use Rattle.leaf_domain.specs.Ranges.{range_of_ends, IsInInt};
-ghost use Rattle.leaf_domain.specs.Compares.{cut_of, mirror_of, without_number, raised_past, lowered_past};
+ghost use Rattle.leaf_domain.specs.Compares.{cut_of, mirror_of, negation_of, without_number, raised_past, lowered_past};
 
 use crate::range::Range;
 
@@ -91,5 +91,19 @@ pub fn mirror(op: Compare) -> Compare
         Compare::Ge => Compare::Le,
         Compare::Eq => Compare::Eq,
         Compare::Ne => Compare::Ne,
+    }
+}
+
+/// The comparison that holds where this one does not.
+pub(crate) fn negation(op: Compare) -> Compare
+    ensures { result ≡ negation_of op }
+{
+    match op {
+        Compare::Lt => Compare::Ge,
+        Compare::Le => Compare::Gt,
+        Compare::Gt => Compare::Le,
+        Compare::Ge => Compare::Lt,
+        Compare::Eq => Compare::Ne,
+        Compare::Ne => Compare::Eq,
     }
 }

@@ -2,11 +2,14 @@
 #![tactic(auto)]
 
 pub mod compare;
+mod differences;
+mod evaluation;
 pub mod form;
 pub mod laws;
 pub mod leaf;
 pub mod linear;
 pub mod range;
+mod sides;
 pub mod stops;
 mod terms;
 pub mod transfer;

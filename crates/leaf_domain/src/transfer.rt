@@ -4,20 +4,128 @@
 ghost use Rattle.std.specs.Prelude.{◌≡◌, ◌<◌, IfOk};
 ghost use Rattle.c_tree.specs.Fit.{IsTermOf};
 ghost use Rattle.c_tree.specs.View.{term};
+ghost use Rattle.leaf_domain.specs.Ranges.{IsInInt};
+ghost use Rattle.leaf_domain.specs.Sums.{HasForm};
+ghost use Rattle.leaf_domain.specs.Evaluations.{evaluation_of};
 ghost use Rattle.leaf_domain.specs.Transfer as transfer;
 
+use crate::differences::{counted_form_in, form_in};
+use crate::evaluation::{Evaluation, atom, is_truth, negation, operation, truth};
+use crate::form::Form;
 use crate::leaf::Leaf;
 use crate::range::Range;
-use c_tree::{Expr, Mode};
+use crate::sides::{Sides, compare_operands, compare_zero, comparison, joined};
+use c_tree::{Expr, Mode, Op};
 use fam_outer::NoMemory;
 use std::alloc::Global;
+
+/// What is found of an expression in a leaf: each part of it is looked at once.
+#[cycle(transfer)]
+pub(crate) fn evaluate<L: Leaf>(
+    alloc: Global,
+    leaf: &L,
+    e: &Expr,
+    mode: Mode,
+) -> Result<Evaluation, NoMemory>
+    requires { IsTermOf (L.value leaf.now).variables (term e.now) }
+    ensures value { IfOk result (λ found. found ≡ evaluation_of (transfer.transfer L.meaning mode (term e.now)) (L.value leaf.now)) }
+    ensures int { IfOk result (λ found. IsInInt found.range) }
+{
+    let _known = leaf.variables();
+    if is_truth(e) {
+        let sides = split(alloc, leaf, e, mode)?;
+        return Ok(truth(&sides.when_true, &sides.when_false, mode));
+    }
+    match e {
+        Expr::Number(n) => Ok(atom(leaf, Range { low: *n, high: *n })),
+        Expr::Var(x) => Ok(atom(leaf, leaf.bounds_of(*x))),
+        Expr::Neg(a) => {
+            let found = evaluate(alloc, leaf, a, mode)?;
+            let form = form_in(alloc, leaf, e)?;
+            Ok(negation(leaf, mode, &form, found))
+        }
+        Expr::Binary(op, a, b) => {
+            let left = evaluate(alloc, leaf, a, mode)?;
+            let right = evaluate(alloc, leaf, b, mode)?;
+            let form = form_in(alloc, leaf, e)?;
+            Ok(operation(leaf, mode, *op, &form, left, right))
+        }
+        Expr::Not(_) => unreachable!(),
+    }
+}
+
+/// The leaves where an expression is not 0 and where it is: each part of it is looked at once.
+#[cycle(transfer)]
+pub(crate) fn split<L: Leaf>(
+    alloc: Global,
+    leaf: &L,
+    e: &Expr,
+    mode: Mode,
+) -> Result<Sides<L>, NoMemory>
+    requires { IsTermOf (L.value leaf.now).variables (term e.now) }
+    ensures when_true { IfOk result (λ made. L.value made.when_true ≡ (transfer.transfer L.meaning mode (term e.now)).when_true (L.value leaf.now)) }
+    ensures when_false { IfOk result (λ made. L.value made.when_false ≡ (transfer.transfer L.meaning mode (term e.now)).when_false (L.value leaf.now)) }
+    ensures true_same { IfOk result (λ made. (L.value made.when_true).variables ≡ (L.value leaf.now).variables) }
+    ensures false_same { IfOk result (λ made. (L.value made.when_false).variables ≡ (L.value leaf.now).variables) }
+{
+    let _known = leaf.variables();
+    if leaf.is_nothing() {
+        return Ok(Sides {
+            when_true: leaf.copy(alloc)?,
+            when_false: leaf.copy(alloc)?,
+        });
+    }
+    if !is_truth(e) {
+        let found = evaluate(alloc, leaf, e, mode)?;
+        return compare_zero(alloc, leaf, e, found);
+    }
+    match e {
+        Expr::Not(a) => {
+            let Sides {
+                when_true,
+                when_false,
+            } = split(alloc, leaf, a, mode)?;
+            Ok(Sides {
+                when_true: when_false,
+                when_false: when_true,
+            })
+        }
+        Expr::Binary(op, a, b) => match op {
+            Op::And => {
+                let first = split(alloc, leaf, a, mode)?;
+                let second = split(alloc, &first.when_true, b, mode)?;
+                let when_false = joined(alloc, &first.when_false, &second.when_false)?;
+                Ok(Sides {
+                    when_true: second.when_true,
+                    when_false,
+                })
+            }
+            Op::Or => {
+                let first = split(alloc, leaf, a, mode)?;
+                let second = split(alloc, &first.when_false, b, mode)?;
+                let when_true = joined(alloc, &first.when_true, &second.when_true)?;
+                Ok(Sides {
+                    when_true,
+                    when_false: second.when_false,
+                })
+            }
+            _ => {
+                let left = evaluate(alloc, leaf, a, mode)?;
+                let right = evaluate(alloc, leaf, b, mode)?;
+                compare_operands(alloc, leaf, comparison(*op), a, b, left, right)
+            }
+        },
+        _ => unreachable!(),
+    }
+}
 
 /// The range of the values of an expression before it is clipped to `int` or folded into it.
 pub fn raw_of<L: Leaf>(alloc: Global, leaf: &L, e: &Expr, mode: Mode) -> Result<Range, NoMemory>
     requires { IsTermOf (L.value leaf.now).variables (term e.now) }
     ensures { IfOk result (λ r. r ≡ transfer.raw_of_term L.meaning mode (term e.now) (L.value leaf.now)) }
 {
-    Err(NoMemory)
+    let found = evaluate(alloc, leaf, e, mode)?;
+    Ok(found.raw)
 }
 
 /// The range of the values of an expression at the stores of a leaf.
@@ -25,7 +133,8 @@ pub fn range_of<L: Leaf>(alloc: Global, leaf: &L, e: &Expr, mode: Mode) -> Resul
     requires { IsTermOf (L.value leaf.now).variables (term e.now) }
     ensures { IfOk result (λ r. r ≡ transfer.range_of_term L.meaning mode (term e.now) (L.value leaf.now)) }
 {
-    Err(NoMemory)
+    let found = evaluate(alloc, leaf, e, mode)?;
+    Ok(found.range)
 }
 
 /// Whether no negation, sum, difference or product in the expression leaves `int` at a store of the
@@ -34,7 +143,8 @@ pub fn fits<L: Leaf>(alloc: Global, leaf: &L, e: &Expr, mode: Mode) -> Result<bo
     requires { IsTermOf (L.value leaf.now).variables (term e.now) }
     ensures { IfOk result (λ b. b ≡ transfer.fits_term L.meaning mode (term e.now) (L.value leaf.now)) }
 {
-    Err(NoMemory)
+    let found = evaluate(alloc, leaf, e, mode)?;
+    Ok(found.fits)
 }
 
 /// The leaf where an expression is not 0, or is 0.
@@ -49,7 +159,32 @@ pub fn assume<L: Leaf>(
     ensures value { IfOk result (λ made. L.value made ≡ transfer.assumed L.meaning mode (term e.now) want (L.value leaf.now)) }
     ensures same { IfOk result (λ made. (L.value made).variables ≡ (L.value leaf.now).variables) }
 {
-    Err(NoMemory)
+    let Sides {
+        when_true,
+        when_false,
+    } = split(alloc, leaf, e, mode)?;
+    if want { Ok(when_true) } else { Ok(when_false) }
+}
+
+/// The leaf with a variable set to a form, where there is one, or to a range.
+fn set<L: Leaf>(
+    alloc: Global,
+    leaf: &L,
+    x: u32,
+    form: &Option<Form>,
+    range: Range,
+) -> Result<L, NoMemory>
+    requires x { x < (L.value leaf.now).variables }
+    requires form { HasForm (L.value leaf.now).variables form.now }
+    requires range { IsInInt range }
+    ensures value { IfOk result (λ made. L.value made ≡ transfer.form_set L.meaning x form.now range (L.value leaf.now)) }
+    ensures same { IfOk result (λ made. (L.value made).variables ≡ (L.value leaf.now).variables) }
+{
+    let _known = leaf.variables();
+    match form {
+        None => leaf.set_range(alloc, x, range),
+        Some(form) => leaf.set_form(alloc, x, form, range),
+    }
 }
 
 /// The leaf after `x = e`.
@@ -59,7 +194,12 @@ pub fn assign<L: Leaf>(alloc: Global, leaf: &L, x: u32, e: &Expr, mode: Mode) ->
     ensures value { IfOk result (λ made. L.value made ≡ transfer.assigned L.meaning mode x (term e.now) (L.value leaf.now)) }
     ensures same { IfOk result (λ made. (L.value made).variables ≡ (L.value leaf.now).variables) }
 {
-    Err(NoMemory)
+    let found = evaluate(alloc, leaf, e, mode)?;
+    if found.range.is_empty() {
+        return L::nothing(alloc, leaf.variables());
+    }
+    let form = counted_form_in(alloc, leaf, e, found.fits)?;
+    set(alloc, leaf, x, &form, found.range)
 }
 
 /// The leaf after `x = input()`, which is any number of `int`.
@@ -68,5 +208,6 @@ pub fn forget<L: Leaf>(alloc: Global, leaf: &L, x: u32) -> Result<L, NoMemory>
     ensures value { IfOk result (λ made. L.value made ≡ transfer.forgotten L.meaning x (L.value leaf.now)) }
     ensures same { IfOk result (λ made. (L.value made).variables ≡ (L.value leaf.now).variables) }
 {
-    Err(NoMemory)
+    let _known = leaf.variables();
+    leaf.set_range(alloc, x, Range::INT)
 }

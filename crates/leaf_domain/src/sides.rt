@@ -1,0 +1,225 @@
+//! The leaves where an expression is not 0 and where it is.
+#![tactic(auto)]
+
+ghost use Rattle.std.specs.Prelude.{◌≡◌, ◌<◌, IfOk, IfSome};
+ghost use Rattle.c_tree.specs.Fit.{IsTermOf};
+ghost use Rattle.c_tree.specs.View.{term};
+ghost use Rattle.leaf_domain.specs.declared.compare.Compare.TheVariants.{Ne, Eq};
+ghost use Rattle.leaf_domain.specs.Ranges.{IsInInt};
+ghost use Rattle.leaf_domain.specs.Compares.{negation_of};
+ghost use Rattle.leaf_domain.specs.Sums.{HasForm};
+ghost use Rattle.leaf_domain.specs.Transfer.{variable_of, met, form_met};
+ghost use Rattle.leaf_domain.specs.Evaluations.{IsOperand, compared_at, compared_terms, compared_zero, compare_of_op};
+
+use crate::compare::{Compare, cut, mirror, negation};
+use crate::differences::{difference_in, less_zero_in};
+use crate::evaluation::Evaluation;
+use crate::form::Form;
+use crate::leaf::Leaf;
+use crate::range::Range;
+use c_tree::{Expr, Op};
+use fam_outer::NoMemory;
+use std::alloc::Global;
+
+/// A leaf where an expression is not 0, and one where it is.
+#[derive(Drop)]
+pub struct Sides<L> {
+    pub when_true: L,
+    pub when_false: L,
+}
+
+/// An operand of a comparison: which variable it is, where it is one, and its range.
+#[derive(Clone, Copy, Debug)]
+pub struct Operand {
+    pub variable: Option<u32>,
+    pub range: Range,
+}
+
+/// The number of a variable, where the expression is one.
+fn variable_in(e: &Expr) -> Option<u32>
+    ensures { result ≡ variable_of (term e.now) }
+{
+    match e {
+        Expr::Var(x) => Some(*x),
+        _ => None,
+    }
+}
+
+/// The operand that is this expression of this range.
+fn operand_of<L: Leaf>(leaf: &L, e: &Expr, range: Range) -> Operand
+    requires e { IsTermOf (L.value leaf.now).variables (term e.now) }
+    requires range { IsInInt range }
+    ensures variable { result.variable ≡ variable_of (term e.now) }
+    ensures range { result.range ≡ range }
+    ensures over { IsOperand (L.value leaf.now).variables result }
+{
+    Operand {
+        variable: variable_in(e),
+        range,
+    }
+}
+
+/// The comparison of an operator, and for any other operator that with 0.
+pub(crate) fn comparison(op: Op) -> Compare
+    ensures { result ≡ compare_of_op op }
+{
+    match op {
+        Op::Lt => Compare::Lt,
+        Op::Le => Compare::Le,
+        Op::Gt => Compare::Gt,
+        Op::Ge => Compare::Ge,
+        Op::Eq => Compare::Eq,
+        _ => Compare::Ne,
+    }
+}
+
+/// The same stores by the bounds that are best.
+fn best<L: Leaf>(alloc: Global, leaf: &L) -> Result<L, NoMemory>
+    ensures value { IfOk result (λ made. L.value made ≡ L.meaning.best (L.value leaf.now)) }
+    ensures same { IfOk result (λ made. (L.value made).variables ≡ (L.value leaf.now).variables) }
+{
+    let _known = leaf.variables();
+    leaf.best(alloc)
+}
+
+/// The join of two leaves.
+pub(crate) fn joined<L: Leaf>(alloc: Global, a: &L, b: &L) -> Result<L, NoMemory>
+    requires { (L.value a.now).variables ≡ (L.value b.now).variables }
+    ensures value { IfOk result (λ made. L.value made ≡ L.meaning.join (L.value a.now) (L.value b.now)) }
+    ensures same { IfOk result (λ made. (L.value made).variables ≡ (L.value a.now).variables) }
+{
+    let _known = a.variables();
+    let _known = b.variables();
+    a.join(alloc, b)
+}
+
+/// The leaf met with the range of a variable, where there is one.
+fn meet_variable<L: Leaf>(alloc: Global, leaf: &L, x: Option<u32>, r: Range) -> Result<L, NoMemory>
+    requires x { IfSome x (λ x. x < (L.value leaf.now).variables) }
+    requires r { IsInInt r }
+    ensures value { IfOk result (λ made. L.value made ≡ met L.meaning x r (L.value leaf.now)) }
+    ensures same { IfOk result (λ made. (L.value made).variables ≡ (L.value leaf.now).variables) }
+{
+    let _known = leaf.variables();
+    match x {
+        None => leaf.copy(alloc),
+        Some(x) => leaf.meet_range(alloc, x, r),
+    }
+}
+
+/// The leaf met with the comparison of a form with 0, where there is one.
+fn meet_form<L: Leaf>(
+    alloc: Global,
+    leaf: &L,
+    form: &Option<Form>,
+    op: Compare,
+) -> Result<L, NoMemory>
+    requires { HasForm (L.value leaf.now).variables form.now }
+    ensures value { IfOk result (λ made. L.value made ≡ form_met L.meaning form.now op (L.value leaf.now)) }
+    ensures same { IfOk result (λ made. (L.value made).variables ≡ (L.value leaf.now).variables) }
+{
+    let _known = leaf.variables();
+    match form {
+        None => leaf.copy(alloc),
+        Some(form) => leaf.meet_form(alloc, form, op),
+    }
+}
+
+/// The leaf where the comparison of two operands holds, whose difference has the form.
+fn compare<L: Leaf>(
+    alloc: Global,
+    leaf: &L,
+    op: Compare,
+    a: Operand,
+    b: Operand,
+    form: &Option<Form>,
+) -> Result<L, NoMemory>
+    requires a { IsOperand (L.value leaf.now).variables a }
+    requires b { IsOperand (L.value leaf.now).variables b }
+    requires form { HasForm (L.value leaf.now).variables form.now }
+    ensures value { IfOk result (λ made. L.value made ≡ compared_at L.meaning op a b form.now (L.value leaf.now)) }
+    ensures same { IfOk result (λ made. (L.value made).variables ≡ (L.value leaf.now).variables) }
+{
+    let first = cut(op, a.range, b.range);
+    if a.range.is_empty() || b.range.is_empty() || first.is_empty() {
+        return L::nothing(alloc, leaf.variables());
+    }
+    let second = cut(mirror(op), b.range, a.range);
+    let made = best(alloc, leaf)?;
+    let made = meet_variable(alloc, &made, a.variable, first)?;
+    let made = meet_variable(alloc, &made, b.variable, second)?;
+    meet_form(alloc, &made, form, op)
+}
+
+/// Both outcomes of a comparison.
+fn compare_both<L: Leaf>(
+    alloc: Global,
+    leaf: &L,
+    op: Compare,
+    a: Operand,
+    b: Operand,
+    form: &Option<Form>,
+) -> Result<Sides<L>, NoMemory>
+    requires a { IsOperand (L.value leaf.now).variables a }
+    requires b { IsOperand (L.value leaf.now).variables b }
+    requires form { HasForm (L.value leaf.now).variables form.now }
+    ensures when_true { IfOk result (λ made. L.value made.when_true ≡ compared_at L.meaning op a b form.now (L.value leaf.now)) }
+    ensures when_false { IfOk result (λ made. L.value made.when_false ≡ compared_at L.meaning (negation_of op) a b form.now (L.value leaf.now)) }
+    ensures true_same { IfOk result (λ made. (L.value made.when_true).variables ≡ (L.value leaf.now).variables) }
+    ensures false_same { IfOk result (λ made. (L.value made.when_false).variables ≡ (L.value leaf.now).variables) }
+{
+    let when_true = compare(alloc, leaf, op, a, b, form)?;
+    let when_false = compare(alloc, leaf, negation(op), a, b, form)?;
+    Ok(Sides {
+        when_true,
+        when_false,
+    })
+}
+
+/// Both outcomes of the comparison of two expressions, by what was found of them.
+pub(crate) fn compare_operands<L: Leaf>(
+    alloc: Global,
+    leaf: &L,
+    op: Compare,
+    a: &Expr,
+    b: &Expr,
+    left: Evaluation,
+    right: Evaluation,
+) -> Result<Sides<L>, NoMemory>
+    requires a { IsTermOf (L.value leaf.now).variables (term a.now) }
+    requires b { IsTermOf (L.value leaf.now).variables (term b.now) }
+    requires left { IsInInt left.range }
+    requires right { IsInInt right.range }
+    ensures when_true { IfOk result (λ made. L.value made.when_true ≡ compared_terms L.meaning op (term a.now) (term b.now) left right (L.value leaf.now)) }
+    ensures when_false { IfOk result (λ made. L.value made.when_false ≡ compared_terms L.meaning (negation_of op) (term a.now) (term b.now) left right (L.value leaf.now)) }
+    ensures true_same { IfOk result (λ made. (L.value made.when_true).variables ≡ (L.value leaf.now).variables) }
+    ensures false_same { IfOk result (λ made. (L.value made.when_false).variables ≡ (L.value leaf.now).variables) }
+{
+    let form = difference_in(alloc, leaf, a, b, left.fits && right.fits)?;
+    let a = operand_of(leaf, a, left.range);
+    let b = operand_of(leaf, b, right.range);
+    compare_both(alloc, leaf, op, a, b, &form)
+}
+
+/// The leaves where a number is not 0 and where it is, by what was found of it.
+pub(crate) fn compare_zero<L: Leaf>(
+    alloc: Global,
+    leaf: &L,
+    e: &Expr,
+    found: Evaluation,
+) -> Result<Sides<L>, NoMemory>
+    requires e { IsTermOf (L.value leaf.now).variables (term e.now) }
+    requires found { IsInInt found.range }
+    ensures when_true { IfOk result (λ made. L.value made.when_true ≡ compared_zero L.meaning Ne (term e.now) found (L.value leaf.now)) }
+    ensures when_false { IfOk result (λ made. L.value made.when_false ≡ compared_zero L.meaning Eq (term e.now) found (L.value leaf.now)) }
+    ensures true_same { IfOk result (λ made. (L.value made.when_true).variables ≡ (L.value leaf.now).variables) }
+    ensures false_same { IfOk result (λ made. (L.value made.when_false).variables ≡ (L.value leaf.now).variables) }
+{
+    let form = less_zero_in(alloc, leaf, e, found.fits)?;
+    let zero = Operand {
+        variable: None,
+        range: Range { low: 0, high: 0 },
+    };
+    let number = operand_of(leaf, e, found.range);
+    compare_both(alloc, leaf, Compare::Ne, number, zero, &form)
+}
