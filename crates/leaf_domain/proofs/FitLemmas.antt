@@ -1,21 +1,20 @@
 -- Where an expression fits, no sum or product in it leaves `int`: it has a value, and the same one in both modes.
-use Rattle.std.proofs.Common.{◌≡◌, ℤ, pos, neg_ℤ, slice_index_or, ◌+ℤ◌, ◌-ℤ◌, ◌*ℤ◌, Bool, true, false, ◌&&◌, List, Result, Ok, Err, refl, ap, sym, ◌∙◌, subst}
-use Rattle.c_tree.specs.declared.tree.Kind.{Kind}
+use Rattle.std.proofs.Common.{◌≡◌, ℤ, pos, neg_ℤ, slice_index_or, ◌+ℤ◌, ◌-ℤ◌, ◌*ℤ◌, true, false, ◌&&◌, List, Ok, refl, ap, subst}
 use Rattle.c_tree.specs.declared.tree.Mode.{Mode}
 use Rattle.c_tree.specs.declared.tree.Mode.TheVariants.{Stop, Wrap}
 use Rattle.c_tree.specs.declared.tree.Op.TheVariants.{Add, Sub, Mul, Div, Rem, Lt, Le, Gt, Ge, Eq, Ne, And, Or}
 use Rattle.c_tree.specs.Tree.{Term, Number, Var, Neg, Not, Binary}
-use Rattle.c_tree.specs.Value.{value_of, in_range, wrapped, IsInt, ◌>>=◌}
+use Rattle.c_tree.specs.Value.{value_of, IsInt}
 use Rattle.c_tree.specs.Fit.{IsTermOf}
 use Rattle.leaf_domain.specs.declared.range.Range.{Range}
 use Rattle.leaf_domain.specs.Ranges.{Within}
 use Rattle.leaf_domain.specs.Leaves.{LeafValue, LeafMeaning, LeafLaws, is_nothing_of}
-use Rattle.leaf_domain.specs.Transfer.{transfer, raw_of_term, range_where_some, fits_term, is_inside}
-use Rattle.leaf_domain.specs.Soundness.{FormsAreForms, Suits, TransferHolds}
+use Rattle.leaf_domain.specs.Transfer.{range_where_some, fits_term, is_inside}
+use Rattle.leaf_domain.specs.Soundness.{FormsAreForms, TransferHolds}
 use Rattle.leaf_domain.proofs.Results.{gives, in_range_of_int, wrapped_int, and_left, and_right, int_inside}
 use Rattle.leaf_domain.proofs.Comparisons.{held}
 use Rattle.leaf_domain.proofs.SoundLemmas.{range_within, assumed_holds, assigned_holds, forgotten_holds}
-use Rattle.leaf_domain.proofs.SoundStops.{Given, raw_neg, raw_add, raw_sub, raw_mul, code_may}
+use Rattle.leaf_domain.proofs.SoundStops.{raw_neg, raw_add, raw_sub, raw_mul, code_may}
 
 -- an expression has a value, and the same one in both modes
 record HasValue (e : Term) (s : List ℤ) : Type 0 where

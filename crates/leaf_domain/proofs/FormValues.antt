@@ -9,7 +9,7 @@ use Rattle.std.specs.Ordering.{nat_cmp, int_eq, MatchOrdering}
 use Rattle.c_tree.specs.declared.tree.Op.TheVariants.{Add, Sub, Mul}
 use Rattle.c_tree.specs.Tree.{Term, Number, Var, Neg, Binary}
 use Rattle.leaf_domain.specs.declared.form.Form.{Form}
-use Rattle.leaf_domain.specs.Forms.{terms_at, form_at, one, placed, with_term, terms_sum, terms_by, form_sum, form_by, are_form_numbers, is_form_number, kept_form, sum_form, multiple_form, difference_form, product_of, product_form, has_no_term, form_of_term}
+use Rattle.leaf_domain.specs.Forms.{terms_at, form_at, one, placed, with_term, terms_sum, terms_by, form_sum, form_by, are_form_numbers, is_form_number, kept_form, sum_form, multiple_form, difference_form, product_form, has_no_term, form_of_term}
 use Rattle.leaf_domain.proofs.Products.{sum_times, passed}
 
 zero_of : (a : ℤ) → int_eq a (pos 0) ≡ true → a ≡ pos 0

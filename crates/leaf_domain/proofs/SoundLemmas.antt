@@ -1,27 +1,26 @@
 -- Transfer is sound: each value is in its range, and each store where an expression is as wanted is kept.
-use Rattle.std.proofs.Common.{◌≡◌, ◌≢◌, ◌⊎◌, inl, inr, ℕ, ◌<◌, ℤ, pos, negsuc, neg_ℤ, ◌+ℤ◌, ◌-ℤ◌, ◌*ℤ◌, ◌≤ℤ◌, Bool, true, false, not, ◌&&◌, if◌then◌else◌, List, Option, Some, None, Result, Ok, Err, refl, ap, sym, ◌∙◌, subst, arith, slice_set, slice_index_or}
+use Rattle.std.proofs.Common.{◌≡◌, ◌≢◌, ℕ, ◌<◌, ℤ, pos, neg_ℤ, ◌+ℤ◌, ◌-ℤ◌, ◌*ℤ◌, ◌≤ℤ◌, Bool, true, false, not, ◌&&◌, if◌then◌else◌, List, Option, Some, None, Ok, refl, ap, sym, ◌∙◌, subst, arith, slice_set}
 use Rattle.std.proofs.lemmas.Int.{ints}
-use Rattle.c_tree.specs.declared.tree.Kind.{Kind}
 use Rattle.c_tree.specs.declared.tree.Mode.{Mode}
-use Rattle.c_tree.specs.declared.tree.Mode.TheVariants.{Stop, Wrap}
+use Rattle.c_tree.specs.declared.tree.Mode.TheVariants.{Stop}
 use Rattle.c_tree.specs.declared.tree.Op.{Op}
 use Rattle.c_tree.specs.declared.tree.Op.TheVariants.{Add, Sub, Mul, Div, Rem, Lt, Le, Gt, Ge, Eq, Ne, And, Or}
 use Rattle.c_tree.specs.Tree.{Term, Number, Var, Neg, Not, Binary}
-use Rattle.c_tree.specs.Value.{value_of, result_in, truth_of, greatest, IsInt, is_zero, quotient_of, remainder_of, ◌>>=◌}
+use Rattle.c_tree.specs.Value.{value_of, result_in, truth_of, greatest, IsInt, is_zero, quotient_of, remainder_of}
 use Rattle.c_tree.specs.Fit.{IsTermOf}
 use Rattle.leaf_domain.specs.declared.form.Form.{Form}
 use Rattle.leaf_domain.specs.declared.range.Range.{Range}
 use Rattle.leaf_domain.specs.declared.compare.Compare.TheVariants as compares
 use Rattle.leaf_domain.specs.Ranges.{Within, IsInInt, exact, range_at, empty_range, is_empty_range, whole_int, clip_of, arithmetic_range}
-use Rattle.leaf_domain.specs.Forms.{form_of_term, IsForm}
+use Rattle.leaf_domain.specs.Forms.{form_of_term}
 use Rattle.leaf_domain.specs.Leaves.{LeafValue, LeafMeaning, LeafLaws, Answers, nothing_of, is_nothing_of}
-use Rattle.leaf_domain.specs.Transfer.{Transfer, transfer, where_some, range_where_some, range_of_sides, truth_range, fits_in, form_where, logical, numeric, divided, negated_range, range_of_term, fits_term, assumed, assigned, form_set, forgotten}
+use Rattle.leaf_domain.specs.Transfer.{transfer, where_some, range_where_some, range_of_sides, truth_range, fits_in, form_where, numeric, negated_range, range_of_term, fits_term, assumed, assigned, form_set, forgotten}
 use Rattle.leaf_domain.specs.Soundness.{FormsAreForms, IsWanted, Suits, TransferAnswers}
 use Rattle.leaf_domain.proofs.ArithmeticLemmas.{arithmetic_holds, not_empty}
 use Rattle.leaf_domain.proofs.FormValues.{Comes, number_comes, variable_comes, neg_comes, add_comes, sub_comes, mul_comes}
-use Rattle.leaf_domain.proofs.Results.{gives, gives_same, then_gives, BothGive, both_give, truth_two, truth_one, truth_zero, zero_from_test, nonzero_from_test, and_left, and_right, negated_holds, clip_in_int, clip_holds, in_int_at, whole_in_int, Divides, quotient_gives, remainder_gives}
-use Rattle.leaf_domain.proofs.Comparisons.{AreForms, forms_where, comes_where, nothing_answers, answers_self}
-use Rattle.leaf_domain.proofs.SoundNodes.{Sound, Results, both_gives, either_gives, numeric_sound, logical_sound, modular_sound, comparison_sound, both_sound, either_sound}
+use Rattle.leaf_domain.proofs.Results.{gives, gives_same, then_gives, both_give, truth_two, truth_one, truth_zero, zero_from_test, nonzero_from_test, and_left, and_right, negated_holds, clip_in_int, clip_holds, in_int_at, whole_in_int, quotient_gives, remainder_gives}
+use Rattle.leaf_domain.proofs.Comparisons.{AreForms, forms_where, comes_where, nothing_answers}
+use Rattle.leaf_domain.proofs.SoundNodes.{Sound, both_gives, either_gives, numeric_sound, logical_sound, modular_sound, comparison_sound, both_sound, either_sound}
 
 -- every expression fits where overflows stop
 pub stop_fits : (M : LeafMeaning) (e : Term) (v : LeafValue) → fits_term M Stop e v ≡ true
@@ -65,8 +64,8 @@ module _ (M : LeafMeaning) (laws : LeafLaws M) (mode : Mode) (forms : FormsAreFo
   neg_sound : (a : Term) → Sound M mode a (transfer M mode a) → Sound M mode (Neg a) (transfer M mode (Neg a))
   neg_sound a d = modular_sound M laws mode forms (Neg a) (transfer M mode a).fits (λ v. negated_range ((transfer M mode a).range v)) refl (fits_always M mode a)
       (λ v s k h o w g.
-        let t = then_gives (value_of a s mode) (λ n. result_in mode (neg_ℤ n)) k g in
-        record { whole = neg_ℤ t.0; within = negated_holds t.0 _ (d.range_holds v s t.0 h o w t.1); is = t.2; comes = λ f. neg_comes s a t.0 (d.form_comes v s t.0 h o w f t.1) })
+      let t = then_gives (value_of a s mode) (λ n. result_in mode (neg_ℤ n)) k g in
+      record { whole = neg_ℤ t.0; within = negated_holds t.0 _ (d.range_holds v s t.0 h o w t.1); is = t.2; comes = λ f. neg_comes s a t.0 (d.form_comes v s t.0 h o w f t.1) })
 
   -- a sum, a difference or a product
   abbrev pub BothFit : Term → Term → LeafValue → Bool
@@ -84,35 +83,35 @@ module _ (M : LeafMeaning) (laws : LeafLaws M) (mode : Mode) (forms : FormsAreFo
   add_sound : (a b : Term) → Sound M mode a (transfer M mode a) → Sound M mode b (transfer M mode b) → Sound M mode (Binary Add a b) (transfer M mode (Binary Add a b))
   add_sound a b da db = modular_sound M laws mode forms (Binary Add a b) (BothFit a b) (ranges_of Add a b) refl (both_fit a b)
       (λ v s k h o w g.
-        let t = both_give (value_of a s mode) (value_of b s mode) (λ n m. result_in mode (n +ℤ m)) k g in
-        record {
-          whole = t.first +ℤ t.second;
-          within = exact_within Add a b v t.first t.second (t.first +ℤ t.second) (da.range_holds v s t.first h o.0 w t.first_is) (db.range_holds v s t.second h o.1 w t.second_is) refl (λ q. cc);
-          is = t.is;
-          comes = λ f. add_comes s a b t.first t.second (da.form_comes v s t.first h o.0 w (and_left _ _ f) t.first_is) (db.form_comes v s t.second h o.1 w (and_right _ _ f) t.second_is);
-        })
+      let t = both_give (value_of a s mode) (value_of b s mode) (λ n m. result_in mode (n +ℤ m)) k g in
+      record {
+        whole = t.first +ℤ t.second;
+        within = exact_within Add a b v t.first t.second (t.first +ℤ t.second) (da.range_holds v s t.first h o.0 w t.first_is) (db.range_holds v s t.second h o.1 w t.second_is) refl (λ q. cc);
+        is = t.is;
+        comes = λ f. add_comes s a b t.first t.second (da.form_comes v s t.first h o.0 w (and_left _ _ f) t.first_is) (db.form_comes v s t.second h o.1 w (and_right _ _ f) t.second_is);
+      })
 
   sub_sound : (a b : Term) → Sound M mode a (transfer M mode a) → Sound M mode b (transfer M mode b) → Sound M mode (Binary Sub a b) (transfer M mode (Binary Sub a b))
   sub_sound a b da db = modular_sound M laws mode forms (Binary Sub a b) (BothFit a b) (ranges_of Sub a b) refl (both_fit a b)
       (λ v s k h o w g.
-        let t = both_give (value_of a s mode) (value_of b s mode) (λ n m. result_in mode (n -ℤ m)) k g in
-        record {
-          whole = t.first -ℤ t.second;
-          within = exact_within Sub a b v t.first t.second (t.first -ℤ t.second) (da.range_holds v s t.first h o.0 w t.first_is) (db.range_holds v s t.second h o.1 w t.second_is) refl (λ q. cc);
-          is = t.is;
-          comes = λ f. sub_comes s a b t.first t.second (da.form_comes v s t.first h o.0 w (and_left _ _ f) t.first_is) (db.form_comes v s t.second h o.1 w (and_right _ _ f) t.second_is);
-        })
+      let t = both_give (value_of a s mode) (value_of b s mode) (λ n m. result_in mode (n -ℤ m)) k g in
+      record {
+        whole = t.first -ℤ t.second;
+        within = exact_within Sub a b v t.first t.second (t.first -ℤ t.second) (da.range_holds v s t.first h o.0 w t.first_is) (db.range_holds v s t.second h o.1 w t.second_is) refl (λ q. cc);
+        is = t.is;
+        comes = λ f. sub_comes s a b t.first t.second (da.form_comes v s t.first h o.0 w (and_left _ _ f) t.first_is) (db.form_comes v s t.second h o.1 w (and_right _ _ f) t.second_is);
+      })
 
   mul_sound : (a b : Term) → Sound M mode a (transfer M mode a) → Sound M mode b (transfer M mode b) → Sound M mode (Binary Mul a b) (transfer M mode (Binary Mul a b))
   mul_sound a b da db = modular_sound M laws mode forms (Binary Mul a b) (BothFit a b) (ranges_of Mul a b) refl (both_fit a b)
       (λ v s k h o w g.
-        let t = both_give (value_of a s mode) (value_of b s mode) (λ n m. result_in mode (n *ℤ m)) k g in
-        record {
-          whole = t.first *ℤ t.second;
-          within = exact_within Mul a b v t.first t.second (t.first *ℤ t.second) (da.range_holds v s t.first h o.0 w t.first_is) (db.range_holds v s t.second h o.1 w t.second_is) refl (λ q. cc);
-          is = t.is;
-          comes = λ f. mul_comes s a b t.first t.second (da.form_comes v s t.first h o.0 w (and_left _ _ f) t.first_is) (db.form_comes v s t.second h o.1 w (and_right _ _ f) t.second_is);
-        })
+      let t = both_give (value_of a s mode) (value_of b s mode) (λ n m. result_in mode (n *ℤ m)) k g in
+      record {
+        whole = t.first *ℤ t.second;
+        within = exact_within Mul a b v t.first t.second (t.first *ℤ t.second) (da.range_holds v s t.first h o.0 w t.first_is) (db.range_holds v s t.second h o.1 w t.second_is) refl (λ q. cc);
+        is = t.is;
+        comes = λ f. mul_comes s a b t.first t.second (da.form_comes v s t.first h o.0 w (and_left _ _ f) t.first_is) (db.form_comes v s t.second h o.1 w (and_right _ _ f) t.second_is);
+      })
 
   -- a quotient or a remainder
   divided_sound : (op : Op) (a b : Term) → form_of_term (Binary op a b) ≡ None

@@ -1,13 +1,12 @@
 -- Each node of an expression: its range has its values, and each store where it is as wanted is kept.
-use Rattle.std.proofs.Common.{◌≡◌, ◌≢◌, ◌⊎◌, inl, inr, ℕ, ◌<◌, ℤ, pos, ◌-ℤ◌, ◌≤ℤ◌, Bool, true, false, not, ◌&&◌, if◌then◌else◌, List, Option, Some, None, Result, Ok, Err, refl, ap, sym, ◌∙◌, subst, arith}
-use Rattle.std.specs.Ordering.{int_eq}
+use Rattle.std.proofs.Common.{◌≡◌, ◌≢◌, ◌⊎◌, inl, inr, ℕ, ℤ, pos, ◌-ℤ◌, ◌≤ℤ◌, Bool, true, false, not, ◌&&◌, if◌then◌else◌, List, Option, Some, None, Result, Ok, Err, refl, ap, sym, ◌∙◌, subst, arith}
 use Rattle.std.proofs.lemmas.Int.{ints}
 use Rattle.c_tree.specs.declared.tree.Kind.{Kind}
 use Rattle.c_tree.specs.declared.tree.Mode.{Mode}
 use Rattle.c_tree.specs.declared.tree.Mode.TheVariants.{Stop, Wrap}
 use Rattle.c_tree.specs.declared.tree.Op.TheVariants.{Sub}
 use Rattle.c_tree.specs.Tree.{Term, Number, Binary}
-use Rattle.c_tree.specs.Value.{value_of, result_in, wrapped, truth_of, greatest, is_zero, ◌>>=◌}
+use Rattle.c_tree.specs.Value.{value_of, result_in, truth_of, greatest, is_zero, ◌>>=◌}
 use Rattle.c_tree.specs.Fit.{IsTermOf}
 use Rattle.leaf_domain.specs.declared.form.Form.{Form}
 use Rattle.leaf_domain.specs.declared.range.Range.{Range}
@@ -17,12 +16,12 @@ use Rattle.leaf_domain.specs.Ranges.{Within, IsInInt, empty_range}
 use Rattle.leaf_domain.specs.Compares.{holds_between, negation_of}
 use Rattle.leaf_domain.specs.Forms.{form_of_term}
 use Rattle.leaf_domain.specs.Leaves.{LeafValue, LeafMeaning, LeafLaws, Alike, Answers, is_nothing_of}
-use Rattle.leaf_domain.specs.Transfer.{Transfer, where_some, range_where_some, truth_range, range_of_sides, fits_in, logical, variable_of, form_where, compared, comparison, numeric, zero_range, form_less_zero, is_inside, results_in, form_range_of, narrowed_by, raw_of_sum, modular, both, either}
+use Rattle.leaf_domain.specs.Transfer.{Transfer, where_some, range_where_some, range_of_sides, fits_in, logical, variable_of, form_where, compared, comparison, numeric, zero_range, form_less_zero, is_inside, results_in, narrowed_by, raw_of_sum, modular, both, either}
 use Rattle.leaf_domain.specs.Soundness.{FormsAreForms}
 use Rattle.leaf_domain.proofs.CutLemmas.{negation_holds}
 use Rattle.leaf_domain.proofs.FormValues.{Comes, sub_comes, number_comes}
-use Rattle.leaf_domain.proofs.Results.{gives, gives_same, then_gives, both_give, in_range_gives, wrapped_int, truth_two, truth_one, truth_zero, zero_from_test, nonzero_from_test, test_of_nonzero, not_true, not_false, and_left, and_right, meet_holds, empty_in_int, zero_in_int, truth_in_int, truth_has_one, truth_has_zero, results_in_int, results_hold, int_inside}
-use Rattle.leaf_domain.proofs.Comparisons.{AreForms, forms_where, comes_where, held, answers_self, answers_then, term_over, where_answers, where_holds, compared_answers, compared_holds}
+use Rattle.leaf_domain.proofs.Results.{gives, gives_same, both_give, in_range_gives, wrapped_int, truth_two, truth_one, truth_zero, zero_from_test, nonzero_from_test, test_of_nonzero, not_true, not_false, and_left, and_right, meet_holds, empty_in_int, zero_in_int, truth_in_int, truth_has_one, truth_has_zero, results_in_int, results_hold, int_inside}
+use Rattle.leaf_domain.proofs.Comparisons.{AreForms, forms_where, comes_where, held, answers_then, term_over, where_answers, where_holds, compared_answers, compared_holds}
 
 -- what is shown of each node
 pub record Sound (M : LeafMeaning) (mode : Mode) (e : Term) (T : Transfer) : Type 0 where

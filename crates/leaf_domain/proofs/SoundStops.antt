@@ -1,5 +1,5 @@
 -- Where a store stops, the statement may stop; and where an expression fits, no sum or product in it leaves `int`.
-use Rattle.std.proofs.Common.{◌≡◌, ◌≢◌, ◌⊎◌, inl, inr, ℕ, ◌<◌, ℤ, pos, negsuc, neg_ℤ, ◌+ℤ◌, ◌-ℤ◌, ◌*ℤ◌, int_le, int_lt, int_div, int_rem, Bool, true, false, not, ◌&&◌, ◌||◌, if◌then◌else◌, List, Option, Some, None, Result, Ok, Err, refl, ap, sym, ◌∙◌, subst, arith, slice_get}
+use Rattle.std.proofs.Common.{◌≡◌, ◌≢◌, ◌⊎◌, inl, inr, ℕ, ℤ, pos, negsuc, neg_ℤ, ◌+ℤ◌, ◌-ℤ◌, ◌*ℤ◌, int_le, int_lt, int_div, int_rem, Bool, true, false, not, ◌&&◌, ◌||◌, if◌then◌else◌, List, Option, Some, None, Result, Ok, Err, refl, ap, sym, ◌∙◌, subst, arith, slice_get}
 use Rattle.std.specs.Ordering.{int_eq}
 use Rattle.std.proofs.lemmas.Int.{ints}
 use Rattle.fam_outer.specs.declared.faults.Place.{Place}
@@ -11,23 +11,22 @@ use Rattle.c_tree.specs.declared.tree.Op.{Op}
 use Rattle.c_tree.specs.declared.tree.Op.TheVariants.{Add, Sub, Mul, Div, Rem, Lt, Le, Gt, Ge, Eq, Ne, And, Or}
 use Rattle.c_tree.specs.Tree as tree
 use Rattle.c_tree.specs.Tree.{Term, Number, Var, Neg, Not, Binary, Code}
-use Rattle.c_tree.specs.Value.{value_of, result_in, in_range, wrapped, truth_of, least, IsInt, is_zero, quotient_of, remainder_of, ◌>>=◌}
+use Rattle.c_tree.specs.Value.{value_of, result_in, in_range, truth_of, least, IsInt, is_zero, quotient_of, remainder_of, ◌>>=◌}
 use Rattle.c_tree.specs.Fit.{IsTermOf, IsCodeOf}
-use Rattle.c_tree.specs.Run.{Outcome, Moved, Stopped, Waiting, with_value, with_input, step_of, Standing}
-use Rattle.leaf_domain.specs.declared.form.Form.{Form}
+use Rattle.c_tree.specs.Run.{Outcome, Moved, Stopped, with_value, with_input, step_of, Standing}
 use Rattle.leaf_domain.specs.declared.range.Range.{Range}
-use Rattle.leaf_domain.specs.Ranges.{Within, is_empty_range, arithmetic_range, exact}
+use Rattle.leaf_domain.specs.Ranges.{Within, is_empty_range}
 use Rattle.leaf_domain.specs.Forms.{form_of_term}
-use Rattle.leaf_domain.specs.Leaves.{LeafValue, LeafMeaning, LeafLaws, Answers, is_nothing_of}
-use Rattle.leaf_domain.specs.Transfer.{transfer, raw_of_term, range_of_term, fits_term, fits_in, assumed, is_inside, negated_range, raw_of_sum}
+use Rattle.leaf_domain.specs.Leaves.{LeafValue, LeafMeaning, LeafLaws, Answers}
+use Rattle.leaf_domain.specs.Transfer.{transfer, raw_of_term, range_of_term, assumed, is_inside, negated_range}
 use Rattle.leaf_domain.specs.Stops.{has_number, may_leave, stops_at, either_stops, unless_nothing, may_term, is_of_value, may_fail, may_at}
-use Rattle.leaf_domain.specs.Soundness.{FormsAreForms, Suits, TransferHolds}
-use Rattle.leaf_domain.proofs.ArithmeticLemmas.{arithmetic_holds, not_empty}
+use Rattle.leaf_domain.specs.Soundness.{FormsAreForms}
+use Rattle.leaf_domain.proofs.ArithmeticLemmas.{not_empty}
 use Rattle.leaf_domain.proofs.FormValues.{Comes, neg_comes, add_comes, sub_comes, mul_comes}
-use Rattle.leaf_domain.proofs.Results.{gives, gives_same, then_gives, then_stops, BothGive, both_give, Stopping, at_left, at_right, at_operator, both_stop, in_range_stops, in_range_of_int, result_stops, wrapped_int, zero_from_test, nonzero_from_test, and_left, and_right, negated_holds, int_inside}
+use Rattle.leaf_domain.proofs.Results.{gives, then_stops, Stopping, at_left, at_right, at_operator, both_stop, in_range_stops, result_stops, zero_from_test, nonzero_from_test, and_left, and_right, negated_holds, int_inside}
 use Rattle.leaf_domain.proofs.Comparisons.{held, term_over}
 use Rattle.leaf_domain.proofs.SoundNodes.{Sound, raw_holds}
-use Rattle.leaf_domain.proofs.SoundLemmas.{transfer_sound, transfer_answers, BothFit, ranges_of, exact_within, range_within, assumed_holds, assumed_answers, assigned_holds, forgotten_holds}
+use Rattle.leaf_domain.proofs.SoundLemmas.{transfer_sound, BothFit, ranges_of, exact_within, assumed_holds, assumed_answers}
 
 -- ---- tests
 
@@ -212,7 +211,7 @@ module _ (M : LeafMeaning) (laws : LeafLaws M) (mode : Mode) (forms : FormsAreFo
       → ((s : List ℤ) → value_of (Binary op a b) s mode ≡ (value_of a s mode >>= λ n. value_of b s mode >>= λ m. f n m))
       → ((n : ℕ) → IsTermOf n (Binary op a b) → IsTermOf n a × IsTermOf n b)
       → ((kind : Kind) (v : LeafValue) (s : List ℤ) (n m : ℤ) → Given a b v s n m → f n m ≡ Err kind
-        → (is_of_value kind ≡ true) × (stops_at mode kind op (raw_of_term M mode (Binary op a b) v) (range_of_term M mode a v) (range_of_term M mode b v) ≡ true))
+      → (is_of_value kind ≡ true) × (stops_at mode kind op (raw_of_term M mode (Binary op a b) v) (range_of_term M mode a v) (range_of_term M mode b v) ≡ true))
       → Stops (Binary op a b)
   unfolding Stops
   operands_stop op a b f sa sb may_is is over own kind v s h o w g = by_cause (both_stop (value_of a s mode) (value_of b s mode) f kind (sym (is s) ∙ g))
@@ -245,7 +244,7 @@ module _ (M : LeafMeaning) (laws : LeafLaws M) (mode : Mode) (forms : FormsAreFo
           record {
             of_value = of_overflow kind r.1;
             may = unless_held v s _ w (or_right (may_term M mode kind a v) _
-              (ap (λ t. not t && may_leave mode kind (raw_of_term M mode (Neg a) v)) (not_empty n _ ((sound a).range_holds v s n h o w d)) ∙ leaves mode kind _ r.0 r.1 (outside (neg_ℤ n) _ (raw_neg a v s n h o w d) r.2)));
+                (ap (λ t. not t && may_leave mode kind (raw_of_term M mode (Neg a) v)) (not_empty n _ ((sound a).range_holds v s n h o w d)) ∙ leaves mode kind _ r.0 r.1 (outside (neg_ℤ n) _ (raw_neg a v s n h o w d) r.2)));
           }
 
   not_stops : (a : Term) → Stops a → Stops (Not a)
@@ -307,7 +306,7 @@ module _ (M : LeafMeaning) (laws : LeafLaws M) (mode : Mode) (forms : FormsAreFo
       by_cause Overflow (inr q) = (
         refl,
         ap (λ t. t && has_number (negsuc 0) (range_of_term M mode b v)) (has_within least _ (subst (λ (x : ℤ). Within x (range_of_term M mode a v)) q.1 (left_within a b v s n m p)))
-        ∙ has_within (negsuc 0) _ (subst (λ (x : ℤ). Within x (range_of_term M mode b v)) q.2 (right_within a b v s n m p)),
+            ∙ has_within (negsuc 0) _ (subst (λ (x : ℤ). Within x (range_of_term M mode b v)) q.2 (right_within a b v s n m p)),
       )
       by_cause ZeroDivisor (inr q) = cc q.0
       by_cause Assertion (inr q) = cc q.0
