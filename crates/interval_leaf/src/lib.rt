@@ -9,3 +9,5 @@ pub use leaf::IntervalLeaf;
 
 #[cfg(test)]
 mod tests;
+#[cfg(test)]
+mod transfer_tests;

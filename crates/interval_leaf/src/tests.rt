@@ -9,12 +9,12 @@ use leaf_domain::{Leaf, Range};
 use std::alloc::Global;
 use std::test::Fail;
 
-const LEAST: i64 = -2147483648;
+pub(crate) const LEAST: i64 = -2147483648;
 
-const GREATEST: i64 = 2147483647;
+pub(crate) const GREATEST: i64 = 2147483647;
 
 /// The leaf in which the first variable has these bounds, and the second is 7.
-fn leaf(alloc: Global, low: i64, high: i64) -> Result<IntervalLeaf, NoMemory>
+pub(crate) fn leaf(alloc: Global, low: i64, high: i64) -> Result<IntervalLeaf, NoMemory>
     requires low { IsInt low }
     requires high { IsInt high }
     ensures { IfOk result (λ made. made.variables ≡ 2) }

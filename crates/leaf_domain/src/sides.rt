@@ -83,7 +83,7 @@ fn best<L: Leaf>(alloc: Global, leaf: &L) -> Result<L, NoMemory>
 }
 
 /// The join of two leaves.
-pub(crate) fn joined<L: Leaf>(alloc: Global, a: &L, b: &L) -> Result<L, NoMemory>
+fn joined<L: Leaf>(alloc: Global, a: &L, b: &L) -> Result<L, NoMemory>
     requires { (L.value a.now).variables ≡ (L.value b.now).variables }
     ensures value { IfOk result (λ made. L.value made ≡ L.meaning.join (L.value a.now) (L.value b.now)) }
     ensures same { IfOk result (λ made. (L.value made).variables ≡ (L.value a.now).variables) }
@@ -91,6 +91,68 @@ pub(crate) fn joined<L: Leaf>(alloc: Global, a: &L, b: &L) -> Result<L, NoMemory
     let _known = a.variables();
     let _known = b.variables();
     a.join(alloc, b)
+}
+
+/// Both sides of a leaf that holds no store: the leaf.
+pub(crate) fn copies<L: Leaf>(alloc: Global, leaf: &L) -> Result<Sides<L>, NoMemory>
+    ensures when_true { IfOk result (λ made. L.value made.when_true ≡ L.value leaf.now) }
+    ensures when_false { IfOk result (λ made. L.value made.when_false ≡ L.value leaf.now) }
+{
+    Ok(Sides {
+        when_true: leaf.copy(alloc)?,
+        when_false: leaf.copy(alloc)?,
+    })
+}
+
+/// The sides of `!a` by those of `a`.
+pub(crate) fn swapped<L: Leaf>(sides: Sides<L>) -> Sides<L>
+    ensures when_true { result.when_true ≡ sides.when_false }
+    ensures when_false { result.when_false ≡ sides.when_true }
+{
+    let Sides {
+        when_true,
+        when_false,
+    } = sides;
+    Sides {
+        when_true: when_false,
+        when_false: when_true,
+    }
+}
+
+/// The sides of `a && b` by those of `a`, and by those of `b` where `a` is not 0.
+pub(crate) fn both<L: Leaf>(
+    alloc: Global,
+    first: Sides<L>,
+    second: Sides<L>,
+) -> Result<Sides<L>, NoMemory>
+    requires { (L.value first.when_false).variables ≡ (L.value second.when_false).variables }
+    ensures when_true { IfOk result (λ made. L.value made.when_true ≡ L.value second.when_true) }
+    ensures when_false { IfOk result (λ made. L.value made.when_false ≡ L.meaning.join (L.value first.when_false) (L.value second.when_false)) }
+    ensures same { IfOk result (λ made. (L.value made.when_false).variables ≡ (L.value first.when_false).variables) }
+{
+    let when_false = joined(alloc, &first.when_false, &second.when_false)?;
+    Ok(Sides {
+        when_true: second.when_true,
+        when_false,
+    })
+}
+
+/// The sides of `a || b` by those of `a`, and by those of `b` where `a` is 0.
+pub(crate) fn either<L: Leaf>(
+    alloc: Global,
+    first: Sides<L>,
+    second: Sides<L>,
+) -> Result<Sides<L>, NoMemory>
+    requires { (L.value first.when_true).variables ≡ (L.value second.when_true).variables }
+    ensures when_true { IfOk result (λ made. L.value made.when_true ≡ L.meaning.join (L.value first.when_true) (L.value second.when_true)) }
+    ensures when_false { IfOk result (λ made. L.value made.when_false ≡ L.value second.when_false) }
+    ensures same { IfOk result (λ made. (L.value made.when_true).variables ≡ (L.value first.when_true).variables) }
+{
+    let when_true = joined(alloc, &first.when_true, &second.when_true)?;
+    Ok(Sides {
+        when_true,
+        when_false: second.when_false,
+    })
 }
 
 /// The leaf met with the range of a variable, where there is one.

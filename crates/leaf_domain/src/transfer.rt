@@ -14,7 +14,9 @@ use crate::evaluation::{Evaluation, atom, is_truth, negation, operation, truth};
 use crate::form::Form;
 use crate::leaf::Leaf;
 use crate::range::Range;
-use crate::sides::{Sides, compare_operands, compare_zero, comparison, joined};
+use crate::sides::{
+    Sides, both, compare_operands, compare_zero, comparison, copies, either, swapped,
+};
 use c_tree::{Expr, Mode, Op};
 use fam_outer::NoMemory;
 use std::alloc::Global;
@@ -70,44 +72,24 @@ pub(crate) fn split<L: Leaf>(
 {
     let _known = leaf.variables();
     if leaf.is_nothing() {
-        return Ok(Sides {
-            when_true: leaf.copy(alloc)?,
-            when_false: leaf.copy(alloc)?,
-        });
+        return copies(alloc, leaf);
     }
     if !is_truth(e) {
         let found = evaluate(alloc, leaf, e, mode)?;
         return compare_zero(alloc, leaf, e, found);
     }
     match e {
-        Expr::Not(a) => {
-            let Sides {
-                when_true,
-                when_false,
-            } = split(alloc, leaf, a, mode)?;
-            Ok(Sides {
-                when_true: when_false,
-                when_false: when_true,
-            })
-        }
+        Expr::Not(a) => Ok(swapped(split(alloc, leaf, a, mode)?)),
         Expr::Binary(op, a, b) => match op {
             Op::And => {
                 let first = split(alloc, leaf, a, mode)?;
                 let second = split(alloc, &first.when_true, b, mode)?;
-                let when_false = joined(alloc, &first.when_false, &second.when_false)?;
-                Ok(Sides {
-                    when_true: second.when_true,
-                    when_false,
-                })
+                both(alloc, first, second)
             }
             Op::Or => {
                 let first = split(alloc, leaf, a, mode)?;
                 let second = split(alloc, &first.when_false, b, mode)?;
-                let when_true = joined(alloc, &first.when_true, &second.when_true)?;
-                Ok(Sides {
-                    when_true,
-                    when_false: second.when_false,
-                })
+                either(alloc, first, second)
             }
             _ => {
                 let left = evaluate(alloc, leaf, a, mode)?;
