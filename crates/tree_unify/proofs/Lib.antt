@@ -11,3 +11,4 @@ pub mod Making
 pub mod Mapped
 pub mod Unified
 pub mod Within
+pub mod FormulaTrees

@@ -28,9 +28,9 @@ use Rattle.tree_unify.proofs.Unified.{unified_at_leaves, unified_of_sides, tests
 use Rattle.tree_unify.proofs.Pairs.{has_of_two}
 
 -- the leaf that an operation gives
-pub made_leaf : {A B C F E : Type 0} (g : Shared F (Bor A × (Bor B × Unit {0})) (Result C E)) (f : F) (x : Bor A) (y : Bor B) (z : C) (o : Result C E) (forest : List (Plain C)) (a : A) (b : B) (r : Numbered C) → x.now ≡ a → y.now ≡ b → g.post f (x, (y, tt)) o → o ≡ Ok z → erase r ≡ leaf z → IsOf forest r → IsMade (λ p q s. OpReturns g f p q (Ok s)) forest (leaf a) (leaf b) r
-made_leaf g f x y z o forest a b r d e h i same own = record {
-  unified = subst (IsUnified (λ p q s. OpReturns g f p q (Ok s)) (leaf a) (leaf b)) (sym same) (unified_at_leaves g f x y z o a b d e h i);
+pub made_leaf : {A B C F E : Type 0} (g : Shared F (Bor A × (Bor B × Unit {0})) (Result C E)) (f : F) (z : C) (o : Result C E) (forest : List (Plain C)) (a : A) (b : B) (r : Numbered C) → OpReturns g f a b o → o ≡ Ok z → erase r ≡ leaf z → IsOf forest r → IsMade (λ p q s. OpReturns g f p q (Ok s)) forest (leaf a) (leaf b) r
+made_leaf {C = C} {E = E} g f z o forest a b r h e same own = record {
+  unified = subst (IsUnified (λ p q s. OpReturns g f p q (Ok s)) (leaf a) (leaf b)) (sym same) (unified_at_leaves g f z a b (subst (λ (x : Result C E). OpReturns g f a b x) e h));
   reduced = λ m p q. subst (IsReducedFrom m) (sym same) tt;
   tests = subst (TestsAreOfEither (leaf a) (leaf b)) (sym same) (record { each = λ k w. absurd w });
   own = own;

@@ -76,12 +76,5 @@ module _ {A B C : Type 0} where
       (λ r e. record { each = tests_of_made k t t0 t1 u u0 u1 p q (plain r) a b here f g e }) h
 
 -- what an operation gives for two leaves
-pub unified_at_leaves : {A B C : Type 0} {F E : Type 0} (g : Shared F (Bor A × (Bor B × Unit {0})) (Result C E)) (f : F) (x : Bor A) (y : Bor B) (z : C) (o : Result C E) (a : A) (b : B) → x.now ≡ a → y.now ≡ b → g.post f (x, (y, tt)) o → o ≡ Ok z → IsUnified (λ p q r. OpReturns g f p q (Ok r)) (leaf a) (leaf b) (leaf z)
-unified_at_leaves g f x y z o a b d e h i = record {
-  at_each = λ v. record {
-    first = x;
-    second = y;
-    shows = (d, e);
-    says = record { met = subst (λ s. g.post f (x, (y, tt)) s) i h };
-  };
-}
+pub unified_at_leaves : {A B C : Type 0} {F E : Type 0} (g : Shared F (Bor A × (Bor B × Unit {0})) (Result C E)) (f : F) (z : C) (a : A) (b : B) → OpReturns g f a b (Ok z) → IsUnified (λ p q r. OpReturns g f p q (Ok r)) (leaf a) (leaf b) (leaf z)
+unified_at_leaves g f z a b h = record { at_each = λ v. h }

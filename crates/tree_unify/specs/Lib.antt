@@ -4,3 +4,4 @@ pub mod Leafwise
 pub mod Leaves
 pub mod Made
 pub mod Sides
+pub mod Formulas

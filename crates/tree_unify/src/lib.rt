@@ -1,6 +1,7 @@
 //! Operations on reduced trees, leaf by leaf.
 #![tactic(auto)]
 
+pub mod formulas;
 pub mod leafwise;
 pub mod memo;
 pub mod numbered;
@@ -8,6 +9,7 @@ pub mod restricted;
 pub mod sides;
 pub mod steps;
 
+pub use formulas::test_tree;
 pub use leafwise::{map, select, unify};
 pub use numbered::{map_in, unify_in};
 pub use restricted::restrict;

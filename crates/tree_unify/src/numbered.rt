@@ -28,14 +28,30 @@ struct Operands<'a, A, B> {
     u: &'a Tree<B>,
 }
 
-/// The leaf that the operation gives for two leaves, noted for their pair.
-fn unify_new<A, B, C: Eq + Hash + Drop, F: Fn(&A, &B) -> Result<C, NoMemory>>(
+/// What the operation gives for two leaves. Its call is one step.
+fn call_counted<A, B, C, K: Ledger, F: Fn(&A, &B) -> Result<C, NoMemory>>(
+    op: &F,
+    a: &Kept<A>,
+    b: &Kept<B>,
+    steps: &mut Steps<K>,
+) -> Result<C, NoMemory>
+    requires callable { IsCallableAtPairs F.Fn op.now (leaf a.now.value) (leaf b.now.value) }
+    ensures answer { OpReturns F.Fn op.now a.now.value b.now.value result }
+    ensures counted { steps.new ≡ steps.old + 1 }
+{
+    steps.tick();
+    op(value_of(a), value_of(b))
+}
+
+/// The leaf that the operation gives for two leaves, noted for their pair: one step.
+fn unify_new<A, B, C: Eq + Hash + Drop, K: Ledger, F: Fn(&A, &B) -> Result<C, NoMemory>>(
     forest: &mut Forest<C>,
     op: &F,
     a: &Kept<A>,
     b: &Kept<B>,
     pair: Pair,
     entries: &mut IndexMap<Pair, Tree<C>>,
+    steps: &mut Steps<K>,
 ) -> Result<Tree<C>, NoMemory>
     requires callable { IsCallableAtPairs F.Fn op.now (leaf a.now.value) (leaf b.now.value) }
     requires exact { IsExact C.eq }
@@ -43,9 +59,10 @@ fn unify_new<A, B, C: Eq + Hash + Drop, F: Fn(&A, &B) -> Result<C, NoMemory>>(
         (leaf a.now.value) (leaf b.now.value) (numbered r)) }
     ensures noted { IfOk result (λ r. IsNoted pair (numbered r)
         entries.old.entries entries.new.entries) }
+    ensures counted { steps.new ≡ steps.old + 1 }
     ensures keeps { Keeps forest.old forest.new }
 {
-    let made = op(value_of(a), value_of(b))?;
+    let made = call_counted(op, a, b, steps)?;
     let tree = forest.leaf(made)?;
     let noted = tree.share()?;
     remember(entries, pair, noted)?;
@@ -90,8 +107,7 @@ fn unify_leaves<A, B, C: Eq + Hash + Drop, K: Ledger, F: Fn(&A, &B) -> Result<C,
     if let Some(known) = find(&memo.leaves, &pair) {
         return known.share();
     }
-    steps.tick();
-    unify_new(forest, op, a, b, pair, &mut memo.leaves)
+    unify_new(forest, op, a, b, pair, &mut memo.leaves, steps)
 }
 
 /// The forest's tree of a test and two sides, noted for the pair that it is made of.

@@ -23,9 +23,9 @@ returns-clause-known g c =
 pub returns-clause-counted : goal.returns-clause-counted
 returns-clause-counted g c =
     let none : lookup (same_pair (record { left = c.args.a.now.number; right = c.args.b.now.number })) c.args.memo.now.leaves.entries ≡ None = search rules in
-    counted_leaf c.args.memo.now.leaves.entries c.unify_new.new.entries.entries c.unify_new.result _ c.args.steps.now c.tick.new.self none c.tick.ensures c.unify_new.ensures.noted
+    counted_leaf c.args.memo.now.leaves.entries c.unify_new.new.entries.entries c.unify_new.result _ c.args.steps.now c.unify_new.new.steps none c.unify_new.ensures.counted c.unify_new.ensures.noted
 
 pub returns-clause-bounded : goal.returns-clause-bounded
 returns-clause-bounded g c =
     let none : lookup (same_pair (record { left = c.args.a.now.number; right = c.args.b.now.number })) c.args.memo.now.leaves.entries ≡ None = search rules in
-    bounded_leaf (numbered c.args.whole.now.t.now) (numbered c.args.whole.now.u.now) c.args.memo.now.leaves.entries c.args.memo.now.nodes.entries _ c.args.a.now.number c.args.b.now.number c.args.a.now.value c.args.b.now.value c.args.steps.now c.tick.new.self c.requires.t_numbered c.requires.u_numbered c.requires.known none c.requires.a_within c.requires.b_within refl refl c.tick.ensures
+    bounded_leaf (numbered c.args.whole.now.t.now) (numbered c.args.whole.now.u.now) c.args.memo.now.leaves.entries c.args.memo.now.nodes.entries _ c.args.a.now.number c.args.b.now.number c.args.a.now.value c.args.b.now.value c.args.steps.now c.unify_new.new.steps c.requires.t_numbered c.requires.u_numbered c.requires.known none c.requires.a_within c.requires.b_within refl refl c.unify_new.ensures.counted
