@@ -5,3 +5,6 @@ pub mod Values
 pub mod Assertions
 pub mod Runs
 pub mod Statements
+pub mod Listed
+pub mod Rounds
+pub mod Sizes

@@ -3,12 +3,19 @@
 #![tactic(auto)]
 
 pub mod alarm;
+mod entries;
+pub mod findings;
+mod after;
 mod leaf;
+pub mod options;
 mod range;
+
 mod straight;
 mod transfer;
 
 pub use alarm::{Alarm, Alarms};
+pub use findings::{Findings, PlaceLeaf, PlaceLeaves};
+pub use options::Options;
 pub use straight::analyse_straight;
 
 #[cfg(test)]
