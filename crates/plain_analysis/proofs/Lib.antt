@@ -8,3 +8,6 @@ pub mod Statements
 pub mod Listed
 pub mod Rounds
 pub mod Sizes
+pub mod EnteredLemmas
+pub mod Settles
+pub mod Recursion

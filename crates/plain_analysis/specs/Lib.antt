@@ -7,3 +7,4 @@ pub mod Statements
 pub mod Places
 pub mod Promises
 pub mod Found
+pub mod Entered
