@@ -11,3 +11,5 @@ pub mod Sizes
 pub mod EnteredLemmas
 pub mod Settles
 pub mod Recursion
+pub mod Located
+pub mod Foreseen

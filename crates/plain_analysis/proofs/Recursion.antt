@@ -106,7 +106,7 @@ module _ (M : LeafMeaning) (laws : LeafLaws M) (o : Options) (A : TransferAnswer
       answers_then x _ _ i (A.assumed_answers test false (final_leaf M o test f x) (suits test (final_leaf M o test f x) x.variables i.valid i.same t))
 
   -- the join of two leaves that answer one
-  join_answer : (x a b : LeafValue) → Answers M x a → Answers M x b → Answers M x (M.join a b)
+  pub join_answer : (x a b : LeafValue) → Answers M x a → Answers M x b → Answers M x (M.join a b)
   join_answer x a b h k = answers_then x a _ h (laws.join_answers a b (record { first = h.valid; second = k.valid; same = h.same ∙ sym k.same }))
 
   pub after_keeps : (code : Code) (n : ℕ) → IsCodeOf n code → Keeps n (after_of M o code)
@@ -229,3 +229,11 @@ module _ (M : LeafMeaning) (laws : LeafLaws M) (o : Options) (A : TransferAnswer
         entered = λ s p. laws.leq_holds _ _ s compared settled (laws.join_holds _ _ s joined (inl p));
         again = λ s p. laws.leq_holds _ _ s compared settled (laws.join_holds _ _ s joined (inr p));
       }
+
+  -- the same of code over the leaf's own variables
+  pub after_answers : (c : Code) (v : LeafValue) → M.valid v → IsCodeOf v.variables c → Answers M v (after_of M o c v)
+  unfolding Keeps
+  after_answers c v h n = after_keeps c v.variables n v h refl
+
+  pub final_of_code : (e : Term) (body : Code) (v : LeafValue) → M.valid v → IsTermOf v.variables e → IsCodeOf v.variables body → Answers M v (final_leaf M o e (after_of M o body) v)
+  final_of_code e body v h t n = final_answers e (after_of M o body) v h t (after_keeps body v.variables n)
