@@ -13,3 +13,4 @@ pub mod Settles
 pub mod Recursion
 pub mod Located
 pub mod Foreseen
+pub mod Promised

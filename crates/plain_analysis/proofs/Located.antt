@@ -21,7 +21,7 @@ use Rattle.plain_analysis.specs.Statements.{Entry, after_of, entries_of}
 use Rattle.plain_analysis.specs.Places.{is_same_place, entry_in, entry_of, leaf_or, at_of, may_stop, alarm_of, alarm_where, alarms_at, alarms_over, alarms_of}
 use Rattle.plain_analysis.specs.Found.{leaves_in, alarms_in}
 
-pub place_of : Entry → Place
+unfoldable pub place_of : Entry → Place
 place_of e = e.place
 
 -- ---- places
@@ -36,7 +36,7 @@ before_other : (a b : Place) → IsTrue (is_before a b) → is_same_place a b �
 before_other a b h = grind arith
 
 -- each entry of a list is the one that is found at its place
-pub IsListed : List Entry → List Entry → Type 0
+unfoldable pub IsListed : List Entry → List Entry → Type 0
 IsListed all es = AllByRecursion (λ e. entry_in all e.place ≡ Some e) es
 
 listed_behind : (e : Entry) (all es : List Entry) (tail : List Place) → IsBeforeAll e.place (map place_of es ++ tail) → IsListed all es → IsListed (e ∷ all) es
@@ -93,7 +93,7 @@ module _ (M : LeafMeaning) (o : Options) where
 
   -- ---- what is found at the places
 
-  pub leaf_of : Entry → LeafValue
+  unfoldable pub leaf_of : Entry → LeafValue
   leaf_of e = e.leaf
 
   pub leaves_found : (all es : List Entry) (other : Place → LeafValue) → IsListed all es → map (λ (p : Place). leaf_or (other p) (entry_in all p)) (map place_of es) ≡ map leaf_of es

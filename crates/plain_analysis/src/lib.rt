@@ -6,6 +6,7 @@ pub mod alarm;
 mod entries;
 pub mod findings;
 mod after;
+mod analysis;
 mod leaf;
 pub mod options;
 mod range;
@@ -13,6 +14,7 @@ mod range;
 mod straight;
 mod transfer;
 
+pub use analysis::analyse_one;
 pub use alarm::{Alarm, Alarms};
 pub use findings::{Findings, PlaceLeaf, PlaceLeaves};
 pub use options::Options;
