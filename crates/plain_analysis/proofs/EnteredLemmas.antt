@@ -1,5 +1,5 @@
 -- Statements entered one after another.
-use Rattle.std.proofs.Common.{◌≡◌, ℕ, List, [], ◌∷◌, ◌++◌, ◌+◌, ◌<◌, take, length, get_or, map, true, false, refl, ap, sym, subst, ◌∙◌, append_assoc, append-nil}
+use Rattle.std.proofs.Common.{◌≡◌, List, [], ◌∷◌, ◌++◌, map, true, false, refl, ap, sym, subst, ◌∙◌, append_assoc, append-nil}
 use Rattle.std.specs.Prelude.{Result, Ok, Err, OnOk}
 use Rattle.fam_outer.specs.declared.faults.Place.{Place}
 use Rattle.std.specs.declared.vec.Vec.{Vec}
@@ -7,19 +7,16 @@ use Rattle.std.specs.declared.alloc.Global.{Global}
 use Rattle.c_tree.specs.declared.tree.Expr.{Expr}
 use Rattle.c_tree.specs.declared.tree.Stmt.{Stmt}
 use Rattle.c_tree.specs.declared.tree.Stmt.TheVariants as variant
-use Rattle.c_tree.specs.Tree.{Code, Done, If, While, Block}
+use Rattle.c_tree.specs.Tree.{Done, If, While, Block}
 use Rattle.c_tree.specs.View.{term, front, code}
 use Rattle.leaf_domain.specs.Leaves.{LeafValue, LeafMeaning}
 use Rattle.leaf_domain.specs.Transfer.{assumed}
-use Rattle.plain_analysis.specs.declared.alarm.Alarm.{Alarm}
 use Rattle.plain_analysis.specs.declared.entries.Found.{Found}
 use Rattle.plain_analysis.specs.declared.options.Options.{Options}
 use Rattle.plain_analysis.specs.Loops.{final_leaf}
 use Rattle.plain_analysis.specs.Statements.{Entry, after_of, entries_of}
-use Rattle.plain_analysis.specs.Places.{alarms_at}
-use Rattle.plain_analysis.specs.Found.{place_and_leaf, leaves_in, alarms_in}
-use Rattle.plain_analysis.specs.Entered.{HasEntered}
-use Rattle.plain_analysis.proofs.Listed.{front-If, front-While, front-Block, entries_of-take_more}
+use Rattle.plain_analysis.specs.Entered.{place_and_leaf, leaves_in, alarms_in, HasEntered}
+use Rattle.plain_analysis.proofs.Listed.{front-If, front-While, front-Block}
 
 pub leaves_in-append : (xs ys : List Entry) → leaves_in (xs ++ ys) ≡ leaves_in xs ++ leaves_in ys
 leaves_in-append [] ys = refl

@@ -1,8 +1,7 @@
 -- Each run of a plain program is foreseen: by induction on the number of steps.
-use Rattle.std.proofs.Common.{◌≡◌, ◌≢◌, ℕ, zero, suc, ◌+◌, ◌<◌, ◌≤◌, ℤ, pos, Bool, true, false, if◌then◌else◌, List, [], ◌∷◌, ◌++◌, length, Option, Some, None, refl, ap, sym, ◌∙◌, subst, arith, inl, inr}
-use Rattle.std.specs.Prelude.{Result, Ok, Err, slice_get, slice_set, slice_index_or}
+use Rattle.std.proofs.Common.{◌≡◌, ℕ, zero, suc, ◌+◌, ◌<◌, ◌≤◌, ℤ, pos, Bool, true, false, if◌then◌else◌, List, [], ◌∷◌, ◌++◌, Option, Some, None, refl, ap, sym, ◌∙◌, subst, arith, inl, inr}
+use Rattle.std.specs.Prelude.{Result, Ok, Err, slice_get, slice_set}
 use Rattle.std.specs.List.{All, AllByRecursion, Contains}
-use Rattle.std.specs.Ordering.{int_eq}
 use Rattle.std.proofs.lemmas.Bool.{false≢true}
 use Rattle.std.proofs.lemmas.Int.{ints}
 use Rattle.std.proofs.lemmas.List.Elements.{recursion_from_All}
@@ -12,12 +11,12 @@ use Rattle.c_tree.specs.declared.tree.Kind.TheVariants.{Assertion}
 use Rattle.c_tree.specs.Tree.{Term, Code, Done, Assign, Input, Assert, If, While, Block, Skip, Cond, followed}
 use Rattle.c_tree.specs.Value.{value_of, is_zero, IsInt}
 use Rattle.c_tree.specs.Fit.{IsTermOf, IsCodeOf, IsPlain}
-use Rattle.c_tree.specs.Run.{Standing, Outcome, Moved, Stopped, Waiting, Ended, with_value, with_input, step_of, cut_of, onward, steps_of, End}
+use Rattle.c_tree.specs.Run.{Outcome, Moved, Stopped, with_value, with_input, step_of, cut_of, onward, steps_of, End}
 use Rattle.c_tree.proofs.Views.{followed-Done}
 use Rattle.leaf_domain.specs.Leaves.{LeafValue, LeafMeaning, LeafLaws, Alike, Answers}
 use Rattle.leaf_domain.specs.Transfer.{assumed, assigned, forgotten}
 use Rattle.leaf_domain.specs.Stops.{may_at}
-use Rattle.leaf_domain.specs.Soundness.{Suits, IsWanted, TransferAnswers, TransferHolds}
+use Rattle.leaf_domain.specs.Soundness.{Suits, TransferAnswers, TransferHolds}
 use Rattle.plain_analysis.specs.declared.alarm.Alarm.{Alarm}
 use Rattle.plain_analysis.specs.declared.options.Options.{Options}
 use Rattle.plain_analysis.specs.Loops.{final_leaf}
@@ -344,7 +343,7 @@ module _ (M : LeafMeaning) (laws : LeafLaws M) (o : Options) (A : TransferAnswer
   sound (suc n) =
       let S = sound n in
       let L = λ (place : Place) (e : Term) (body k : Code) (x : LeafValue) (g : GoodLoop place e body x) (f : (m : ℕ) → m < suc n → Fine m k (assumed M o.mode e false x)).
-          made n (While place e body k) x (loop_cut place e body k x g) (loop_next n place e body k x S g f) in
+      made n (While place e body k) x (loop_cut place e body k x g) (loop_next n place e body k x S g f) in
       record { statements = step_of_statement n S L; loops = L }
 
   -- nothing is left

@@ -1,10 +1,3 @@
-pub mod Signed
-pub mod Cuts
-pub mod Bounds
-pub mod Values
-pub mod Assertions
-pub mod Runs
-pub mod Statements
 pub mod Listed
 pub mod Rounds
 pub mod Sizes

@@ -1,5 +1,5 @@
 -- What lists of statements do to a leaf, statement by statement.
-use Rattle.std.proofs.Common.{◌≡◌, ℕ, List, [], ◌∷◌, ◌++◌, ◌+◌, ◌<◌, take, length, get_or, true, false, refl, ap, sym, subst, ◌∙◌, append_assoc, append-nil}
+use Rattle.std.proofs.Common.{◌≡◌, ℕ, List, ◌∷◌, ◌++◌, ◌+◌, ◌<◌, take, length, get_or, true, false, refl, ap, sym, subst, ◌∙◌, append_assoc}
 use Rattle.fam_outer.specs.declared.faults.Place.{Place}
 use Rattle.std.specs.declared.vec.Vec.{Vec}
 use Rattle.std.specs.declared.alloc.Global.{Global}

@@ -1,12 +1,10 @@
 -- The entries of a program by their places: places that rise are distinct, so each entry is found at its place.
-use Rattle.std.proofs.Common.{◌≡◌, ℕ, Bool, true, false, List, [], ◌∷◌, ◌++◌, map, length, ◌<◌, nat_eq, nat_lt, ◌&&◌, ◌||◌, if◌then◌else◌, Option, Some, None, refl, ap, sym, subst, ◌∙◌, arith, append_assoc, append-nil}
+use Rattle.std.proofs.Common.{◌≡◌, ℕ, true, false, List, [], ◌∷◌, ◌++◌, map, nat_eq, if◌then◌else◌, Option, Some, None, refl, ap, sym, subst, ◌∙◌, arith, append_assoc, append-nil}
 use Rattle.std.specs.Prelude.{IsTrue}
-use Rattle.std.specs.List.{AllByRecursion, Contains}
+use Rattle.std.specs.List.{AllByRecursion}
 use Rattle.std.proofs.lemmas.List.{map-append}
-use Rattle.std.proofs.lemmas.List.Elements.{Contains-append_left, Contains-append_right}
 use Rattle.fam_outer.specs.declared.faults.Place.{Place}
 use Rattle.c_tree.specs.declared.tree.Kind.{Kind}
-use Rattle.c_tree.specs.declared.tree.Kind.TheVariants.{Overflow, ZeroDivisor, Assertion}
 use Rattle.c_tree.specs.Tree.{Code, Done, Assign, Input, Assert, If, While, Block, Skip, Cond, Whole}
 use Rattle.c_tree.specs.Fit.{IsPlain}
 use Rattle.c_tree.specs.Places.{places_of, program_places}
@@ -14,12 +12,11 @@ use Rattle.c_tree.specs.Whole.{is_before, IsBeforeAll, IsRising}
 use Rattle.leaf_domain.specs.Leaves.{LeafValue, LeafMeaning, nothing_of}
 use Rattle.leaf_domain.specs.Transfer.{assumed, assigned, forgotten}
 use Rattle.leaf_domain.specs.Stops.{may_at}
-use Rattle.plain_analysis.specs.declared.alarm.Alarm.{Alarm}
 use Rattle.plain_analysis.specs.declared.options.Options.{Options}
 use Rattle.plain_analysis.specs.Loops.{final_leaf}
 use Rattle.plain_analysis.specs.Statements.{Entry, after_of, entries_of}
-use Rattle.plain_analysis.specs.Places.{is_same_place, entry_in, entry_of, leaf_or, at_of, may_stop, alarm_of, alarm_where, alarms_at, alarms_over, alarms_of}
-use Rattle.plain_analysis.specs.Found.{leaves_in, alarms_in}
+use Rattle.plain_analysis.specs.Places.{is_same_place, entry_in, leaf_or, at_of, may_stop, alarm_of, alarms_at, alarms_over, alarms_of}
+use Rattle.plain_analysis.specs.Entered.{alarms_in}
 
 unfoldable pub place_of : Entry → Place
 place_of e = e.place
@@ -146,9 +143,3 @@ module _ (M : LeafMeaning) (o : Options) where
         sym (append-nil (alarms_in M o es))
         ∙ (ap (λ l. alarms_in M o es ++ l) (sym (no_alarms es p.end (none_at_end es p.end rising_here)))
         ∙ (sym (alarms_found es es (p.end ∷ []) listed) ∙ ap (alarms_over (alarm_of M o p d)) same_places))
-
--- the leaves of entries, and their places
-pub firsts : (es : List Entry) → map (λ (x : Place × LeafValue). x.0) (leaves_in es) ≡ map place_of es
-unfolding place_of
-firsts [] = refl
-firsts (e ∷ es) = ap (λ l. e.place ∷ l) (firsts es)

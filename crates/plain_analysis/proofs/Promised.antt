@@ -1,5 +1,5 @@
 -- What an analysis finds is what it promises.
-use Rattle.std.proofs.Common.{◌≡◌, ◌≢◌, ℕ, ◌<◌, ℤ, pos, Bool, true, false, if◌then◌else◌, List, [], ◌∷◌, ◌++◌, map, length, refl, ap, sym, ◌∙◌, subst, arith, append-nil}
+use Rattle.std.proofs.Common.{◌≡◌, ℤ, Bool, true, false, if◌then◌else◌, List, [], ◌∷◌, ◌++◌, map, length, refl, ap, sym, ◌∙◌, subst, arith}
 use Rattle.std.specs.List.{All, AllByRecursion, Contains}
 use Rattle.std.proofs.lemmas.List.{map-append}
 use Rattle.std.proofs.lemmas.List.Elements.{Contains-append_left, Contains-append_right}
@@ -18,8 +18,8 @@ use Rattle.plain_analysis.specs.declared.alarm.Alarm.{Alarm}
 use Rattle.plain_analysis.specs.declared.findings.PlaceLeaf.{PlaceLeaf}
 use Rattle.plain_analysis.specs.declared.options.Options.{Options}
 use Rattle.plain_analysis.specs.Statements.{Entry, after_of, entries_of}
-use Rattle.plain_analysis.specs.Places.{is_same_place, entry_in, entry_of, leaf_or, at_of, alarm_where, alarms_at, alarms_of}
-use Rattle.plain_analysis.specs.Found.{place_and_leaf, leaves_in, alarms_in}
+use Rattle.plain_analysis.specs.Places.{is_same_place, leaf_or, at_of, alarm_where, alarms_at, alarms_of}
+use Rattle.plain_analysis.specs.Entered.{place_and_leaf, leaves_in, alarms_in}
 use Rattle.plain_analysis.specs.Promises.{RunsForeseen}
 use Rattle.plain_analysis.proofs.Located.{IsListed, place_of, leaf_of, listed, at_end, same_places, leaves_are, alarms_are}
 use Rattle.plain_analysis.proofs.Foreseen.{Known, runs_foreseen}

@@ -1,6 +1,5 @@
 -- The recursion over statements keeps leaves of the kind, and Nothing.
-use Rattle.std.proofs.Common.{◌≡◌, ℕ, zero, suc, ◌+◌, ◌<◌, ◌≤◌, Bool, true, false, if◌then◌else◌, nat_lt, List, Option, Some, None, refl, ap, sym, ◌∙◌, subst, arith, ℤ, inl, inr}
-use Rattle.c_tree.specs.declared.tree.Mode.{Mode}
+use Rattle.std.proofs.Common.{◌≡◌, ℕ, zero, suc, ◌+◌, ◌<◌, Bool, true, false, if◌then◌else◌, nat_lt, List, Option, Some, None, refl, ap, sym, ◌∙◌, subst, ℤ, inl, inr}
 use Rattle.c_tree.specs.Tree.{Term, Code, Done, Assign, Input, Assert, If, While, Block, Skip, Cond}
 use Rattle.c_tree.specs.Fit.{IsTermOf, IsCodeOf}
 use Rattle.leaf_domain.specs.Leaves.{LeafValue, LeafMeaning, LeafLaws, Alike, Answers, nothing_of, is_nothing_of}
@@ -11,7 +10,7 @@ use Rattle.plain_analysis.specs.Loops.{turn_of, round_of, rounds_of, narrowing_o
 use Rattle.plain_analysis.specs.Statements.{after_of}
 use Rattle.plain_analysis.specs.Promises.{LoopsSettle}
 use Rattle.plain_analysis.proofs.Rounds.{rounds_stay}
-use Rattle.plain_analysis.proofs.Settles.{Turns, first_phase_settles, leq_content}
+use Rattle.plain_analysis.proofs.Settles.{first_phase_settles, leq_content}
 
 -- a leaf without bounds is Nothing
 nothing_is : (m : ℕ) (c : Option (List ℤ)) → is_nothing_of (record { variables = m; content = c }) ≡ true → record { variables = m; content = c } ≡ nothing_of m

@@ -1,7 +1,7 @@
 -- Rounds of a loop, one by one, and a leaf that stays.
-use Rattle.std.proofs.Common.{◌≡◌, ℕ, zero, suc, ◌+◌, ◌-◌, ◌<◌, Bool, true, false, if◌then◌else◌, nat_lt, refl, ap, sym, ◌∙◌, arith}
+use Rattle.std.proofs.Common.{◌≡◌, ℕ, zero, suc, ◌+◌, ◌-◌, ◌<◌, true, false, if◌then◌else◌, nat_lt, refl, ap, sym, ◌∙◌, arith}
 use Rattle.leaf_domain.specs.Leaves.{LeafValue, LeafMeaning}
-use Rattle.plain_analysis.specs.Loops.{round_of, rounds_of, narrowing_of, narrowings_of}
+use Rattle.plain_analysis.specs.Loops.{rounds_of, narrowing_of, narrowings_of}
 
 pub rounds_stay : (M : LeafMeaning) (delay : ℕ) (G : LeafValue → LeafValue) (m k : ℕ) (x : LeafValue) → M.leq (G x) x ≡ true → rounds_of M delay G m k x ≡ x
 rounds_stay M delay G zero k x e = refl

@@ -1,8 +1,8 @@
 -- The first phase of a loop ends with a stable iterate.
-use Rattle.std.proofs.Common.{◌≡◌, ◌≢◌, ◌⊎◌, inl, inr, ℕ, zero, suc, ◌+◌, ◌-◌, ◌<◌, ◌≤◌, Bool, true, false, not, if◌then◌else◌, nat_lt, List, Option, Some, None, refl, ap, sym, ◌∙◌, subst, arith, ℤ, zero-add, add_assoc}
+use Rattle.std.proofs.Common.{◌≡◌, inl, ℕ, zero, suc, ◌+◌, ◌<◌, ◌≤◌, Bool, true, false, if◌then◌else◌, nat_lt, List, Option, Some, None, refl, ap, sym, ◌∙◌, subst, arith, ℤ, zero-add, add_assoc}
 use Rattle.std.proofs.Math.Nat.{suc-add}
 use Rattle.std.proofs.lemmas.Bool.{false≢true}
-use Rattle.leaf_domain.specs.Leaves.{LeafValue, LeafMeaning, LeafLaws, Alike, Answers, nothing_of, is_nothing_of}
+use Rattle.leaf_domain.specs.Leaves.{LeafValue, LeafMeaning, LeafLaws, Alike, Answers, is_nothing_of}
 use Rattle.plain_analysis.specs.Loops.{round_of, rounds_of, widened_leaf}
 use Rattle.plain_analysis.proofs.Rounds.{rounds_stay}
 

@@ -1,5 +1,5 @@
 -- How large a list of statements is, as the measure of what goes down it.
-use Rattle.std.proofs.Common.{◌≡◌, ℕ, ◌+◌, ◌<◌, ◌≤◌, List, length, get_or, refl, ap, ◌∙◌, arith}
+use Rattle.std.proofs.Common.{◌≡◌, ℕ, ◌+◌, ◌<◌, ◌≤◌, List, length, get_or, ap, ◌∙◌, arith}
 use Rattle.fam_outer.specs.declared.faults.Place.{Place}
 use Rattle.std.specs.declared.vec.Vec.{Vec}
 use Rattle.std.specs.declared.alloc.Global.{Global}
@@ -9,7 +9,7 @@ use Rattle.c_tree.specs.declared.tree.Stmt.TheVariants as variant
 use Rattle.c_tree.specs.declared.tree.Stmt.TheOpen as stmt
 use Rattle.c_tree.specs.declared.tree.Stmt.TheOpen.{Stmt-F}
 use Rattle.c_tree.specs.Tree.{Code, Done, Assign, Input, Assert, If, While, Block, Skip, Cond}
-use Rattle.c_tree.specs.View.{term, front, code}
+use Rattle.c_tree.specs.View.{front, code}
 use Rattle.c_tree.proofs.Views.{opened, by_layer, code-at}
 use Rattle.plain_analysis.proofs.Listed.{front-If, front-While, front-Block}
 

@@ -1,5 +1,5 @@
 -- What a loop does to a leaf: rounds of joining and widening, and then of checked narrowing.
-use Rattle.std.specs.Prelude.{ℕ, zero, suc, ◌+◌, Bool, true, if◌then◌else◌, nat_lt}
+use Rattle.std.specs.Prelude.{ℕ, zero, suc, ◌+◌, true, if◌then◌else◌, nat_lt}
 use Rattle.c_tree.specs.declared.tree.Mode.{Mode}
 use Rattle.c_tree.specs.Tree.{Term}
 use Rattle.leaf_domain.specs.Leaves.{LeafValue, LeafMeaning}

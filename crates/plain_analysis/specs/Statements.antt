@@ -1,5 +1,5 @@
 -- What statements do to a leaf, and the leaves with which they are entered.
-use Rattle.std.specs.Prelude.{ℕ, Bool, true, false, if◌then◌else◌, List, [], ◌∷◌, ◌++◌}
+use Rattle.std.specs.Prelude.{true, false, List, [], ◌∷◌, ◌++◌}
 use Rattle.c_tree.specs.Tree.{Code, Done, Assign, Input, Assert, If, While, Block, Skip, Cond}
 use Rattle.fam_outer.specs.declared.faults.Place.{Place}
 use Rattle.leaf_domain.specs.Leaves.{LeafValue, LeafMeaning}

@@ -38,12 +38,7 @@ pub(crate) fn after_list<L: Leaf>(
 
 /// The leaf after a statement that is entered with `leaf`.
 #[cycle(after)]
-fn after_stmt<L: Leaf>(
-    alloc: Global,
-    s: &Stmt,
-    leaf: &L,
-    options: Options,
-) -> Result<L, NoMemory>
+fn after_stmt<L: Leaf>(alloc: Global, s: &Stmt, leaf: &L, options: Options) -> Result<L, NoMemory>
     requires { IsCodeOf (L.value leaf.now).variables (front s.now Done) }
     ensures value { IfOk result (λ made. L.value made ≡ after_of L.meaning options (front s.now Done) (L.value leaf.now)) }
     ensures same { IfOk result (λ made. (L.value made).variables ≡ (L.value leaf.now).variables) }

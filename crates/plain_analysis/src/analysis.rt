@@ -1,7 +1,7 @@
 //! The analysis of one program.
 #![tactic(auto)]
 
-ghost use Rattle.std.specs.Prelude.{◌≡◌, ◌≤◌, map, length, IfOk};
+ghost use Rattle.std.specs.Prelude.{◌≡◌, map, length, IfOk};
 ghost use Rattle.c_tree.specs.View.{whole};
 ghost use Rattle.c_tree.specs.Whole.{IsProgram, IsPlainProgram};
 ghost use Rattle.c_tree.specs.Places.{program_places};
@@ -40,8 +40,6 @@ pub fn analyse_one<L: Leaf>(
     requires program { IsProgram (whole program.now) }
     requires plain { IsPlainProgram (whole program.now) }
     requires variables { (L.value start.now).variables ≡ length program.now.names }
-    requires delay { options.now.delay ≤ 16 }
-    requires narrow { options.now.narrow ≤ 8 }
     ensures places { IfOk result (λ f. map (λ at. at.place) f.places ≡ program_places (whole program.now)) }
     ensures leaves { IfOk result (λ f. map (λ at. L.value at.leaf) f.places ≡ map (at_of L.meaning options.now (whole program.now) (L.value start.now)) (program_places (whole program.now))) }
     ensures alarms { IfOk result (λ f. f.alarms ≡ alarms_of L.meaning options.now (whole program.now) (L.value start.now)) }

@@ -9,8 +9,7 @@ ghost use Rattle.leaf_domain.specs.Transfer.{assumed};
 ghost use Rattle.leaf_domain.specs.Stops.{may_at};
 ghost use Rattle.plain_analysis.specs.Statements.{after_of, entries_of};
 ghost use Rattle.plain_analysis.specs.Places.{alarm_where};
-ghost use Rattle.plain_analysis.specs.Entered.{HasEntered};
-ghost use Rattle.plain_analysis.specs.Found.{place_and_leaf};
+ghost use Rattle.plain_analysis.specs.Entered.{place_and_leaf, HasEntered};
 
 use crate::after::{final_leaf, joined};
 use crate::alarm::Alarm;

@@ -4,7 +4,7 @@
 use c_tree::Mode;
 
 /// How an analysis is run: in how many rounds of a loop leaves are joined before they are widened,
-/// at most 16, how many rounds of narrowing there are, at most 8, and what an overflow does.
+/// in how many they are narrowed afterwards, and what an overflow does.
 #[derive(Clone, Copy, Debug, PartialEq, Eq)]
 pub struct Options {
     pub delay: u32,

@@ -1,12 +1,12 @@
-use Rattle.std.proofs.Common.{rules, arith, ◌≡◌, ◌-◌, ◌+◌, sym, subst, ap, ◌∙◌, refl, IfOk, if◌then◌else◌, nat_lt, false}
+use Rattle.std.proofs.Common.{rules, arith, ◌≡◌, ◌-◌, ◌+◌, sym, subst, ap, ◌∙◌, IfOk, if◌then◌else◌, nat_lt, false}
 use Rattle.c_tree.specs.Tree.{Done}
 use Rattle.c_tree.specs.View.{term, front, code}
 use Rattle.c_tree.specs.Fit.{IsTermOf, IsCodeOf}
 use Rattle.leaf_domain.specs.Transfer.{assumed}
 use Rattle.plain_analysis.specs.Loops.{turn_of, final_leaf}
 use Rattle.plain_analysis.specs.Statements.{after_of}
-use Rattle.plain_analysis.proofs.Listed.{IsCodeOf-at, front-While, fit_If, fit_While, fit_Block, fit_same}
-use Rattle.plain_analysis.proofs.Sizes.{size-at, yes_smaller, no_smaller, body_smaller, block_smaller}
+use Rattle.plain_analysis.proofs.Listed.{IsCodeOf-at, front-While, fit_If, fit_While, fit_same}
+use Rattle.plain_analysis.proofs.Sizes.{size-at, yes_smaller, no_smaller, body_smaller}
 use Rattle.plain_analysis.proofs.Rounds.{rounds_stay, rounds_move, narrowings_stay, narrowings_move}
 use Rattle.plain_analysis.proofs.after.+after.Goals as goal
 

@@ -1,9 +1,7 @@
-use Rattle.std.proofs.Common.{◌≡◌, ◌++◌, map, ap, ◌∙◌, refl}
+use Rattle.std.proofs.Common.{◌++◌, map, ap, ◌∙◌, refl}
 use Rattle.c_tree.specs.View.{code, whole}
-use Rattle.leaf_domain.specs.Leaves.{LeafValue}
-use Rattle.plain_analysis.specs.declared.findings.PlaceLeaf.{PlaceLeaf}
 use Rattle.plain_analysis.specs.Statements.{after_of, entries_of}
-use Rattle.plain_analysis.specs.Found.{place_and_leaf, leaves_in, alarms_in}
+use Rattle.plain_analysis.specs.Entered.{place_and_leaf, leaves_in, alarms_in}
 use Rattle.plain_analysis.proofs.Promised.{places, leaves, alarms}
 use Rattle.plain_analysis.proofs.analysis.analyse_one.Goals as goal
 
@@ -15,8 +13,8 @@ returns-clause-places g c =
     let d = value c.args.start.now in
     let after = c.in_ok-leaf.ensures.value ∙ ap (λ l. after_of M o (code l) d) c.deref.ensures.value in
     let entered = c.in_ok-leaf.ensures.entered.leaves
-        ∙ (ap (λ l. map (place_and_leaf value) l ++ leaves_in (entries_of M o (code c.deref.result.now) d)) c.new.ensures.items
-        ∙ ap (λ l. leaves_in (entries_of M o (code l) d)) c.deref.ensures.value) in
+    ∙ (ap (λ l. map (place_and_leaf value) l ++ leaves_in (entries_of M o (code c.deref.result.now) d)) c.new.ensures.items
+    ∙ ap (λ l. leaves_in (entries_of M o (code l) d)) c.deref.ensures.value) in
     ap (map (λ at. at.place)) (c.from_vec.ensures ∙ c.in_ok-push.ensures.items)
     ∙ places M o (whole c.args.program.now) d c.requires.program c.requires.plain value c.enter_list.new.found.places.items (record { place = c.args.program.now.end; leaf = c.in_ok-leaf.leaf }) entered refl after
 
@@ -28,8 +26,8 @@ returns-clause-leaves g c =
     let d = value c.args.start.now in
     let after = c.in_ok-leaf.ensures.value ∙ ap (λ l. after_of M o (code l) d) c.deref.ensures.value in
     let entered = c.in_ok-leaf.ensures.entered.leaves
-        ∙ (ap (λ l. map (place_and_leaf value) l ++ leaves_in (entries_of M o (code c.deref.result.now) d)) c.new.ensures.items
-        ∙ ap (λ l. leaves_in (entries_of M o (code l) d)) c.deref.ensures.value) in
+    ∙ (ap (λ l. map (place_and_leaf value) l ++ leaves_in (entries_of M o (code c.deref.result.now) d)) c.new.ensures.items
+    ∙ ap (λ l. leaves_in (entries_of M o (code l) d)) c.deref.ensures.value) in
     ap (map (λ at. value at.leaf)) (c.from_vec.ensures ∙ c.in_ok-push.ensures.items)
     ∙ leaves M o (whole c.args.program.now) d c.requires.program c.requires.plain value c.enter_list.new.found.places.items (record { place = c.args.program.now.end; leaf = c.in_ok-leaf.leaf }) entered refl after
 

@@ -1,4 +1,4 @@
-use Rattle.std.proofs.Common.{rules, arith, ◌≡◌, [], ◌∷◌, ◌+◌, take, sym, subst, ap, ◌∙◌, refl, true, false}
+use Rattle.std.proofs.Common.{rules, arith, ◌≡◌, [], ◌∷◌, ◌+◌, take, sym, subst, ap, ◌∙◌, true, false}
 use Rattle.std.specs.Prelude.{IfOk}
 use Rattle.c_tree.specs.Tree.{Done}
 use Rattle.c_tree.specs.View.{term, front, code}
@@ -82,10 +82,10 @@ enter_stmt-returns-in_ok-enter_side-in-While-clause-entered g t c =
     let F = final_leaf M o (term w.test) (after_of M o (code w.body.items)) v in
     let last = c.in_ok-last-in-While.ensures.value ∙ ap (λ l. final_leaf M o (term w.test) (after_of M o (code l)) v) c.deref-in-While.ensures.value in
     let first = entered_as value M o a b _ (record { place = w.place; statement = front c.args.s.now Done; leaf = F } ∷ [])
-        (ap (λ (x : LeafValue). record { place = w.place; statement = front c.args.s.now Done; leaf = x } ∷ []) last) c.in_ok-enter-in-While.ensures in
+    (ap (λ (x : LeafValue). record { place = w.place; statement = front c.args.s.now Done; leaf = x } ∷ []) last) c.in_ok-enter-in-While.ensures in
     let body = entered_as value M o b z _ (entries_of M o (code w.body.items) (assumed M o.mode (term w.test) true F))
-        (ap (λ l. entries_of M o (code l) (assumed M o.mode (term w.test) true (value c.in_ok-last-in-While.last))) c.deref-in-While-2.ensures.value
-        ∙ ap (λ x. entries_of M o (code w.body.items) (assumed M o.mode (term w.test) true x)) last) c.in_ok-enter_side-in-While.ensures.entered in
+    (ap (λ l. entries_of M o (code l) (assumed M o.mode (term w.test) true (value c.in_ok-last-in-While.last))) c.deref-in-While-2.ensures.value
+    ∙ ap (λ x. entries_of M o (code w.body.items) (assumed M o.mode (term w.test) true x)) last) c.in_ok-enter_side-in-While.ensures.entered in
     on_ok c.assume-in-While.result (HasEntered value M o a z (entries_of M o (front c.args.s.now Done) v))
     (entered_as value M o a z _ _ (entries-While M o c.args.s.now w.place w.test w.body v w.is) (entered_then value M o a b z _ _ first body))
 
