@@ -1,12 +1,16 @@
 -- Each stop of each run is reported.
-use Rattle.std.proofs.Common.{◌≡◌, ℕ, List}
+use Rattle.std.proofs.Common.{◌≡◌, ℕ, List, refl, subst}
 use Rattle.c_tree.specs.Tree.{Whole}
-use Rattle.c_tree.specs.Whole.{IsProgram}
-use Rattle.c_tree.specs.Straight.{IsStraight}
-use Rattle.plain_analysis.specs.Straight.{alarms_of}
-use Rattle.plain_analysis.proofs.Runs.{stops_are_listed}
+use Rattle.interval_leaf.specs.Intervals.{intervals}
+use Rattle.interval_leaf.specs.Laws.{interval_laws}
+use Rattle.plain_analysis.specs.Places.{at_of}
+use Rattle.plain_analysis.specs.Promises.{IsForeseen, RunsForeseen}
 use Rattle.famlint_core.specs.Report.{variant_text, ReportsStops}
+use Rattle.famlint_core.specs.Stages.{plain_options, plain_alarms}
 
 -- the report on a program reports the stops of its runs
-pub report_of_stops : (p : Whole) (text : List ℕ) → IsProgram p → IsStraight p.body → text ≡ variant_text (alarms_of p) → ReportsStops p text
-report_of_stops p text is_program is_straight e = (alarms_of p, e, stops_are_listed p is_program is_straight)
+pub report_of_stops : (p : Whole) (text : List ℕ) → RunsForeseen intervals plain_options p (intervals.start p.start) → text ≡ variant_text (plain_alarms p) → ReportsStops p text
+report_of_stops p text runs e =
+    let at = at_of intervals plain_options p (intervals.start p.start) in
+    let begins = (interval_laws.start_holds p.start p.start).1 refl in
+    (plain_alarms p, e, λ inputs n place kind ints stopped. subst (IsForeseen intervals at p.end (plain_alarms p)) stopped (runs p.start inputs n begins ints))

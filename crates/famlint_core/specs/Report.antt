@@ -4,7 +4,9 @@ use Rattle.std.specs.Fmt.{decimal}
 use Rattle.c_tree.specs.declared.tree.Kind.{Kind}
 use Rattle.c_tree.specs.declared.tree.Kind.TheVariants.{Overflow, ZeroDivisor, Assertion}
 use Rattle.c_tree.specs.declared.tree.Mode.TheVariants.{Stop}
+use Rattle.std.specs.List.{All}
 use Rattle.c_tree.specs.Tree.{Whole}
+use Rattle.c_tree.specs.Value.{IsInt}
 use Rattle.c_tree.specs.Run.{run_of, StoppedEnd}
 use Rattle.fam_outer.specs.declared.faults.Place.{Place}
 use Rattle.plain_analysis.specs.declared.alarm.Alarm.{Alarm}
@@ -27,10 +29,10 @@ variant_text alarms = flat_map alarm_line alarms ++ codes "alarms: " ++ decimal 
 abbrev pub some_alarm : List Alarm → Bool
 some_alarm alarms = nat_lt 0 (length alarms)
 
--- each stop of each run of the program is listed
+-- each stop of each run of the program, on inputs of `int`, is listed
 abbrev pub HasStops : Whole → List Alarm → Type 0
 HasStops p alarms = (inputs : List ℤ) (n : ℕ) (place : Place) (kind : Kind)
-    → run_of p inputs n Stop ≡ StoppedEnd place kind → Contains alarms (record { place = place; kind = kind })
+    → All IsInt inputs → run_of p inputs n Stop ≡ StoppedEnd place kind → Contains alarms (record { place = place; kind = kind })
 
 -- the text reports a list of alarms, in which each stop of each run of the program is listed
 abbrev pub ReportsStops : Whole → List ℕ → Type 0

@@ -5,7 +5,11 @@ use Rattle.fam_outer.specs.declared.faults.FileCode.{FileCode}
 use Rattle.fam_outer.specs.declared.faults.Place.{Place}
 use Rattle.c_tree.specs.Tree.{Whole}
 use Rattle.c_parser.specs.Reading.{Reads}
-use Rattle.plain_analysis.specs.Straight.{alarms_of}
+use Rattle.c_tree.specs.declared.tree.Mode.TheVariants as modes
+use Rattle.interval_leaf.specs.Intervals.{intervals}
+use Rattle.plain_analysis.specs.declared.alarm.Alarm.{Alarm}
+use Rattle.plain_analysis.specs.declared.options.Options.{Options}
+use Rattle.plain_analysis.specs.Places.{alarms_of}
 use Rattle.famlint_core.specs.declared.fault.Done.{Done}
 use Rattle.famlint_core.specs.declared.fault.Fault.{Fault}
 use Rattle.famlint_core.specs.declared.fault.Fault.TheVariants as fault
@@ -92,9 +96,17 @@ abbrev pub file_stage : Result Whole (FileCode × Place) → Result Whole Fault
 file_stage (Ok p) = Ok p
 file_stage (Err (code, place)) = Err (fault.File code place)
 
+-- how programs are analysed
+abbrev pub plain_options : Options
+plain_options = record { delay = 0; narrow = 1; mode = modes.Stop }
+
+-- the alarms of a program, by intervals and from its start values
+abbrev pub plain_alarms : Whole → List Alarm
+plain_alarms p = alarms_of intervals plain_options p (intervals.start p.start)
+
 -- the report on a program
 abbrev pub plain_done : Whole → Done
-plain_done p = record { text = variant_text (alarms_of p); has_alarms = some_alarm (alarms_of p) }
+plain_done p = record { text = variant_text (plain_alarms p); has_alarms = some_alarm (plain_alarms p) }
 
 -- ---- the commands
 

@@ -8,27 +8,35 @@ ghost use Rattle.famlint_core.specs.Stages.{Contents, AreTold, IsFileTold, Reach
 ghost use Rattle.famlint_core.specs.Words.{paths_of};
 ghost use Rattle.c_tree.specs.View.{whole};
 ghost use Rattle.c_tree.specs.Whole.{IsProgram, IsPlainProgram};
-ghost use Rattle.c_tree.specs.Straight.{IsStraight};
 
 use crate::fault::{Done, Stop};
 use crate::report::report;
 use crate::stages::load_plain;
 use crate::words::Request;
-use c_tree::Program;
+use c_tree::{Mode, Program};
 use fam_outer::{Files, NoMemory};
-use plain_analysis::analyse_straight;
+use interval_leaf::IntervalLeaf;
+use leaf_domain::Leaf;
+use plain_analysis::{Options, analyse_one};
 use std::alloc::Global;
+
+/// How programs are analysed.
+const OPTIONS: Options = Options {
+    delay: 0,
+    narrow: 1,
+    mode: Mode::Stop,
+};
 
 /// The report on a program.
 fn plain_report(alloc: Global, program: &Program) -> Result<Done, NoMemory>
     requires program { IsProgram (whole program.now) }
     requires plain { IsPlainProgram (whole program.now) }
-    requires straight { IsStraight (whole program.now).body }
     ensures answer { IfOk result (λ done. done ≡ plain_done (whole program.now)) }
     ensures stops { IfOk result (λ done. ReportsStops (whole program.now) done.text) }
 {
-    let alarms = analyse_straight(alloc, program)?;
-    let alarms = alarms.items();
+    let start = IntervalLeaf::start(alloc, program.start.items())?;
+    let findings = analyse_one(alloc, program, &start, &OPTIONS)?;
+    let alarms = findings.alarms.items();
     Ok(Done {
         text: report(alloc, alarms)?,
         has_alarms: !alarms.is_empty(),

@@ -1,7 +1,9 @@
-pub mod Signed
-pub mod Cuts
-pub mod Bounds
-pub mod Values
-pub mod Assertions
-pub mod Runs
-pub mod Statements
+pub mod Listed
+pub mod Rounds
+pub mod Sizes
+pub mod EnteredLemmas
+pub mod Settles
+pub mod Recursion
+pub mod Located
+pub mod Foreseen
+pub mod Promised

@@ -1,4 +1,5 @@
-pub mod Ranges
-pub mod Leaves
-pub mod Transfer
-pub mod Straight
+pub mod Loops
+pub mod Statements
+pub mod Places
+pub mod Promises
+pub mod Entered

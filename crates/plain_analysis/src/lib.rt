@@ -1,15 +1,15 @@
-//! The analysis of one plain program with intervals. It takes straight programs: assignments of
-//! sums and assertions of comparisons, one after another.
+//! The analysis of one plain program, generic over the kind of leaf: which leaf holds at each place,
+//! and which stops a run may meet. It knows nothing of a kind of leaf but its laws.
 #![tactic(auto)]
 
+mod after;
 pub mod alarm;
-mod leaf;
-mod range;
-mod straight;
-mod transfer;
+pub mod analysis;
+mod entries;
+pub mod findings;
+pub mod options;
 
 pub use alarm::{Alarm, Alarms};
-pub use straight::analyse_straight;
-
-#[cfg(test)]
-mod tests;
+pub use analysis::analyse_one;
+pub use findings::{Findings, PlaceLeaf, PlaceLeaves};
+pub use options::Options;

@@ -1,11 +1,15 @@
-use Rattle.std.proofs.Common.{◌≡◌, rules}
+use Rattle.std.proofs.Common.{◌≡◌, ◌∙◌, ap, rules, subst}
 use Rattle.c_tree.specs.View.{whole}
-use Rattle.plain_analysis.specs.Straight.{alarms_of}
+use Rattle.interval_leaf.specs.Intervals.{intervals}
+use Rattle.plain_analysis.specs.Promises.{RunsForeseen}
 use Rattle.famlint_core.specs.Report.{variant_text}
+use Rattle.famlint_core.specs.Stages.{plain_options, plain_alarms}
 use Rattle.famlint_core.proofs.Stops.{report_of_stops}
 use Rattle.famlint_core.proofs.commands.plain_report.Goals as goal
 
 pub returns-clause-stops : goal.returns-clause-stops
 returns-clause-stops c =
-    let e : c.in_ok-report.field-0 ≡ variant_text (alarms_of (whole c.args.program.now)) = search rules in
-    report_of_stops (whole c.args.program.now) c.in_ok-report.field-0 c.requires.program c.requires.straight e
+    let p = whole c.args.program.now in
+    let e : c.in_ok-report.field-0 ≡ variant_text (plain_alarms p) = search rules in
+    let begins = c.in_ok-start.ensures ∙ ap intervals.start c.items.ensures in
+    report_of_stops p c.in_ok-report.field-0 (subst (RunsForeseen intervals plain_options p) begins c.in_ok-findings.ensures.runs) e

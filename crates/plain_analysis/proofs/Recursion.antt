@@ -1,0 +1,238 @@
+-- The recursion over statements keeps leaves of the kind, and Nothing.
+use Rattle.std.proofs.Common.{◌≡◌, ℕ, zero, suc, ◌+◌, ◌<◌, Bool, true, false, if◌then◌else◌, nat_lt, List, Option, Some, None, refl, ap, sym, ◌∙◌, subst, ℤ, inl, inr}
+use Rattle.c_tree.specs.Tree.{Term, Code, Done, Assign, Input, Assert, If, While, Block, Skip, Cond}
+use Rattle.c_tree.specs.Fit.{IsTermOf, IsCodeOf}
+use Rattle.leaf_domain.specs.Leaves.{LeafValue, LeafMeaning, LeafLaws, Alike, Answers, nothing_of, is_nothing_of}
+use Rattle.leaf_domain.specs.Transfer.{assumed, assigned, forgotten}
+use Rattle.leaf_domain.specs.Soundness.{Suits, TransferAnswers}
+use Rattle.plain_analysis.specs.declared.options.Options.{Options}
+use Rattle.plain_analysis.specs.Loops.{turn_of, round_of, rounds_of, narrowing_of, narrowings_of, widened_leaf, final_leaf}
+use Rattle.plain_analysis.specs.Statements.{after_of}
+use Rattle.plain_analysis.specs.Promises.{LoopsSettle}
+use Rattle.plain_analysis.proofs.Rounds.{rounds_stay}
+use Rattle.plain_analysis.proofs.Settles.{first_phase_settles, leq_content}
+
+-- a leaf without bounds is Nothing
+nothing_is : (m : ℕ) (c : Option (List ℤ)) → is_nothing_of (record { variables = m; content = c }) ≡ true → record { variables = m; content = c } ≡ nothing_of m
+nothing_is m None e = refl
+nothing_is m (Some ns) e = cc
+
+module _ (M : LeafMeaning) (laws : LeafLaws M) (o : Options) (A : TransferAnswers M o.mode) where
+  pub suits : (e : Term) (v : LeafValue) (n : ℕ) → M.valid v → v.variables ≡ n → IsTermOf n e → Suits M e v
+  suits e v n h c t = record { valid = h; term = subst (λ m. IsTermOf m e) (sym c) t }
+
+  below : (x n : ℕ) (v : LeafValue) → v.variables ≡ n → x < n → x < v.variables
+  below x n v c l = subst (λ m. x < m) (sym c) l
+
+  join_nothings : (a b : LeafValue) → a.variables ≡ b.variables → is_nothing_of a ≡ true → is_nothing_of b ≡ true → is_nothing_of (M.join a b) ≡ true
+  join_nothings a b c e f = ap (λ v. is_nothing_of (M.join v b)) (nothing_is a.variables a.content e ∙ ap nothing_of c) ∙ ap is_nothing_of (laws.join_nothing b) ∙ f
+
+  narrow_nothings : (a b : LeafValue) → is_nothing_of a ≡ true → is_nothing_of (M.narrow a b) ≡ true
+  narrow_nothings a b e = ap (λ v. is_nothing_of (M.narrow v b)) (nothing_is a.variables a.content e) ∙ laws.narrow_nothing a.variables b
+
+  narrowings_nothing : (G : LeafValue → LeafValue) (m : ℕ) (x : LeafValue) → is_nothing_of x ≡ true → is_nothing_of (narrowings_of M G m x) ≡ true
+  narrowings_nothing G zero x e = e
+  narrowings_nothing G (suc m) x e = narrowings_nothing G m (narrowing_of M G x) (by_test (M.leq (G (M.narrow x (G x))) (M.narrow x (G x))))
+    where
+      by_test : (t : Bool) → is_nothing_of (if t then M.narrow x (G x) else x) ≡ true
+      by_test true = narrow_nothings x (G x) e
+      by_test false = e
+
+  answers_self : (v : LeafValue) → M.valid v → Answers M v v
+  answers_self v h = record { valid = h; same = refl }
+
+  pub answers_then : (u v w : LeafValue) → Answers M u v → Answers M v w → Answers M u w
+  answers_then u v w h k = record { valid = k.valid; same = k.same ∙ h.same }
+
+  -- a function from leaves of n variables to such leaves
+  pub Keeps : ℕ → (LeafValue → LeafValue) → Type 0
+  Keeps n f = (x : LeafValue) → M.valid x → x.variables ≡ n → Answers M x (f x)
+
+  module _ (n delay : ℕ) (G : LeafValue → LeafValue) (keeps : Keeps n G) where
+    alike : (x : LeafValue) → M.valid x → x.variables ≡ n → Alike M x (G x)
+    unfolding Keeps
+    alike x h c = let a = keeps x h c in record { first = h; second = a.valid; same = sym a.same }
+
+    round_answers : (k : ℕ) → Keeps n (round_of M delay G k)
+    unfolding Keeps
+    round_answers k x h c = by_tests (M.leq (G x) x) (nat_lt k delay)
+      where
+        by_tests : (t u : Bool) → Answers M x (if t then x else (if u then M.join x (G x) else M.widen x (G x)))
+        by_tests true u = answers_self x h
+        by_tests false true = laws.join_answers x (G x) (alike x h c)
+        by_tests false false = laws.widen_answers x (G x) (alike x h c)
+
+    rounds_answer : (m k : ℕ) → Keeps n (rounds_of M delay G m k)
+    unfolding Keeps
+    rounds_answer zero k x h c = answers_self x h
+    rounds_answer (suc m) k x h c =
+        let a = round_answers k x h c in answers_then x _ _ a (rounds_answer m (k + 1) (round_of M delay G k x) a.valid (a.same ∙ c))
+
+    narrowing_answers : Keeps n (narrowing_of M G)
+    unfolding Keeps
+    narrowing_answers x h c = by_test (M.leq (G (M.narrow x (G x))) (M.narrow x (G x)))
+      where
+        by_test : (t : Bool) → Answers M x (if t then M.narrow x (G x) else x)
+        by_test true = laws.narrow_answers x (G x) (alike x h c)
+        by_test false = answers_self x h
+
+    narrowings_answer : (m : ℕ) → Keeps n (narrowings_of M G m)
+    unfolding Keeps
+    narrowings_answer zero x h c = answers_self x h
+    narrowings_answer (suc m) x h c = let a = narrowing_answers x h c in answers_then x _ _ a (narrowings_answer m (narrowing_of M G x) a.valid (a.same ∙ c))
+
+  turn_keeps : (test : Term) (f : LeafValue → LeafValue) (d : LeafValue) → M.valid d → IsTermOf d.variables test → Keeps d.variables f → Keeps d.variables (turn_of M o.mode test f d)
+  unfolding Keeps
+  turn_keeps test f d h t keeps x i c =
+      let a = A.assumed_answers test true x (suits test x d.variables i c t) in
+      let b = keeps (assumed M o.mode test true x) a.valid (a.same ∙ c) in
+      let j = laws.join_answers d (f (assumed M o.mode test true x)) (record { first = h; second = b.valid; same = sym (b.same ∙ a.same ∙ c) }) in
+      record { valid = j.valid; same = j.same ∙ sym c }
+
+  -- the final leaf of a loop
+  pub final_answers : (test : Term) (f : LeafValue → LeafValue) (x : LeafValue) → M.valid x → IsTermOf x.variables test → Keeps x.variables f → Answers M x (final_leaf M o test f x)
+  unfolding Keeps
+  final_answers test f x h t k =
+      let G = turn_of M o.mode test f x in
+      let g = turn_keeps test f x h t k in
+      let w = rounds_answer x.variables o.delay G g (o.delay + M.bound_count x.variables + 1) 0 x h refl in
+      answers_then x _ _ w (narrowings_answer x.variables o.delay G g o.narrow (widened_leaf M o.delay G x) w.valid w.same)
+
+  -- the leaf after a loop
+  loop_answers : (test : Term) (f : LeafValue → LeafValue) (x : LeafValue) → M.valid x → IsTermOf x.variables test → Keeps x.variables f → Answers M x (assumed M o.mode test false (final_leaf M o test f x))
+  loop_answers test f x h t k =
+      let i = final_answers test f x h t k in
+      answers_then x _ _ i (A.assumed_answers test false (final_leaf M o test f x) (suits test (final_leaf M o test f x) x.variables i.valid i.same t))
+
+  -- the join of two leaves that answer one
+  pub join_answer : (x a b : LeafValue) → Answers M x a → Answers M x b → Answers M x (M.join a b)
+  join_answer x a b h k = answers_then x a _ h (laws.join_answers a b (record { first = h.valid; second = k.valid; same = h.same ∙ sym k.same }))
+
+  pub after_keeps : (code : Code) (n : ℕ) → IsCodeOf n code → Keeps n (after_of M o code)
+  unfolding Keeps
+  after_keeps Done n over x h c = answers_self x h
+  after_keeps (Assign place y e rest) n over x h c =
+      let a = A.assigned_answers y e x (below y n x c over.0) (suits e x n h c over.1) in
+      answers_then x _ _ a (after_keeps rest n over.2 (assigned M o.mode y e x) a.valid (a.same ∙ c))
+  after_keeps (Input place y rest) n over x h c =
+      let a = A.forgotten_answers y x (below y n x c over.0) h in
+      answers_then x _ _ a (after_keeps rest n over.1 (forgotten M y x) a.valid (a.same ∙ c))
+  after_keeps (Assert place e rest) n over x h c =
+      let a = A.assumed_answers e true x (suits e x n h c over.0) in
+      answers_then x _ _ a (after_keeps rest n over.1 (assumed M o.mode e true x) a.valid (a.same ∙ c))
+  after_keeps (If place e p q rest) n over x h c =
+      let t = A.assumed_answers e true x (suits e x n h c over.0) in
+      let f = A.assumed_answers e false x (suits e x n h c over.0) in
+      let a = answers_then x _ _ t (after_keeps p n over.1 (assumed M o.mode e true x) t.valid (t.same ∙ c)) in
+      let b = answers_then x _ _ f (after_keeps q n over.2 (assumed M o.mode e false x) f.valid (f.same ∙ c)) in
+      let j = join_answer x (after_of M o p (assumed M o.mode e true x)) (after_of M o q (assumed M o.mode e false x)) a b in
+      answers_then x _ _ j (after_keeps rest n over.3 (M.join (after_of M o p (assumed M o.mode e true x)) (after_of M o q (assumed M o.mode e false x))) j.valid (j.same ∙ c))
+  after_keeps (While place e body rest) n over x h c =
+      let k : Keeps x.variables (after_of M o body) = subst (λ m. Keeps m (after_of M o body)) (sym c) (after_keeps body n over.1) in
+      let v = loop_answers e (after_of M o body) x h (subst (λ m. IsTermOf m e) (sym c) over.0) k in
+      answers_then x _ _ v (after_keeps rest n over.2 (assumed M o.mode e false (final_leaf M o e (after_of M o body) x)) v.valid (v.same ∙ c))
+  after_keeps (Block place body rest) n over x h c =
+      let a = after_keeps body n over.0 x h c in
+      answers_then x _ _ a (after_keeps rest n over.1 (after_of M o body x) a.valid (a.same ∙ c))
+  after_keeps (Skip place rest) n over x h c = after_keeps rest n over x h c
+  after_keeps (Cond number p q rest) n over x h c = after_keeps rest n over.2 x h c
+
+  turn_nothing : (test : Term) (f : LeafValue → LeafValue) (d : LeafValue) → is_nothing_of d ≡ true → d.variables ≡ (f d).variables → is_nothing_of (f d) ≡ true → is_nothing_of (turn_of M o.mode test f d d) ≡ true
+  turn_nothing test f d e c k = ap (λ v. is_nothing_of (M.join d (f v))) (A.assumed_of_nothing test true d e) ∙ join_nothings d (f d) c e k
+
+  -- a loop that is entered with Nothing ends with it
+  loop_nothing : (test : Term) (f : LeafValue → LeafValue) (x : LeafValue) → M.valid x → Keeps x.variables f → is_nothing_of x ≡ true → is_nothing_of (f x) ≡ true
+      → is_nothing_of (assumed M o.mode test false (final_leaf M o test f x)) ≡ true
+  unfolding Keeps
+  loop_nothing test f x h k e fe =
+      let G = turn_of M o.mode test f x in
+      let g = turn_nothing test f x e (sym (k x h refl).same) fe in
+      let s = rounds_stay M o.delay G (o.delay + M.bound_count x.variables + 1) 0 x (leq_content M laws _ _ x g) in
+      let w : is_nothing_of (widened_leaf M o.delay G x) ≡ true = ap is_nothing_of s ∙ e in
+      let i = narrowings_nothing G o.narrow (widened_leaf M o.delay G x) w in
+      ap is_nothing_of (A.assumed_of_nothing test false (final_leaf M o test f x) i) ∙ i
+
+  assumed_nothing : (e : Term) (want : Bool) (x : LeafValue) → is_nothing_of x ≡ true → is_nothing_of (assumed M o.mode e want x) ≡ true
+  assumed_nothing e want x n = ap is_nothing_of (A.assumed_of_nothing e want x n) ∙ n
+
+  after_nothing : (code : Code) (n : ℕ) → IsCodeOf n code → (x : LeafValue) → M.valid x → x.variables ≡ n → is_nothing_of x ≡ true → is_nothing_of (after_of M o code x) ≡ true
+  unfolding Keeps
+  after_nothing Done n over x h c z = z
+  after_nothing (Assign place y e rest) n over x h c z =
+      let a = A.assigned_answers y e x (below y n x c over.0) (suits e x n h c over.1) in
+      after_nothing rest n over.2 (assigned M o.mode y e x) a.valid (a.same ∙ c) (A.assigned_of_nothing y e x z)
+  after_nothing (Input place y rest) n over x h c z =
+      let a = A.forgotten_answers y x (below y n x c over.0) h in
+      after_nothing rest n over.1 (forgotten M y x) a.valid (a.same ∙ c) (A.forgotten_of_nothing y x z)
+  after_nothing (Assert place e rest) n over x h c z =
+      let a = A.assumed_answers e true x (suits e x n h c over.0) in
+      after_nothing rest n over.1 (assumed M o.mode e true x) a.valid (a.same ∙ c) (assumed_nothing e true x z)
+  after_nothing (If place e p q rest) n over x h c z =
+      let t = A.assumed_answers e true x (suits e x n h c over.0) in
+      let f = A.assumed_answers e false x (suits e x n h c over.0) in
+      let a = answers_then x _ _ t (after_keeps p n over.1 (assumed M o.mode e true x) t.valid (t.same ∙ c)) in
+      let b = answers_then x _ _ f (after_keeps q n over.2 (assumed M o.mode e false x) f.valid (f.same ∙ c)) in
+      let j = join_answer x (after_of M o p (assumed M o.mode e true x)) (after_of M o q (assumed M o.mode e false x)) a b in
+      after_nothing rest n over.3 (M.join (after_of M o p (assumed M o.mode e true x)) (after_of M o q (assumed M o.mode e false x))) j.valid (j.same ∙ c)
+      (join_nothings (after_of M o p (assumed M o.mode e true x)) (after_of M o q (assumed M o.mode e false x)) (a.same ∙ sym b.same)
+      (after_nothing p n over.1 (assumed M o.mode e true x) t.valid (t.same ∙ c) (assumed_nothing e true x z))
+      (after_nothing q n over.2 (assumed M o.mode e false x) f.valid (f.same ∙ c) (assumed_nothing e false x z)))
+  after_nothing (While place e body rest) n over x h c z =
+      let k : Keeps x.variables (after_of M o body) = subst (λ m. Keeps m (after_of M o body)) (sym c) (after_keeps body n over.1) in
+      let v = loop_answers e (after_of M o body) x h (subst (λ m. IsTermOf m e) (sym c) over.0) k in
+      after_nothing rest n over.2 (assumed M o.mode e false (final_leaf M o e (after_of M o body) x)) v.valid (v.same ∙ c)
+      (loop_nothing e (after_of M o body) x h k z (after_nothing body n over.1 x h c z))
+  after_nothing (Block place body rest) n over x h c z =
+      let a = after_keeps body n over.0 x h c in
+      after_nothing rest n over.1 (after_of M o body x) a.valid (a.same ∙ c) (after_nothing body n over.0 x h c z)
+  after_nothing (Skip place rest) n over x h c z = after_nothing rest n over x h c z
+  after_nothing (Cond number p q rest) n over x h c z = after_nothing rest n over.2 x h c z
+
+  pub loops_settle : LoopsSettle M o
+  unfolding Keeps
+  loops_settle test body d h ot ob =
+      let k : Keeps d.variables (after_of M o body) = after_keeps body d.variables ob in
+      let G = turn_of M o.mode test (after_of M o body) d in
+      first_phase_settles M laws d.variables o.delay G (record { answers = turn_keeps test (after_of M o body) d h ot k }) d h refl
+      (λ e. turn_nothing test (after_of M o body) d e (sym (k d h refl).same) (after_nothing body d.variables ob d h refl e))
+
+  -- narrowing keeps a stable leaf stable
+  narrowings_settle : (G : LeafValue → LeafValue) (m : ℕ) (x : LeafValue) → M.leq (G x) x ≡ true → M.leq (G (narrowings_of M G m x)) (narrowings_of M G m x) ≡ true
+  narrowings_settle G zero x e = e
+  narrowings_settle G (suc m) x e = narrowings_settle G m (narrowing_of M G x) (by_test (M.leq (G (M.narrow x (G x))) (M.narrow x (G x))) refl)
+    where
+      by_test : (t : Bool) → M.leq (G (M.narrow x (G x))) (M.narrow x (G x)) ≡ t → M.leq (G (if t then M.narrow x (G x) else x)) (if t then M.narrow x (G x) else x) ≡ true
+      by_test true f = f
+      by_test false f = e
+
+  -- a loop's final leaf holds each store with which the loop is entered, and each that comes from its body
+  pub record Holds (test : Term) (body : Code) (d : LeafValue) : Type 0 where
+    pub entered : (s : List ℤ) → M.holds d s → M.holds (final_leaf M o test (after_of M o body) d) s
+    pub again : (s : List ℤ) → M.holds (after_of M o body (assumed M o.mode test true (final_leaf M o test (after_of M o body) d))) s → M.holds (final_leaf M o test (after_of M o body) d) s
+
+  pub loop_holds : (test : Term) (body : Code) (d : LeafValue) → M.valid d → IsTermOf d.variables test → IsCodeOf d.variables body → Holds test body d
+  unfolding Keeps
+  loop_holds test body d h ot ob =
+      let f = after_of M o body in
+      let k : Keeps d.variables f = after_keeps body d.variables ob in
+      let G = turn_of M o.mode test f d in
+      let x = final_leaf M o test f d in
+      let i = final_answers test f d h ot k in
+      let a = A.assumed_answers test true x (suits test x d.variables i.valid i.same ot) in
+      let b = k (assumed M o.mode test true x) a.valid (a.same ∙ i.same) in
+      let j = turn_keeps test f d h ot k x i.valid i.same in
+      let joined : Alike M d (f (assumed M o.mode test true x)) = record { first = h; second = b.valid; same = sym (b.same ∙ a.same ∙ i.same) } in
+      let compared : Alike M (G x) x = record { first = j.valid; second = i.valid; same = j.same } in
+      let settled : M.leq (G x) x ≡ true = narrowings_settle G o.narrow (widened_leaf M o.delay G d) (loops_settle test body d h ot ob) in
+      record {
+        entered = λ s p. laws.leq_holds _ _ s compared settled (laws.join_holds _ _ s joined (inl p));
+        again = λ s p. laws.leq_holds _ _ s compared settled (laws.join_holds _ _ s joined (inr p));
+      }
+
+  -- the same of code over the leaf's own variables
+  pub after_answers : (c : Code) (v : LeafValue) → M.valid v → IsCodeOf v.variables c → Answers M v (after_of M o c v)
+  unfolding Keeps
+  after_answers c v h n = after_keeps c v.variables n v h refl
+
+  pub final_of_code : (e : Term) (body : Code) (v : LeafValue) → M.valid v → IsTermOf v.variables e → IsCodeOf v.variables body → Answers M v (final_leaf M o e (after_of M o body) v)
+  final_of_code e body v h t n = final_answers e (after_of M o body) v h t (after_keeps body v.variables n)

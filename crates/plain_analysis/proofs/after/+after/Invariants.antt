@@ -1,0 +1,61 @@
+use Rattle.std.proofs.Common.{◌≡◌, ◌+◌, ◌*◌, ◌-◌, take}
+use Rattle.c_tree.specs.Tree.{Done}
+use Rattle.c_tree.specs.View.{term, front, code}
+use Rattle.plain_analysis.specs.Loops.{turn_of, rounds_of, widened_leaf, narrowings_of, final_leaf}
+use Rattle.plain_analysis.specs.Statements.{after_of}
+use Rattle.plain_analysis.proofs.Sizes.{size_of}
+use Rattle.plain_analysis.proofs.after.+after.Given as goal
+
+-- the leaf after the statements so far
+abbrev pub invariant-after_list-loop-s : goal.invariant-after_list-loop-s
+invariant-after_list-loop-s g l =
+    let value = g.L.Leaf.value in
+    record {
+      made : value l.made ≡ after_of g.L.Leaf.meaning l.fn.options (code (take l.s-index l.list)) (value l.leaf);
+      same : (value l.made).variables ≡ (value l.leaf).variables;
+    }
+
+-- the rounds that are left lead from here to where all lead from the start
+abbrev pub invariant-widened-loop-k : goal.invariant-widened-loop-k
+invariant-widened-loop-k g l =
+    let value = g.L.Leaf.value in
+    let M = g.L.Leaf.meaning in
+    let o = l.fn.options in
+    let G = turn_of M o.mode (term l.test) (after_of M o (code l.body)) (value l.leaf) in
+    record {
+      rest : rounds_of M o.delay G (l.rounds - l.k) l.k (value l.at) ≡ widened_leaf M o.delay G (value l.leaf);
+      same : (value l.at).variables ≡ (value l.leaf).variables;
+    }
+
+abbrev pub invariant-final_leaf-loop-k : goal.invariant-final_leaf-loop-k
+invariant-final_leaf-loop-k g l =
+    let value = g.L.Leaf.value in
+    let M = g.L.Leaf.meaning in
+    let o = l.fn.options in
+    let after = after_of M o (code l.body) in
+    record {
+      rest : narrowings_of M (turn_of M o.mode (term l.test) after (value l.leaf)) (o.narrow - l._k) (value l.at) ≡ final_leaf M o (term l.test) after (value l.leaf);
+      same : (value l.at).variables ≡ (value l.leaf).variables;
+    }
+
+-- the size of the statements, and then the order of the calls
+abbrev pub decreases-after_stmt : goal.decreases-after_stmt
+decreases-after_stmt g l = 6 * size_of (front l.s.now Done)
+
+abbrev pub decreases-after_list : goal.decreases-after_list
+decreases-after_list g l = 6 * size_of (code l.list.now) + 1
+
+abbrev pub decreases-after_side : goal.decreases-after_side
+decreases-after_side g l = 6 * size_of (code l.list.now) + 2
+
+abbrev pub decreases-turn : goal.decreases-turn
+decreases-turn g l = 6 * size_of (code l.body.now) + 3
+
+abbrev pub decreases-widened : goal.decreases-widened
+decreases-widened g l = 6 * size_of (code l.body.now) + 4
+
+abbrev pub decreases-narrowed : goal.decreases-narrowed
+decreases-narrowed g l = 6 * size_of (code l.body.now) + 4
+
+abbrev pub decreases-final_leaf : goal.decreases-final_leaf
+decreases-final_leaf g l = 6 * size_of (code l.body.now) + 5

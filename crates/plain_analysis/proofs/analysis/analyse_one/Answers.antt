@@ -1,0 +1,43 @@
+use Rattle.std.proofs.Common.{◌++◌, map, ap, ◌∙◌, refl}
+use Rattle.c_tree.specs.View.{code, whole}
+use Rattle.plain_analysis.specs.Statements.{after_of, entries_of}
+use Rattle.plain_analysis.specs.Entered.{place_and_leaf, leaves_in, alarms_in}
+use Rattle.plain_analysis.proofs.Promised.{places, leaves, alarms}
+use Rattle.plain_analysis.proofs.analysis.analyse_one.Goals as goal
+
+pub returns-clause-places : goal.returns-clause-places
+returns-clause-places g c =
+    let value = g.L.Leaf.value in
+    let M = g.L.Leaf.meaning in
+    let o = c.args.options.now in
+    let d = value c.args.start.now in
+    let after = c.in_ok-leaf.ensures.value ∙ ap (λ l. after_of M o (code l) d) c.deref.ensures.value in
+    let entered = c.in_ok-leaf.ensures.entered.leaves
+    ∙ (ap (λ l. map (place_and_leaf value) l ++ leaves_in (entries_of M o (code c.deref.result.now) d)) c.new.ensures.items
+    ∙ ap (λ l. leaves_in (entries_of M o (code l) d)) c.deref.ensures.value) in
+    ap (map (λ at. at.place)) (c.from_vec.ensures ∙ c.in_ok-push.ensures.items)
+    ∙ places M o (whole c.args.program.now) d c.requires.program c.requires.plain value c.enter_list.new.found.places.items (record { place = c.args.program.now.end; leaf = c.in_ok-leaf.leaf }) entered refl after
+
+pub returns-clause-leaves : goal.returns-clause-leaves
+returns-clause-leaves g c =
+    let value = g.L.Leaf.value in
+    let M = g.L.Leaf.meaning in
+    let o = c.args.options.now in
+    let d = value c.args.start.now in
+    let after = c.in_ok-leaf.ensures.value ∙ ap (λ l. after_of M o (code l) d) c.deref.ensures.value in
+    let entered = c.in_ok-leaf.ensures.entered.leaves
+    ∙ (ap (λ l. map (place_and_leaf value) l ++ leaves_in (entries_of M o (code c.deref.result.now) d)) c.new.ensures.items
+    ∙ ap (λ l. leaves_in (entries_of M o (code l) d)) c.deref.ensures.value) in
+    ap (map (λ at. value at.leaf)) (c.from_vec.ensures ∙ c.in_ok-push.ensures.items)
+    ∙ leaves M o (whole c.args.program.now) d c.requires.program c.requires.plain value c.enter_list.new.found.places.items (record { place = c.args.program.now.end; leaf = c.in_ok-leaf.leaf }) entered refl after
+
+pub returns-clause-alarms : goal.returns-clause-alarms
+returns-clause-alarms g c =
+    let M = g.L.Leaf.meaning in
+    let o = c.args.options.now in
+    let d = g.L.Leaf.value c.args.start.now in
+    c.from_vec-2.ensures
+    ∙ (c.in_ok-leaf.ensures.entered.alarms
+    ∙ (ap (λ l. l ++ alarms_in M o (entries_of M o (code c.deref.result.now) d)) c.new-2.ensures.items
+    ∙ (ap (λ l. alarms_in M o (entries_of M o (code l) d)) c.deref.ensures.value
+    ∙ alarms M o (whole c.args.program.now) d c.requires.program c.requires.plain)))

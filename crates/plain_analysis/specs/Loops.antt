@@ -1,0 +1,38 @@
+-- What a loop does to a leaf: rounds of joining and widening, and then of checked narrowing.
+use Rattle.std.specs.Prelude.{ℕ, zero, suc, ◌+◌, true, if◌then◌else◌, nat_lt}
+use Rattle.c_tree.specs.declared.tree.Mode.{Mode}
+use Rattle.c_tree.specs.Tree.{Term}
+use Rattle.leaf_domain.specs.Leaves.{LeafValue, LeafMeaning}
+use Rattle.leaf_domain.specs.Transfer.{assumed}
+use Rattle.plain_analysis.specs.declared.options.Options.{Options}
+
+-- what comes in at the head of a loop that is entered with d, where the head has x: d, and what the body makes of the stores
+-- of x at which the test holds
+abbrev pub turn_of : LeafMeaning → Mode → Term → (LeafValue → LeafValue) → LeafValue → LeafValue → LeafValue
+turn_of M mode test body d x = M.join d (body (assumed M mode test true x))
+
+-- round number k: where what comes in is below x, x stays; else both are joined in the first rounds, and widened later
+abbrev pub round_of : LeafMeaning → ℕ → (LeafValue → LeafValue) → ℕ → LeafValue → LeafValue
+round_of M delay G k x = if M.leq (G x) x then x else (if nat_lt k delay then M.join x (G x) else M.widen x (G x))
+
+-- n rounds from number k on
+abbrev pub rounds_of : LeafMeaning → ℕ → (LeafValue → LeafValue) → ℕ → ℕ → LeafValue → LeafValue
+rounds_of M delay G zero k x = x
+rounds_of M delay G (suc n) k x = rounds_of M delay G n (k + 1) (round_of M delay G k x)
+
+-- the leaf at the head after all rounds of joining and widening, from the one with which the loop is entered
+abbrev pub widened_leaf : LeafMeaning → ℕ → (LeafValue → LeafValue) → LeafValue → LeafValue
+widened_leaf M delay G d = rounds_of M delay G (delay + M.bound_count d.variables + 1) 0 d
+
+-- one round of narrowing: the candidate is taken only where what comes in with it is below it
+abbrev pub narrowing_of : LeafMeaning → (LeafValue → LeafValue) → LeafValue → LeafValue
+narrowing_of M G x = if M.leq (G (M.narrow x (G x))) (M.narrow x (G x)) then M.narrow x (G x) else x
+
+abbrev pub narrowings_of : LeafMeaning → (LeafValue → LeafValue) → ℕ → LeafValue → LeafValue
+narrowings_of M G zero x = x
+narrowings_of M G (suc n) x = narrowings_of M G n (narrowing_of M G x)
+
+-- the final leaf of a loop with this test and body that is entered with d
+abbrev pub final_leaf : LeafMeaning → Options → Term → (LeafValue → LeafValue) → LeafValue → LeafValue
+final_leaf M o test body d =
+    narrowings_of M (turn_of M o.mode test body d) o.narrow (widened_leaf M o.delay (turn_of M o.mode test body d) d)

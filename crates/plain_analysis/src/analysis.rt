@@ -1,0 +1,74 @@
+//! The analysis of one program.
+#![tactic(auto)]
+
+ghost use Rattle.std.specs.Prelude.{◌≡◌, map, length, IfOk};
+ghost use Rattle.c_tree.specs.View.{whole};
+ghost use Rattle.c_tree.specs.Whole.{IsProgram, IsPlainProgram};
+ghost use Rattle.c_tree.specs.Places.{program_places};
+ghost use Rattle.plain_analysis.specs.Places.{at_of, alarms_of};
+ghost use Rattle.plain_analysis.specs.Promises.{LoopsSettle, RunsForeseen};
+
+use crate::alarm::Alarms;
+use crate::entries::{Found, enter_list};
+use crate::findings::{Findings, PlaceLeaf, PlaceLeaves};
+use crate::options::Options;
+use c_tree::Program;
+use fam_outer::NoMemory;
+use leaf_domain::{Leaf, transfer_is_sound};
+use std::alloc::Global;
+
+/// The analysis of a plain program from a leaf of its variables.
+///
+/// The places are those of the program in the order of the text, that of the closing brace of
+/// `main` last, each with the leaf with which the statement there is entered. At the place of a loop
+/// it is the loop's final leaf: the one after `delay` rounds of joining, so many rounds of widening
+/// that what comes in at the head is then below it, and `narrow` rounds of narrowing, where a
+/// candidate is taken only if what comes in with it is below it. In the body it is the leaf of one
+/// more pass from there, and at the end the leaf after the whole body.
+///
+/// An alarm stands at a place and with a kind exactly where the statement there may stop with the
+/// kind by its leaf; alarms come by place and then by kind. In the mode of the options and for each
+/// store of the first leaf, each list of inputs and each number of steps, the store that a run has
+/// reached lies in the leaf at its place, and the stop that it has met is among the alarms. The only
+/// refusal is want of memory.
+pub fn analyse_one<L: Leaf>(
+    alloc: Global,
+    program: &Program,
+    start: &L,
+    options: &Options,
+) -> Result<Findings<L>, NoMemory>
+    requires program { IsProgram (whole program.now) }
+    requires plain { IsPlainProgram (whole program.now) }
+    requires variables { (L.value start.now).variables ≡ length program.now.names }
+    ensures places { IfOk result (λ f. map (λ at. at.place) f.places ≡ program_places (whole program.now)) }
+    ensures leaves { IfOk result (λ f. map (λ at. L.value at.leaf) f.places ≡ map (at_of L.meaning options.now (whole program.now) (L.value start.now)) (program_places (whole program.now))) }
+    ensures alarms { IfOk result (λ f. f.alarms ≡ alarms_of L.meaning options.now (whole program.now) (L.value start.now)) }
+    ensures runs { RunsForeseen L.meaning options.now (whole program.now) (L.value start.now) }
+    ensures settled { LoopsSettle L.meaning options.now }
+{
+    runs_are_foreseen(program, start, options);
+    let mut found = Found {
+        places: Vec::new(alloc),
+        alarms: Vec::new(alloc),
+    };
+    let leaf = enter_list(alloc, &program.body, start, *options, &mut found)?;
+    let place = program.end;
+    found.places.push(PlaceLeaf { place, leaf })?;
+    Ok(Findings {
+        places: PlaceLeaves::from_vec(found.places),
+        alarms: Alarms::from_vec(found.alarms),
+    })
+}
+
+/// The laws of the analysis: runs are foreseen, and the rounds of widening end where nothing comes in
+/// any more.
+fn runs_are_foreseen<L: Leaf>(program: &Program, start: &L, options: &Options)
+    requires program { IsProgram (whole program.now) }
+    requires plain { IsPlainProgram (whole program.now) }
+    requires variables { (L.value start.now).variables ≡ length program.now.names }
+    ensures runs { RunsForeseen L.meaning options.now (whole program.now) (L.value start.now) }
+    ensures settled { LoopsSettle L.meaning options.now }
+{
+    transfer_is_sound::<L>();
+    let _known = start.variables();
+}

@@ -1,0 +1,184 @@
+//! The leaves and alarms of statements.
+#![tactic(auto)]
+
+ghost use Rattle.std.specs.Prelude.{◌≡◌, ◌++◌, ◌∷◌, [], map, IfOk, OnOk};
+ghost use Rattle.c_tree.specs.Tree.{Done};
+ghost use Rattle.c_tree.specs.View.{term, front, code};
+ghost use Rattle.c_tree.specs.Fit.{IsTermOf, IsCodeOf};
+ghost use Rattle.leaf_domain.specs.Transfer.{assumed};
+ghost use Rattle.leaf_domain.specs.Stops.{may_at};
+ghost use Rattle.plain_analysis.specs.Statements.{after_of, entries_of};
+ghost use Rattle.plain_analysis.specs.Places.{alarm_where};
+ghost use Rattle.plain_analysis.specs.Entered.{place_and_leaf, HasEntered};
+
+use crate::after::{final_leaf, joined};
+use crate::alarm::Alarm;
+use crate::findings::PlaceLeaf;
+use crate::options::Options;
+use c_tree::{Expr, Kind, Stmt};
+use fam_outer::{NoMemory, Place};
+use leaf_domain::{Leaf, assign, assume, forget, may};
+use std::alloc::Global;
+
+/// The leaves and alarms found so far, in the order of the text.
+#[derive(Drop)]
+pub(crate) struct Found<L> {
+    pub(crate) places: Vec<PlaceLeaf<L>>,
+    pub(crate) alarms: Vec<Alarm>,
+}
+
+/// Adds the leaf with which a statement is entered.
+fn add_leaf<L: Leaf>(
+    alloc: Global,
+    found: &mut Found<L>,
+    place: Place,
+    leaf: &L,
+) -> Result<(), NoMemory>
+    ensures leaves { OnOk result (map (place_and_leaf L.value) found.new.places.items ≡ map (place_and_leaf L.value) found.old.places.items ++ (place, L.value leaf.now) ∷ []) }
+    ensures alarms { OnOk result (found.new.alarms.items ≡ found.old.alarms.items) }
+{
+    let leaf = leaf.copy(alloc)?;
+    found.places.push(PlaceLeaf { place, leaf })?;
+    Ok(())
+}
+
+/// Adds the alarm of a kind, where the statement may stop with it.
+fn add_alarm<L: Leaf>(
+    alloc: Global,
+    found: &mut Found<L>,
+    s: &Stmt,
+    place: Place,
+    kind: Kind,
+    leaf: &L,
+    options: Options,
+) -> Result<(), NoMemory>
+    requires { IsCodeOf (L.value leaf.now).variables (front s.now Done) }
+    ensures leaves { OnOk result (found.new.places.items ≡ found.old.places.items) }
+    ensures alarms { OnOk result (found.new.alarms.items ≡ found.old.alarms.items ++ alarm_where (may_at L.meaning options.mode kind (front s.now Done) (L.value leaf.now)) place kind) }
+{
+    if may(alloc, leaf, kind, s, options.mode)? {
+        found.alarms.push(Alarm { place, kind })?;
+    }
+    Ok(())
+}
+
+/// Adds the leaf with which a statement is entered, and its alarms.
+fn enter<L: Leaf>(
+    alloc: Global,
+    found: &mut Found<L>,
+    s: &Stmt,
+    place: Place,
+    leaf: &L,
+    options: Options,
+) -> Result<(), NoMemory>
+    requires { IsCodeOf (L.value leaf.now).variables (front s.now Done) }
+    ensures { OnOk result (HasEntered L.value L.meaning options found.old found.new (record { place = place; statement = front s.now Done; leaf = L.value leaf.now } ∷ [])) }
+{
+    add_leaf(alloc, found, place, leaf)?;
+    add_alarm(alloc, found, s, place, Kind::Overflow, leaf, options)?;
+    add_alarm(alloc, found, s, place, Kind::ZeroDivisor, leaf, options)?;
+    add_alarm(alloc, found, s, place, Kind::Assertion, leaf, options)
+}
+
+/// Enters the statements of a list with `leaf`, and answers the leaf after them.
+#[cycle(enter)]
+pub(crate) fn enter_list<L: Leaf>(
+    alloc: Global,
+    list: &[Stmt],
+    leaf: &L,
+    options: Options,
+    found: &mut Found<L>,
+) -> Result<L, NoMemory>
+    requires { IsCodeOf (L.value leaf.now).variables (code list.now) }
+    ensures value { IfOk result (λ made. L.value made ≡ after_of L.meaning options (code list.now) (L.value leaf.now)) }
+    ensures same { IfOk result (λ made. (L.value made).variables ≡ (L.value leaf.now).variables) }
+    ensures entered { OnOk result (HasEntered L.value L.meaning options found.old found.new (entries_of L.meaning options (code list.now) (L.value leaf.now))) }
+{
+    let mut made = leaf.copy(alloc)?;
+    for s in list {
+        made = enter_stmt(alloc, s, &made, options, found)?;
+    }
+    Ok(made)
+}
+
+/// Enters a statement and those in it with `leaf`, and answers the leaf after it. A loop is entered
+/// with its final leaf, and its body once, from there.
+#[cycle(enter)]
+fn enter_stmt<L: Leaf>(
+    alloc: Global,
+    s: &Stmt,
+    leaf: &L,
+    options: Options,
+    found: &mut Found<L>,
+) -> Result<L, NoMemory>
+    requires { IsCodeOf (L.value leaf.now).variables (front s.now Done) }
+    ensures value { IfOk result (λ made. L.value made ≡ after_of L.meaning options (front s.now Done) (L.value leaf.now)) }
+    ensures same { IfOk result (λ made. (L.value made).variables ≡ (L.value leaf.now).variables) }
+    ensures entered { OnOk result (HasEntered L.value L.meaning options found.old found.new (entries_of L.meaning options (front s.now Done) (L.value leaf.now))) }
+{
+    match s {
+        Stmt::Assign {
+            place,
+            target,
+            value,
+        } => {
+            enter(alloc, found, s, *place, leaf, options)?;
+            assign(alloc, leaf, *target, value, options.mode)
+        }
+        Stmt::Input { place, target } => {
+            enter(alloc, found, s, *place, leaf, options)?;
+            forget(alloc, leaf, *target)
+        }
+        Stmt::Assert { place, test } => {
+            enter(alloc, found, s, *place, leaf, options)?;
+            assume(alloc, leaf, test, true, options.mode)
+        }
+        Stmt::If {
+            place,
+            test,
+            yes,
+            no,
+        } => {
+            enter(alloc, found, s, *place, leaf, options)?;
+            let after_yes = enter_side(alloc, yes, test, true, leaf, options, found)?;
+            let after_no = enter_side(alloc, no, test, false, leaf, options, found)?;
+            joined(alloc, &after_yes, &after_no)
+        }
+        Stmt::While { place, test, body } => {
+            let last = final_leaf(alloc, body, test, leaf, options)?;
+            enter(alloc, found, s, *place, &last, options)?;
+            enter_side(alloc, body, test, true, &last, options, found)?;
+            assume(alloc, &last, test, false, options.mode)
+        }
+        Stmt::Block { place, body } => {
+            enter(alloc, found, s, *place, leaf, options)?;
+            enter_list(alloc, body, leaf, options, found)
+        }
+        Stmt::Skip { place } => {
+            enter(alloc, found, s, *place, leaf, options)?;
+            leaf.copy(alloc)
+        }
+        Stmt::Cond { .. } => leaf.copy(alloc),
+    }
+}
+
+/// Enters the statements of a list where a test is not 0, or is 0, and answers the leaf after them.
+#[cycle(enter)]
+fn enter_side<L: Leaf>(
+    alloc: Global,
+    list: &[Stmt],
+    test: &Expr,
+    want: bool,
+    leaf: &L,
+    options: Options,
+    found: &mut Found<L>,
+) -> Result<L, NoMemory>
+    requires test { IsTermOf (L.value leaf.now).variables (term test.now) }
+    requires list { IsCodeOf (L.value leaf.now).variables (code list.now) }
+    ensures value { IfOk result (λ made. L.value made ≡ after_of L.meaning options (code list.now) (assumed L.meaning options.mode (term test.now) want (L.value leaf.now))) }
+    ensures same { IfOk result (λ made. (L.value made).variables ≡ (L.value leaf.now).variables) }
+    ensures entered { OnOk result (HasEntered L.value L.meaning options found.old found.new (entries_of L.meaning options (code list.now) (assumed L.meaning options.mode (term test.now) want (L.value leaf.now)))) }
+{
+    let inside = assume(alloc, leaf, test, want, options.mode)?;
+    enter_list(alloc, list, &inside, options, found)
+}
