@@ -7,7 +7,11 @@ use Rattle.linear_atoms.specs.declared.atoms.Feature.{Feature}
 use Rattle.linear_atoms.specs.declared.forms.Linear.{Linear}
 use Rattle.linear_atoms.specs.Forms.{form_by, is_small, is_small_form}
 use Rattle.cpp_conditions.specs.Propositions.{Proposition}
-use Rattle.cpp_conditions.specs.Expressions.{Operator, Times, Plus, Minus, Less, AtMost, Greater, AtLeast, Equal, Differs, Both, Either, Prefix, Positive, Negative, Inverse, Expression, Number, Name, IsDefined, Unary, Binary}
+use Rattle.cpp_conditions.specs.declared.operators.Operator.{Operator}
+use Rattle.cpp_conditions.specs.declared.operators.Operator.TheVariants.{Times, Plus, Minus, Less, AtMost, Greater, AtLeast, Equal, Differs, Both, Either}
+use Rattle.cpp_conditions.specs.declared.operators.Prefix.{Prefix}
+use Rattle.cpp_conditions.specs.declared.operators.Prefix.TheVariants.{Positive, Negative, Inverse}
+use Rattle.cpp_conditions.specs.Expressions.{Expression, Number, Name, IsDefined, Unary, Binary}
 use Rattle.cpp_conditions.specs.Meaning.{is_truth, is_linear, form, difference, less_one, cond}
 use Rattle.cpp_conditions.specs.Tokens.{Token, Digits, Word, Defined, Open, Close, Bang, Oper, SpellsTokens, weight_behind}
 

@@ -1,8 +1,11 @@
+pub mod Descent
 pub mod Expressions
 pub mod Grammar
+pub mod Machine
 pub mod Meaning
 pub mod Numbering
 pub mod Propositions
+pub mod Scanning
 pub mod Tokens
 pub mod Validity
 pub mod View

@@ -5,6 +5,10 @@ pub mod conditions;
 pub mod formulas;
 pub mod laws;
 pub mod models;
+mod expressions;
+mod operators;
+mod stop;
+mod tokens;
 
 pub use conditions::Condition;
 pub use formulas::{Formula, number};
