@@ -158,10 +158,10 @@ fn operand<'a, 'b>(
     }
     if let Some(inside) = open(tokens) {
         let (inner, rest) = climb(alloc, inside, 6)?;
-        return match close(rest) {
-            Some(after) => Ok((inner, after)),
-            None => Err(Stop::Wrong),
+        let Some(after) = close(rest) else {
+            return Err(Stop::Wrong);
         };
+        return Ok((inner, after));
     }
     match single(tokens) {
         Some(found) => Ok(found),
