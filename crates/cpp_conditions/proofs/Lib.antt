@@ -1,7 +1,9 @@
 pub mod Complete
 pub mod Descending
+pub mod Formed
 pub mod Lexemes
 pub mod Meanings
 pub mod Numbers
 pub mod Signs
+pub mod Sizes
 pub mod Sound

@@ -135,7 +135,7 @@ plain_before Positive a p = p
 plain_before Negative a p = ap (terms_by (negsuc 0)) p
 plain_before Inverse a p = p
 
-plain_form : (fs : List Feature) (e : Expression) → names_feature fs e ≡ false → (form fs e).terms ≡ []
+pub plain_form : (fs : List Feature) (e : Expression) → names_feature fs e ≡ false → (form fs e).terms ≡ []
 plain_form fs (Number n) h = refl
 plain_form fs (Name name) h = plain_name (found name fs) h
 plain_form fs (IsDefined name) h = plain_defined fs (found name fs) h

@@ -19,7 +19,7 @@ pub data Expression : Type 0 where
 -- the place of the feature with this name
 abbrev pub found : List ℕ → List Feature → Option ℕ
 found name [] = None
-found name (f ∷ fs) = if bytes_eq name f.name then Some 0 else option_map suc (found name fs)
+found name (f ∷ fs) = if bytes_eq f.name name then Some 0 else option_map suc (found name fs)
 
 -- a feature's name is its value, any other name is 0
 abbrev pub value_at : List ℤ → Option ℕ → ℤ

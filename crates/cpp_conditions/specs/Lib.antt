@@ -1,8 +1,11 @@
 pub mod Descent
 pub mod Expressions
+pub mod Forming
 pub mod Grammar
+pub mod Judged
 pub mod Machine
 pub mod Meaning
+pub mod Naming
 pub mod Numbering
 pub mod Propositions
 pub mod Scanning

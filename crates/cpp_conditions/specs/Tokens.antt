@@ -100,16 +100,20 @@ pub data SpellsTokens : List ℕ → List Token → Type 0 where
   pair : (b c : ℕ) (t : Token) {bs : List ℕ} {ts : List Token} → pair_of b c ≡ Some t → SpellsTokens bs ts → SpellsTokens (b ∷ c ∷ bs) (t ∷ ts)
   single : (b : ℕ) (t : Token) {bs : List ℕ} {ts : List Token} → single_of b ≡ Some t → NoPair b bs → SpellsTokens bs ts → SpellsTokens (b ∷ bs) (t ∷ ts)
 
--- how many tokens are operators or opening parentheses, `defined` and its parenthesis aside
-abbrev pub weight : Token → ℕ
-weight Open = 1
-weight Bang = 1
-weight (Oper op) = 1
-weight Twice = 1
-weight _ = 0
+-- operators and opening parentheses have the weight 1, but not the parenthesis of `defined`
+abbrev pub weight : Bool → Token → ℕ
+weight true Open = 0
+weight false Open = 1
+weight defined Bang = 1
+weight defined (Oper op) = 1
+weight defined Twice = 1
+weight defined _ = 0
 
+abbrev pub is_defined : Token → Bool
+is_defined Defined = true
+is_defined _ = false
+
+-- the weight of the tokens, behind `defined` or another token
 abbrev pub weight_behind : Bool → List Token → ℕ
 weight_behind defined [] = 0
-weight_behind true (Open ∷ ts) = weight_behind false ts
-weight_behind _ (Defined ∷ ts) = weight_behind true ts
-weight_behind _ (t ∷ ts) = weight t + weight_behind false ts
+weight_behind defined (t ∷ ts) = weight defined t + weight_behind (is_defined t) ts

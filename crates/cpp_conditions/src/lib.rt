@@ -1,11 +1,15 @@
 //! Conditions over features, as they stand behind `#if` (ISO/IEC 9899:2011, 6.10.1).
 #![tactic(auto)]
 
+mod comparing;
 pub mod conditions;
 pub mod formulas;
+mod forming;
+mod judging;
 pub mod laws;
 pub mod models;
 mod expressions;
+mod names;
 mod operators;
 mod stop;
 mod tokens;
