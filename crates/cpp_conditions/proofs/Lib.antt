@@ -1,3 +1,4 @@
+pub mod Compared
 pub mod Complete
 pub mod Descending
 pub mod Formed

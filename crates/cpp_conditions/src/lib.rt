@@ -13,6 +13,7 @@ mod names;
 mod operators;
 mod stop;
 mod tokens;
+mod truths;
 
 pub use conditions::Condition;
 pub use formulas::{Formula, number};
