@@ -8,6 +8,7 @@ pub mod Meaning
 pub mod Naming
 pub mod Numbering
 pub mod Propositions
+pub mod Reading
 pub mod Scanning
 pub mod Tokens
 pub mod Validity

@@ -11,7 +11,7 @@ use Rattle.cpp_conditions.specs.Expressions.{found}
 abbrev pub Finds : List (Bor (List ℕ) × ℕ) → ℕ → List Feature → Type 0
 Finds entries first features = (q : Bor (List ℕ)) → lookup (λ k. bytes_eq q.now k.now) entries ≡ option_map (λ n. first + n) (found q.now features)
 
--- at most 32 features, whose ranges are not empty and have ends of at most 2^20 in size
-pub record AreFew (features : List Feature) : Type 0 where
+-- features as those of a model: at most 32, whose ranges are not empty and have ends of at most 2^20 in size
+pub record AreFeatures (features : List Feature) : Type 0 where
   pub few : length features ≤ 32
   pub ranges : AreRanges features

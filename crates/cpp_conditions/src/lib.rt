@@ -11,6 +11,7 @@ pub mod models;
 mod expressions;
 mod names;
 mod operators;
+pub mod reading;
 mod stop;
 mod tokens;
 mod truths;
@@ -18,6 +19,7 @@ mod truths;
 pub use conditions::Condition;
 pub use formulas::{Formula, number};
 pub use models::{Conditions, Features, Model, is_valid};
+pub use reading::{ConditionRefusal, read_condition};
 
 #[cfg(test)]
 mod tests;

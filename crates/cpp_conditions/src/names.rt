@@ -6,7 +6,7 @@ ghost use Rattle.linear_atoms.specs.Atoms.{AreRanges};
 ghost use Rattle.linear_atoms.specs.Texts.{boolean_at};
 ghost use Rattle.cpp_conditions.specs.Expressions.{found};
 ghost use Rattle.cpp_conditions.specs.Meaning.{is_boolean};
-ghost use Rattle.cpp_conditions.specs.Naming.{Finds, AreFew};
+ghost use Rattle.cpp_conditions.specs.Naming.{Finds, AreFeatures};
 
 use fam_outer::NoMemory;
 use indexmap::IndexMap;
@@ -24,13 +24,13 @@ pub(crate) struct Names<'a> {
 impl<'a> marker::Model for Names<'a> {
     ghost use Rattle.std.specs.Prelude.{List};
     ghost use Rattle.linear_atoms.specs.declared.atoms.Feature.{Feature};
-    ghost use Rattle.cpp_conditions.specs.Naming.{Finds, AreFew};
+    ghost use Rattle.cpp_conditions.specs.Naming.{Finds, AreFeatures};
 
     ghost Value = { List Feature };
 
     ghost view = { λ names. names.features.now };
 
-    ghost invariant = { λ names. Finds names.numbers.entries 0 names.features.now × AreFew names.features.now };
+    ghost invariant = { λ names. Finds names.numbers.entries 0 names.features.now × AreFeatures names.features.now };
 }
 
 /// The first feature and those behind it.
@@ -65,7 +65,7 @@ fn numbered(
 impl<'a> Names<'a> {
     /// These features.
     pub(crate) fn of(alloc: Global, features: &'a [Feature]) -> Result<Names<'a>, NoMemory>
-        requires { AreFew features.now }
+        requires { AreFeatures features.now }
         ensures { IfOk result (λ names. names ≡ features.now) }
     {
         let numbers = numbered(alloc, features, 0)?;
