@@ -7,6 +7,7 @@ pub mod Lexemes
 pub mod Meanings
 pub mod Numbers
 pub mod Once
+pub mod Read
 pub mod Signs
 pub mod Sizes
 pub mod Sound
