@@ -55,10 +55,10 @@ fn literal(alloc: Global, names: &Names<'_>, digits: &[u8]) -> Result<Linear, Li
 fn name(alloc: Global, names: &Names<'_>, name: &[u8]) -> Result<Linear, LinearFault>
     ensures { Forms names.now result (meaning.name_form (found name.now names.now)) true }
 {
-    match names.number(name) {
-        Some(number) => Ok(Linear::feature(alloc, number)?),
-        None => Linear::constant(alloc, 0),
-    }
+    let Some(number) = names.number(name) else {
+        return Linear::constant(alloc, 0);
+    };
+    Ok(Linear::feature(alloc, number)?)
 }
 
 /// The form of `defined` of a name.
