@@ -105,7 +105,7 @@ fn holds(alloc: Global, condition: &Condition, number: i64, switch: i64) -> Resu
 
 /// What bytes are read as: a fault; or the truths where `A` is off and where it is on, of which bit n is that at
 /// `N` equal to n.
-#[derive(Debug, PartialEq, Eq)]
+#[derive(Clone, Copy, Debug, PartialEq, Eq)]
 enum Answer {
     Truths(u8, u8),
     Fault(ConditionFault),
@@ -125,7 +125,7 @@ fn truths(alloc: Global, condition: &Condition, switch: i64) -> Result<u8, Fail>
     Ok(bits)
 }
 
-fn answer(alloc: Global, bytes: &[u8]) -> Result<Answer, Fail> {
+fn read(alloc: Global, bytes: &[u8]) -> Result<Answer, Fail> {
     let features = both_features(alloc)?;
     match read_condition(alloc, features.items(), bytes) {
         Ok(condition) => {
@@ -163,7 +163,7 @@ fn conditions_are_read(rt: HostRuntime) -> Result<(), Fail> {
         (b"\tN\r+ A*8 > +7\x0b\x0c", 0, 255),
     ];
     for (bytes, off, on) in cases {
-        assert_eq!(rt; answer(alloc, bytes)?, Answer::Truths(off, on));
+        assert_eq!(rt; read(alloc, bytes)?, Answer::Truths(off, on));
     }
     Ok(())
 }
@@ -208,7 +208,7 @@ fn conditions_are_refused(rt: HostRuntime) -> Result<(), Fail> {
         (b"N * 65536 * 65536", ConditionFault::TooLarge),
     ];
     for (bytes, fault) in cases {
-        assert_eq!(rt; answer(alloc, bytes)?, Answer::Fault(fault));
+        assert_eq!(rt; read(alloc, bytes)?, Answer::Fault(fault));
     }
     Ok(())
 }
