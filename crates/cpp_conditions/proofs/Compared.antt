@@ -1,10 +1,9 @@
 -- Tests as the code makes them.
-use Rattle.std.proofs.Common.{◌≡◌, ℕ, zero, suc, ◌+◌, ◌*◌, ◌/◌, ◌≤◌, ◌<◌, ℤ, pos, negsuc, neg_ℤ, ◌+ℤ◌, ◌-ℤ◌, ◌*ℤ◌, ◌≤ℤ◌, ◌<ℤ◌, int_lt, int_le, unsigned_abs, Bool, true, false, not, ◌&&◌, if◌then◌else◌, List, [], ◌∷◌, length, Option, Some, None, Result, Ok, Err, refl, sym, ap, subst, ◌∙◌, arith, to_z, of_z, w64, FitsSigned}
+use Rattle.std.proofs.Common.{◌≡◌, ℕ, suc, ◌/◌, ◌≤◌, ◌<◌, ℤ, pos, negsuc, neg_ℤ, ◌+ℤ◌, ◌-ℤ◌, ◌*ℤ◌, ◌≤ℤ◌, ◌<ℤ◌, int_lt, int_le, unsigned_abs, Bool, true, false, ◌&&◌, if◌then◌else◌, List, [], ◌∷◌, length, Option, Some, None, Err, refl, sym, ap, subst, ◌∙◌, arith, to_z, of_z, w64, FitsSigned}
 use Rattle.std.proofs.lemmas.Bool.{false≢true}
 use Rattle.std.proofs.lemmas.Int.{ints, to_z-of_z}
 use Rattle.std.proofs.Math.Nat.{div-le_self}
 use Rattle.std.specs.Prelude.{int_div}
-use Rattle.std.specs.Int.{int_div_euclid}
 use Rattle.linear_atoms.specs.declared.atoms.Atom.{Atom}
 use Rattle.linear_atoms.specs.declared.atoms.Literal.{Literal}
 use Rattle.linear_atoms.specs.declared.atoms.Feature.{Feature}
@@ -13,9 +12,9 @@ use Rattle.linear_atoms.specs.declared.forms.LinearFault.{LinearFault}
 use Rattle.linear_atoms.specs.declared.forms.LinearFault.TheVariants as faults
 use Rattle.linear_atoms.specs.declared.normal.Normal.{Normal}
 use Rattle.linear_atoms.specs.declared.normal.Normal.TheVariants as normals
-use Rattle.linear_atoms.specs.Atoms.{holds, AreBelow, AreRanges, IsWithin, IsDecided}
+use Rattle.linear_atoms.specs.Atoms.{AreBelow, AreRanges, IsWithin, IsDecided}
 use Rattle.linear_atoms.specs.Forms.{IsRising, form_sum, form_by, terms_sum, terms_by, is_small, are_small, is_small_form, FormsWithin}
-use Rattle.linear_atoms.specs.Normal.{common_divisor, divided, rounded_up, at_least, literal_by, normal_by, normal_of, IsNormal}
+use Rattle.linear_atoms.specs.Normal.{common_divisor, divided, rounded_up, at_least, normal_by, normal_of, IsNormal}
 use Rattle.linear_atoms.specs.Ranges.{extreme_sum}
 use Rattle.linear_atoms.proofs.Coprimes.{normal_kept}
 use Rattle.linear_atoms.proofs.Divisors.{divisor_positive}
@@ -25,10 +24,10 @@ use Rattle.cpp_conditions.specs.declared.operators.Operator.{Operator}
 use Rattle.cpp_conditions.specs.declared.operators.Operator.TheVariants.{Times, Plus, Minus, Less, AtMost, Greater, AtLeast, Equal, Differs, Both, Either}
 use Rattle.cpp_conditions.specs.Forming.{IsOver, IsSmallOver, IsWide, Widens, Means, IsTest}
 use Rattle.cpp_conditions.specs.Grammar.{is_small_zero, is_small_compared}
-use Rattle.cpp_conditions.specs.Meaning.{difference, less_one, decided_of, compared}
+use Rattle.cpp_conditions.specs.Meaning.{difference, less_one, decided_of}
 use Rattle.cpp_conditions.specs.Propositions.{Proposition}
 use Rattle.cpp_conditions.proofs.Signs.{minus_one}
-use Rattle.cpp_conditions.proofs.Sizes.{and_true, and_left, and_right, false_left, false_right, small_back, small_negated, small_negated_terms, over_by, over_difference, over_small}
+use Rattle.cpp_conditions.proofs.Sizes.{and_true, and_left, and_right, false_left, small_back, small_negated, small_negated_terms, over_by, over_difference, over_small}
 
 -- ---- differences and opposites
 
@@ -37,9 +36,6 @@ number_size n e = grind arith
 
 constant_size : (a : Linear) → is_small_form a ≡ true → unsigned_abs a.constant ≤ 2147483648
 constant_size a e = number_size a.constant (and_right (are_small a.terms) (is_small a.constant) e)
-
-pub small_wide : (a : Linear) → is_small_form a ≡ true → unsigned_abs a.constant ≤ 4294967296
-small_wide a e = let h = constant_size a e in omega arith
 
 pub wide_difference : (a b : Linear) → is_small_form a ≡ true → is_small_form b ≡ true → to_z w64 (of_z w64 (to_z w64 (of_z w64 a.constant) -ℤ to_z w64 (of_z w64 b.constant))) ≡ a.constant -ℤ b.constant
 wide_difference a b e f =
@@ -92,13 +88,15 @@ opposite_made fs a made o made_is =
     let c : to_z w64 (of_z w64 (pos 0 -ℤ to_z w64 (of_z w64 a.constant))) ≡ a.constant *ℤ negsuc 0 = wide_opposite a.constant o.wide in
     let t : made.terms ≡ terms_by (negsuc 0) a.terms = ap (λ (x : Linear). x.terms) made_is in
     let is : with_constant made (to_z w64 (of_z w64 (pos 0 -ℤ to_z w64 (of_z w64 a.constant)))) ≡ form_by (negsuc 0) a = λ i. record { terms = t i; constant = c i } in
-    let d = over_by fs (negsuc 0) a (record { rising = o.rising; below = o.below }) in
-    (is, record {
-      rising = subst (λ (x : Linear). IsRising x.terms) (sym is) d.rising;
-      below = subst (λ (x : Linear). AreBelow (length fs) x.terms) (sym is) d.below;
-      small = ap are_small t ∙ small_negated_terms a.terms ∙ o.small;
-      wide = opposite_size a.constant (to_z w64 (of_z w64 (pos 0 -ℤ to_z w64 (of_z w64 a.constant)))) o.wide c;
-    })
+    let d = over_by fs (negsuc 0) a (record { rising = o.rising; below = o.below }) in (
+      is,
+      record {
+        rising = subst (λ (x : Linear). IsRising x.terms) (sym is) d.rising;
+        below = subst (λ (x : Linear). AreBelow (length fs) x.terms) (sym is) d.below;
+        small = ap are_small t ∙ small_negated_terms a.terms ∙ o.small;
+        wide = opposite_size a.constant (to_z w64 (of_z w64 (pos 0 -ℤ to_z w64 (of_z w64 a.constant)))) o.wide c;
+      },
+    )
 
 -- ---- what the ranges decide
 

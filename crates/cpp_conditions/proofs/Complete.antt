@@ -1,14 +1,14 @@
 -- What is spelled is read.
-use Rattle.std.proofs.Common.{◌≡◌, ℕ, zero, suc, ◌+◌, ◌≤◌, ◌<◌, List, [], ◌∷◌, ◌++◌, Option, Some, None, refl, sym, ap, ◌∙◌, append_assoc, arith}
+use Rattle.std.proofs.Common.{◌≡◌, ℕ, suc, ◌≤◌, ◌<◌, List, [], ◌∷◌, ◌++◌, Some, refl, sym, ap, ◌∙◌, append_assoc, arith}
 use Rattle.std.proofs.lemmas.List.{append-nil}
 use Rattle.std.proofs.lemmas.Bool.{lt-ltb, le-ltb}
 use Rattle.cpp_conditions.specs.declared.operators.Operator.{Operator}
 use Rattle.cpp_conditions.specs.declared.operators.Operator.TheVariants.{Times, Plus, Minus, Less, AtMost, Greater, AtLeast, Equal, Differs, Both, Either}
 use Rattle.cpp_conditions.specs.declared.operators.Prefix.{Prefix}
 use Rattle.cpp_conditions.specs.declared.operators.Prefix.TheVariants.{Positive, Negative, Inverse}
-use Rattle.cpp_conditions.specs.Expressions.{Expression, Number, Name, IsDefined, Unary, Binary}
+use Rattle.cpp_conditions.specs.Expressions.{Expression, Unary, Binary}
 use Rattle.cpp_conditions.specs.Grammar.{tighter, sign, Spells, number, name, defined, defined_group, group, prefix, loose, binary}
-use Rattle.cpp_conditions.specs.Machine.{Frame, Paren, Pre, Left, room, State, Wants, Has, settle, closed_by, ended_by, step, finish, read}
+use Rattle.cpp_conditions.specs.Machine.{Frame, Paren, Pre, Left, room, Wants, Has, settle, read}
 use Rattle.cpp_conditions.specs.Tokens.{Token, Digits, Word, Defined, Open, Close, Bang, Oper, Twice}
 use Rattle.cpp_conditions.specs.Descent.{Loose}
 
@@ -25,7 +25,7 @@ tighter_small Differs = omega arith
 tighter_small Both = omega arith
 tighter_small Either = omega arith
 
-pub looser : (j k : ℕ) (w : List Token) → j ≤ k → Loose k w → Loose j w
+looser : (j k : ℕ) (w : List Token) → j ≤ k → Loose k w → Loose j w
 looser j k [] le h = tt
 looser j k (Digits n ∷ w) le h = tt
 looser j k (Word x ∷ w) le h = tt
@@ -77,7 +77,7 @@ signs Positive open_ w = refl
 signs Negative open_ w = refl
 signs Inverse open_ w = refl
 
-pub complete : {k : ℕ} {ts : List Token} {e : Expression} → Spells k ts e → (open_ : List Frame) → k ≤ room open_ → (w : List Token) → Loose k w → read (Wants open_) (ts ++ w) ≡ read (Has open_ e) w
+complete : {k : ℕ} {ts : List Token} {e : Expression} → Spells k ts e → (open_ : List Frame) → k ≤ room open_ → (w : List Token) → Loose k w → read (Wants open_) (ts ++ w) ≡ read (Has open_ e) w
 unfolding read
 complete (number n) open_ le w h = refl
 complete (name x) open_ le w h = refl

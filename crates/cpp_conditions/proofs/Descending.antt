@@ -1,5 +1,5 @@
 -- What the functions of the descent do, as the machine does it.
-use Rattle.std.proofs.Common.{◌≡◌, ℕ, zero, suc, ◌≤◌, ◌<◌, List, [], ◌∷◌, ◌++◌, length, map, Option, Some, None, Result, Ok, Err, refl, sym, ap, subst, ◌∙◌, arith}
+use Rattle.std.proofs.Common.{◌≡◌, ℕ, suc, ◌<◌, List, [], ◌∷◌, length, Some, None, refl, sym, ap, subst, ◌∙◌, arith}
 use Rattle.cpp_conditions.specs.declared.operators.Operator.{Operator}
 use Rattle.cpp_conditions.specs.declared.operators.Prefix.{Prefix}
 use Rattle.cpp_conditions.specs.declared.stop.Stop.{Stop}
@@ -7,9 +7,9 @@ use Rattle.cpp_conditions.specs.declared.stop.Stop.TheVariants as stops
 use Rattle.cpp_conditions.specs.declared.tokens.Token as coded
 use Rattle.cpp_conditions.specs.Expressions.{Expression, Unary, Binary}
 use Rattle.cpp_conditions.specs.Grammar.{tighter, sign}
-use Rattle.cpp_conditions.specs.Machine.{Frame, Paren, Pre, Left, room, Wants, Has, read}
+use Rattle.cpp_conditions.specs.Machine.{Frame, Paren, Pre, Left, Wants, Has, read}
 use Rattle.cpp_conditions.specs.Tokens.{Token, Digits, Word, Defined, Open, Close, Bang, Oper, Twice}
-use Rattle.cpp_conditions.specs.Descent.{plain, Loose, IsNoClose, IsNoOpen, IsNoPrefix, Goes, Halts, Falls}
+use Rattle.cpp_conditions.specs.Descent.{plain, Loose, IsNoClose, Goes, Halts, Falls}
 use Rattle.cpp_conditions.proofs.Complete.{tighter_small, signs, pre_absorbs, left_absorbs, pushes}
 
 -- behind an expression that is inside a parenthesis
@@ -62,13 +62,6 @@ pub prefix_falls : (u : Prefix) (s : Stop) (ts rest : List Token) → ts ≡ sig
 prefix_falls u stops.NoMemory ts rest cut h = tt
 prefix_falls u stops.Wrong ts rest cut halts = λ open_ le. ap (read (Wants open_)) cut ∙ signs u open_ rest ∙ halts (Pre u ∷ open_) (omega arith)
 
-pub loosely : (k : ℕ) (ts rest : List Token) (e : Expression) → Goes 0 ts e rest → Goes k ts e rest
-loosely k ts rest e goes open_ le = goes open_ (omega arith)
-
-pub loosely_falls : (k : ℕ) (s : Stop) (ts : List Token) → Falls 0 s ts → Falls k s ts
-loosely_falls k stops.NoMemory ts h = tt
-loosely_falls k stops.Wrong ts halts = λ open_ le. halts open_ (omega arith)
-
 pub one_more : (k j : ℕ) (op : Operator) (ts rest after next : List Token) (a b made : Expression) → Goes k ts a rest → rest ≡ Oper op ∷ after → tighter op < k → j ≡ tighter op → Goes j after b next → Loose (suc j) next → made ≡ Binary op a b → Goes k ts made next
 one_more k j op ts rest after next a b made goes cut lt is right ends made_is open_ le =
     goes open_ le ∙ ap (read (Has open_ a)) cut ∙ pushes op open_ a after (omega arith) ∙ right (Left op a ∷ open_) (omega arith)
@@ -93,6 +86,3 @@ plain_none (t ∷ rest) n e = cc
 
 pub some_left : (ts : List Token) (rest : List coded.Token) (e : Expression) → Goes 6 ts e (plain rest) → Loose 7 (plain rest) → (length rest ≡ 0 → ⊥) → read (Wants []) ts ≡ None
 some_left ts rest e goes h n = left_stuck ts (plain rest) e goes h (plain_none rest n)
-
-pub falls_whole : (ts : List Token) → Halts 6 ts → read (Wants []) ts ≡ None
-falls_whole ts halts = halts [] (omega arith)

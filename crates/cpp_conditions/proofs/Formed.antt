@@ -1,5 +1,5 @@
 -- Forms as the code makes them.
-use Rattle.std.proofs.Common.{◌≡◌, ℕ, zero, suc, ◌+◌, ◌*◌, ◌≤◌, ◌<◌, ℤ, pos, negsuc, ◌+ℤ◌, ◌-ℤ◌, ◌*ℤ◌, unsigned_abs, Bool, true, false, not, ◌&&◌, ◌||◌, if◌then◌else◌, List, [], ◌∷◌, length, Option, Some, None, Result, Ok, Err, refl, sym, ap, subst, ◌∙◌, arith}
+use Rattle.std.proofs.Common.{◌≡◌, ℕ, ◌<◌, ℤ, negsuc, ◌*ℤ◌, Bool, true, false, not, ◌&&◌, List, [], ◌∷◌, length, Some, Result, Ok, Err, refl, sym, ap, subst, ◌∙◌}
 use Rattle.std.proofs.lemmas.Bool.{false≢true}
 use Rattle.std.proofs.lemmas.List.{nil_from_length}
 use Rattle.std.proofs.Math.IntN.{*ℤ_comm}
@@ -7,19 +7,17 @@ use Rattle.linear_atoms.specs.declared.atoms.Feature.{Feature}
 use Rattle.linear_atoms.specs.declared.forms.Linear.{Linear}
 use Rattle.linear_atoms.specs.declared.forms.LinearFault.{LinearFault}
 use Rattle.linear_atoms.specs.declared.forms.LinearFault.TheVariants as faults
-use Rattle.linear_atoms.specs.Forms.{constant_form, feature_form, form_sum, form_by, terms_by, is_small, are_small, is_small_form, FormsWithin}
-use Rattle.linear_atoms.specs.Texts.{boolean_at}
+use Rattle.linear_atoms.specs.Forms.{feature_form, form_sum, form_by, terms_by, is_small_form, FormsWithin}
 use Rattle.cpp_conditions.specs.declared.operators.Operator.{Operator}
 use Rattle.cpp_conditions.specs.declared.operators.Operator.TheVariants.{Times, Plus, Minus, Less, AtMost, Greater, AtLeast, Equal, Differs, Both, Either}
 use Rattle.cpp_conditions.specs.declared.operators.Prefix.{Prefix}
 use Rattle.cpp_conditions.specs.declared.operators.Prefix.TheVariants.{Positive, Negative, Inverse}
-use Rattle.cpp_conditions.specs.Expressions.{Expression, Number, Name, IsDefined, Unary, Binary, found}
+use Rattle.cpp_conditions.specs.Expressions.{Expression, Unary, Binary, found}
 use Rattle.cpp_conditions.specs.Forming.{IsNumber, IsOver, IsSmallOver, Forms, product_by, combined}
 use Rattle.cpp_conditions.specs.Grammar.{are_small_forms, is_small_operator}
-use Rattle.cpp_conditions.specs.Meaning.{is_truth, is_linear, names_feature, suits_operator, name_form, defined_form, difference, form_before, form_between, form}
-use Rattle.cpp_conditions.specs.Tokens.{number_from}
+use Rattle.cpp_conditions.specs.Meaning.{is_truth, is_linear, names_feature, name_form, difference, form_before, form_between, form}
 use Rattle.cpp_conditions.proofs.Meanings.{plain_form}
-use Rattle.cpp_conditions.proofs.Sizes.{and_true, and_left, and_right, false_left, false_right, small_negated, over_constant, over_feature, over_by, over_sum, over_difference, over_small, found_below}
+use Rattle.cpp_conditions.proofs.Sizes.{and_true, and_left, and_right, false_left, false_right, small_negated, over_feature, over_by, over_sum, over_difference, over_small, found_below}
 
 not_true : (a : Bool) → not a ≡ true → a ≡ false
 not_true true e = sym e
@@ -28,45 +26,18 @@ not_true false e = refl
 small_over : (fs : List Feature) (a made : Linear) → IsOver fs a → made ≡ a → is_small_form a ≡ true → IsSmallOver fs made
 small_over fs a made o e s = subst (IsSmallOver fs) (sym e) (record { rising = o.rising; below = o.below; small = s })
 
-pub formed : (fs : List Feature) (a : Linear) (r : Result Linear LinearFault) → IsOver fs a → FormsWithin r a → Forms fs r a (is_small_form a)
+formed : (fs : List Feature) (a : Linear) (r : Result Linear LinearFault) → IsOver fs a → FormsWithin r a → Forms fs r a (is_small_form a)
 formed fs a (Ok made) o w = (w.0, w.1, small_over fs a made o w.0 w.1)
 formed fs a (Err faults.NoMemory) o w = tt
 formed fs a (Err faults.TooLarge) o w = w
 
 -- ---- leaves
 
-pub formed_constant : (fs : List Feature) (n : ℤ) (r : Result Linear LinearFault) → FormsWithin r (constant_form n) → Forms fs r (constant_form n) (is_small n)
-formed_constant fs n r w = formed fs (constant_form n) r (over_constant fs n) w
-
-too_large : (fs : List Feature) (a b : Linear) (r : Result Linear LinearFault) → is_small_form a ≡ false → FormsWithin r a → Forms fs r b false
-too_large fs a b (Ok made) e w = absurd (false≢true (sym e ∙ w.1))
-too_large fs a b (Err faults.NoMemory) e w = tt
-too_large fs a b (Err faults.TooLarge) e w = refl
-
-pub formed_number : (fs : List Feature) (n m : ℕ) (r : Result Linear LinearFault) → (n ≤ 2147483648 → m ≡ n) → (2147483648 < n → m ≡ 2147483649) → FormsWithin r (constant_form (pos m)) → Forms fs r (constant_form (pos n)) (is_small (pos n))
-formed_number fs n m r exact large w = elim (is_small (pos n)) as (λ v. is_small (pos n) ≡ v → Forms fs r (constant_form (pos n)) v) [
-  | true ↦ λ e.
-      let le : n ≤ 2147483648 = grind arith in
-      subst (λ v. Forms fs r (constant_form (pos n)) v) e (formed_constant fs (pos n) r (subst (λ i. FormsWithin r (constant_form (pos i))) (exact le) w))
-  | false ↦ λ e.
-      let lt : 2147483648 < n = grind arith in
-      too_large fs (constant_form (pos 2147483649)) (constant_form (pos n)) r refl (subst (λ i. FormsWithin r (constant_form (pos i))) (large lt) w)
-] refl
-
-pub formed_feature : (fs : List Feature) (n : ℕ) (made : Linear) → n < length fs → made ≡ feature_form n → IsSmallOver fs made
+formed_feature : (fs : List Feature) (n : ℕ) (made : Linear) → n < length fs → made ≡ feature_form n → IsSmallOver fs made
 formed_feature fs n made h e = small_over fs (feature_form n) made (over_feature fs n h) e refl
 
 pub formed_name : (fs : List Feature) (name : List ℕ) (n : ℕ) (made : Linear) → Some n ≡ found name fs → made ≡ feature_form n → Forms fs (Ok made) (name_form (found name fs)) true
 formed_name fs name n made f e = (e ∙ ap name_form f, refl, formed_feature fs n made (found_below name fs n (sym f)) e)
-
-boolean_form : (fs : List Feature) (n : ℕ) (v : Bool) → boolean_at fs n ≡ v → defined_form fs (Some n) ≡ (if v then feature_form n else constant_form (pos 1))
-boolean_form fs n v e = ap (λ b. if b then feature_form n else constant_form (pos 1)) e
-
-pub formed_boolean : (fs : List Feature) (name : List ℕ) (n : ℕ) (made : Linear) → Some n ≡ found name fs → boolean_at fs n ≡ true → made ≡ feature_form n → Forms fs (Ok made) (defined_form fs (found name fs)) true
-formed_boolean fs name n made f b e = (e ∙ sym (boolean_form fs n true b) ∙ ap (defined_form fs) f, refl, formed_feature fs n made (found_below name fs n (sym f)) e)
-
-pub formed_integer : (fs : List Feature) (name : List ℕ) (n : ℕ) (r : Result Linear LinearFault) → Some n ≡ found name fs → boolean_at fs n ≡ false → FormsWithin r (constant_form (pos 1)) → Forms fs r (defined_form fs (found name fs)) true
-formed_integer fs name n r f b w = subst (λ a. Forms fs r a true) (sym (boolean_form fs n false b) ∙ ap (defined_form fs) f) (formed_constant fs (pos 1) r w)
 
 -- ---- operators
 
@@ -118,7 +89,7 @@ formed_back fs faults.TooLarge b x small o w = absurd (false≢true (sym w ∙ s
 -- ---- expressions that are numbers
 
 -- behind a prefix that is not `!`
-pub under_prefix : (fs : List Feature) (u : Prefix) (e : Expression) → IsNumber fs (Unary u e) → IsNumber fs e
+under_prefix : (fs : List Feature) (u : Prefix) (e : Expression) → IsNumber fs (Unary u e) → IsNumber fs e
 under_prefix fs Positive e n = record { number = not_true (is_truth e) (and_right (is_linear fs e) (not (is_truth e)) n.linear); linear = and_left (is_linear fs e) (not (is_truth e)) n.linear }
 under_prefix fs Negative e n = record { number = not_true (is_truth e) (and_right (is_linear fs e) (not (is_truth e)) n.linear); linear = and_left (is_linear fs e) (not (is_truth e)) n.linear }
 under_prefix fs Inverse e n = absurd (false≢true (sym n.number))
@@ -128,7 +99,7 @@ small_before fs Positive e n = refl
 small_before fs Negative e n = refl
 small_before fs Inverse e n = absurd (false≢true (sym n.number))
 
-pub formed_prefix : (fs : List Feature) (u : Prefix) (e : Expression) (operand : Linear) (r : Result Linear LinearFault) → IsNumber fs (Unary u e) → Forms fs (Ok operand) (form fs e) (are_small_forms fs e)
+formed_prefix : (fs : List Feature) (u : Prefix) (e : Expression) (operand : Linear) (r : Result Linear LinearFault) → IsNumber fs (Unary u e) → Forms fs (Ok operand) (form fs e) (are_small_forms fs e)
     → Forms fs r (form_before u operand) (is_small_form (form_before u operand)) → Forms fs r (form fs (Unary u e)) (are_small_forms fs (Unary u e))
 formed_prefix fs u e operand r n inner f =
     let g : Forms fs r (form fs (Unary u e)) (is_small_form (form fs (Unary u e))) = subst (λ x. Forms fs r (form_before u x) (is_small_form (form_before u x))) inner.0 f in
@@ -138,7 +109,7 @@ fails : (fs : List Feature) (fault : LinearFault) (a b : Linear) (v w : Bool) �
 fails fs faults.NoMemory a b v w f h = tt
 fails fs faults.TooLarge a b v w f h = f h
 
-pub prefix_fails : (fs : List Feature) (u : Prefix) (e : Expression) (fault : LinearFault) → IsNumber fs (Unary u e) → Forms fs (Err fault) (form fs e) (are_small_forms fs e) → Forms fs (Err fault) (form fs (Unary u e)) (are_small_forms fs (Unary u e))
+prefix_fails : (fs : List Feature) (u : Prefix) (e : Expression) (fault : LinearFault) → IsNumber fs (Unary u e) → Forms fs (Err fault) (form fs e) (are_small_forms fs e) → Forms fs (Err fault) (form fs (Unary u e)) (are_small_forms fs (Unary u e))
 prefix_fails fs u e fault n h = fails fs fault (form fs e) (form fs (Unary u e)) (are_small_forms fs e) (are_small_forms fs (Unary u e)) (λ s. small_before fs u e n ∙ false_left (are_small_forms fs e) (is_small_form (form fs (Unary u e))) s) h
 
 -- a product, a sum or a difference
@@ -208,7 +179,7 @@ operands fs Differs a b n = absurd (false≢true (sym n.number))
 operands fs Both a b n = absurd (false≢true (sym n.number))
 operands fs Either a b n = absurd (false≢true (sym n.number))
 
-pub formed_binary : (fs : List Feature) (op : Operator) (a b : Expression) (left right : Linear) (r : Result Linear LinearFault) → IsNumber fs (Binary op a b)
+formed_binary : (fs : List Feature) (op : Operator) (a b : Expression) (left right : Linear) (r : Result Linear LinearFault) → IsNumber fs (Binary op a b)
     → Forms fs (Ok left) (form fs a) (are_small_forms fs a) → Forms fs (Ok right) (form fs b) (are_small_forms fs b) → Forms fs r (combined op left right) (is_small_form (combined op left right))
     → Forms fs r (form fs (Binary op a b)) (are_small_forms fs (Binary op a b))
 formed_binary fs op a b left right r n p q f =
@@ -218,11 +189,11 @@ formed_binary fs op a b left right r n p q f =
     let s : are_small_forms fs (Binary op a b) ≡ is_small_form (form fs (Binary op a b)) = ap (λ v. v && is_small_operator fs op a b) (and_true (are_small_forms fs a) (are_small_forms fs b) p.1 q.1) ∙ o.is_small in
     subst (Forms fs r (form fs (Binary op a b))) (sym s) g
 
-pub left_fails : (fs : List Feature) (op : Operator) (a b : Expression) (fault : LinearFault) → Forms fs (Err fault) (form fs a) (are_small_forms fs a) → Forms fs (Err fault) (form fs (Binary op a b)) (are_small_forms fs (Binary op a b))
+left_fails : (fs : List Feature) (op : Operator) (a b : Expression) (fault : LinearFault) → Forms fs (Err fault) (form fs a) (are_small_forms fs a) → Forms fs (Err fault) (form fs (Binary op a b)) (are_small_forms fs (Binary op a b))
 left_fails fs op a b fault h = fails fs fault (form fs a) (form fs (Binary op a b)) (are_small_forms fs a) (are_small_forms fs (Binary op a b))
     (λ s. false_left (are_small_forms fs a && are_small_forms fs b) (is_small_operator fs op a b) (false_left (are_small_forms fs a) (are_small_forms fs b) s)) h
 
-pub right_fails : (fs : List Feature) (op : Operator) (a b : Expression) (fault : LinearFault) → Forms fs (Err fault) (form fs b) (are_small_forms fs b) → Forms fs (Err fault) (form fs (Binary op a b)) (are_small_forms fs (Binary op a b))
+right_fails : (fs : List Feature) (op : Operator) (a b : Expression) (fault : LinearFault) → Forms fs (Err fault) (form fs b) (are_small_forms fs b) → Forms fs (Err fault) (form fs (Binary op a b)) (are_small_forms fs (Binary op a b))
 right_fails fs op a b fault h = fails fs fault (form fs b) (form fs (Binary op a b)) (are_small_forms fs b) (are_small_forms fs (Binary op a b))
     (λ s. false_left (are_small_forms fs a && are_small_forms fs b) (is_small_operator fs op a b) (false_right (are_small_forms fs a) (are_small_forms fs b) s)) h
 

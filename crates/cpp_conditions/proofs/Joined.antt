@@ -1,8 +1,7 @@
 -- Conditions of truth values as the code makes them.
-use Rattle.std.proofs.Common.{◌≡◌, ℕ, Bool, true, false, not, ◌&&◌, List, length, Result, Ok, Err, refl, sym, ap, subst, ◌∙◌}
+use Rattle.std.proofs.Common.{◌≡◌, Bool, true, false, ◌&&◌, List, Result, Ok, Err, refl, sym, ap, subst, ◌∙◌}
 use Rattle.linear_atoms.specs.declared.atoms.Atom.{Atom}
 use Rattle.linear_atoms.specs.declared.atoms.Feature.{Feature}
-use Rattle.linear_atoms.specs.declared.forms.Linear.{Linear}
 use Rattle.linear_atoms.specs.declared.forms.LinearFault.{LinearFault}
 use Rattle.linear_atoms.specs.declared.forms.LinearFault.TheVariants as faults
 use Rattle.cpp_conditions.specs.declared.conditions.Condition.{Condition}
@@ -13,7 +12,7 @@ use Rattle.cpp_conditions.specs.declared.operators.Prefix.TheVariants.{Inverse}
 use Rattle.cpp_conditions.specs.Expressions.{Expression, Unary, Binary}
 use Rattle.cpp_conditions.specs.Forming.{IsNumber, Means, IsOverFeatures}
 use Rattle.cpp_conditions.specs.Grammar.{are_small_forms, is_small_truth, is_small_compared, is_small_condition}
-use Rattle.cpp_conditions.specs.Meaning.{is_truth, is_linear, difference, form, compared, cond}
+use Rattle.cpp_conditions.specs.Meaning.{is_linear, difference, form, compared, cond}
 use Rattle.cpp_conditions.specs.Propositions.{Proposition, Not, And, Or}
 use Rattle.cpp_conditions.specs.View.{proposition}
 use Rattle.cpp_conditions.proofs.Formed.{compared_sides}
@@ -28,14 +27,6 @@ fails fs faults.NoMemory p q v w f h = tt
 fails fs faults.TooLarge p q v w f h = f h
 
 -- ---- `!`
-
-pub inverse_fails : (fs : List Feature) (x : Expression) (u : Prefix) (e : Expression) (fault : LinearFault) → x ≡ Unary u e → u ≡ Inverse → (is_linear fs e ≡ true → Means fs (Err fault) (cond fs e) (is_small_condition fs e)) → is_linear fs x ≡ true
-    → Means fs (Err fault) (cond fs x) (is_small_condition fs x)
-inverse_fails fs x u e fault is inv inner l =
-    let q : x ≡ Unary Inverse e = is ∙ ap (λ v. Unary v e) inv in
-    let m : is_linear fs (Unary Inverse e) ≡ true = subst (λ y. is_linear fs y ≡ true) q l in
-    subst (λ y. Means fs (Err fault) (cond fs y) (is_small_condition fs y)) (sym q)
-    (fails fs fault (cond fs e) (Not (cond fs e)) (is_small_condition fs e) (is_small_condition fs (Unary Inverse e)) (λ s. false_left (is_small_condition fs e) true s) (inner (and_left (is_linear fs e) true m)))
 
 pub inverse_made : (fs : List Feature) (x : Expression) (u : Prefix) (e : Expression) (inner made : Condition) → x ≡ Unary u e → u ≡ Inverse → (is_linear fs e ≡ true → Means fs (Ok inner) (cond fs e) (is_small_condition fs e))
     → proposition made ≡ Not (proposition inner) → is_linear fs x ≡ true → Means fs (Ok made) (cond fs x) (is_small_condition fs x)

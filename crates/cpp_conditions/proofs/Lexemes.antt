@@ -1,22 +1,22 @@
 -- One step of the scanner is one step of the spelling.
-use Rattle.std.proofs.Common.{◌≡◌, ℕ, zero, suc, ◌<◌, ◌≤◌, ◌+◌, nat_eq, nat_le, Bool, true, false, not, ◌&&◌, ◌||◌, cond, if◌then◌else◌, List, [], ◌∷◌, ◌++◌, length, take, drop, get_or, map, Option, Some, None, option_map, refl, sym, ap, subst, ◌∙◌, append_assoc, arith}
+use Rattle.std.proofs.Common.{◌≡◌, ℕ, suc, ◌<◌, ◌≤◌, ◌+◌, nat_eq, Bool, true, false, not, ◌&&◌, ◌||◌, cond, if◌then◌else◌, List, [], ◌∷◌, ◌++◌, length, take, drop, get_or, map, Option, Some, None, option_map, refl, sym, ap, subst, ◌∙◌, append_assoc, arith}
 use Rattle.std.proofs.lemmas.Bool.{false≢true, eqb-true}
 use Rattle.std.proofs.lemmas.List.{append-nil, map-append}
 use Rattle.std.specs.List.{list_all, prefix_len}
-use Rattle.cpp_conditions.specs.Tokens.{Token, Digits, Word, is_space, is_digit, is_alphabetic, is_alphanumeric, is_first, is_word, StopsAt, is_number, number_from, is_identifier, word_token, pair_of, single_of, NoPair, SpellsTokens, none, space, number, word, pair, single}
+use Rattle.cpp_conditions.specs.Tokens.{Token, Digits, is_space, is_digit, is_alphabetic, is_alphanumeric, is_first, is_word, StopsAt, is_number, number_from, is_identifier, word_token, pair_of, single_of, NoPair, SpellsTokens, none, space, number, word, pair, single}
 use Rattle.cpp_conditions.specs.declared.tokens.Token as coded
 use Rattle.cpp_conditions.specs.Scanning.{token, run, behind, number_by, number_at, word_at, mark_by, mark_at, lexeme_at}
 
 -- ---- runs
 
-pub take_run : (test : ℕ → Bool) (bytes : List ℕ) → take (prefix_len test bytes) bytes ≡ run test bytes
+take_run : (test : ℕ → Bool) (bytes : List ℕ) → take (prefix_len test bytes) bytes ≡ run test bytes
 take_run test [] = refl
 take_run test (b ∷ bs) = elim (test b) as (λ v. take (cond v (1 + prefix_len test bs) 0) (b ∷ bs) ≡ cond v (b ∷ run test bs) []) [
   | true ↦ (let e : 1 + prefix_len test bs ≡ suc (prefix_len test bs) = omega arith in ap (λ (n : ℕ). take n (b ∷ bs)) e ∙ ap (λ (xs : List ℕ). b ∷ xs) (take_run test bs))
   | false ↦ refl
 ]
 
-pub drop_run : (test : ℕ → Bool) (bytes : List ℕ) → drop (prefix_len test bytes) bytes ≡ behind test bytes
+drop_run : (test : ℕ → Bool) (bytes : List ℕ) → drop (prefix_len test bytes) bytes ≡ behind test bytes
 drop_run test [] = refl
 drop_run test (b ∷ bs) = elim (test b) as (λ v. drop (cond v (1 + prefix_len test bs) 0) (b ∷ bs) ≡ cond v (behind test bs) (b ∷ bs)) [
   | true ↦ (let e : 1 + prefix_len test bs ≡ suc (prefix_len test bs) = omega arith in ap (λ (n : ℕ). drop n (b ∷ bs)) e ∙ drop_run test bs)
@@ -299,15 +299,12 @@ pub record Scanning (bytes : List ℕ) (done : List Token) (rest : List ℕ) : T
   pub forward : (us : List Token) → SpellsTokens rest us → SpellsTokens bytes (done ++ us)
   pub back : (ts : List Token) → SpellsTokens bytes ts → (us : List Token) × SpellsTokens rest us
 
-pub scanning_none : (bytes : List ℕ) → Scanning bytes [] bytes
-scanning_none bytes = record { forward = λ us s. s; back = λ ts s. (ts, s) }
-
 pub scanning_space : (bytes rest bs : List ℕ) (done : List Token) (b : ℕ) → Scanning bytes done rest → rest ≡ b ∷ bs → is_space b ≡ true → Scanning bytes done bs
 scanning_space bytes rest bs done b so_far cut h = record {
   forward = λ us s. so_far.forward us (subst (λ (xs : List ℕ). SpellsTokens xs us) (sym cut) (space b h s));
   back = λ ts s.
-    let r = so_far.back ts s in
-    (r.0, subst (λ (x : Bool). NextBy x (lexeme_at b bs) bs r.0) h (steps (subst (λ (xs : List ℕ). SpellsTokens xs r.0) cut r.1)));
+      let r = so_far.back ts s in
+      (r.0, subst (λ (x : Bool). NextBy x (lexeme_at b bs) bs r.0) h (steps (subst (λ (xs : List ℕ). SpellsTokens xs r.0) cut r.1)));
 }
 
 lexed : (b : ℕ) (bs : List ℕ) (ts : List Token) (o : Option (Token × List ℕ)) → is_space b ≡ false → lexeme_at b bs ≡ o → SpellsTokens (b ∷ bs) ts → Follows o ts
@@ -316,12 +313,12 @@ lexed b bs ts o h e s = subst (λ (o : Option (Token × List ℕ)). Follows o ts
 pub scanning_token : (bytes rest bs after : List ℕ) (done : List Token) (t : Token) (b : ℕ) → Scanning bytes done rest → rest ≡ b ∷ bs → is_space b ≡ false → Some (t, after) ≡ lexeme_at b bs → Scanning bytes (done ++ t ∷ []) after
 scanning_token bytes rest bs after done t b so_far cut h e = record {
   forward = λ us s.
-    subst (λ (xs : List Token). SpellsTokens bytes xs) (sym (append_assoc done (t ∷ []) us))
-    (so_far.forward (t ∷ us) (subst (λ (xs : List ℕ). SpellsTokens xs (t ∷ us)) (sym cut) (made b bs (t ∷ us) (subst (λ (o : Option (Token × List ℕ)). Follows o (t ∷ us)) e (us, refl, s)))));
+      subst (λ (xs : List Token). SpellsTokens bytes xs) (sym (append_assoc done (t ∷ []) us))
+      (so_far.forward (t ∷ us) (subst (λ (xs : List ℕ). SpellsTokens xs (t ∷ us)) (sym cut) (made b bs (t ∷ us) (subst (λ (o : Option (Token × List ℕ)). Follows o (t ∷ us)) e (us, refl, s)))));
   back = λ ts s.
-    let r = so_far.back ts s in
-    let f : Follows (Some (t, after)) r.0 = lexed b bs r.0 (Some (t, after)) h (sym e) (subst (λ (xs : List ℕ). SpellsTokens xs r.0) cut r.1) in
-    (f.0, f.2);
+      let r = so_far.back ts s in
+      let f : Follows (Some (t, after)) r.0 = lexed b bs r.0 (Some (t, after)) h (sym e) (subst (λ (xs : List ℕ). SpellsTokens xs r.0) cut r.1) in
+      (f.0, f.2);
 }
 
 pub scanning_wrong : (bytes rest bs : List ℕ) (done : List Token) (b : ℕ) → Scanning bytes done rest → rest ≡ b ∷ bs → is_space b ≡ false → None ≡ lexeme_at b bs → (ts : List Token) → SpellsTokens bytes ts → ⊥

@@ -1,6 +1,5 @@
 -- Bytes are read in one way.
-use Rattle.std.proofs.Common.{◌≡◌, ℕ, ◌≤◌, ◌<◌, ℤ, Bool, true, false, if◌then◌else◌, List, [], length, Option, Some, None, Result, Ok, Err, refl, sym, ap, subst, ◌∙◌, arith}
-use Rattle.std.proofs.lemmas.Bool.{false≢true}
+use Rattle.std.proofs.Common.{◌≡◌, ℕ, ℤ, Bool, true, false, if◌then◌else◌, List, Some, Result, Ok, Err, refl, sym, ap, subst, ◌∙◌, arith}
 use Rattle.fam_outer.specs.declared.faults.ConditionFault.{ConditionFault}
 use Rattle.fam_outer.specs.declared.faults.ConditionFault.TheVariants as faults
 use Rattle.linear_atoms.specs.declared.atoms.Atom.{Atom}
@@ -19,7 +18,7 @@ some_is : (d e : Expression) → Some d ≡ Some e → d ≡ e
 some_is d e h = cc
 
 -- tokens spell at most one expression
-pub one_expression : (ts : List Token) (d e : Expression) → Spells 6 ts d → Spells 6 ts e → d ≡ e
+one_expression : (ts : List Token) (d e : Expression) → Spells 6 ts d → Spells 6 ts e → d ≡ e
 one_expression ts d e s t = some_is d e (sym (is_read ts d s) ∙ is_read ts e t)
 
 pub spelled_once : (bytes : List ℕ) (d e : Expression) → CSpells d bytes → CSpells e bytes → d ≡ e

@@ -1,5 +1,5 @@
 -- What `read_condition` answers is what the bytes are read as.
-use Rattle.std.proofs.Common.{◌≡◌, ℕ, ◌≤◌, ◌<◌, ℤ, false, List, [], map, Option, Some, None, Result, Ok, Err, refl, sym, ap, subst, ◌∙◌, arith}
+use Rattle.std.proofs.Common.{◌≡◌, ℕ, ◌≤◌, ◌<◌, ℤ, false, List, [], Option, Some, None, Result, Ok, Err, sym, ap, subst, ◌∙◌, arith}
 use Rattle.std.specs.Prelude.{IfOk}
 use Rattle.fam_outer.specs.declared.faults.ConditionFault.{ConditionFault}
 use Rattle.fam_outer.specs.declared.faults.ConditionFault.TheVariants as faults
@@ -19,7 +19,7 @@ use Rattle.cpp_conditions.specs.Machine.{Wants, read as read_by}
 use Rattle.cpp_conditions.specs.Propositions.{Proposition, true_at}
 use Rattle.cpp_conditions.specs.Reading.{Reads, Judges, stop_refusal}
 use Rattle.cpp_conditions.specs.Scanning.{Scans}
-use Rattle.cpp_conditions.specs.Tokens.{Token, SpellsTokens, weight_behind}
+use Rattle.cpp_conditions.specs.Tokens.{SpellsTokens, weight_behind}
 use Rattle.cpp_conditions.specs.View.{proposition}
 use Rattle.cpp_conditions.proofs.Complete.{is_read}
 use Rattle.cpp_conditions.proofs.Once.{has_value}

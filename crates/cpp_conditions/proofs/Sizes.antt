@@ -1,5 +1,5 @@
 -- Sizes of numbers and forms.
-use Rattle.std.proofs.Common.{◌≡◌, ℕ, zero, suc, ◌+◌, ◌*◌, ◌-◌, ◌≤◌, ◌<◌, min, nat_le, ℤ, pos, negsuc, neg_ℤ, ◌+ℤ◌, ◌-ℤ◌, ◌*ℤ◌, unsigned_abs, Bool, true, false, ◌&&◌, if◌then◌else◌, List, [], ◌∷◌, ◌++◌, length, Option, Some, None, option_map, refl, sym, ap, subst, ◌∙◌, arith, inl, inr, FitsSigned, to_z, of_z, w64}
+use Rattle.std.proofs.Common.{◌≡◌, ℕ, suc, ◌+◌, ◌*◌, ◌-◌, ◌≤◌, ◌<◌, min, nat_le, ℤ, pos, negsuc, neg_ℤ, ◌+ℤ◌, ◌*ℤ◌, unsigned_abs, Bool, true, false, ◌&&◌, if◌then◌else◌, List, [], ◌∷◌, ◌++◌, length, Option, Some, None, option_map, refl, sym, ap, subst, ◌∙◌, arith, inl, inr, FitsSigned, to_z, of_z, w64}
 use Rattle.std.proofs.lemmas.Bool.{false≢true, cases_lt}
 use Rattle.std.proofs.lemmas.Int.{ints, to_z-of_z}
 use Rattle.std.specs.Ordering.{int_eq, nat_cmp}
@@ -9,12 +9,12 @@ use Rattle.std.specs.declared.cmp.Ordering.TheVariants as orders
 use Rattle.linear_atoms.specs.declared.atoms.Feature.{Feature}
 use Rattle.linear_atoms.specs.declared.forms.Linear.{Linear}
 use Rattle.linear_atoms.specs.Atoms.{AreBelow}
-use Rattle.linear_atoms.specs.Forms.{IsRising, one, placed, with_term, terms_sum, terms_by, constant_form, feature_form, form_sum, form_by, is_small, are_small, is_small_form}
+use Rattle.linear_atoms.specs.Forms.{one, placed, with_term, terms_sum, terms_by, constant_form, feature_form, form_sum, form_by, is_small, are_small, is_small_form}
 use Rattle.linear_atoms.proofs.Merges.{small-append}
 use Rattle.linear_atoms.proofs.Sums.{is_zero, terms_sum_rises, terms_by_rises}
 use Rattle.cpp_conditions.specs.Expressions.{found}
 use Rattle.cpp_conditions.specs.Forming.{IsOver, IsSmallOver}
-use Rattle.cpp_conditions.specs.Meaning.{difference, less_one}
+use Rattle.cpp_conditions.specs.Meaning.{difference}
 use Rattle.cpp_conditions.specs.Tokens.{number_from}
 use Rattle.cpp_conditions.proofs.Signs.{minus_one}
 
@@ -32,7 +32,7 @@ number_grows n (b ∷ bs) = let h = number_grows (n * 10 + (b - 48)) bs in omega
 step_exact : (value next b : ℕ) (behind rest whole : List ℕ) → Capped value rest whole → rest ≡ b ∷ behind → next ≡ value * 10 + (b - 48) → value ≤ 2147483648 → number_from next behind ≡ number_from 0 whole
 step_exact value next b behind rest whole c cut is le = ap (λ (n : ℕ). number_from n behind) is ∙ ap (number_from value) (sym cut) ∙ c.exact le
 
-pub capped_kept : (value next b : ℕ) (behind rest whole : List ℕ) → Capped value rest whole → rest ≡ b ∷ behind → next ≡ value * 10 + (b - 48) → next < 2147483649 → Capped next behind whole
+capped_kept : (value next b : ℕ) (behind rest whole : List ℕ) → Capped value rest whole → rest ≡ b ∷ behind → next ≡ value * 10 + (b - 48) → next < 2147483649 → Capped next behind whole
 capped_kept value next b behind rest whole c cut is lt = record {
   small = omega arith;
   exact = λ le. step_exact value next b behind rest whole c cut is (omega arith);
@@ -46,10 +46,10 @@ passes value next b behind rest whole c cut is le = elim (cases_lt 2147483648 va
       let e : number_from next behind ≡ number_from 0 whole = step_exact value next b behind rest whole c cut is small in
       let g : next ≤ number_from next behind = number_grows next behind in
       omega arith
-    )
+      )
 ]
 
-pub capped_cut : (value next b : ℕ) (behind rest whole : List ℕ) → Capped value rest whole → rest ≡ b ∷ behind → next ≡ value * 10 + (b - 48) → 2147483649 ≤ next → Capped 2147483649 behind whole
+capped_cut : (value next b : ℕ) (behind rest whole : List ℕ) → Capped value rest whole → rest ≡ b ∷ behind → next ≡ value * 10 + (b - 48) → 2147483649 ≤ next → Capped 2147483649 behind whole
 capped_cut value next b behind rest whole c cut is le = record {
   small = omega arith;
   exact = λ h. absurd (omega arith);
@@ -60,18 +60,6 @@ pub capped_more : (value next b : ℕ) (behind rest whole : List ℕ) → Capped
 capped_more value next b behind rest whole c cut is = elim (cases_lt next 2147483649) [
   | inl lt ↦ (let e : next ≡ min next 2147483649 = omega arith in subst (λ (n : ℕ). Capped n behind whole) e (capped_kept value next b behind rest whole c cut is lt))
   | inr le ↦ (let e : 2147483649 ≡ min next 2147483649 = omega arith in subst (λ (n : ℕ). Capped n behind whole) e (capped_cut value next b behind rest whole c cut is le))
-]
-
-pub capped_all : (value : ℕ) (rest whole : List ℕ) → Capped value rest whole → rest ≡ [] → number_from 0 whole ≤ 2147483648 → value ≡ number_from 0 whole
-capped_all value rest whole c cut le = elim (cases_lt 2147483648 value) [
-  | inl gt ↦ absurd (let h = c.large gt in omega arith)
-  | inr small ↦ ap (number_from value) (sym cut) ∙ c.exact small
-]
-
-pub capped_large : (value : ℕ) (rest whole : List ℕ) → Capped value rest whole → rest ≡ [] → 2147483648 < number_from 0 whole → value ≡ 2147483649
-capped_large value rest whole c cut gt = elim (cases_lt 2147483648 value) [
-  | inl h ↦ (let k = c.small in omega arith)
-  | inr small ↦ absurd (let e : value ≡ number_from 0 whole = ap (number_from value) (sym cut) ∙ c.exact small in omega arith)
 ]
 
 -- ---- truth values
@@ -101,7 +89,7 @@ false_right false b e = refl
 small_number_fits : (n : ℤ) → is_small n ≡ true → FitsSigned w64 n
 small_number_fits n e = let h : unsigned_abs n ≤ 2147483648 = grind arith in omega (arith, ints)
 
-pub small_fits : (a : Linear) → is_small_form a ≡ true → FitsSigned w64 a.constant
+small_fits : (a : Linear) → is_small_form a ≡ true → FitsSigned w64 a.constant
 small_fits a e = small_number_fits a.constant (and_right (are_small a.terms) (is_small a.constant) e)
 
 pub small_back : (a : Linear) → is_small_form a ≡ true → to_z w64 (of_z w64 a.constant) ≡ a.constant

@@ -1,6 +1,5 @@
 -- What the functions that make forms and conditions answer.
-use Rattle.std.specs.Prelude.{◌≡◌, ⊤, ℕ, ◌≤◌, ◌<◌, ℤ, pos, negsuc, unsigned_abs, Bool, true, false, List, [], ◌∷◌, length, Result, Ok, Err}
-use Rattle.fam_outer.specs.declared.text.NoMemory.{NoMemory}
+use Rattle.std.specs.Prelude.{◌≡◌, ⊤, ℕ, ◌≤◌, ℤ, unsigned_abs, Bool, true, false, List, [], ◌∷◌, length, Result, Ok, Err}
 use Rattle.linear_atoms.specs.declared.atoms.Atom.{Atom}
 use Rattle.linear_atoms.specs.declared.atoms.Feature.{Feature}
 use Rattle.linear_atoms.specs.declared.forms.Linear.{Linear}

@@ -1,12 +1,12 @@
 -- Reading tokens one by one, with a stack of what is open.
 use Rattle.std.specs.Prelude.{ℕ, suc, nat_lt, List, [], ◌∷◌, Option, Some, None, option_map, if◌then◌else◌}
 use Rattle.cpp_conditions.specs.declared.operators.Operator.{Operator}
-use Rattle.cpp_conditions.specs.declared.operators.Operator.TheVariants.{Times, Plus, Minus, Less, AtMost, Greater, AtLeast, Equal, Differs, Both, Either}
+use Rattle.cpp_conditions.specs.declared.operators.Operator.TheVariants.{Plus, Minus}
 use Rattle.cpp_conditions.specs.declared.operators.Prefix.{Prefix}
 use Rattle.cpp_conditions.specs.declared.operators.Prefix.TheVariants.{Positive, Negative, Inverse}
 use Rattle.cpp_conditions.specs.Expressions.{Expression, Number, Name, IsDefined, Unary, Binary}
 use Rattle.cpp_conditions.specs.Grammar.{tighter}
-use Rattle.cpp_conditions.specs.Tokens.{Token, Digits, Word, Defined, Open, Close, Bang, Oper, Twice}
+use Rattle.cpp_conditions.specs.Tokens.{Token, Digits, Word, Defined, Open, Close, Bang, Oper}
 
 -- what waits for the operand that comes: a parenthesis, a prefix, an operator with its left operand
 pub data Frame : Type 0 where

@@ -11,7 +11,7 @@ use Rattle.linear_atoms.specs.Ranges.{extreme_sum}
 use Rattle.linear_atoms.specs.Texts.{boolean_at}
 use Rattle.cpp_conditions.specs.Propositions.{Proposition, Const, Test, Not, And, Or}
 use Rattle.cpp_conditions.specs.declared.operators.Operator.{Operator}
-use Rattle.cpp_conditions.specs.declared.operators.Operator.TheVariants.{Times, Plus, Minus, Less, AtMost, Greater, AtLeast, Equal, Differs, Both, Either}
+use Rattle.cpp_conditions.specs.declared.operators.Operator.TheVariants.{Times, Plus, Minus, Less, AtMost, Greater, AtLeast, Equal, Both, Either}
 use Rattle.cpp_conditions.specs.declared.operators.Prefix.{Prefix}
 use Rattle.cpp_conditions.specs.declared.operators.Prefix.TheVariants.{Positive, Negative, Inverse}
 use Rattle.cpp_conditions.specs.Expressions.{Expression, Number, Name, IsDefined, Unary, Binary, found}

@@ -1,5 +1,5 @@
 -- The token at the front of a list of bytes, and what `scan` answers.
-use Rattle.std.specs.Prelude.{◌≡◌, ⊤, ℕ, Bool, true, false, if◌then◌else◌, List, [], ◌∷◌, map, Option, Some, None, option_map, Result, Ok, Err}
+use Rattle.std.specs.Prelude.{⊤, ℕ, Bool, true, false, if◌then◌else◌, List, [], ◌∷◌, map, Option, Some, None, option_map, Result, Ok, Err}
 use Rattle.std.specs.Borrow.{Bor}
 use Rattle.std.specs.Global.{Vec}
 use Rattle.cpp_conditions.specs.declared.stop.Stop.{Stop}

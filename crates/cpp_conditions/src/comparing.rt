@@ -84,11 +84,7 @@ fn signed(alloc: Global, condition: Condition, is_positive: bool) -> Result<Cond
 }
 
 /// The condition that the form is at least 0.
-fn at_least_zero(
-    alloc: Global,
-    names: &Names<'_>,
-    form: &Linear,
-) -> Result<Condition, LinearFault>
+fn at_least_zero(alloc: Global, names: &Names<'_>, form: &Linear) -> Result<Condition, LinearFault>
     requires { IsOver names.now form.now }
     ensures { Means names.now result (meaning.at_least_zero names.now form.now) (forms.is_small_form form.now) }
 {

@@ -21,13 +21,7 @@ fn weight(token: Token<'_>, is_behind_defined: bool) -> usize
     ensures small { result ≤ 1 }
 {
     match token {
-        Token::Open => {
-            if is_behind_defined {
-                0
-            } else {
-                1
-            }
-        }
+        Token::Open => { if is_behind_defined { 0 } else { 1 } }
         Token::Bang | Token::Oper(_) | Token::Twice => 1,
         _ => 0,
     }
@@ -137,7 +131,11 @@ pub(crate) fn named(names: &Names<'_>, tree: &Expression<'_>) -> Option<bool>
         Expression::Binary(op, left, right) => {
             let is_left = named(names, left)?;
             let is_right = named(names, right)?;
-            if suits(*op, !is_truth(left) && !is_truth(right), is_left && is_right) {
+            if suits(
+                *op,
+                !is_truth(left) && !is_truth(right),
+                is_left && is_right,
+            ) {
                 Some(is_left || is_right)
             } else {
                 None

@@ -3,12 +3,12 @@
 
 mod comparing;
 pub mod conditions;
-pub mod formulas;
+mod expressions;
 mod forming;
+pub mod formulas;
 mod judging;
 pub mod laws;
 pub mod models;
-mod expressions;
 mod names;
 mod operators;
 pub mod reading;

@@ -43,7 +43,7 @@ fn of_comparison(
     ensures { IsNumber names.now (expression left.now) → IsNumber names.now (expression right.now) → Means names.now result
         (meaning.compared names.now op (meaning.difference (meaning.form names.now (expression left.now)) (meaning.form names.now (expression right.now))))
         ((are_small_forms names.now (expression left.now) && are_small_forms names.now (expression right.now))
-            && is_small_compared op (meaning.difference (meaning.form names.now (expression left.now)) (meaning.form names.now (expression right.now)))) }
+        && is_small_compared op (meaning.difference (meaning.form names.now (expression left.now)) (meaning.form names.now (expression right.now)))) }
 {
     let left = form(alloc, names, left)?;
     let right = form(alloc, names, right)?;

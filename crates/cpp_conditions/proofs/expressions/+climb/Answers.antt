@@ -1,4 +1,4 @@
-use Rattle.std.proofs.Common.{◌≡◌, length, ap, arith}
+use Rattle.std.proofs.Common.{arith}
 use Rattle.std.proofs.lemmas.Result.{err_from_is_err_and}
 use Rattle.cpp_conditions.specs.Descent.{expression, plain}
 use Rattle.cpp_conditions.proofs.Descending.{prefixed, prefix_falls, grouped, unclosed, inside_falls, one_more, right_falls}

@@ -1,4 +1,4 @@
-use Rattle.std.proofs.Common.{◌≡◌, ◌<◌, ◌+◌, ◌*◌, length}
+use Rattle.std.proofs.Common.{◌<◌, ◌+◌, ◌*◌, length}
 use Rattle.cpp_conditions.specs.Descent.{expression, plain, Goes}
 use Rattle.cpp_conditions.proofs.expressions.+climb.Given as goal
 

@@ -1,7 +1,7 @@
 use Rattle.std.proofs.Common.{sym, false-eqb}
 use Rattle.std.proofs.lemmas.Bool.{eqb-true}
 use Rattle.std.proofs.lemmas.List.{nil_from_length}
-use Rattle.std.proofs.Common.{ap, ◌∙◌}
+use Rattle.std.proofs.Common.{ap}
 use Rattle.cpp_conditions.specs.Descent.{expression, plain}
 use Rattle.cpp_conditions.proofs.Descending.{all_read, some_left}
 use Rattle.cpp_conditions.proofs.expressions.parse.Goals as goal

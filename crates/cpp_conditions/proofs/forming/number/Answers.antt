@@ -1,4 +1,4 @@
-use Rattle.std.proofs.Common.{ℕ, ◌+◌, ◌*◌, min, ap, ◌∙◌, sym, subst}
+use Rattle.std.proofs.Common.{ℕ, ◌+◌, ◌*◌, ap, sym, subst}
 use Rattle.cpp_conditions.proofs.Sizes.{Capped, capped_more}
 use Rattle.cpp_conditions.proofs.forming.number.Goals as goal
 

@@ -1,8 +1,5 @@
-use Rattle.std.proofs.Common.{◌≡◌, sym, ap, ◌∙◌, subst}
 use Rattle.std.proofs.lemmas.Result.{err_from_is_err_and}
-use Rattle.cpp_conditions.specs.declared.stop.Stop.{Stop}
 use Rattle.cpp_conditions.specs.Descent.{expression}
-use Rattle.cpp_conditions.specs.Scanning.{Scans}
 use Rattle.cpp_conditions.proofs.Read.{stopped_scan, stopped_parse, deep, tree_read, values_of}
 use Rattle.cpp_conditions.proofs.reading.read_condition.Goals as goal
 

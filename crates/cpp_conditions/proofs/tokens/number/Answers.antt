@@ -1,4 +1,4 @@
-use Rattle.std.proofs.Common.{Bool, ap, sym, ◌∙◌}
+use Rattle.std.proofs.Common.{Bool, ap, ◌∙◌}
 use Rattle.cpp_conditions.specs.Scanning.{number_by}
 use Rattle.cpp_conditions.proofs.Lexemes.{number_taken}
 use Rattle.cpp_conditions.proofs.tokens.number.Goals as goal
