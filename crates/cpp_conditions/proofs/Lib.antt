@@ -1,3 +1,13 @@
+pub mod Compared
+pub mod Complete
+pub mod Descending
+pub mod Formed
+pub mod Joined
+pub mod Lexemes
 pub mod Meanings
 pub mod Numbers
+pub mod Once
+pub mod Read
 pub mod Signs
+pub mod Sizes
+pub mod Sound

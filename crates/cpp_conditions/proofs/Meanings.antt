@@ -18,7 +18,11 @@ use Rattle.linear_atoms.proofs.Sums.{terms_sum_rises, terms_by_rises}
 use Rattle.linear_atoms.proofs.Truths.{truth_kept}
 use Rattle.linear_atoms.proofs.Values.{form_sum_at, form_by_at}
 use Rattle.cpp_conditions.specs.Propositions.{Proposition, Not, true_at}
-use Rattle.cpp_conditions.specs.Expressions.{Operator, Times, Plus, Minus, Less, AtMost, Greater, AtLeast, Equal, Differs, Both, Either, Prefix, Positive, Negative, Inverse, Expression, Number, Name, IsDefined, Unary, Binary, found, value_at, defined_at, is_nonzero, value}
+use Rattle.cpp_conditions.specs.declared.operators.Operator.{Operator}
+use Rattle.cpp_conditions.specs.declared.operators.Operator.TheVariants.{Times, Plus, Minus, Less, AtMost, Greater, AtLeast, Equal, Differs, Both, Either}
+use Rattle.cpp_conditions.specs.declared.operators.Prefix.{Prefix}
+use Rattle.cpp_conditions.specs.declared.operators.Prefix.TheVariants.{Positive, Negative, Inverse}
+use Rattle.cpp_conditions.specs.Expressions.{Expression, Number, Name, IsDefined, Unary, Binary, found, value_at, defined_at, is_nonzero, value}
 use Rattle.cpp_conditions.specs.Meaning.{is_truth, is_boolean, names_feature, is_linear, name_form, defined_form, difference, form_before, form_between, form, decided_of, kept, signed, test_of, at_least_zero, less_one, is_zero, cond}
 use Rattle.cpp_conditions.proofs.Signs.{minus_one, at_least, greater, at_most, less, bit_of, zero_test, equal_test}
 
@@ -131,7 +135,7 @@ plain_before Positive a p = p
 plain_before Negative a p = ap (terms_by (negsuc 0)) p
 plain_before Inverse a p = p
 
-plain_form : (fs : List Feature) (e : Expression) → names_feature fs e ≡ false → (form fs e).terms ≡ []
+pub plain_form : (fs : List Feature) (e : Expression) → names_feature fs e ≡ false → (form fs e).terms ≡ []
 plain_form fs (Number n) h = refl
 plain_form fs (Name name) h = plain_name (found name fs) h
 plain_form fs (IsDefined name) h = plain_defined fs (found name fs) h

@@ -4,26 +4,10 @@ use Rattle.std.specs.Str.{bytes_eq}
 use Rattle.std.specs.Ordering.{int_eq}
 use Rattle.linear_atoms.specs.declared.atoms.Feature.{Feature}
 use Rattle.linear_atoms.specs.Texts.{boolean_at}
-
--- an operator of two operands
-pub data Operator : Type 0 where
-  Times : Operator
-  Plus : Operator
-  Minus : Operator
-  Less : Operator
-  AtMost : Operator
-  Greater : Operator
-  AtLeast : Operator
-  Equal : Operator
-  Differs : Operator
-  Both : Operator
-  Either : Operator
-
--- an operator in front of its operand
-pub data Prefix : Type 0 where
-  Positive : Prefix
-  Negative : Prefix
-  Inverse : Prefix
+use Rattle.cpp_conditions.specs.declared.operators.Operator.{Operator}
+use Rattle.cpp_conditions.specs.declared.operators.Operator.TheVariants.{Times, Plus, Minus, Less, AtMost, Greater, AtLeast, Equal, Differs, Both, Either}
+use Rattle.cpp_conditions.specs.declared.operators.Prefix.{Prefix}
+use Rattle.cpp_conditions.specs.declared.operators.Prefix.TheVariants.{Positive, Negative, Inverse}
 
 pub data Expression : Type 0 where
   Number : (n : ℕ) → Expression
@@ -35,7 +19,7 @@ pub data Expression : Type 0 where
 -- the place of the feature with this name
 abbrev pub found : List ℕ → List Feature → Option ℕ
 found name [] = None
-found name (f ∷ fs) = if bytes_eq name f.name then Some 0 else option_map suc (found name fs)
+found name (f ∷ fs) = if bytes_eq f.name name then Some 0 else option_map suc (found name fs)
 
 -- a feature's name is its value, any other name is 0
 abbrev pub value_at : List ℤ → Option ℕ → ℤ

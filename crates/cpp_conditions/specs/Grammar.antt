@@ -7,7 +7,11 @@ use Rattle.linear_atoms.specs.declared.atoms.Feature.{Feature}
 use Rattle.linear_atoms.specs.declared.forms.Linear.{Linear}
 use Rattle.linear_atoms.specs.Forms.{form_by, is_small, is_small_form}
 use Rattle.cpp_conditions.specs.Propositions.{Proposition}
-use Rattle.cpp_conditions.specs.Expressions.{Operator, Times, Plus, Minus, Less, AtMost, Greater, AtLeast, Equal, Differs, Both, Either, Prefix, Positive, Negative, Inverse, Expression, Number, Name, IsDefined, Unary, Binary}
+use Rattle.cpp_conditions.specs.declared.operators.Operator.{Operator}
+use Rattle.cpp_conditions.specs.declared.operators.Operator.TheVariants.{Times, Plus, Minus, Less, AtMost, Greater, AtLeast, Equal, Differs, Both, Either}
+use Rattle.cpp_conditions.specs.declared.operators.Prefix.{Prefix}
+use Rattle.cpp_conditions.specs.declared.operators.Prefix.TheVariants.{Positive, Negative, Inverse}
+use Rattle.cpp_conditions.specs.Expressions.{Expression, Number, Name, IsDefined, Unary, Binary}
 use Rattle.cpp_conditions.specs.Meaning.{is_truth, is_linear, form, difference, less_one, cond}
 use Rattle.cpp_conditions.specs.Tokens.{Token, Digits, Word, Defined, Open, Close, Bang, Oper, SpellsTokens, weight_behind}
 
@@ -69,17 +73,22 @@ is_small_zero a = is_small_form a && is_small_form (less_one a)
 abbrev pub is_small_truth : List Feature → Expression → Bool
 is_small_truth features e = if is_truth e then true else is_small_zero (form features e)
 
--- the forms that the operator puts in normal form, or that of its number
+-- the form that a comparison puts in normal form, or the two of them
+abbrev pub is_small_compared : Operator → Linear → Bool
+is_small_compared AtLeast d = is_small_form d
+is_small_compared Greater d = is_small_form (less_one d)
+is_small_compared AtMost d = is_small_form (form_by (negsuc 0) d)
+is_small_compared Less d = is_small_form (less_one (form_by (negsuc 0) d))
+is_small_compared _ d = is_small_zero d
+
+-- what is put in normal form at the operator; and the form of its number
 abbrev pub is_small_operator : List Feature → Operator → Expression → Expression → Bool
 is_small_operator features Both a b = is_small_truth features a && is_small_truth features b
 is_small_operator features Either a b = is_small_truth features a && is_small_truth features b
-is_small_operator features AtLeast a b = is_small_form (difference (form features a) (form features b))
-is_small_operator features Greater a b = is_small_form (less_one (difference (form features a) (form features b)))
-is_small_operator features AtMost a b = is_small_form (form_by (negsuc 0) (difference (form features a) (form features b)))
-is_small_operator features Less a b = is_small_form (less_one (form_by (negsuc 0) (difference (form features a) (form features b))))
-is_small_operator features Equal a b = is_small_zero (difference (form features a) (form features b))
-is_small_operator features Differs a b = is_small_zero (difference (form features a) (form features b))
-is_small_operator features op a b = is_small_form (form features (Binary op a b))
+is_small_operator features Times a b = is_small_form (form features (Binary Times a b))
+is_small_operator features Plus a b = is_small_form (form features (Binary Plus a b))
+is_small_operator features Minus a b = is_small_form (form features (Binary Minus a b))
+is_small_operator features op a b = is_small_compared op (difference (form features a) (form features b))
 
 -- no literal, no number of a subexpression's form or of a form that is put in normal form passes 2^31 in size
 abbrev pub are_small_forms : List Feature → Expression → Bool

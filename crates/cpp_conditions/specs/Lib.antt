@@ -1,8 +1,15 @@
+pub mod Descent
 pub mod Expressions
+pub mod Forming
 pub mod Grammar
+pub mod Judged
+pub mod Machine
 pub mod Meaning
+pub mod Naming
 pub mod Numbering
 pub mod Propositions
+pub mod Reading
+pub mod Scanning
 pub mod Tokens
 pub mod Validity
 pub mod View

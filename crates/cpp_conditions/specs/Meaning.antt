@@ -10,20 +10,23 @@ use Rattle.linear_atoms.specs.Normal.{normal_of}
 use Rattle.linear_atoms.specs.Ranges.{extreme_sum}
 use Rattle.linear_atoms.specs.Texts.{boolean_at}
 use Rattle.cpp_conditions.specs.Propositions.{Proposition, Const, Test, Not, And, Or}
-use Rattle.cpp_conditions.specs.Expressions.{Operator, Times, Plus, Less, AtMost, Greater, AtLeast, Equal, Differs, Both, Either, Prefix, Positive, Negative, Inverse, Expression, Number, Name, IsDefined, Unary, Binary, found}
+use Rattle.cpp_conditions.specs.declared.operators.Operator.{Operator}
+use Rattle.cpp_conditions.specs.declared.operators.Operator.TheVariants.{Times, Plus, Minus, Less, AtMost, Greater, AtLeast, Equal, Both, Either}
+use Rattle.cpp_conditions.specs.declared.operators.Prefix.{Prefix}
+use Rattle.cpp_conditions.specs.declared.operators.Prefix.TheVariants.{Positive, Negative, Inverse}
+use Rattle.cpp_conditions.specs.Expressions.{Expression, Number, Name, IsDefined, Unary, Binary, found}
 
 -- ---- truth values, and products of two features
 
+abbrev pub gives_truth : Operator → Bool
+gives_truth Times = false
+gives_truth Plus = false
+gives_truth Minus = false
+gives_truth _ = true
+
 abbrev pub is_truth : Expression → Bool
 is_truth (Unary Inverse e) = true
-is_truth (Binary Less a b) = true
-is_truth (Binary AtMost a b) = true
-is_truth (Binary Greater a b) = true
-is_truth (Binary AtLeast a b) = true
-is_truth (Binary Equal a b) = true
-is_truth (Binary Differs a b) = true
-is_truth (Binary Both a b) = true
-is_truth (Binary Either a b) = true
+is_truth (Binary op a b) = gives_truth op
 is_truth _ = false
 
 abbrev pub is_boolean : List Feature → Option ℕ → Bool
@@ -42,16 +45,17 @@ abbrev pub suits_prefix : Prefix → Expression → Bool
 suits_prefix Inverse e = true
 suits_prefix _ e = not (is_truth e)
 
-abbrev pub suits_operator : List Feature → Operator → Expression → Expression → Bool
-suits_operator features Both a b = true
-suits_operator features Either a b = true
-suits_operator features Times a b = (not (is_truth a) && not (is_truth b)) && not (names_feature features a && names_feature features b)
-suits_operator features _ a b = not (is_truth a) && not (is_truth b)
+-- whether the operator takes its operands: truth values or numbers alone, which both name a feature or do not
+abbrev pub suits_operator : Operator → Bool → Bool → Bool
+suits_operator Both are_numbers both_named = true
+suits_operator Either are_numbers both_named = true
+suits_operator Times are_numbers both_named = are_numbers && not both_named
+suits_operator _ are_numbers both_named = are_numbers
 
 -- no truth value is used as a number, and no product has a feature on both sides
 abbrev pub is_linear : List Feature → Expression → Bool
 is_linear features (Unary u e) = is_linear features e && suits_prefix u e
-is_linear features (Binary op a b) = (is_linear features a && is_linear features b) && suits_operator features op a b
+is_linear features (Binary op a b) = (is_linear features a && is_linear features b) && suits_operator op (not (is_truth a) && not (is_truth b)) (names_feature features a && names_feature features b)
 is_linear features _ = true
 
 -- ---- linear forms of numbers
@@ -116,17 +120,20 @@ less_one a = record { terms = a.terms; constant = a.constant -ℤ pos 1 }
 abbrev pub is_zero : List Feature → Linear → Proposition Atom
 is_zero features d = And (at_least_zero features d) (Not (at_least_zero features (less_one d)))
 
+-- what a comparison says of its left side minus its right
+abbrev pub compared : List Feature → Operator → Linear → Proposition Atom
+compared features AtLeast d = at_least_zero features d
+compared features Greater d = at_least_zero features (less_one d)
+compared features AtMost d = at_least_zero features (form_by (negsuc 0) d)
+compared features Less d = at_least_zero features (less_one (form_by (negsuc 0) d))
+compared features Equal d = is_zero features d
+compared features _ d = Not (is_zero features d)
+
 -- what an operator makes of the forms of its operands and their conditions
 abbrev pub joined : List Feature → Operator → Linear → Linear → Proposition Atom → Proposition Atom → Proposition Atom
-joined features AtLeast a b p q = at_least_zero features (difference a b)
-joined features Greater a b p q = at_least_zero features (less_one (difference a b))
-joined features AtMost a b p q = at_least_zero features (form_by (negsuc 0) (difference a b))
-joined features Less a b p q = at_least_zero features (less_one (form_by (negsuc 0) (difference a b)))
-joined features Equal a b p q = is_zero features (difference a b)
-joined features Differs a b p q = Not (is_zero features (difference a b))
 joined features Both a b p q = And p q
 joined features Either a b p q = Or p q
-joined features _ a b p q = Const true
+joined features op a b p q = compared features op (difference a b)
 
 -- a number used as a truth value is unequal to 0
 abbrev pub meant : List Feature → Expression → Proposition Atom → Proposition Atom

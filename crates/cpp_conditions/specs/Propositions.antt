@@ -1,5 +1,5 @@
 -- Propositions over tests of any kind.
-use Rattle.std.specs.Prelude.{◌≡◌, ℕ, ◌<◌, ℤ, Bool, true, false, not, ◌&&◌, ◌||◌, List, slice_index_or}
+use Rattle.std.specs.Prelude.{◌≡◌, ℕ, ◌<◌, ◌≤◌, ℤ, unsigned_abs, Bool, true, false, not, ◌&&◌, ◌||◌, List, slice_index_or}
 use Rattle.linear_atoms.specs.declared.atoms.Atom.{Atom}
 use Rattle.linear_atoms.specs.Forms.{are_small}
 use Rattle.linear_atoms.specs.Atoms.{holds, AreBelow}
@@ -34,6 +34,14 @@ IsFit count (Test a) = AreBelow count a.terms × (are_small a.terms ≡ true)
 IsFit count (Not p) = IsFit count p
 IsFit count (And p q) = IsFit count p × IsFit count q
 IsFit count (Or p q) = IsFit count p × IsFit count q
+
+-- each atom's bound is at most 2^31 + 1 in size
+abbrev pub AreBounded : Proposition Atom → Type 0
+AreBounded (Const b) = Unit {0}
+AreBounded (Test a) = unsigned_abs a.bound ≤ 2147483649
+AreBounded (Not p) = AreBounded p
+AreBounded (And p q) = AreBounded p × AreBounded q
+AreBounded (Or p q) = AreBounded p × AreBounded q
 
 -- each test's number is below this
 abbrev pub IsBelow : ℕ → Proposition ℕ → Type 0

@@ -1,7 +1,9 @@
 -- Tokens of conditions, by longest match (ISO/IEC 9899:2011, 6.4, paragraph 4).
-use Rattle.std.specs.Prelude.{◌≡◌, ℕ, ◌+◌, ◌*◌, ◌-◌, nat_le, nat_eq, Bool, true, false, ◌&&◌, ◌||◌, if◌then◌else◌, List, [], ◌∷◌, ◌++◌, codes}
+use Rattle.std.specs.Prelude.{◌≡◌, ℕ, ◌+◌, ◌*◌, ◌-◌, nat_le, nat_eq, Bool, true, false, not, ◌&&◌, ◌||◌, if◌then◌else◌, List, [], ◌∷◌, ◌++◌, codes, Option, Some, None}
 use Rattle.std.specs.Str.{bytes_eq}
-use Rattle.cpp_conditions.specs.Expressions.{Operator, Times, Plus, Minus, Less, AtMost, Greater, AtLeast, Equal, Differs, Both, Either}
+use Rattle.std.specs.List.{list_all}
+use Rattle.cpp_conditions.specs.declared.operators.Operator.{Operator}
+use Rattle.cpp_conditions.specs.declared.operators.Operator.TheVariants.{Times, Plus, Minus, Less, AtMost, Greater, AtLeast, Equal, Differs, Both, Either}
 
 -- `++` and `--` are tokens that stand in no condition
 pub data Token : Type 0 where
@@ -34,71 +36,84 @@ is_word b = is_first b || is_digit b
 abbrev pub is_space : ℕ → Bool
 is_space b = (nat_eq b 32 || nat_eq b 9) || (nat_eq b 11 || (nat_eq b 12 || nat_eq b 13))
 
-abbrev pub AllPass : (ℕ → Bool) → List ℕ → Type 0
-AllPass test [] = Unit {0}
-AllPass test (b ∷ bs) = (test b ≡ true) × AllPass test bs
-
 -- the first byte fails the test, or there is none
 abbrev pub StopsAt : (ℕ → Bool) → List ℕ → Type 0
 StopsAt test [] = Unit {0}
 StopsAt test (b ∷ bs) = test b ≡ false
 
 -- `0`, or digits without a leading zero
-abbrev pub IsNumber : List ℕ → Type 0
-IsNumber [] = ⊥
-IsNumber (b ∷ bs) = AllPass is_digit (b ∷ bs) × (b ≡ 48 → bs ≡ [])
+abbrev pub is_number : List ℕ → Bool
+is_number [] = false
+is_number (b ∷ []) = is_digit b
+is_number (b ∷ c ∷ bs) = not (nat_eq b 48) && list_all is_digit (b ∷ c ∷ bs)
 
 abbrev pub number_from : ℕ → List ℕ → ℕ
 number_from n [] = n
 number_from n (b ∷ bs) = number_from (n * 10 + (b - 48)) bs
 
-abbrev pub IsIdentifier : List ℕ → Type 0
-IsIdentifier [] = ⊥
-IsIdentifier (b ∷ bs) = (is_first b ≡ true) × AllPass is_word bs
+abbrev pub is_identifier : List ℕ → Bool
+is_identifier [] = false
+is_identifier (b ∷ bs) = is_first b && list_all is_word bs
 
 abbrev pub word_token : List ℕ → Token
 word_token name = if bytes_eq name (codes "defined") then Defined else Word name
 
-abbrev pub none_of : ℕ → Bool
-none_of b = false
+-- ---- marks
 
--- a mark, its token, and the bytes that would make a longer mark of it
-pub data IsMark : List ℕ → Token → (ℕ → Bool) → Type 0 where
-  open_mark : IsMark (codes "(") Open none_of
-  close_mark : IsMark (codes ")") Close none_of
-  bang : IsMark (codes "!") Bang (nat_eq 61)
-  both : IsMark (codes "&&") (Oper Both) none_of
-  either : IsMark (codes "||") (Oper Either) none_of
-  equal : IsMark (codes "==") (Oper Equal) none_of
-  differs : IsMark (codes "!=") (Oper Differs) none_of
-  less : IsMark (codes "<") (Oper Less) (nat_eq 61)
-  at_most : IsMark (codes "<=") (Oper AtMost) none_of
-  greater : IsMark (codes ">") (Oper Greater) (nat_eq 61)
-  at_least : IsMark (codes ">=") (Oper AtLeast) none_of
-  plus : IsMark (codes "+") (Oper Plus) (nat_eq 43)
-  minus : IsMark (codes "-") (Oper Minus) (nat_eq 45)
-  times : IsMark (codes "*") (Oper Times) none_of
-  plus_twice : IsMark (codes "++") Twice none_of
-  minus_twice : IsMark (codes "--") Twice none_of
+-- a mark of two bytes
+abbrev pub pair_of : ℕ → ℕ → Option Token
+pair_of b c =
+    if nat_eq b 38 && nat_eq c 38 then Some (Oper Both)
+    else (if nat_eq b 124 && nat_eq c 124 then Some (Oper Either)
+    else (if nat_eq b 61 && nat_eq c 61 then Some (Oper Equal)
+    else (if nat_eq b 33 && nat_eq c 61 then Some (Oper Differs)
+    else (if nat_eq b 60 && nat_eq c 61 then Some (Oper AtMost)
+    else (if nat_eq b 62 && nat_eq c 61 then Some (Oper AtLeast)
+    else (if nat_eq b 43 && nat_eq c 43 then Some Twice
+    else (if nat_eq b 45 && nat_eq c 45 then Some Twice
+    else None)))))))
+
+-- a mark of one byte
+abbrev pub single_of : ℕ → Option Token
+single_of b =
+    if nat_eq b 40 then Some Open
+    else (if nat_eq b 41 then Some Close
+    else (if nat_eq b 33 then Some Bang
+    else (if nat_eq b 60 then Some (Oper Less)
+    else (if nat_eq b 62 then Some (Oper Greater)
+    else (if nat_eq b 43 then Some (Oper Plus)
+    else (if nat_eq b 45 then Some (Oper Minus)
+    else (if nat_eq b 42 then Some (Oper Times)
+    else None)))))))
+
+-- the bytes do not begin with one that makes a pair with the byte
+abbrev pub NoPair : ℕ → List ℕ → Type 0
+NoPair b [] = Unit {0}
+NoPair b (c ∷ bs) = pair_of b c ≡ None
 
 -- the tokens of the bytes; none where a byte begins no token, or a run of digits and letters is no decimal number
 pub data SpellsTokens : List ℕ → List Token → Type 0 where
   none : SpellsTokens [] []
   space : (b : ℕ) {bs : List ℕ} {ts : List Token} → is_space b ≡ true → SpellsTokens bs ts → SpellsTokens (b ∷ bs) ts
-  number : (ds : List ℕ) {bs : List ℕ} {ts : List Token} → IsNumber ds → StopsAt is_alphanumeric bs → SpellsTokens bs ts → SpellsTokens (ds ++ bs) (Digits (number_from 0 ds) ∷ ts)
-  word : (name : List ℕ) {bs : List ℕ} {ts : List Token} → IsIdentifier name → StopsAt is_word bs → SpellsTokens bs ts → SpellsTokens (name ++ bs) (word_token name ∷ ts)
-  mark : (m : List ℕ) (t : Token) (longer : ℕ → Bool) {bs : List ℕ} {ts : List Token} → IsMark m t longer → StopsAt longer bs → SpellsTokens bs ts → SpellsTokens (m ++ bs) (t ∷ ts)
+  number : (ds : List ℕ) {bs : List ℕ} {ts : List Token} → is_number ds ≡ true → StopsAt is_alphanumeric bs → SpellsTokens bs ts → SpellsTokens (ds ++ bs) (Digits (number_from 0 ds) ∷ ts)
+  word : (name : List ℕ) {bs : List ℕ} {ts : List Token} → is_identifier name ≡ true → StopsAt is_word bs → SpellsTokens bs ts → SpellsTokens (name ++ bs) (word_token name ∷ ts)
+  pair : (b c : ℕ) (t : Token) {bs : List ℕ} {ts : List Token} → pair_of b c ≡ Some t → SpellsTokens bs ts → SpellsTokens (b ∷ c ∷ bs) (t ∷ ts)
+  single : (b : ℕ) (t : Token) {bs : List ℕ} {ts : List Token} → single_of b ≡ Some t → NoPair b bs → SpellsTokens bs ts → SpellsTokens (b ∷ bs) (t ∷ ts)
 
--- how many tokens are operators or opening parentheses, `defined` and its parenthesis aside
-abbrev pub weight : Token → ℕ
-weight Open = 1
-weight Bang = 1
-weight (Oper op) = 1
-weight Twice = 1
-weight _ = 0
+-- operators and opening parentheses have the weight 1, but not the parenthesis of `defined`
+abbrev pub weight : Bool → Token → ℕ
+weight true Open = 0
+weight false Open = 1
+weight defined Bang = 1
+weight defined (Oper op) = 1
+weight defined Twice = 1
+weight defined _ = 0
 
+abbrev pub is_defined : Token → Bool
+is_defined Defined = true
+is_defined _ = false
+
+-- the weight of the tokens, behind `defined` or another token
 abbrev pub weight_behind : Bool → List Token → ℕ
 weight_behind defined [] = 0
-weight_behind true (Open ∷ ts) = weight_behind false ts
-weight_behind _ (Defined ∷ ts) = weight_behind true ts
-weight_behind _ (t ∷ ts) = weight t + weight_behind false ts
+weight_behind defined (t ∷ ts) = weight defined t + weight_behind (is_defined t) ts

@@ -1,16 +1,29 @@
 //! What holds of the definitions alone.
 #![tactic(auto)]
 
-ghost use Rattle.std.specs.Prelude.{◌≡◌, ℤ, List, true};
+ghost use Rattle.std.specs.Prelude.{◌≡◌, ℕ, ℤ, List, Result, true};
+ghost use Rattle.fam_outer.specs.declared.faults.ConditionFault.{ConditionFault};
+ghost use Rattle.linear_atoms.specs.declared.atoms.Atom.{Atom};
 ghost use Rattle.linear_atoms.specs.declared.atoms.Feature.{Feature};
 ghost use Rattle.linear_atoms.specs.Atoms.{IsWithin};
 ghost use Rattle.cpp_conditions.specs.Expressions.{Expression, value, is_nonzero};
 ghost use Rattle.cpp_conditions.specs.Meaning.{is_linear, cond};
-ghost use Rattle.cpp_conditions.specs.Propositions.{true_at};
+ghost use Rattle.cpp_conditions.specs.Propositions.{Proposition, true_at};
+ghost use Rattle.cpp_conditions.specs.Grammar.{CSpells, ReadsAs};
 
 /// The condition that an expression means is true at a configuration within the ranges exactly where C's value of
 /// the expression is not 0 (ISO/IEC 9899:2011, 6.10.1 and 6.5), if no truth value in it is used as a number and no
 /// product has a feature on both sides.
 pub fn conditions_have_values()
     ensures { (features : List Feature) (values : List ℤ) (e : Expression) → IsWithin features values → is_linear features e ≡ true → true_at values (cond features e) ≡ is_nonzero (value features values e) }
+{}
+
+/// Bytes spell at most one expression.
+pub fn bytes_spell_one_expression()
+    ensures { (bytes : List ℕ) (d e : Expression) → CSpells d bytes → CSpells e bytes → d ≡ e }
+{}
+
+/// Bytes are read in one way: as a condition, or with one fault.
+pub fn bytes_have_one_reading()
+    ensures { (features : List Feature) (bytes : List ℕ) (r s : Result (Proposition Atom) ConditionFault) → ReadsAs features bytes r → ReadsAs features bytes s → r ≡ s }
 {}

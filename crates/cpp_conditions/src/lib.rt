@@ -1,14 +1,25 @@
 //! Conditions over features, as they stand behind `#if` (ISO/IEC 9899:2011, 6.10.1).
 #![tactic(auto)]
 
+mod comparing;
 pub mod conditions;
+mod expressions;
+mod forming;
 pub mod formulas;
+mod judging;
 pub mod laws;
 pub mod models;
+mod names;
+mod operators;
+pub mod reading;
+mod stop;
+mod tokens;
+mod truths;
 
 pub use conditions::Condition;
 pub use formulas::{Formula, number};
 pub use models::{Conditions, Features, Model, is_valid};
+pub use reading::{ConditionRefusal, read_condition};
 
 #[cfg(test)]
 mod tests;

@@ -1,7 +1,12 @@
-//! Conditions over `A` (Boolean) and `N` (from 0 to 7), with ample memory.
+//! Conditions over `N` (from 0 to 7) and `A` (Boolean), with ample memory.
+
+ghost use Rattle.std.specs.Prelude.{◌≡◌, ◌≤◌, length, unsigned_abs, IfOk};
+ghost use Rattle.cpp_conditions.specs.Naming.{AreFeatures};
+ghost use Rattle.cpp_conditions.specs.Propositions.{IsFit};
+ghost use Rattle.cpp_conditions.specs.View.{proposition};
 
 use crate::*;
-use fam_outer::{Text, Values};
+use fam_outer::{ConditionFault, Text, Values};
 use linear_atoms::{Atom, Config, Feature, Linear, Literal, Normal};
 use std::alloc::Global;
 use std::test::Fail;
@@ -63,5 +68,147 @@ fn models_have_valid_configurations(rt: HostRuntime) -> Result<(), Fail> {
     };
     assert!(rt; is_valid(&model, &inside));
     assert!(rt; !is_valid(&model, &outside));
+    Ok(())
+}
+
+/// The features `N` and `A`.
+fn both_features(alloc: Global) -> Result<Features, Fail>
+    ensures features { IfOk result (λ made. AreFeatures made) }
+    ensures two { IfOk result (λ made. length made ≡ 2) }
+{
+    let number = Feature {
+        name: Text::from_bytes(alloc, b"N")?,
+        boolean: false,
+        low: 0,
+        high: 7,
+    };
+    let switch = Feature {
+        name: Text::from_bytes(alloc, b"A")?,
+        boolean: true,
+        low: 0,
+        high: 1,
+    };
+    Ok(Features::from_vec(vec![in alloc; number, switch]?))
+}
+
+/// Whether a condition is true at these values.
+fn holds(alloc: Global, condition: &Condition, number: i64, switch: i64) -> Result<bool, Fail>
+    requires fit { IsFit 2 (proposition condition.now) }
+    requires number { unsigned_abs number ≤ 1048576 }
+    requires switch { unsigned_abs switch ≤ 1048576 }
+{
+    let config = Config {
+        values: Values::from_vec(vec![in alloc; number, switch]?),
+    };
+    Ok(condition.at(&config))
+}
+
+/// What bytes are read as: a fault; or the truths where `A` is off and where it is on, of which bit n is that at
+/// `N` equal to n.
+#[derive(Clone, Copy, Debug, PartialEq, Eq)]
+enum Answer {
+    Truths(u8, u8),
+    Fault(ConditionFault),
+}
+
+/// The truths of a condition at the values from 0 to 7.
+fn truths(alloc: Global, condition: &Condition, switch: i64) -> Result<u8, Fail>
+    requires fit { IsFit 2 (proposition condition.now) }
+    requires switch { unsigned_abs switch ≤ 1048576 }
+{
+    let mut bits = 0;
+    for number in 0..8u8 {
+        if holds(alloc, condition, number as i64, switch)? {
+            bits |= 1 << number;
+        }
+    }
+    Ok(bits)
+}
+
+fn read(alloc: Global, bytes: &[u8]) -> Result<Answer, Fail> {
+    let features = both_features(alloc)?;
+    match read_condition(alloc, features.items(), bytes) {
+        Ok(condition) => {
+            let off = truths(alloc, &condition, 0)?;
+            let on = truths(alloc, &condition, 1)?;
+            Ok(Answer::Truths(off, on))
+        }
+        Err(ConditionRefusal::Fault(fault)) => Ok(Answer::Fault(fault)),
+        Err(ConditionRefusal::NoMemory) => Err("want of memory")?,
+    }
+}
+
+#[test]
+fn conditions_are_read(rt: HostRuntime) -> Result<(), Fail> {
+    let alloc = rt.alloc();
+    let cases: [(&[u8], u8, u8); 19] = [
+        (b"2 * N >= 5", 0b1111_1000, 0b1111_1000),
+        (b"3 - N > 0", 0b0000_0111, 0b0000_0111),
+        (b"N >= 8", 0, 0),
+        (b"defined N && !defined(FOO)", 255, 255),
+        (b"N + 2147483648 > -1", 255, 255),
+        (b"defined(N) * N > 1", 0b1111_1100, 0b1111_1100),
+        (b"3 - -N", 255, 255),
+        (b"N > 2", 0b1111_1000, 0b1111_1000),
+        (b"N < 2 || N == 7", 0b1000_0011, 0b1000_0011),
+        (b"1 <= N && N <= 2", 0b0000_0110, 0b0000_0110),
+        (b"N != 2", 0b1111_1011, 0b1111_1011),
+        (b"!(N - 3)", 0b0000_1000, 0b0000_1000),
+        (b"A", 0, 255),
+        (b"defined A", 0, 255),
+        (b"FOO", 0, 0),
+        (b"while + N * 1", 0b1111_1110, 0b1111_1110),
+        (b"1 || 0 && 0", 255, 255),
+        (b"5-2-3", 0, 0),
+        (b"\tN\r+ A*8 > +7\x0b\x0c", 0, 255),
+    ];
+    for (bytes, off, on) in cases {
+        assert_eq!(rt; read(alloc, bytes)?, Answer::Truths(off, on));
+    }
+    Ok(())
+}
+
+#[test]
+fn conditions_are_refused(rt: HostRuntime) -> Result<(), Fail> {
+    let alloc = rt.alloc();
+    let cases: [(&[u8], ConditionFault); 25] = [
+        (b"", ConditionFault::Syntax),
+        (b"N >", ConditionFault::Syntax),
+        (b"3 --N", ConditionFault::Syntax),
+        (b"N\n", ConditionFault::Syntax),
+        (b"N & 1", ConditionFault::Syntax),
+        (b"08", ConditionFault::Syntax),
+        (b"1a", ConditionFault::Syntax),
+        (b"1_a", ConditionFault::Syntax),
+        (b"defined(N", ConditionFault::Syntax),
+        (b"defined defined", ConditionFault::Syntax),
+        (b"(N)) + __N", ConditionFault::Syntax),
+        (
+            b"(((((((((((((((((((((((((((((((((((((((((((((((((((((((((((((((((",
+            ConditionFault::TooDeep,
+        ),
+        (
+            b"((((((((((((((((((((((((((((((((((((((((((((((((((((((((((((((((( 08",
+            ConditionFault::Syntax,
+        ),
+        (
+            b"1+1+1+1+1+1+1+1+1+1+1+1+1+1+1+1+1+1+1+1+1+1+1+1+1+1+1+1+1+1+1+1+1+1+1+1+1+1+1+1+1+1+1+1+1+1+1+1+1+1+1+1+1+1+1+1+1+1+1+1+1+1+1+1+1+1",
+            ConditionFault::TooDeep,
+        ),
+        (b"__N", ConditionFault::ReservedName),
+        (b"N * N > 1 || defined __N", ConditionFault::ReservedName),
+        (b"N * N > 1", ConditionFault::NonLinear),
+        (b"(N - N) * N > 1", ConditionFault::NonLinear),
+        (b"9999999999 > 0 && N * N", ConditionFault::NonLinear),
+        (b"(A && N) == 1", ConditionFault::NonLinear),
+        (b"+(A && N)", ConditionFault::NonLinear),
+        (b"N > 2147483649", ConditionFault::TooLarge),
+        (b"N + 2147483648 >= -1", ConditionFault::TooLarge),
+        (b"-2147483648", ConditionFault::TooLarge),
+        (b"N * 65536 * 65536", ConditionFault::TooLarge),
+    ];
+    for (bytes, fault) in cases {
+        assert_eq!(rt; read(alloc, bytes)?, Answer::Fault(fault));
+    }
     Ok(())
 }

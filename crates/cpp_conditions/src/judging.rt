@@ -1,0 +1,145 @@
+//! What refuses an expression before its numbers are looked at.
+#![tactic(auto)]
+
+ghost use Rattle.std.specs.Prelude.{◌≡◌, ◌≤◌, false};
+ghost use Rattle.cpp_conditions.specs.Expressions.{found};
+ghost use Rattle.cpp_conditions.specs.Descent.{expression, plain};
+ghost use Rattle.cpp_conditions.specs.Grammar as grammar;
+ghost use Rattle.cpp_conditions.specs.Judged as judged;
+ghost use Rattle.cpp_conditions.specs.Meaning as meaning;
+ghost use Rattle.cpp_conditions.specs.Scanning.{token as plainly};
+ghost use Rattle.cpp_conditions.specs.Tokens as kinds;
+
+use crate::expressions::Expression;
+use crate::names::Names;
+use crate::operators::{Operator, Prefix};
+use crate::tokens::Token;
+
+/// 1 for an operator or an opening parenthesis that is not that of `defined`, else 0.
+fn weight(token: Token<'_>, is_behind_defined: bool) -> usize
+    ensures value { result ≡ kinds.weight is_behind_defined (plainly token.entry) }
+    ensures small { result ≤ 1 }
+{
+    match token {
+        Token::Open => { if is_behind_defined { 0 } else { 1 } }
+        Token::Bang | Token::Oper(_) | Token::Twice => 1,
+        _ => 0,
+    }
+}
+
+/// Whether a token is `defined`.
+fn is_defined(token: Token<'_>) -> bool
+    ensures { result ≡ kinds.is_defined (plainly token.entry) }
+{
+    matches!(token, Token::Defined)
+}
+
+/// How many tokens are operators or opening parentheses that are not those of `defined`.
+pub(crate) fn count_deep(tokens: &[Token<'_>]) -> usize
+    ensures { result ≡ kinds.weight_behind false (plain tokens.now) }
+{
+    let mut count = 0;
+    let mut is_behind_defined = false;
+    for token in tokens {
+        count += weight(*token, is_behind_defined);
+        is_behind_defined = is_defined(*token);
+    }
+    count
+}
+
+/// Whether a name begins with two underscores.
+fn is_reserved(name: &[u8]) -> bool
+    ensures { result ≡ grammar.is_reserved name.now }
+{
+    match name {
+        [first, second, ..] => *first == b'_' && *second == b'_',
+        _ => false,
+    }
+}
+
+/// Whether a name in the expression begins with two underscores.
+pub(crate) fn has_reserved(tree: &Expression<'_>) -> bool
+    ensures { result ≡ grammar.has_reserved (expression tree.now) }
+{
+    match tree {
+        Expression::Number(_) => false,
+        Expression::Name(name) | Expression::IsDefined(name) => is_reserved(name),
+        Expression::Unary(_, operand) => has_reserved(operand),
+        Expression::Binary(_, left, right) => has_reserved(left) || has_reserved(right),
+    }
+}
+
+/// Whether an operator gives truth values.
+pub(crate) fn gives_truth(op: Operator) -> bool
+    ensures { result ≡ meaning.gives_truth op }
+{
+    match op {
+        Operator::Times | Operator::Plus | Operator::Minus => false,
+        _ => true,
+    }
+}
+
+/// Whether the expression is a truth value, and no number.
+fn is_truth(tree: &Expression<'_>) -> bool
+    ensures { result ≡ meaning.is_truth (expression tree.now) }
+{
+    match tree {
+        Expression::Unary(op, _) => *op == Prefix::Inverse,
+        Expression::Binary(op, _, _) => gives_truth(*op),
+        _ => false,
+    }
+}
+
+/// Whether an operator takes its operands: truth values or numbers alone, which both name a feature or do not.
+fn suits(op: Operator, are_numbers: bool, both_named: bool) -> bool
+    ensures { result ≡ meaning.suits_operator op are_numbers both_named }
+{
+    match op {
+        Operator::Both | Operator::Either => true,
+        Operator::Times => are_numbers && !both_named,
+        _ => are_numbers,
+    }
+}
+
+/// Whether the name is that of a Boolean feature.
+fn is_boolean(names: &Names<'_>, name: &[u8]) -> bool
+    ensures { result ≡ meaning.is_boolean names.now (found name.now names.now) }
+{
+    match names.number(name) {
+        Some(number) => names.is_boolean(number),
+        None => false,
+    }
+}
+
+/// Whether the expression names a feature; none where a truth value in it is used as a number, or both sides of a
+/// product name a feature.
+pub(crate) fn named(names: &Names<'_>, tree: &Expression<'_>) -> Option<bool>
+    ensures { judged.Names names.now (expression tree.now) result }
+{
+    match tree {
+        Expression::Number(_) => Some(false),
+        Expression::Name(name) => Some(names.number(name).is_some()),
+        Expression::IsDefined(name) => Some(is_boolean(names, name)),
+        Expression::Unary(op, operand) => {
+            let is_named = named(names, operand)?;
+            if *op == Prefix::Inverse || !is_truth(operand) {
+                Some(is_named)
+            } else {
+                None
+            }
+        }
+        Expression::Binary(op, left, right) => {
+            let is_left = named(names, left)?;
+            let is_right = named(names, right)?;
+            if suits(
+                *op,
+                !is_truth(left) && !is_truth(right),
+                is_left && is_right,
+            ) {
+                Some(is_left || is_right)
+            } else {
+                None
+            }
+        }
+    }
+}

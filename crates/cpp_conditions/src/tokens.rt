@@ -1,0 +1,217 @@
+//! The tokens of conditions.
+#![tactic(auto)]
+
+ghost use Rattle.std.specs.Prelude.{◌≡◌, ◌≤◌, [], ◌∷◌, length, MatchOption, option_map};
+ghost use Rattle.std.specs.List.{list_all, prefix_len};
+ghost use Rattle.cpp_conditions.specs.Tokens as kinds;
+ghost use Rattle.cpp_conditions.specs.Scanning.{token, number_at, word_at, mark_at, lexeme_at, plainly, Scans};
+
+use crate::operators::Operator;
+use crate::stop::Stop;
+use std::alloc::Global;
+
+/// A token: a number or a name with its bytes, `defined`, a parenthesis, `!`, another operator, or `++` or `--`.
+#[derive(Clone, Copy, Debug)]
+pub(crate) enum Token<'a> {
+    Digits(&'a [u8]),
+    Word(&'a [u8]),
+    Defined,
+    Open,
+    Close,
+    Bang,
+    Oper(Operator),
+    Twice,
+}
+
+/// A decimal digit.
+fn is_digit(b: u8) -> bool
+    ensures { result ≡ kinds.is_digit b }
+{
+    matches!(b, b'0'..=b'9')
+}
+
+/// A letter or a digit.
+fn is_alphanumeric(b: u8) -> bool
+    ensures { result ≡ kinds.is_alphanumeric b }
+{
+    matches!(b, b'a'..=b'z' | b'A'..=b'Z' | b'0'..=b'9')
+}
+
+/// A letter or an underscore.
+fn is_first(b: u8) -> bool
+    ensures { result ≡ kinds.is_first b }
+{
+    matches!(b, b'a'..=b'z' | b'A'..=b'Z' | b'_')
+}
+
+/// A letter, an underscore or a digit.
+fn is_word(b: u8) -> bool
+    ensures { result ≡ kinds.is_word b }
+{
+    matches!(b, b'a'..=b'z' | b'A'..=b'Z' | b'_' | b'0'..=b'9')
+}
+
+/// Space, tab, vertical tab, form feed or carriage return.
+fn is_space(b: u8) -> bool
+    ensures { result ≡ kinds.is_space b }
+{
+    matches!(b, b' ' | 9 | 11 | 12 | 13)
+}
+
+/// A mark of two bytes.
+fn pair<'a>(first: u8, second: u8) -> Option<Token<'a>>
+    ensures { option_map token result ≡ kinds.pair_of first second }
+{
+    match (first, second) {
+        (b'&', b'&') => Some(Token::Oper(Operator::Both)),
+        (b'|', b'|') => Some(Token::Oper(Operator::Either)),
+        (b'=', b'=') => Some(Token::Oper(Operator::Equal)),
+        (b'!', b'=') => Some(Token::Oper(Operator::Differs)),
+        (b'<', b'=') => Some(Token::Oper(Operator::AtMost)),
+        (b'>', b'=') => Some(Token::Oper(Operator::AtLeast)),
+        (b'+', b'+') | (b'-', b'-') => Some(Token::Twice),
+        _ => None,
+    }
+}
+
+/// A mark of one byte.
+fn single<'a>(byte: u8) -> Option<Token<'a>>
+    ensures { option_map token result ≡ kinds.single_of byte }
+{
+    match byte {
+        b'(' => Some(Token::Open),
+        b')' => Some(Token::Close),
+        b'!' => Some(Token::Bang),
+        b'<' => Some(Token::Oper(Operator::Less)),
+        b'>' => Some(Token::Oper(Operator::Greater)),
+        b'+' => Some(Token::Oper(Operator::Plus)),
+        b'-' => Some(Token::Oper(Operator::Minus)),
+        b'*' => Some(Token::Oper(Operator::Times)),
+        _ => None,
+    }
+}
+
+/// Whether all bytes are digits.
+fn all_digits(run: &[u8]) -> bool
+    ensures { result ≡ list_all kinds.is_digit run.now }
+{
+    run.iter().all(|b| is_digit(*b))
+}
+
+/// `0`, or digits without a leading zero.
+fn is_number(run: &[u8]) -> bool
+    ensures { result ≡ kinds.is_number run.now }
+{
+    match run {
+        [] => false,
+        [b] => is_digit(*b),
+        [b, ..] => *b != b'0' && all_digits(run),
+    }
+}
+
+/// How many bytes at the front are letters and digits.
+fn alphanumeric_len(bytes: &[u8]) -> usize
+    ensures value { result ≡ prefix_len kinds.is_alphanumeric bytes.now }
+    ensures fits { result ≤ length bytes.now }
+{
+    bytes.iter().take_while(|b| is_alphanumeric(**b)).count()
+}
+
+/// How many bytes at the front are letters, underscores and digits.
+fn word_len(bytes: &[u8]) -> usize
+    ensures value { result ≡ prefix_len kinds.is_word bytes.now }
+    ensures fits { result ≤ length bytes.now }
+{
+    bytes.iter().take_while(|b| is_word(**b)).count()
+}
+
+/// The number of all digits and letters at the front, and what is behind it.
+fn number(bytes: &[u8]) -> Option<(Token<'_>, &[u8])>
+    ensures { plainly result ≡ number_at bytes.now }
+{
+    let (digits, behind) = bytes.split_at(alphanumeric_len(bytes));
+    if is_number(digits) {
+        Some((Token::Digits(digits), behind))
+    } else {
+        None
+    }
+}
+
+/// A name, or `defined`.
+fn word_token(name: &[u8]) -> Token<'_>
+    ensures { token result ≡ kinds.word_token name.now }
+{
+    if name == b"defined".as_slice() {
+        Token::Defined
+    } else {
+        Token::Word(name)
+    }
+}
+
+/// The word at the front, and what is behind it.
+fn word(bytes: &[u8]) -> Option<(Token<'_>, &[u8])>
+    ensures { plainly result ≡ word_at bytes.now }
+{
+    let (name, behind) = bytes.split_at(word_len(bytes));
+    Some((word_token(name), behind))
+}
+
+/// The first byte and those behind it.
+fn cut(bytes: &[u8]) -> Option<(u8, &[u8])>
+    ensures { MatchOption result (bytes.now ≡ []) (λ x. bytes.now ≡ x.0 ∷ x.1.now) }
+{
+    match bytes {
+        [] => None,
+        [b, behind @ ..] => Some((*b, behind)),
+    }
+}
+
+/// The longest mark of a byte and those behind it, and what is behind the mark.
+fn mark(first: u8, behind: &[u8]) -> Option<(Token<'_>, &[u8])>
+    ensures { plainly result ≡ mark_at first behind.now }
+{
+    if let Some((second, after)) = cut(behind) {
+        if let Some(token) = pair(first, second) {
+            return Some((token, after));
+        }
+    }
+    match single(first) {
+        Some(token) => Some((token, behind)),
+        None => None,
+    }
+}
+
+/// The token that begins with the first of these bytes, which has the others behind it, and what is behind the token.
+fn lexeme<'a>(bytes: &'a [u8], first: u8, behind: &'a [u8]) -> Option<(Token<'a>, &'a [u8])>
+    requires { bytes.now ≡ first ∷ behind.now }
+    ensures { plainly result ≡ lexeme_at first behind.now }
+{
+    if is_digit(first) {
+        number(bytes)
+    } else if is_first(first) {
+        word(bytes)
+    } else {
+        mark(first, behind)
+    }
+}
+
+/// The tokens of the bytes. It answers `Wrong` where a byte begins no token, or a run of digits and letters is no
+/// decimal number.
+pub(crate) fn scan(alloc: Global, bytes: &[u8]) -> Result<Vec<Token<'_>>, Stop>
+    ensures { Scans result bytes.now }
+{
+    let mut list = Vec::new(alloc);
+    let mut rest = bytes;
+    'scan: while let Some((first, behind)) = cut(rest) {
+        if is_space(first) {
+            rest = behind;
+            continue;
+        }
+        let Some((token, after)) = lexeme(rest, first, behind) else {
+            return Err(Stop::Wrong);
+        };
+        list.push(token)?;
+        rest = after;
+    }
+    Ok(list)
+}
