@@ -172,7 +172,7 @@ lexeme_single b t bs h n = lexeme_other b bs (single_other b t h) ∙ mark_singl
 -- ---- steps
 
 -- what is left of a list of tokens behind white space or the token at the front
-abbrev Follows : Option (Token × List ℕ) → List Token → Type 0
+abbrev pub Follows : Option (Token × List ℕ) → List Token → Type 0
 Follows None ts = ⊥
 Follows (Some x) ts = (us : List Token) × (ts ≡ x.0 ∷ us) × SpellsTokens x.1 us
 
@@ -197,6 +197,9 @@ steps (word (d ∷ ds) {bs} {ts} h n s) = followed d (ds ++ bs) bs _ ts (first_s
 steps (pair b c t {bs} {ts} h s) = followed b (c ∷ bs) bs t ts (pair_other b c t h).no_space (lexeme_pair b c t bs h) s
 steps (single b t {bs} {ts} h n s) = followed b bs bs t ts (single_other b t h).no_space (lexeme_single b t bs h n) s
 
+pub spaced : (b : ℕ) (bs : List ℕ) (ts : List Token) → is_space b ≡ true → SpellsTokens (b ∷ bs) ts → SpellsTokens bs ts
+spaced b bs ts h s = subst (λ (x : Bool). NextBy x (lexeme_at b bs) bs ts) h (steps s)
+
 -- ---- bytes spell at most one list of tokens
 
 same_rest : (b : ℕ) (bs rest : List ℕ) (t : Token) (ts us : List Token) → is_space b ≡ false → lexeme_at b bs ≡ Some (t, rest) → ((vs : List Token) → SpellsTokens rest vs → ts ≡ vs) → SpellsTokens (b ∷ bs) us → t ∷ ts ≡ us
@@ -206,7 +209,7 @@ same_rest b bs rest t ts us h e same s =
 
 pub one_list : {bytes : List ℕ} {ts : List Token} → SpellsTokens bytes ts → (us : List Token) → SpellsTokens bytes us → ts ≡ us
 one_list none us t = sym (steps t)
-one_list (space b {bs} {ts} h s) us t = one_list s us (subst (λ (x : Bool). NextBy x (lexeme_at b bs) bs us) h (steps t))
+one_list (space b {bs} {ts} h s) us t = one_list s us (spaced b bs us h t)
 one_list (number [] h n s) us t = absurd (false≢true h)
 one_list (number (d ∷ ds) {bs} {ts} h n s) us t = same_rest d (ds ++ bs) bs _ ts us (digit_space d (and_left (is_digit d) (list_all is_digit ds) (number_digits d ds h))) (lexeme_number d ds bs h n) (one_list s) t
 one_list (word [] h n s) us t = absurd (false≢true h)
@@ -250,7 +253,7 @@ made_by : (b : ℕ) (bs : List ℕ) (ts : List Token) (v : Bool) → is_digit b 
 made_by b bs ts true e f = made_number b bs ts (is_number (run is_alphanumeric (b ∷ bs))) refl f
 made_by b bs ts false e f = made_other b bs ts (is_first b) refl f
 
-made : (b : ℕ) (bs : List ℕ) (ts : List Token) → Follows (lexeme_at b bs) ts → SpellsTokens (b ∷ bs) ts
+pub made : (b : ℕ) (bs : List ℕ) (ts : List Token) → Follows (lexeme_at b bs) ts → SpellsTokens (b ∷ bs) ts
 made b bs ts f = made_by b bs ts (is_digit b) refl f
 
 behind_le : (test : ℕ → Bool) (bytes : List ℕ) → length (behind test bytes) ≤ length bytes
@@ -304,10 +307,10 @@ scanning_space bytes rest bs done b so_far cut h = record {
   forward = λ us s. so_far.forward us (subst (λ (xs : List ℕ). SpellsTokens xs us) (sym cut) (space b h s));
   back = λ ts s.
       let r = so_far.back ts s in
-      (r.0, subst (λ (x : Bool). NextBy x (lexeme_at b bs) bs r.0) h (steps (subst (λ (xs : List ℕ). SpellsTokens xs r.0) cut r.1)));
+      (r.0, spaced b bs r.0 h (subst (λ (xs : List ℕ). SpellsTokens xs r.0) cut r.1));
 }
 
-lexed : (b : ℕ) (bs : List ℕ) (ts : List Token) (o : Option (Token × List ℕ)) → is_space b ≡ false → lexeme_at b bs ≡ o → SpellsTokens (b ∷ bs) ts → Follows o ts
+pub lexed : (b : ℕ) (bs : List ℕ) (ts : List Token) (o : Option (Token × List ℕ)) → is_space b ≡ false → lexeme_at b bs ≡ o → SpellsTokens (b ∷ bs) ts → Follows o ts
 lexed b bs ts o h e s = subst (λ (o : Option (Token × List ℕ)). Follows o ts) e (subst (λ (x : Bool). NextBy x (lexeme_at b bs) bs ts) h (steps s))
 
 pub scanning_token : (bytes rest bs after : List ℕ) (done : List Token) (t : Token) (b : ℕ) → Scanning bytes done rest → rest ≡ b ∷ bs → is_space b ≡ false → Some (t, after) ≡ lexeme_at b bs → Scanning bytes (done ++ t ∷ []) after

@@ -11,3 +11,4 @@ pub mod Read
 pub mod Signs
 pub mod Sizes
 pub mod Sound
+pub mod Total

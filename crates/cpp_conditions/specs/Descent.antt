@@ -10,7 +10,7 @@ use Rattle.cpp_conditions.specs.Expressions.{Expression, Number, Name, IsDefined
 use Rattle.cpp_conditions.specs.Grammar.{tighter}
 use Rattle.cpp_conditions.specs.Machine.{Frame, room, Wants, Has, Asks, prefix_of, read}
 use Rattle.cpp_conditions.specs.Scanning.{token}
-use Rattle.cpp_conditions.specs.Tokens.{Token, Digits, Word, Defined, Open, Close, Bang, Oper, Twice, number_from}
+use Rattle.cpp_conditions.specs.Tokens.{Token, Open, Close, Bang, Oper, number_from}
 
 -- an expression that was read as a plain one
 abbrev pub expression : trees.Expression → Expression
@@ -25,51 +25,21 @@ plain = map token
 
 -- the list doesn't begin with an operator that is tighter than the level
 abbrev pub Loose : ℕ → List Token → Type 0
-Loose k [] = Unit {0}
-Loose k (Digits n ∷ w) = Unit {0}
-Loose k (Word x ∷ w) = Unit {0}
-Loose k (Defined ∷ w) = Unit {0}
-Loose k (Open ∷ w) = Unit {0}
-Loose k (Close ∷ w) = Unit {0}
-Loose k (Bang ∷ w) = Unit {0}
 Loose k (Oper op ∷ w) = k ≤ suc (tighter op)
-Loose k (Twice ∷ w) = Unit {0}
+Loose k _ = Unit {0}
 
 abbrev pub IsNoClose : List Token → Type 0
-IsNoClose [] = Unit {0}
-IsNoClose (Digits n ∷ w) = Unit {0}
-IsNoClose (Word x ∷ w) = Unit {0}
-IsNoClose (Defined ∷ w) = Unit {0}
-IsNoClose (Open ∷ w) = Unit {0}
 IsNoClose (Close ∷ w) = ⊥
-IsNoClose (Bang ∷ w) = Unit {0}
-IsNoClose (Oper op ∷ w) = Unit {0}
-IsNoClose (Twice ∷ w) = Unit {0}
+IsNoClose _ = Unit {0}
 
 abbrev pub IsNoOpen : List Token → Type 0
-IsNoOpen [] = Unit {0}
-IsNoOpen (Digits n ∷ w) = Unit {0}
-IsNoOpen (Word x ∷ w) = Unit {0}
-IsNoOpen (Defined ∷ w) = Unit {0}
 IsNoOpen (Open ∷ w) = ⊥
-IsNoOpen (Close ∷ w) = Unit {0}
-IsNoOpen (Bang ∷ w) = Unit {0}
-IsNoOpen (Oper op ∷ w) = Unit {0}
-IsNoOpen (Twice ∷ w) = Unit {0}
-
-abbrev pub IsNoSign : Token → Type 0
-IsNoSign (Digits n) = Unit {0}
-IsNoSign (Word x) = Unit {0}
-IsNoSign Defined = Unit {0}
-IsNoSign Open = Unit {0}
-IsNoSign Close = Unit {0}
-IsNoSign Bang = ⊥
-IsNoSign (Oper op) = prefix_of op ≡ None
-IsNoSign Twice = Unit {0}
+IsNoOpen _ = Unit {0}
 
 abbrev pub IsNoPrefix : List Token → Type 0
-IsNoPrefix [] = Unit {0}
-IsNoPrefix (t ∷ w) = IsNoSign t
+IsNoPrefix (Bang ∷ w) = ⊥
+IsNoPrefix (Oper op ∷ w) = prefix_of op ≡ None
+IsNoPrefix _ = Unit {0}
 
 -- whatever is open, if it has room for the level, the machine gets from the one to the other
 abbrev pub Goes : ℕ → List Token → Expression → List Token → Type 0

@@ -27,3 +27,8 @@ pub fn bytes_spell_one_expression()
 pub fn bytes_have_one_reading()
     ensures { (features : List Feature) (bytes : List ℕ) (r s : Result (Proposition Atom) ConditionFault) → ReadsAs features bytes r → ReadsAs features bytes s → r ≡ s }
 {}
+
+/// Bytes are always read in some way.
+pub fn bytes_have_a_reading()
+    ensures { (features : List Feature) (bytes : List ℕ) → (r : Result (Proposition Atom) ConditionFault) × ReadsAs features bytes r }
+{}

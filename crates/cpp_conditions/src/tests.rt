@@ -169,6 +169,23 @@ fn conditions_are_read(rt: HostRuntime) -> Result<(), Fail> {
 }
 
 #[test]
+fn conditions_have_normal_forms(rt: HostRuntime) -> Result<(), Fail> {
+    let alloc = rt.alloc();
+    let features = both_features(alloc)?;
+    let decided = read_condition(alloc, features.items(), b"N >= 8");
+    assert!(rt; matches!(decided, Ok(Condition::Const(false))));
+    let least = at_least(alloc, 0, -3)?;
+    match read_condition(alloc, features.items(), b"3 - N > 0") {
+        Ok(Condition::Not(inner)) => match &*inner {
+            Condition::Test(atom) => assert!(rt; *atom == least),
+            _ => panic!(rt; "no test"),
+        },
+        _ => panic!(rt; "no negation"),
+    }
+    Ok(())
+}
+
+#[test]
 fn conditions_are_refused(rt: HostRuntime) -> Result<(), Fail> {
     let alloc = rt.alloc();
     let cases: [(&[u8], ConditionFault); 25] = [
