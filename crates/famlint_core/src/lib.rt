@@ -14,4 +14,6 @@ pub use program::famlint;
 pub use steady::famlint_over_steady;
 
 #[cfg(test)]
+mod analysis_tests;
+#[cfg(test)]
 mod tests;
