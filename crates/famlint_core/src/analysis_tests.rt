@@ -172,6 +172,31 @@ fn are(alarms: &Alarms, expected: &[(u32, u32, Kind)]) -> bool {
         })
 }
 
+/// `x < 1 < 1 ..`, with so many comparisons.
+fn compared(alloc: Global, depth: u32) -> Result<Expr, NoMemory>
+    requires { depth ≤ 64 }
+    ensures over { IfOk result (λ e. IsTermOf 2 (term e)) }
+    ensures small { IfOk result (λ e. operators (term e) ≤ depth) }
+{
+    if depth == 0 {
+        return Ok(Expr::Var(0));
+    }
+    let inner = compared(alloc, depth - 1)?;
+    binary(alloc, Op::Lt, inner, Expr::Number(1))
+}
+
+/// From 0, an even number of comparisons gives 0. Each is looked at a bounded number of times: else this would not end.
+#[test]
+fn many_comparisons(rt: HostRuntime) -> Result<(), Fail> {
+    let alloc = rt.alloc();
+    let value = compared(alloc, 64)?;
+    let test = compared(alloc, 64)?;
+    let program = assigning(alloc, 0, value, test)?;
+    let found = alarms_of(alloc, &program, 1, Mode::Wrap)?;
+    assert!(rt; are(&found, &[(4, 1, Kind::Assertion)]));
+    Ok(())
+}
+
 #[test]
 fn assignments_and_assertions(rt: HostRuntime) -> Result<(), Fail> {
     let alloc = rt.alloc();
