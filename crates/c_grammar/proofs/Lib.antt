@@ -1,0 +1,10 @@
+pub mod Complete
+pub mod Files
+pub mod Closing
+pub mod Standing
+pub mod Pieces
+pub mod SoundExpressions
+pub mod SoundStatements
+pub mod SoundFiles
+pub mod Sound
+pub mod Wrong

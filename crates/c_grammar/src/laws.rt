@@ -1,0 +1,38 @@
+//! Laws of the grammar, for the crates above: each function does nothing, and its contract is the law.
+#![tactic(auto)]
+
+ghost use Rattle.c_grammar.specs.Laws.{AtMostOne, Complete, Completes, EndsDecide, FindsWrong, Sound, StepsDecide, StepsGoOn};
+
+/// Over one list of names, a list of items spells at most one program.
+pub fn spells_at_most_one()
+    ensures { AtMostOne }
+{}
+
+/// What is spelled is read, item by item.
+pub fn reads_what_is_spelled()
+    ensures { Complete }
+{}
+
+/// What is read is spelled.
+pub fn spells_what_is_read()
+    ensures { Sound }
+{}
+
+/// Whatever is open, some text ends the file.
+pub fn closes_what_is_open()
+    ensures { Completes }
+{}
+
+/// Reading stops at the first item with which no file goes on, whichever names it has, or at the end where no file
+/// ends there.
+pub fn stops_at_the_first_wrong_item()
+    ensures { FindsWrong }
+{}
+
+/// After items that lead to a state some file goes on, none with an item that the state can't take, and the items are a
+/// file only where the state is final.
+pub fn steps_decide()
+    ensures on { StepsGoOn }
+    ensures item { StepsDecide }
+    ensures end { EndsDecide }
+{}
