@@ -7,7 +7,7 @@ use Rattle.c_grammar.specs.declared.items.Sign.TheVariants as signs
 use Rattle.c_grammar.specs.declared.items.Item.{Item}
 use Rattle.c_grammar.specs.Grammar.{at, tighter, applied, updated, File, file_of}
 use Rattle.c_grammar.specs.Ahead.{Loose, NoElse}
-use Rattle.c_grammar.specs.Machine.{Frame, Paren, Pre, Left, Stack, Top, Braces, Yes, No, ThenOf, ElseOf, LoopOf, Use, ToAssign, ToUpdate, ToAssert, ToChoose, ToLoop, Sections, Outermost, InPart, InLast, Aim, ToPrototype, ToMain, State, Outside, AfterStatic, AfterExtern, AfterInt, AfterExternInt, Declaring, Bare, Starting, Negating, Started, Parameters, InParameters, AfterVoid, AfterParameters, Ready, Ended, Wants, Has, Named, Opens, InputOpens, InputCloses, Finishing, Returning, Returned, Closing, Over, with_declared, linked, run}
+use Rattle.c_grammar.specs.Machine.{Tailing, Another, Final, Frame, Paren, Pre, Left, Stack, Top, Braces, Yes, No, ThenOf, ElseOf, LoopOf, Use, ToAssign, ToUpdate, ToAssert, ToChoose, ToLoop, Sections, Outermost, InPart, InLast, Aim, ToPrototype, ToMain, State, Outside, AfterStatic, AfterExtern, AfterInt, AfterExternInt, Declaring, Bare, Starting, Negating, Started, Parameters, InParameters, AfterVoid, AfterParameters, Ready, Ended, Wants, Has, Named, Opens, InputOpens, InputCloses, Finishing, Returning, Returned, Closing, Over, with_declared, linked, run}
 use Rattle.c_grammar.proofs.Complete.{pre_absorbs, left_absorbs, loop_absorbs, else_absorbs, then_absorbs}
 
 nowhere : Place
@@ -78,11 +78,11 @@ unfolding run
 after_parameters (ToPrototype secs ds) = let h = after_declarations secs ds in (at nowhere signs.Semicolon ∷ h.0, h.1, h.2)
 after_parameters (ToMain ds) = (at nowhere signs.LeftBrace ∷ at nowhere signs.RightBrace ∷ [], file_of ds Done nowhere, refl)
 
-after_groups : (f : File) (parts : List Bool) → Rest (Over f parts)
+after_groups : (f : File) (parts : List Tailing) → Rest (Over f parts)
 unfolding run
 after_groups f [] = ([], f, refl)
-after_groups f (true ∷ parts) = let h = after_groups f parts in (at nowhere signs.GroupEnd ∷ h.0, h.1, h.2)
-after_groups f (false ∷ parts) = let h = after_groups f parts in (at nowhere signs.GroupEnd ∷ h.0, h.1, h.2)
+after_groups f (Another k ∷ parts) = let h = after_groups f parts in (at nowhere signs.GroupEnd ∷ h.0, h.1, h.2)
+after_groups f (Final k ∷ parts) = let h = after_groups f parts in (at nowhere signs.GroupEnd ∷ h.0, h.1, h.2)
 
 after_declarator : (x : ℕ) (n : ℤ) (secs : Sections) (ds : List Declared) → Rest (Started x n secs ds)
 unfolding run

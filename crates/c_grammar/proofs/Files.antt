@@ -1,5 +1,5 @@
 -- What is spelled is read: declarations and files.
-use Rattle.std.proofs.Common.{◌≡◌, ℕ, ℤ, Bool, true, false, List, [], ◌∷◌, ◌++◌, Ok, refl, sym, ap, ◌∙◌, append_assoc}
+use Rattle.std.proofs.Common.{◌≡◌, suc, ℕ, ℤ, Bool, true, false, List, [], ◌∷◌, ◌++◌, Ok, refl, sym, ap, ◌∙◌, append_assoc}
 use Rattle.std.proofs.lemmas.List.{append-nil}
 use Rattle.fam_outer.specs.declared.faults.Place.{Place}
 use Rattle.c_tree.specs.declared.tree.Guard.{Guard}
@@ -10,7 +10,7 @@ use Rattle.c_grammar.specs.declared.items.Sign.TheVariants as signs
 use Rattle.c_grammar.specs.declared.items.Item.{Item}
 use Rattle.c_grammar.specs.Grammar.{at, Optional, absent, present, Declarator, bare, positive, negative, with_true, with_false, declared, Part, Outer, Vars, Later, Declares, nothing, variables, prototype, section, last_var, next_var, end_part, else_part, elif_part, Returns, no_return, return, Gap, Gaps, GapRest, Empty, no_more, empty_section, empty_end, empty_else, empty_elif, Body, body, Main, main, File, file_of, Forms, file}
 use Rattle.c_grammar.specs.Ahead.{NoElse}
-use Rattle.c_grammar.specs.Machine.{Top, Sections, Outermost, InPart, InLast, guards_of, Aim, ToPrototype, ToMain, Outside, AfterInt, Declaring, Parameters, AfterParameters, Ready, Over, with_declared, run, start}
+use Rattle.c_grammar.specs.Machine.{Tailing, Another, Final, Top, Sections, Outermost, InPart, InLast, guards_of, Aim, ToPrototype, ToMain, Outside, AfterInt, Declaring, Parameters, AfterParameters, Ready, Over, with_declared, run, start}
 use Rattle.c_grammar.proofs.Complete.{accepted, followed-none}
 
 -- ---- declarations
@@ -122,26 +122,26 @@ goes (elif_part p m gs {us} {vs} {cs} {ds} a b) = λ hs n outer is es w.
 -- ---- files
 
 abbrev pub Passes : Gap → List Item → Type 0
-Passes Gaps ts = (f : File) (parts : List Bool) (w : List Item) → run (Over f parts) (ts ++ w) ≡ run (Over f parts) w
-Passes GapRest ts = (f : File) (parts : List Bool) (w : List Item) → run (Over f (true ∷ parts)) (ts ++ w) ≡ run (Over f parts) w
+Passes Gaps ts = (f : File) (parts : List Tailing) (w : List Item) → run (Over f parts) (ts ++ w) ≡ run (Over f parts) w
+Passes GapRest ts = (f : File) (k : ℕ) (parts : List Tailing) (w : List Item) → run (Over f (Another k ∷ parts)) (ts ++ w) ≡ run (Over f parts) w
 
 pub passes : {s : Gap} {ts : List Item} → Empty s ts → Passes s ts
 unfolding run
 passes no_more = λ f parts w. refl
 passes (empty_section p n {us} {vs} {ws} a b d) = λ f parts w.
     let re : (us ++ (vs ++ ws)) ++ w ≡ us ++ (vs ++ (ws ++ w)) = simp append_assoc in
-    ap (run (Over f (true ∷ parts))) re
-    ∙ passes a f (true ∷ parts) (vs ++ (ws ++ w))
-    ∙ passes b f parts (ws ++ w)
+    ap (run (Over f (Another 1 ∷ parts))) re
+    ∙ passes a f (Another 1 ∷ parts) (vs ++ (ws ++ w))
+    ∙ passes b f 1 parts (ws ++ w)
     ∙ passes d f parts w
-passes (empty_end p) = λ f parts w. refl
-passes (empty_else p q {us} a) = λ f parts w.
-    ap (run (Over f (false ∷ parts))) (append_assoc us (at q signs.GroupEnd ∷ []) w)
-    ∙ passes a f (false ∷ parts) (at q signs.GroupEnd ∷ w)
-passes (empty_elif p n {us} {vs} a b) = λ f parts w.
-    ap (run (Over f (true ∷ parts))) (append_assoc us vs w)
-    ∙ passes a f (true ∷ parts) (vs ++ w)
-    ∙ passes b f parts w
+passes (empty_end p) = λ f k parts w. refl
+passes (empty_else p q {us} a) = λ f k parts w.
+    ap (run (Over f (Final k ∷ parts))) (append_assoc us (at q signs.GroupEnd ∷ []) w)
+    ∙ passes a f (Final k ∷ parts) (at q signs.GroupEnd ∷ w)
+passes (empty_elif p n {us} {vs} a b) = λ f k parts w.
+    ap (run (Over f (Another (suc k) ∷ parts))) (append_assoc us vs w)
+    ∙ passes a f (Another (suc k) ∷ parts) (vs ++ w)
+    ∙ passes b f (suc k) parts w
 
 return_no_else : {vs : List Item} {d : Code} (p : Place) (w : List Item) → Returns vs d → NoElse (vs ++ at p signs.RightBrace ∷ w)
 return_no_else p w no_return = tt

@@ -8,3 +8,4 @@ pub mod SoundStatements
 pub mod SoundFiles
 pub mod Sound
 pub mod Wrong
+pub mod Deeper

@@ -10,7 +10,7 @@ use Rattle.c_grammar.specs.declared.items.Sign.{Sign}
 use Rattle.c_grammar.specs.declared.items.Sign.TheVariants as signs
 use Rattle.c_grammar.specs.declared.items.Item.{Item}
 use Rattle.c_grammar.specs.Grammar.{at, none, Optional, absent, present, bare, positive, negative, with_true, with_false, declared, Outer, Declares, nothing, variables, prototype, section, last_var, next_var, end_part, else_part, elif_part, Gaps, Empty, no_more, empty_section, empty_end, empty_else, empty_elif, main, File, file_of, Forms}
-use Rattle.c_grammar.specs.Machine.{Sections, Outermost, InPart, InLast, guards_of, Aim, ToPrototype, ToMain, Outside, AfterStatic, AfterExtern, AfterInt, AfterExternInt, Declaring, Bare, Starting, Negating, Started, Parameters, InParameters, AfterVoid, AfterParameters, Returning, Returned, Closing, Over, with_declared, at_open, at_close, at_semicolon, at_int, at_input, next_condition, last_section, section_end, outside, declaring, main_of, after_int, started, is_bare, starting, negating, in_parameters, after_parameters, returning, closing, over}
+use Rattle.c_grammar.specs.Machine.{Tailing, Another, Final, Sections, Outermost, InPart, InLast, guards_of, Aim, ToPrototype, ToMain, Outside, AfterStatic, AfterExtern, AfterInt, AfterExternInt, Declaring, Bare, Starting, Negating, Started, Parameters, InParameters, AfterVoid, AfterParameters, Returning, Returned, Closing, Over, with_declared, at_open, at_close, at_semicolon, at_int, at_input, next_condition, last_section, section_end, outside, declaring, main_of, after_int, started, is_bare, starting, negating, in_parameters, after_parameters, returning, closing, over}
 use Rattle.c_grammar.proofs.Standing.{Tail, VarsTail, Trailing, Stands}
 
 -- ---- one item in front of what may come next
@@ -228,21 +228,21 @@ pub closing_keeps : (ds : List Declared) (made : Code) (p : Place) (s : Sign) (a
 closing_keeps ds made p signs.RightBrace a r = λ w e. moves a (at p signs.RightBrace) w (r p w e)
 closing_keeps ds made p _ a r = tt
 
-trails : (parts : List Bool) (t w : List Item) → ((us : List Item) → Empty Gaps us → Empty Gaps (t ++ us)) → Trailing parts w → Trailing parts (t ++ w)
+trails : (parts : List Tailing) (t w : List Item) → ((us : List Item) → Empty Gaps us → Empty Gaps (t ++ us)) → Trailing parts w → Trailing parts (t ++ w)
 trails [] t w k r = k w r
-trails (true ∷ parts) t w k r = (t ++ r.0, r.1, r.2, k r.0 r.3, r.4, r.5, ap (λ (y : List Item). t ++ y) r.6 ∙ sym (append_assoc t r.0 (r.1 ++ r.2)))
-trails (false ∷ parts) t w k r = (t ++ r.0, r.1, r.2, k r.0 r.3, r.4, ap (λ (y : List Item). t ++ y) r.5 ∙ sym (append_assoc t r.0 (at r.2 signs.GroupEnd ∷ r.1)))
+trails (Another m ∷ parts) t w k r = (t ++ r.0, r.1, r.2, k r.0 r.3, r.4, r.5, ap (λ (y : List Item). t ++ y) r.6 ∙ sym (append_assoc t r.0 (r.1 ++ r.2)))
+trails (Final m ∷ parts) t w k r = (t ++ r.0, r.1, r.2, k r.0 r.3, r.4, ap (λ (y : List Item). t ++ y) r.5 ∙ sym (append_assoc t r.0 (at r.2 signs.GroupEnd ∷ r.1)))
 
-opens_gap : (p : Place) (n : ℕ) (parts : List Bool) (w : List Item) → Trailing (true ∷ parts) w → Trailing parts (at p (signs.GroupIf n) ∷ w)
+opens_gap : (p : Place) (n : ℕ) (parts : List Tailing) (w : List Item) → Trailing (Another 1 ∷ parts) w → Trailing parts (at p (signs.GroupIf n) ∷ w)
 opens_gap p n parts w r =
     let text : List Item = at p (signs.GroupIf n) ∷ (r.0 ++ r.1) in
     let is : text ++ r.2 ≡ at p (signs.GroupIf n) ∷ w = ap (λ (y : List Item). at p (signs.GroupIf n) ∷ y) (append_assoc r.0 r.1 r.2 ∙ sym r.6) in
     let k : (us : List Item) → Empty Gaps us → Empty Gaps (text ++ us) = λ us e. subst (λ (y : List Item). Empty Gaps (at p (signs.GroupIf n) ∷ y)) (sym (append_assoc r.0 r.1 us)) (empty_section p n r.3 r.4 e) in
     subst (Trailing parts) is (trails parts text r.2 k r.5)
 
-pub over_keeps : (f : File) (parts : List Bool) (p : Place) (s : Sign) (a : List Item) → Stands (Over f parts) a → IfSome (over f parts s) (λ next. Stands next (a ++ at p s ∷ []))
+pub over_keeps : (f : File) (parts : List Tailing) (p : Place) (s : Sign) (a : List Item) → Stands (Over f parts) a → IfSome (over f parts s) (λ next. Stands next (a ++ at p s ∷ []))
 over_keeps f parts p (signs.GroupIf n) a r = λ w t. moves a (at p (signs.GroupIf n)) w (r (at p (signs.GroupIf n) ∷ w) (opens_gap p n parts w t))
-over_keeps f (true ∷ parts) p (signs.GroupElif n) a r = λ w t. moves a (at p (signs.GroupElif n)) w (r (at p (signs.GroupElif n) ∷ w) (
+over_keeps f (Another k ∷ parts) p (signs.GroupElif n) a r = λ w t. moves a (at p (signs.GroupElif n)) w (r (at p (signs.GroupElif n) ∷ w) (
   [],
   at p (signs.GroupElif n) ∷ (t.0 ++ t.1),
   t.2,
@@ -251,7 +251,7 @@ over_keeps f (true ∷ parts) p (signs.GroupElif n) a r = λ w t. moves a (at p 
   t.5,
   ap (λ (y : List Item). at p (signs.GroupElif n) ∷ y) (t.6 ∙ sym (append_assoc t.0 t.1 t.2)),
 ))
-over_keeps f (true ∷ parts) p signs.GroupElse a r = λ w t. moves a (at p signs.GroupElse) w (r (at p signs.GroupElse ∷ w) (
+over_keeps f (Another k ∷ parts) p signs.GroupElse a r = λ w t. moves a (at p signs.GroupElse) w (r (at p signs.GroupElse ∷ w) (
   [],
   at p signs.GroupElse ∷ (t.0 ++ at t.2 signs.GroupEnd ∷ []),
   t.1,
@@ -260,6 +260,6 @@ over_keeps f (true ∷ parts) p signs.GroupElse a r = λ w t. moves a (at p sign
   t.4,
   ap (λ (y : List Item). at p signs.GroupElse ∷ y) (t.5 ∙ sym (append_assoc t.0 (at t.2 signs.GroupEnd ∷ []) t.1)),
 ))
-over_keeps f (true ∷ parts) p signs.GroupEnd a r = λ w t. moves a (at p signs.GroupEnd) w (r (at p signs.GroupEnd ∷ w) ([], at p signs.GroupEnd ∷ [], w, no_more, empty_end p, t, refl))
-over_keeps f (false ∷ parts) p signs.GroupEnd a r = λ w t. moves a (at p signs.GroupEnd) w (r (at p signs.GroupEnd ∷ w) ([], w, p, no_more, t, refl))
+over_keeps f (Another k ∷ parts) p signs.GroupEnd a r = λ w t. moves a (at p signs.GroupEnd) w (r (at p signs.GroupEnd ∷ w) ([], at p signs.GroupEnd ∷ [], w, no_more, empty_end p, t, refl))
+over_keeps f (Final k ∷ parts) p signs.GroupEnd a r = λ w t. moves a (at p signs.GroupEnd) w (r (at p signs.GroupEnd ∷ w) ([], w, p, no_more, t, refl))
 over_keeps f _ p _ a r = tt

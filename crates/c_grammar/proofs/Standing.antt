@@ -8,7 +8,7 @@ use Rattle.c_grammar.specs.declared.items.Sign.TheVariants as signs
 use Rattle.c_grammar.specs.declared.items.Item.{Item}
 use Rattle.c_grammar.specs.Ahead.{IsList}
 use Rattle.c_grammar.specs.Grammar.{at, tighter, prefix_sign, Expresses, update_sign, Listed, Stated, Writes, Optional, Declarator, with_true, with_false, Outer, Vars, Later, Declares, Gaps, GapRest, Empty, Body, Main, File, file_of, Forms}
-use Rattle.c_grammar.specs.Machine.{Frame, Paren, Pre, Left, room, Stack, Top, Braces, Yes, No, ThenOf, ElseOf, LoopOf, Use, ToAssign, ToUpdate, ToAssert, ToChoose, ToLoop, Sections, Outermost, InPart, InLast, guards_of, Aim, ToPrototype, ToMain, State, Outside, AfterStatic, AfterExtern, AfterInt, AfterExternInt, Declaring, Bare, Starting, Negating, Started, Parameters, InParameters, AfterVoid, AfterParameters, Ready, Ended, Wants, Has, Named, Opens, InputOpens, InputCloses, Finishing, Returning, Returned, Closing, Over}
+use Rattle.c_grammar.specs.Machine.{Tailing, Another, Final, Frame, Paren, Pre, Left, room, Stack, Top, Braces, Yes, No, ThenOf, ElseOf, LoopOf, Use, ToAssign, ToUpdate, ToAssert, ToChoose, ToLoop, Sections, Outermost, InPart, InLast, guards_of, Aim, ToPrototype, ToMain, State, Outside, AfterStatic, AfterExtern, AfterInt, AfterExternInt, Declaring, Bare, Starting, Negating, Started, Parameters, InParameters, AfterVoid, AfterParameters, Ready, Ended, Wants, Has, Named, Opens, InputOpens, InputCloses, Finishing, Returning, Returned, Closing, Over}
 
 -- the parts of a group before this one, and its directive
 abbrev pub Begun : List (ℕ × Code) → ℕ → List Item → Type 0
@@ -81,10 +81,10 @@ ParametersTail (ToPrototype secs ds) w f = (p q : Place) (us : List Item) → Op
 ParametersTail (ToMain ds) w f = (p q : Place) → Tail Outermost ds (at p signs.Int ∷ at q signs.Main ∷ w) f
 
 -- the rest of a file behind `main`
-abbrev pub Trailing : List Bool → List Item → Type 0
+abbrev pub Trailing : List Tailing → List Item → Type 0
 Trailing [] w = Empty Gaps w
-Trailing (true ∷ parts) w = (ts vs us : List Item) × Empty Gaps ts × Empty GapRest vs × Trailing parts us × (w ≡ ts ++ (vs ++ us))
-Trailing (false ∷ parts) w = (ts us : List Item) × (q : Place) × Empty Gaps ts × Trailing parts us × (w ≡ ts ++ at q signs.GroupEnd ∷ us)
+Trailing (Another k ∷ parts) w = (ts vs us : List Item) × Empty Gaps ts × Empty GapRest vs × Trailing parts us × (w ≡ ts ++ (vs ++ us))
+Trailing (Final k ∷ parts) w = (ts us : List Item) × (q : Place) × Empty Gaps ts × Trailing parts us × (w ≡ ts ++ at q signs.GroupEnd ∷ us)
 
 -- ---- what the items read so far were, by the state
 

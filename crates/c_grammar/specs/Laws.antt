@@ -4,6 +4,7 @@ use Rattle.c_tree.specs.Tree.{Whole}
 use Rattle.c_grammar.specs.declared.items.Item.{Item}
 use Rattle.c_grammar.specs.Grammar.{File, Forms, Spells, whole_of}
 use Rattle.c_grammar.specs.Machine.{State, step, finish, run, start}
+use Rattle.c_grammar.specs.Deep.{guarded, Answers}
 
 -- the program of a file that was read
 abbrev pub program_in : List (List ℕ) → List Item → Result File ℕ → Result Whole ℕ
@@ -73,3 +74,7 @@ StepsGoOn = (before : List Item) (state : State) → after start before ≡ Some
 -- a list of items that leads to a state is a file exactly where the state is final
 abbrev pub EndsDecide : Type 0
 EndsDecide = (items : List Item) (state : State) → after start items ≡ Some state → finish state ≡ None → (f : File) → Forms items f → ⊥
+
+-- the run with limits does what the run without does, or stops at the first item at which too much is open
+abbrev pub Limited : Type 0
+Limited = (items : List Item) → Answers (guarded start 0 items) start 0 items

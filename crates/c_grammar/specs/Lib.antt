@@ -1,4 +1,5 @@
 pub mod Grammar
 pub mod Machine
 pub mod Ahead
+pub mod Deep
 pub mod Laws

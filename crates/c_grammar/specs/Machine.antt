@@ -60,6 +60,11 @@ pub data Aim : Type 0 where
   ToPrototype : (secs : Sections) (ds : List Declared) → Aim
   ToMain : (ds : List Declared) → Aim
 
+-- a group behind `main`: another part may come, or this one is the last; and how many conditions it has so far
+pub data Tailing : Type 0 where
+  Another : (k : ℕ) → Tailing
+  Final : (k : ℕ) → Tailing
+
 pub data State : Type 0 where
   -- a declaration may begin, after these declarators
   Outside : (secs : Sections) (ds : List Declared) → State
@@ -94,8 +99,8 @@ pub data State : Type 0 where
   Returning : (p : Place) (ds : List Declared) (made : Code) → State
   Returned : (ds : List Declared) (made : Code) → State
   Closing : (ds : List Declared) (made : Code) → State
-  -- `main` is closed; the groups that are open, and whether another part may come
-  Over : (f : File) (parts : List Bool) → State
+  -- `main` is closed; the groups that are open
+  Over : (f : File) (parts : List Tailing) → State
 
 -- ---- expressions
 
@@ -344,11 +349,11 @@ abbrev pub closing : List Declared → Code → Place → Sign → Option State
 closing ds made p signs.RightBrace = Some (Over (file_of ds made p) [])
 closing ds made p _ = None
 
-abbrev pub over : File → List Bool → Sign → Option State
-over f parts (signs.GroupIf n) = Some (Over f (true ∷ parts))
-over f (true ∷ parts) (signs.GroupElif n) = Some (Over f (true ∷ parts))
-over f (true ∷ parts) signs.GroupElse = Some (Over f (false ∷ parts))
-over f (b ∷ parts) signs.GroupEnd = Some (Over f parts)
+abbrev pub over : File → List Tailing → Sign → Option State
+over f parts (signs.GroupIf n) = Some (Over f (Another 1 ∷ parts))
+over f (Another k ∷ parts) (signs.GroupElif n) = Some (Over f (Another (suc k) ∷ parts))
+over f (Another k ∷ parts) signs.GroupElse = Some (Over f (Final k ∷ parts))
+over f (part ∷ parts) signs.GroupEnd = Some (Over f parts)
 over f _ _ = None
 
 -- ---- the machine

@@ -1,7 +1,7 @@
 //! Laws of the grammar, for the crates above: each function does nothing, and its contract is the law.
 #![tactic(auto)]
 
-ghost use Rattle.c_grammar.specs.Laws.{AtMostOne, Complete, Completes, EndsDecide, FindsWrong, Sound, StepsDecide, StepsGoOn};
+ghost use Rattle.c_grammar.specs.Laws.{AtMostOne, Complete, Completes, EndsDecide, FindsWrong, Limited, Sound, StepsDecide, StepsGoOn};
 
 /// Over one list of names, a list of items spells at most one program.
 pub fn spells_at_most_one()
@@ -35,4 +35,10 @@ pub fn steps_decide()
     ensures on { StepsGoOn }
     ensures item { StepsDecide }
     ensures end { EndsDecide }
+{}
+
+/// The reading with limits does what the reading without them does, up to the first item that some file goes on with
+/// but at which too much is open.
+pub fn limits_stop_only_what_is_deep()
+    ensures { Limited }
 {}
