@@ -8,7 +8,7 @@ use Rattle.c_tree.specs.Tree.{Term, Number, Binary, Code, Done, Assign, Input, A
 use Rattle.c_grammar.specs.declared.items.Sign.{Sign}
 use Rattle.c_grammar.specs.declared.items.Sign.TheVariants as signs
 use Rattle.c_grammar.specs.declared.items.Item.{Item}
-use Rattle.c_grammar.specs.Grammar.{at, tighter, Prefix, Positive, Negative, Inverse, prefix_sign, applied, Expresses, number, name, group, prefix, loose, binary, Update, Raise, Lower, update_sign, count_sign, updated, Shape, Listed, Stated, Chained, Writes, none, more, choice, ends, otherwise, elif, assign, input, update, count, assert, skip, block, while, if, if_else}
+use Rattle.c_grammar.specs.Grammar.{at, tighter, Prefix, Positive, Negative, Inverse, prefix_sign, applied, Expresses, number, name, group, prefix, loose, binary, Update, Raise, Lower, update_sign, count_sign, updated, Shape, Listed, Stated, Chained, Writes, none, more, choice, ends, otherwise, elif, assign, input, update, count, assert, skip, block, while, if_then, if_else}
 use Rattle.c_grammar.specs.Ahead.{IsLooser, Loose, IsList, IsNoElse, NoElse}
 use Rattle.c_grammar.specs.Machine.{Frame, Paren, Pre, Left, room, Stack, Top, Braces, Yes, No, ThenOf, ElseOf, LoopOf, Use, ToAssign, ToUpdate, ToAssert, ToChoose, ToLoop, State, Ready, Ended, Wants, Has, Named, settle, folded, linked, begin, have, on, step, finish, at_end, moved, run}
 
@@ -206,7 +206,7 @@ no_else (assert p q r s e) w h = tt
 no_else (skip p) w h = tt
 no_else (block p q s) w h = tt
 no_else (while p q r e s) w h = tt
-no_else (if p q r e s) w h = tt
+no_else (if_then p q r e s) w h = tt
 no_else (if_else p q r s e t u) w h = tt
 
 chain_no_else : {ts : List Item} {c : Code} → Writes Chained ts c → (w : List Item) → NoElse (ts ++ w)
@@ -273,7 +273,7 @@ accepted (while p q r {b} {ts} {us} {e} {c} s t) = λ outer w h.
     of_expr s (ToLoop p outer) (at r signs.Close) us w tt
     ∙ accepted t (LoopOf p e outer) w h
     ∙ loop_absorbs p e outer c w
-accepted (if p q r {b} {ts} {us} {e} {c} s t) = λ outer w h.
+accepted (if_then p q r {b} {ts} {us} {e} {c} s t) = λ outer w h.
     of_expr s (ToChoose p outer) (at r signs.Close) us w tt
     ∙ accepted t (ThenOf p e outer) w (free_of b w h)
     ∙ then_absorbs p e outer c w h

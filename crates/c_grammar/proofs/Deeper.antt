@@ -1,9 +1,9 @@
 -- The run with limits does what the run without does, up to an item at which too much is open.
-use Rattle.std.proofs.Common.{◌≡◌, ℕ, zero, suc, Bool, true, false, List, [], ◌∷◌, ◌++◌, length, Option, Some, None, Result, Ok, Err, refl, sym, ap, subst, ◌∙◌}
+use Rattle.std.proofs.Common.{◌≡◌, ℕ, suc, Bool, true, false, List, [], ◌∷◌, ◌++◌, length, Option, Some, None, Result, Ok, Err, refl, ap, ◌∙◌}
 use Rattle.c_grammar.specs.declared.items.Item.{Item}
 use Rattle.c_grammar.specs.Grammar.{File}
 use Rattle.c_grammar.specs.Machine.{State, step, finish, at_end, moved, run, start}
-use Rattle.c_grammar.specs.Deep.{counted, is_deep, Fault, Wrong, Deep, ended, went, guarded, IsDeep, Answers}
+use Rattle.c_grammar.specs.Deep.{counted, is_deep, Fault, Wrong, Deep, ended, went, guarded, Answers}
 use Rattle.c_grammar.proofs.Closing.{completes}
 
 ends_so : (o : Option File) (state : State) (count : ℕ) → finish state ≡ o → Answers (ended o) state count []
@@ -17,9 +17,9 @@ shift (Ok f) state next count x ts is shallow h = ap (λ (o : Option State). mov
 shift (Err (Wrong n)) state next count x ts is shallow h = ap (λ (o : Option State). moved o (λ k. run k ts) (suc (length ts))) is ∙ h
 shift (Err (Deep n)) state next count x ts is shallow h =
     let go : (w : List Item) → guarded state count (x ∷ w) ≡ guarded next (counted state x.sign count) w =
-        λ w.
-            ap (λ (o : Option State). went o (is_deep state x.sign count) (λ k. guarded k (counted state x.sign count) w) (suc (length w))) is
-            ∙ ap (λ (d : Bool). went (Some next) d (λ k. guarded k (counted state x.sign count) w) (suc (length w))) shallow in
+    λ w.
+    ap (λ (o : Option State). went o (is_deep state x.sign count) (λ k. guarded k (counted state x.sign count) w) (suc (length w))) is
+    ∙ ap (λ (d : Bool). went (Some next) d (λ k. guarded k (counted state x.sign count) w) (suc (length w))) shallow in
     record {
       before = x ∷ h.before;
       item = h.item;

@@ -9,3 +9,6 @@ pub mod SoundFiles
 pub mod Sound
 pub mod Wrong
 pub mod Deeper
+pub mod Limits
+pub mod PlacesRise
+pub mod Fitting

@@ -5,7 +5,7 @@ use Rattle.c_tree.specs.Tree.{Code, Done, If, While, Cond, followed}
 use Rattle.c_grammar.specs.declared.items.Sign.TheVariants as signs
 use Rattle.c_grammar.specs.declared.items.Item.{Item}
 use Rattle.c_grammar.specs.Ahead.{IsList}
-use Rattle.c_grammar.specs.Grammar.{at, Listed, Stated, Writes, none, more, choice, while, if, if_else}
+use Rattle.c_grammar.specs.Grammar.{at, Listed, Stated, Writes, none, more, choice, while, if_then, if_else}
 use Rattle.c_grammar.specs.Machine.{Stack, Top, Braces, Yes, No, ThenOf, ElseOf, LoopOf, folded}
 use Rattle.c_grammar.proofs.Standing.{Read, Piece}
 use Rattle.c_grammar.proofs.Complete.{followed-none, followed-assoc}
@@ -49,7 +49,7 @@ fold_is d (No links n first made outer) c b ts r s = (r.0, r.1, r.2, r.3 ++ ts, 
 fold_is d (ThenOf p e outer) c b ts r s =
     let text : List Item = at p signs.If ∷ at r.0 signs.Open ∷ (r.3 ++ at r.1 signs.Close ∷ ts) in
     let is : b ++ ts ≡ r.2 ++ text = ap (λ (y : List Item). y ++ ts) r.6 ∙ simp append_assoc in
-    subst (Read (folded outer (If p e c Done Done))) (sym is) (fold_is true outer (If p e c Done Done) r.2 text r.4 (piece true outer text (If p e c Done Done) (if p r.0 r.1 r.5 s)))
+    subst (Read (folded outer (If p e c Done Done))) (sym is) (fold_is true outer (If p e c Done Done) r.2 text r.4 (piece true outer text (If p e c Done Done) (if_then p r.0 r.1 r.5 s)))
 fold_is d (ElseOf p e first outer) c b ts r s =
     let text : List Item = at p signs.If ∷ at r.0 signs.Open ∷ (r.4 ++ at r.1 signs.Close ∷ (r.5 ++ at r.2 signs.Else ∷ ts)) in
     let is : b ++ ts ≡ r.3 ++ text = ap (λ (y : List Item). y ++ ts) r.9 ∙ simp append_assoc in

@@ -6,7 +6,7 @@ use Rattle.fam_outer.specs.declared.faults.Place.{Place}
 use Rattle.c_grammar.specs.declared.items.Sign.{Sign}
 use Rattle.c_grammar.specs.declared.items.Item.{Item}
 use Rattle.c_grammar.specs.Grammar.{at, no_more, File, file_of, Forms, file}
-use Rattle.c_grammar.specs.Machine.{Tailing, Another, Final, Outermost, State, Outside, AfterStatic, AfterExtern, AfterInt, AfterExternInt, Declaring, Bare, Starting, Negating, Started, Parameters, InParameters, AfterVoid, AfterParameters, Ready, Ended, Wants, Has, Named, Opens, InputOpens, InputCloses, Finishing, Returning, Returned, Closing, Over, step, finish, at_end, moved, run, start}
+use Rattle.c_grammar.specs.Machine.{Outermost, State, Outside, AfterStatic, AfterExtern, AfterInt, AfterExternInt, Declaring, Bare, Starting, Negating, Started, Parameters, InParameters, AfterVoid, AfterParameters, Ready, Ended, Wants, Has, Named, Opens, InputOpens, InputCloses, Finishing, Returning, Returned, Closing, Over, step, finish, at_end, moved, run, start}
 use Rattle.c_grammar.proofs.Standing.{Tail, Stands}
 use Rattle.c_grammar.proofs.SoundExpressions.{want_keeps, have_keeps}
 use Rattle.c_grammar.proofs.SoundStatements.{begin_keeps, on_keeps, named_keeps, opens_keeps, input_opens_keeps, input_closes_keeps, finishing_keeps}

@@ -4,8 +4,8 @@ use Rattle.std.specs.Prelude.{◌≡◌, ◌+◌, ℕ, suc, Bool, true, false, �
 use Rattle.c_grammar.specs.declared.items.Sign.{Sign}
 use Rattle.c_grammar.specs.declared.items.Sign.TheVariants as signs
 use Rattle.c_grammar.specs.declared.items.Item.{Item}
-use Rattle.c_grammar.specs.Grammar.{File, Forms}
-use Rattle.c_grammar.specs.Machine.{Stack, Top, Braces, Yes, No, ThenOf, ElseOf, LoopOf, Sections, Outermost, InPart, InLast, guards_of, Tailing, Another, Final, State, Outside, Ready, Ended, Wants, Has, Over, step, finish, folded, run, start}
+use Rattle.c_grammar.specs.Grammar.{File}
+use Rattle.c_grammar.specs.Machine.{Stack, Top, Braces, Yes, No, ThenOf, ElseOf, LoopOf, Sections, guards_of, Tailing, Another, Final, State, Outside, Ready, Ended, Wants, Has, Over, step, finish, folded, run}
 
 -- ---- statements and groups
 

@@ -3,3 +3,4 @@ pub mod Machine
 pub mod Ahead
 pub mod Deep
 pub mod Laws
+pub mod Facts

@@ -1,6 +1,7 @@
 //! Laws of the grammar, for the crates above: each function does nothing, and its contract is the law.
 #![tactic(auto)]
 
+ghost use Rattle.c_grammar.specs.Facts.{PlainWithoutGroups, WellFormed};
 ghost use Rattle.c_grammar.specs.Laws.{AtMostOne, Complete, Completes, EndsDecide, FindsWrong, Limited, Sound, StepsDecide, StepsGoOn};
 
 /// Over one list of names, a list of items spells at most one program.
@@ -41,4 +42,11 @@ pub fn steps_decide()
 /// but at which too much is open.
 pub fn limits_stop_only_what_is_deep()
     ensures { Limited }
+{}
+
+/// A file that is read within the limits, over at most 16 names and with numbers that an `int` has, is a well-formed
+/// program; without groups it is plain.
+pub fn files_are_programs()
+    ensures formed { WellFormed }
+    ensures plain { PlainWithoutGroups }
 {}
