@@ -1,8 +1,7 @@
 -- What is spelled is a well-formed program.
-use Rattle.std.proofs.Common.{◌≡◌, ℕ, ℤ, pos, suc, ◌+◌, ◌<◌, Bool, true, false, cond, ◌||◌, ◌&&◌, List, [], ◌∷◌, ◌++◌, length, Option, Some, None, Result, refl, ap, subst, ◌∙◌, arith}
-use Rattle.std.specs.Prelude.{IfSome, unwrap_or, ◌==◌}
+use Rattle.std.proofs.Common.{◌≡◌, ℕ, ℤ, pos, suc, ◌<◌, Bool, true, false, cond, List, [], ◌∷◌, ◌++◌, length, Result, refl, ap, subst, ◌∙◌, arith}
 use Rattle.std.specs.List.{All}
-use Rattle.std.proofs.lemmas.List.Elements.{All-append, All-cons, All-nil, All-head, All-tail}
+use Rattle.std.proofs.lemmas.List.Elements.{All-append, All-cons, All-nil}
 use Rattle.std.proofs.lemmas.Int.{ints}
 use Rattle.fam_outer.specs.declared.faults.Place.{Place}
 use Rattle.c_tree.specs.declared.tree.Guard.{Guard}
@@ -10,14 +9,16 @@ use Rattle.c_tree.specs.declared.tree.Declared.{Declared}
 use Rattle.c_tree.specs.Tree.{Term, Code, Done, Assign, Input, Assert, If, While, Block, Skip, Cond, followed}
 use Rattle.c_tree.specs.Value.{IsInt}
 use Rattle.c_tree.specs.Fit.{IsTermOf, IsCodeOf, IsPlain}
-use Rattle.c_tree.specs.Project.{guards_hold, last_value, start_from, projected_start}
+use Rattle.c_tree.specs.Project.{projected_start}
 use Rattle.c_tree.specs.Whole.{IsDeclaredOf}
 use Rattle.c_grammar.specs.declared.items.Item.{Item}
 use Rattle.c_grammar.specs.declared.items.Sign.TheVariants as signs
-use Rattle.c_grammar.specs.Grammar.{at, Prefix, Positive, Negative, Inverse, applied, Expresses, number, name, group, prefix, loose, binary, Shape, Writes, none, more, choice, ends, otherwise, elif, assign, input, update, count, assert, skip, block, while, if_then, if_else, Declarator, bare, positive, negative, declared, Part, Declares, nothing, variables, prototype, section, last_var, next_var, end_part, else_part, elif_part, Returns, no_return, return, Body, body, Main, main, File, Forms, file, is_group, has_groups, zeros}
+use Rattle.c_grammar.specs.Grammar.{at, Prefix, Positive, Negative, Inverse, applied, Expresses, number, name, group, prefix, loose, binary, Shape, Writes, none, more, choice, ends, otherwise, elif, assign, input, update, count, assert, skip, block, while, if_then, if_else, Declarator, bare, positive, negative, declared, Part, Declares, nothing, variables, prototype, section, last_var, next_var, end_part, else_part, elif_part, Returns, no_return, return, Body, body, Main, main, File, Forms, file, has_groups, zeros}
 use Rattle.c_grammar.specs.Machine.{start}
 use Rattle.c_grammar.specs.Deep.{Fault, Answers}
 use Rattle.c_grammar.specs.Facts.{AreFit, WellFormed, PlainWithoutGroups}
+use Rattle.c_tree.proofs.Starts.{length-start, ints-start}
+use Rattle.c_grammar.proofs.Keeping.{no_groups}
 use Rattle.c_grammar.proofs.Deeper.{answers}
 use Rattle.c_grammar.proofs.Sound.{ok_forms}
 use Rattle.c_grammar.proofs.Limits.{fine_files}
@@ -107,17 +108,6 @@ declared_fits n (elif_part p m gs {us} {vs} {cs} {ds} a b) h =
 
 -- ---- groups
 
-false_parts : (a b : Bool) → (a || b) ≡ false → (a ≡ false) × (b ≡ false)
-false_parts true b h = absurd cc
-false_parts false b h = (refl, h)
-
-no_groups : (xs ys : List Item) → has_groups (xs ++ ys) ≡ false → (has_groups xs ≡ false) × (has_groups ys ≡ false)
-no_groups [] ys h = (refl, h)
-no_groups (x ∷ xs) ys h =
-    let k = false_parts (is_group x.sign) (has_groups (xs ++ ys)) h in
-    let l = no_groups xs ys k.1 in
-    (ap (λ (b : Bool). b || has_groups xs) k.0 ∙ l.0, l.1)
-
 followed_plain : (c d : Code) → IsPlain c → IsPlain d → IsPlain (followed c d)
 followed_plain Done d h i = i
 followed_plain (Assign p x e rest) d h i = followed_plain rest d h i
@@ -194,29 +184,6 @@ zeros_count : (names : List (List ℕ)) → length (zeros names) ≡ length name
 zeros_count [] = refl
 zeros_count (x ∷ names) = ap suc (zeros_count names)
 
-abbrev MaybeInt : Option ℤ → Type 0
-MaybeInt o = IfSome o IsInt
-
-last_int : (n x : ℕ) (ds : List Declared) (found : Option ℤ) → All (IsDeclaredOf n) ds → MaybeInt found → MaybeInt (last_value [] x ds found)
-last_int n x [] found h i = i
-last_int n x (d ∷ ds) found h i =
-    let one : IsDeclaredOf n d = All-head (IsDeclaredOf n) d ds h in
-    last_int n x ds (cond ((d.target == x) && guards_hold [] d.guards) (Some d.value) found) (All-tail (IsDeclaredOf n) d ds h)
-    (elim ((d.target == x) && guards_hold [] d.guards) as (λ b. MaybeInt (cond b (Some d.value) found)) [ true ↦ one.value | false ↦ i ])
-
-or_int : (o : Option ℤ) (n : ℤ) → MaybeInt o → IsInt n → IsInt (unwrap_or o n)
-or_int None n h i = i
-or_int (Some m) n h i = h
-
-starts_int : (n x : ℕ) (ds : List Declared) (ns : List ℤ) → All (IsDeclaredOf n) ds → All IsInt ns → All IsInt (start_from [] ds x ns)
-starts_int n x ds [] h i = All-nil IsInt
-starts_int n x ds (m ∷ ns) h i =
-    All-cons IsInt (unwrap_or (last_value [] x ds None) m) (start_from [] ds (x + 1) ns) (or_int (last_value [] x ds None) m (last_int n x ds None h tt) (All-head IsInt m ns i)) (starts_int n (x + 1) ds ns h (All-tail IsInt m ns i))
-
-starts_count : (x : ℕ) (ds : List Declared) (ns : List ℤ) → length (start_from [] ds x ns) ≡ length ns
-starts_count x ds [] = refl
-starts_count x ds (m ∷ ns) = ap suc (starts_count (x + 1) ds ns)
-
 pub well_formed_law : WellFormed
 well_formed_law names items f few fit rising read =
     let n : ℕ = length names in
@@ -227,11 +194,11 @@ well_formed_law names items f few fit rising read =
       few = few;
       starts = elim (has_groups items) as (λ b. length (cond b (zeros names) (projected_start [] f.declared (zeros names))) ≡ n) [
         | true ↦ zeros_count names
-        | false ↦ starts_count 0 f.declared (zeros names) ∙ zeros_count names
+        | false ↦ length-start [] f.declared 0 (zeros names) ∙ zeros_count names
       ];
       ints = elim (has_groups items) as (λ b. All IsInt (cond b (zeros names) (projected_start [] f.declared (zeros names)))) [
         | true ↦ zeros_int names
-        | false ↦ starts_int n 0 f.declared (zeros names) ds (zeros_int names)
+        | false ↦ ints-start [] f.declared n 0 (zeros names) ds (zeros_int names)
       ];
       declared = elim (has_groups items) as (λ b. All (IsDeclaredOf n) (cond b f.declared [])) [ true ↦ ds | false ↦ All-nil (IsDeclaredOf n) ];
       names = file_code_fits n items f forms fit;

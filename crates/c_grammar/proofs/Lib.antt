@@ -12,3 +12,5 @@ pub mod Deeper
 pub mod Limits
 pub mod PlacesRise
 pub mod Fitting
+pub mod Keeping
+pub mod Preprocess

@@ -15,7 +15,7 @@ single {d} {ts} {c} s =
     let h : Writes Listed (ts ++ []) (followed c Done) = more s none in
     subst (λ (y : List Item). Writes Listed y c) (append-nil ts) (subst (λ (y : Code). Writes Listed (ts ++ []) y) (followed-none c) h)
 
-joined : {ts us : List Item} {c d : Code} → Writes Listed ts c → Writes Listed us d → Writes Listed (ts ++ us) (followed c d)
+pub joined : {ts us : List Item} {c d : Code} → Writes Listed ts c → Writes Listed us d → Writes Listed (ts ++ us) (followed c d)
 joined none t = t
 joined {us = us} {d = d} (more {b} {ts = ts} {us = vs} {c} {d = e} s l) t =
     subst (λ (y : Code). Writes Listed ((ts ++ vs) ++ us) y) (sym (followed-assoc c e d)) (subst (λ (y : List Item). Writes Listed y (followed c (followed e d))) (sym (append_assoc ts vs us)) (more s (joined l t)))

@@ -1,10 +1,11 @@
 -- The places of a program are those of some of its items, in order.
-use Rattle.std.proofs.Common.{◌≡◌, List, [], ◌∷◌, ◌++◌, refl, sym, ap, subst, ◌∙◌, append_assoc}
+use Rattle.std.proofs.Common.{◌≡◌, List, [], ◌∷◌, ◌++◌, sym, ap, subst, ◌∙◌, append_assoc}
 use Rattle.std.proofs.lemmas.List.{append-nil}
 use Rattle.fam_outer.specs.declared.faults.Place.{Place}
-use Rattle.c_tree.specs.Tree.{Code, Done, Assign, Input, Assert, If, While, Block, Skip, Cond, followed}
+use Rattle.c_tree.specs.Tree.{Code, followed}
 use Rattle.c_tree.specs.Places.{places_of}
 use Rattle.c_tree.specs.Whole.{IsBeforeAll, IsRising}
+use Rattle.c_tree.proofs.Listed.{places_of-followed}
 use Rattle.c_grammar.specs.declared.items.Item.{Item}
 use Rattle.c_grammar.specs.declared.items.Sign.TheVariants as signs
 use Rattle.c_grammar.specs.Grammar.{at, update_sign, count_sign, Shape, Writes, none, more, choice, ends, otherwise, elif, assign, input, update, count, assert, skip, block, while, if_then, if_else, Returns, no_return, return, Body, body, Main, main, File, Forms, file}
@@ -45,24 +46,9 @@ padded {ps} {w} part = subst (λ (y : List Place). IsPart y w) (sym (append-nil 
 before : {ps : List Place} {v : List Item} (w : List Item) → IsPart ps v → IsPart ps (v ++ w)
 before {ps} {v} w part = subst (λ (y : List Place). IsPart y (v ++ w)) (append-nil ps) (joined part (no_part w))
 
-places_followed : (c d : Code) → places_of (followed c d) ≡ places_of c ++ places_of d
-places_followed Done d = refl
-places_followed (Assign p x e rest) d = ap (λ (y : List Place). p ∷ y) (places_followed rest d)
-places_followed (Input p x rest) d = ap (λ (y : List Place). p ∷ y) (places_followed rest d)
-places_followed (Assert p e rest) d = ap (λ (y : List Place). p ∷ y) (places_followed rest d)
-places_followed (If p e a b rest) d =
-    let is : places_of a ++ (places_of b ++ (places_of rest ++ places_of d)) ≡ (places_of a ++ (places_of b ++ places_of rest)) ++ places_of d = simp append_assoc in
-    ap (λ (y : List Place). p ∷ (places_of a ++ (places_of b ++ y))) (places_followed rest d) ∙ ap (λ (y : List Place). p ∷ y) is
-places_followed (While p e a rest) d = ap (λ (y : List Place). p ∷ (places_of a ++ y)) (places_followed rest d) ∙ ap (λ (y : List Place). p ∷ y) (sym (append_assoc (places_of a) (places_of rest) (places_of d)))
-places_followed (Block p a rest) d = ap (λ (y : List Place). p ∷ (places_of a ++ y)) (places_followed rest d) ∙ ap (λ (y : List Place). p ∷ y) (sym (append_assoc (places_of a) (places_of rest) (places_of d)))
-places_followed (Skip p rest) d = ap (λ (y : List Place). p ∷ y) (places_followed rest d)
-places_followed (Cond m a b rest) d =
-    let is : places_of a ++ (places_of b ++ (places_of rest ++ places_of d)) ≡ (places_of a ++ (places_of b ++ places_of rest)) ++ places_of d = simp append_assoc in
-    ap (λ (y : List Place). places_of a ++ (places_of b ++ y)) (places_followed rest d) ∙ is
-
 code_part : {s : Shape} {ts : List Item} {c : Code} → Writes s ts c → IsPart (places_of c) ts
 code_part none = end
-code_part (more {b} {ts} {us} {c} {d} s l) = subst (λ (y : List Place). IsPart y (ts ++ us)) (sym (places_followed c d)) (joined (code_part s) (code_part l))
+code_part (more {b} {ts} {us} {c} {d} s l) = subst (λ (y : List Place). IsPart y (ts ++ us)) (sym (places_of-followed c d)) (joined (code_part s) (code_part l))
 code_part (choice p m s t l) = pass (at p (signs.GroupIf m)) (joined (code_part s) (joined (code_part t) (code_part l)))
 code_part (ends p) = pass (at p signs.GroupEnd) end
 code_part (otherwise p q s) = pass (at p signs.GroupElse) (before (at q signs.GroupEnd ∷ []) (code_part s))
@@ -84,7 +70,7 @@ return_part (return p q r v) = keep (at p signs.Return) (no_part (at q (signs.Nu
 
 body_part : {ts : List Item} {c : Code} {p : Place} → Body ts c p → IsPart (places_of c ++ p ∷ []) ts
 body_part (body p {us} {vs} {ws} {c} {d} s r e) =
-    let is : places_of c ++ (places_of d ++ p ∷ []) ≡ places_of (followed c d) ++ p ∷ [] = sym (append_assoc (places_of c) (places_of d) (p ∷ [])) ∙ ap (λ (y : List Place). y ++ p ∷ []) (sym (places_followed c d)) in
+    let is : places_of c ++ (places_of d ++ p ∷ []) ≡ places_of (followed c d) ++ p ∷ [] = sym (append_assoc (places_of c) (places_of d) (p ∷ [])) ∙ ap (λ (y : List Place). y ++ p ∷ []) (sym (places_of-followed c d)) in
     subst (λ (y : List Place). IsPart y (us ++ (vs ++ at p signs.RightBrace ∷ ws))) is (joined (code_part s) (joined (return_part r) (keep (at p signs.RightBrace) (no_part ws))))
 
 main_part : {ts : List Item} {c : Code} {p : Place} → Main ts c p → IsPart (places_of c ++ p ∷ []) ts

@@ -4,3 +4,4 @@ pub mod Ahead
 pub mod Deep
 pub mod Laws
 pub mod Facts
+pub mod Kept

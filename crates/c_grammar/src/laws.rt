@@ -2,6 +2,7 @@
 #![tactic(auto)]
 
 ghost use Rattle.c_grammar.specs.Facts.{PlainWithoutGroups, WellFormed};
+ghost use Rattle.c_grammar.specs.Kept.{Preprocesses};
 ghost use Rattle.c_grammar.specs.Laws.{AtMostOne, Complete, Completes, EndsDecide, FindsWrong, Limited, Sound, StepsDecide, StepsGoOn};
 
 /// Over one list of names, a list of items spells at most one program.
@@ -49,4 +50,10 @@ pub fn limits_stop_only_what_is_deep()
 pub fn files_are_programs()
     ensures formed { WellFormed }
     ensures plain { PlainWithoutGroups }
+{}
+
+/// Preprocessing and then reading is reading and then projecting: where a list of items spells the program of a family,
+/// the items that stay under the truths of the conditions spell its projection.
+pub fn preprocessing_is_projecting()
+    ensures { Preprocesses }
 {}
