@@ -14,3 +14,5 @@ pub mod PlacesRise
 pub mod Fitting
 pub mod Keeping
 pub mod Preprocess
+pub mod Examples
+pub mod Conditions

@@ -2,11 +2,13 @@
 use Rattle.std.specs.Prelude.{◌≡◌, ◌≤◌, ◌<◌, ◌≤ℤ◌, ℕ, pos, false, List, [], ◌∷◌, IsTrue, length, Ok}
 use Rattle.fam_outer.specs.declared.faults.Place.{Place}
 use Rattle.c_tree.specs.Value.{greatest}
+use Rattle.c_tree.specs.Tree.{Whole}
+use Rattle.c_tree.specs.Project.{IsConditioned}
 use Rattle.c_tree.specs.Whole.{is_before, IsProgram, IsPlainProgram}
 use Rattle.c_grammar.specs.declared.items.Item.{Item}
 use Rattle.c_grammar.specs.declared.items.Sign.{Sign}
 use Rattle.c_grammar.specs.declared.items.Sign.TheVariants as signs
-use Rattle.c_grammar.specs.Grammar.{File, Forms, has_groups, whole_of}
+use Rattle.c_grammar.specs.Grammar.{File, Forms, has_groups, whole_of, Spells}
 use Rattle.c_grammar.specs.Machine.{start}
 use Rattle.c_grammar.specs.Deep.{guarded}
 
@@ -36,3 +38,17 @@ WellFormed = (names : List (List ℕ)) (items : List Item) (f : File) → length
 -- a file without groups is a plain program
 abbrev pub PlainWithoutGroups : Type 0
 PlainWithoutGroups = (names : List (List ℕ)) (items : List Item) (f : File) → has_groups items ≡ false → Forms items f → IsPlainProgram (whole_of names items f)
+
+abbrev pub IsConditionOf : ℕ → Sign → Type 0
+IsConditionOf count (signs.GroupIf n) = n < count
+IsConditionOf count (signs.GroupElif n) = n < count
+IsConditionOf count _ = Unit {0}
+
+-- the numbers of conditions are below a count
+abbrev pub AreConditionsOf : ℕ → List Item → Type 0
+AreConditionsOf count [] = Unit {0}
+AreConditionsOf count (x ∷ w) = IsConditionOf count x.sign × AreConditionsOf count w
+
+-- the conditions of a program are those of its items
+abbrev pub Conditioned : Type 0
+Conditioned = (count : ℕ) (names : List (List ℕ)) (items : List Item) (p : Whole) → AreConditionsOf count items → Spells names p items → IsConditioned count p

@@ -1,7 +1,7 @@
 //! Laws of the grammar, for the crates above: each function does nothing, and its contract is the law.
 #![tactic(auto)]
 
-ghost use Rattle.c_grammar.specs.Facts.{PlainWithoutGroups, WellFormed};
+ghost use Rattle.c_grammar.specs.Facts.{Conditioned, PlainWithoutGroups, WellFormed};
 ghost use Rattle.c_grammar.specs.Kept.{Preprocesses};
 ghost use Rattle.c_grammar.specs.Laws.{AtMostOne, Complete, Completes, EndsDecide, FindsWrong, Limited, Sound, StepsDecide, StepsGoOn};
 
@@ -46,10 +46,11 @@ pub fn limits_stop_only_what_is_deep()
 {}
 
 /// A file that is read within the limits, over at most 16 names and with numbers that an `int` has, is a well-formed
-/// program; without groups it is plain.
+/// program; without groups it is plain. The conditions of a program are those of its items.
 pub fn files_are_programs()
     ensures formed { WellFormed }
     ensures plain { PlainWithoutGroups }
+    ensures conditions { Conditioned }
 {}
 
 /// Preprocessing and then reading is reading and then projecting: where a list of items spells the program of a family,
