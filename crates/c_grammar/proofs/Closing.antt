@@ -1,0 +1,119 @@
+-- Whatever is open can be closed.
+use Rattle.std.proofs.Common.{◌≡◌, ℕ, ℤ, pos, neg_ℤ, suc, List, [], ◌∷◌, Ok, refl, ◌∙◌}
+use Rattle.fam_outer.specs.declared.faults.Place.{Place}
+use Rattle.c_tree.specs.declared.tree.Declared.{Declared}
+use Rattle.c_tree.specs.Tree.{Term, Var, Binary, Code, Done, Assign, Input, Assert, If, While, Block, Skip, Cond, followed}
+use Rattle.c_grammar.specs.declared.items.Sign.TheVariants as signs
+use Rattle.c_grammar.specs.declared.items.Item.{Item}
+use Rattle.c_grammar.specs.Grammar.{at, tighter, applied, updated, File, file_of}
+use Rattle.c_grammar.specs.Ahead.{Loose, NoElse}
+use Rattle.c_grammar.specs.Machine.{Tailing, Another, Final, Frame, Paren, Pre, Left, Stack, Top, Braces, Yes, No, ThenOf, ElseOf, LoopOf, Use, ToAssign, ToUpdate, ToAssert, ToChoose, ToLoop, Sections, Outermost, InPart, InLast, Aim, ToPrototype, ToMain, State, Outside, AfterStatic, AfterExtern, AfterInt, AfterExternInt, Declaring, Bare, Starting, Negating, Started, Parameters, InParameters, AfterVoid, AfterParameters, Ready, Ended, Wants, Has, Named, Opens, InputOpens, InputCloses, Finishing, Returning, Returned, Closing, Over, with_declared, linked, run}
+use Rattle.c_grammar.proofs.Complete.{pre_absorbs, left_absorbs, loop_absorbs, else_absorbs, then_absorbs}
+
+nowhere : Place
+nowhere = record { line = 0; column = 0 }
+
+closers : Stack → List Item
+closers (Top ds made) = at nowhere signs.RightBrace ∷ []
+closers (Braces p made outer) = at nowhere signs.RightBrace ∷ closers outer
+closers (Yes links n made outer) = at nowhere signs.GroupEnd ∷ closers outer
+closers (No links n first made outer) = at nowhere signs.GroupEnd ∷ closers outer
+closers (ThenOf p e outer) = closers outer
+closers (ElseOf p e first outer) = closers outer
+closers (LoopOf p e outer) = closers outer
+
+closers_no_else : (outer : Stack) → NoElse (closers outer)
+unfolding closers
+closers_no_else (Top ds made) = tt
+closers_no_else (Braces p made outer) = tt
+closers_no_else (Yes links n made outer) = tt
+closers_no_else (No links n first made outer) = tt
+closers_no_else (ThenOf p e outer) = closers_no_else outer
+closers_no_else (ElseOf p e first outer) = closers_no_else outer
+closers_no_else (LoopOf p e outer) = closers_no_else outer
+
+closes : (outer : Stack) (c : Code) → (made : File) × (run (Ended outer c) (closers outer) ≡ Ok made)
+unfolding closers run
+closes (Top ds made) c = (file_of ds (followed made c) nowhere, refl)
+closes (Braces p made outer) c = closes outer (Block p (followed made c) Done)
+closes (Yes links n made outer) c = closes outer (linked links (Cond n (followed made c) Done Done))
+closes (No links n first made outer) c = closes outer (linked links (Cond n first (followed made c) Done))
+closes (ThenOf p e outer) c = let h = closes outer (If p e c Done Done) in (h.0, then_absorbs p e outer c (closers outer) (closers_no_else outer) ∙ h.1)
+closes (ElseOf p e first outer) c = let h = closes outer (If p e first c Done) in (h.0, else_absorbs p e first outer c (closers outer) ∙ h.1)
+closes (LoopOf p e outer) c = let h = closes outer (While p e c Done) in (h.0, loop_absorbs p e outer c (closers outer) ∙ h.1)
+
+record CanEnd (state : State) : Type 0 where
+  pub tail : List Item
+  pub made : File
+  pub reads : run state tail ≡ Ok made
+  pub tight : (k : ℕ) → Loose k tail
+
+ends_use : (u : Use) (e : Term) → CanEnd (Has [] u e)
+unfolding run
+ends_use (ToAssign p x outer) e = let h = closes outer (Assign p x e Done) in record { tail = at nowhere signs.Semicolon ∷ closers outer; made = h.0; reads = h.1; tight = λ k. tt }
+ends_use (ToUpdate p x u outer) e = let h = closes outer (updated p x u e) in record { tail = at nowhere signs.Semicolon ∷ closers outer; made = h.0; reads = h.1; tight = λ k. tt }
+ends_use (ToAssert p outer) e = let h = closes outer (Assert p e Done) in record { tail = at nowhere signs.Close ∷ at nowhere signs.Semicolon ∷ closers outer; made = h.0; reads = h.1; tight = λ k. tt }
+ends_use (ToChoose p outer) e = let h = closes (ThenOf p e outer) (Skip nowhere Done) in record { tail = at nowhere signs.Close ∷ at nowhere signs.Semicolon ∷ closers (ThenOf p e outer); made = h.0; reads = h.1; tight = λ k. tt }
+ends_use (ToLoop p outer) e = let h = closes (LoopOf p e outer) (Skip nowhere Done) in record { tail = at nowhere signs.Close ∷ at nowhere signs.Semicolon ∷ closers (LoopOf p e outer); made = h.0; reads = h.1; tight = λ k. tt }
+
+ends_expr : (fs : List Frame) (u : Use) (e : Term) → CanEnd (Has fs u e)
+unfolding run
+ends_expr [] u e = ends_use u e
+ends_expr (Paren ∷ fs) u e = let h = ends_expr fs u e in record { tail = at nowhere signs.Close ∷ h.tail; made = h.made; reads = h.reads; tight = λ k. tt }
+ends_expr (Pre v ∷ fs) u e = let h = ends_expr fs u (applied v e) in record { tail = h.tail; made = h.made; reads = pre_absorbs v fs u e h.tail ∙ h.reads; tight = h.tight }
+ends_expr (Left op a ∷ fs) u e = let h = ends_expr fs u (Binary op a e) in record { tail = h.tail; made = h.made; reads = left_absorbs op a fs u e h.tail (h.tight (suc (tighter op))) ∙ h.reads; tight = h.tight }
+
+-- the rest of a file from where a declaration may begin
+abbrev Rest : State → Type 0
+Rest state = (tail : List Item) × (made : File) × (run state tail ≡ Ok made)
+
+after_declarations : (secs : Sections) (ds : List Declared) → Rest (Outside secs ds)
+unfolding run
+after_declarations Outermost ds = (at nowhere signs.Int ∷ at nowhere signs.Main ∷ at nowhere signs.Open ∷ at nowhere signs.Close ∷ at nowhere signs.LeftBrace ∷ at nowhere signs.RightBrace ∷ [], file_of ds Done nowhere, refl)
+after_declarations (InPart gs n outer) ds = let h = after_declarations outer ds in (at nowhere signs.GroupEnd ∷ h.0, h.1, h.2)
+after_declarations (InLast gs outer) ds = let h = after_declarations outer ds in (at nowhere signs.GroupEnd ∷ h.0, h.1, h.2)
+
+after_parameters : (aim : Aim) → Rest (AfterParameters aim)
+unfolding run
+after_parameters (ToPrototype secs ds) = let h = after_declarations secs ds in (at nowhere signs.Semicolon ∷ h.0, h.1, h.2)
+after_parameters (ToMain ds) = (at nowhere signs.LeftBrace ∷ at nowhere signs.RightBrace ∷ [], file_of ds Done nowhere, refl)
+
+after_groups : (f : File) (parts : List Tailing) → Rest (Over f parts)
+unfolding run
+after_groups f [] = ([], f, refl)
+after_groups f (Another k ∷ parts) = let h = after_groups f parts in (at nowhere signs.GroupEnd ∷ h.0, h.1, h.2)
+after_groups f (Final k ∷ parts) = let h = after_groups f parts in (at nowhere signs.GroupEnd ∷ h.0, h.1, h.2)
+
+after_declarator : (x : ℕ) (n : ℤ) (secs : Sections) (ds : List Declared) → Rest (Started x n secs ds)
+unfolding run
+after_declarator x n secs ds = let h = after_declarations secs (with_declared secs ds x n) in (at nowhere signs.Semicolon ∷ h.0, h.1, h.2)
+
+pub completes : (state : State) → (tail : List Item) × (made : File) × (run state tail ≡ Ok made)
+unfolding run after_declarator
+completes (Outside secs ds) = after_declarations secs ds
+completes (AfterStatic secs ds) = let h = after_declarator 0 (pos 0) secs ds in (at nowhere signs.Int ∷ at nowhere (signs.Name 0) ∷ h.0, h.1, h.2)
+completes (AfterExtern secs ds) = let h = after_parameters (ToPrototype secs ds) in (at nowhere signs.Int ∷ at nowhere signs.Input ∷ at nowhere signs.Open ∷ at nowhere signs.Close ∷ h.0, h.1, h.2)
+completes (AfterInt secs ds) = let h = after_declarator 0 (pos 0) secs ds in (at nowhere (signs.Name 0) ∷ h.0, h.1, h.2)
+completes (AfterExternInt secs ds) = let h = after_parameters (ToPrototype secs ds) in (at nowhere signs.Input ∷ at nowhere signs.Open ∷ at nowhere signs.Close ∷ h.0, h.1, h.2)
+completes (Declaring secs ds) = let h = after_declarator 0 (pos 0) secs ds in (at nowhere (signs.Name 0) ∷ h.0, h.1, h.2)
+completes (Bare x secs ds) = let h = after_declarations secs (with_declared secs ds x (pos 0)) in (at nowhere signs.Semicolon ∷ h.0, h.1, h.2)
+completes (Starting x secs ds) = let h = after_declarator x (pos 0) secs ds in (at nowhere (signs.Number (pos 0)) ∷ h.0, h.1, h.2)
+completes (Negating x secs ds) = let h = after_declarator x (neg_ℤ (pos 0)) secs ds in (at nowhere (signs.Number (pos 0)) ∷ h.0, h.1, h.2)
+completes (Started x n secs ds) = after_declarator x n secs ds
+completes (Parameters aim) = let h = after_parameters aim in (at nowhere signs.Open ∷ at nowhere signs.Close ∷ h.0, h.1, h.2)
+completes (InParameters aim) = let h = after_parameters aim in (at nowhere signs.Close ∷ h.0, h.1, h.2)
+completes (AfterVoid aim) = let h = after_parameters aim in (at nowhere signs.Close ∷ h.0, h.1, h.2)
+completes (AfterParameters aim) = after_parameters aim
+completes (Ready outer) = let h = closes outer (Skip nowhere Done) in (at nowhere signs.Semicolon ∷ closers outer, h.0, h.1)
+completes (Ended outer c) = let h = closes outer c in (closers outer, h.0, h.1)
+completes (Wants fs u) = let h = ends_expr fs u (Var 0) in (at nowhere (signs.Name 0) ∷ h.tail, h.made, h.reads)
+completes (Has fs u e) = let h = ends_expr fs u e in (h.tail, h.made, h.reads)
+completes (Named p x outer) = let h = closes outer (Assign p x (Var 0) Done) in (at nowhere signs.Equals ∷ at nowhere (signs.Name 0) ∷ at nowhere signs.Semicolon ∷ closers outer, h.0, h.1)
+completes (Opens u) = let h = ends_use u (Var 0) in (at nowhere signs.Open ∷ at nowhere (signs.Name 0) ∷ h.tail, h.made, h.reads)
+completes (InputOpens p x outer) = let h = closes outer (Input p x Done) in (at nowhere signs.Open ∷ at nowhere signs.Close ∷ at nowhere signs.Semicolon ∷ closers outer, h.0, h.1)
+completes (InputCloses p x outer) = let h = closes outer (Input p x Done) in (at nowhere signs.Close ∷ at nowhere signs.Semicolon ∷ closers outer, h.0, h.1)
+completes (Finishing outer c) = let h = closes outer c in (at nowhere signs.Semicolon ∷ closers outer, h.0, h.1)
+completes (Returning p ds made) = (at nowhere (signs.Number (pos 0)) ∷ at nowhere signs.Semicolon ∷ at nowhere signs.RightBrace ∷ [], file_of ds (followed made (Skip p Done)) nowhere, refl)
+completes (Returned ds made) = (at nowhere signs.Semicolon ∷ at nowhere signs.RightBrace ∷ [], file_of ds made nowhere, refl)
+completes (Closing ds made) = (at nowhere signs.RightBrace ∷ [], file_of ds made nowhere, refl)
+completes (Over f parts) = after_groups f parts

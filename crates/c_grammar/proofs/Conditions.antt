@@ -1,0 +1,102 @@
+-- The conditions of a program are those of its items.
+use Rattle.std.proofs.Common.{ℕ, ◌<◌, Bool, true, false, cond, List, [], ◌∷◌, ◌++◌, sym, subst}
+use Rattle.std.specs.List.{All}
+use Rattle.std.proofs.lemmas.List.Elements.{All-append, All-cons, All-nil}
+use Rattle.fam_outer.specs.declared.faults.Place.{Place}
+use Rattle.c_tree.specs.declared.tree.Guard.{Guard}
+use Rattle.c_tree.specs.declared.tree.Declared.{Declared}
+use Rattle.c_tree.specs.Tree.{Code, Done, Assign, Input, Assert, If, While, Block, Skip, Cond, followed}
+use Rattle.c_tree.specs.Project.{IsNumbered, IsGuarded, IsConditioned}
+use Rattle.c_grammar.specs.declared.items.Item.{Item}
+use Rattle.c_grammar.specs.declared.items.Sign.TheVariants as signs
+use Rattle.c_grammar.specs.Grammar.{at, Shape, Writes, none, more, choice, ends, otherwise, elif, assign, input, update, count, assert, skip, block, while, if_then, if_else, declared, Part, Outer, Vars, Later, Declares, nothing, variables, prototype, section, last_var, next_var, end_part, else_part, elif_part, Returns, no_return, return, Body, body, Main, main, File, Forms, file, has_groups, whole_of}
+use Rattle.c_grammar.specs.Facts.{AreConditionsOf, Conditioned}
+
+cut : (n : ℕ) (xs ys : List Item) → AreConditionsOf n (xs ++ ys) → AreConditionsOf n xs × AreConditionsOf n ys
+cut n [] ys h = (tt, h)
+cut n (x ∷ xs) ys h = let r = cut n xs ys h.1 in ((h.0, r.0), r.1)
+
+followed_numbered : (n : ℕ) (c d : Code) → IsNumbered n c → IsNumbered n d → IsNumbered n (followed c d)
+followed_numbered n Done d h i = i
+followed_numbered n (Assign p x e rest) d h i = followed_numbered n rest d h i
+followed_numbered n (Input p x rest) d h i = followed_numbered n rest d h i
+followed_numbered n (Assert p e rest) d h i = followed_numbered n rest d h i
+followed_numbered n (If p e a b rest) d h i = (h.0, h.1, followed_numbered n rest d h.2 i)
+followed_numbered n (While p e a rest) d h i = (h.0, followed_numbered n rest d h.1 i)
+followed_numbered n (Block p a rest) d h i = (h.0, followed_numbered n rest d h.1 i)
+followed_numbered n (Skip p rest) d h i = followed_numbered n rest d h i
+followed_numbered n (Cond m a b rest) d h i = (h.0, h.1, h.2, followed_numbered n rest d h.3 i)
+
+code_numbered : {s : Shape} {ts : List Item} {c : Code} (n : ℕ) → Writes s ts c → AreConditionsOf n ts → IsNumbered n c
+code_numbered n none h = tt
+code_numbered n (more {b} {ts} {us} {c} {d} s l) h = let r = cut n ts us h in followed_numbered n c d (code_numbered n s r.0) (code_numbered n l r.1)
+code_numbered n (choice p m {ts} {us} {vs} s t l) h = let r = cut n ts (us ++ vs) h.1 in let q = cut n us vs r.1 in (h.0, code_numbered n s r.0, code_numbered n t q.0, code_numbered n l q.1)
+code_numbered n (ends p) h = tt
+code_numbered n (otherwise p q {ts} s) h = code_numbered n s (cut n ts (at q signs.GroupEnd ∷ []) h.1).0
+code_numbered n (elif p m {ts} {us} s t) h = let r = cut n ts us h.1 in (h.0, code_numbered n s r.0, code_numbered n t r.1, tt)
+code_numbered n (assign p q r x e) h = tt
+code_numbered n (input p q r s t u x) h = tt
+code_numbered n (update p q r x u e) h = tt
+code_numbered n (count p q r x u) h = tt
+code_numbered n (assert p q r s e) h = tt
+code_numbered n (skip p) h = tt
+code_numbered n (block p q {ts} s) h = (code_numbered n s (cut n ts (at q signs.RightBrace ∷ []) h.1).0, tt)
+code_numbered n (while p q r {b} {ts} {us} e s) h = (code_numbered n s (cut n ts (at r signs.Close ∷ us) h.1.1).1.1, tt)
+code_numbered n (if_then p q r {b} {ts} {us} e s) h = (code_numbered n s (cut n ts (at r signs.Close ∷ us) h.1.1).1.1, tt, tt)
+code_numbered n (if_else p q r z {b} {ts} {us} {vs} e s t) h =
+    let k = cut n us (at z signs.Else ∷ vs) (cut n ts (at r signs.Close ∷ (us ++ at z signs.Else ∷ vs)) h.1.1).1.1 in
+    (code_numbered n s k.0, code_numbered n t k.1.1, tt)
+
+-- guards with conditions below a count
+abbrev IsBelow : ℕ → Guard → Type 0
+IsBelow n g = g.number < n
+
+more_guards : (n m : ℕ) (b : Bool) (gs : List Guard) → m < n → All (IsBelow n) gs → All (IsBelow n) (gs ++ record { number = m; positive = b } ∷ [])
+more_guards n m b gs lt h = All-append (IsBelow n) gs (record { number = m; positive = b } ∷ []) h (All-cons (IsBelow n) (record { number = m; positive = b }) [] lt (All-nil (IsBelow n)))
+
+abbrev GuardsOf : Part → List Guard
+GuardsOf (Outer gs) = gs
+GuardsOf (Vars gs) = gs
+GuardsOf (Later gs) = gs
+
+declared_numbered : {s : Part} {us : List Item} {ds : List Declared} (n : ℕ) → Declares s us ds → All (IsBelow n) (GuardsOf s) → AreConditionsOf n us → All (IsGuarded n) ds
+declared_numbered n (nothing gs) g h = All-nil (IsGuarded n)
+declared_numbered n (variables p gs {us} {vs} {ws} {ds} {es} o v d) g h =
+    let k = cut n vs ws (cut n us (at p signs.Int ∷ (vs ++ ws)) h).1.1 in
+    All-append (IsGuarded n) ds es (declared_numbered n v g k.0) (declared_numbered n d g k.1)
+declared_numbered n (prototype p q r s t gs {us} {vs} {ws} o v d) g h =
+    let k = cut n us (at p signs.Int ∷ at q signs.Input ∷ at r signs.Open ∷ (vs ++ at s signs.Close ∷ at t signs.Semicolon ∷ ws)) h in
+    declared_numbered n d g (cut n vs (at s signs.Close ∷ at t signs.Semicolon ∷ ws) k.1.1.1.1).1.1.1
+declared_numbered n (section p m gs {us} {vs} {ws} {cs} {ds} {es} a b d) g h =
+    let k = cut n us (vs ++ ws) h.1 in
+    let l = cut n vs ws k.1 in
+    All-append (IsGuarded n) cs (ds ++ es) (declared_numbered n a (more_guards n m true gs h.0 g) k.0) (All-append (IsGuarded n) ds es (declared_numbered n b (more_guards n m false gs h.0 g) l.0) (declared_numbered n d g l.1))
+declared_numbered n (last_var p gs {us} {x} {n = v} d) g h = All-cons (IsGuarded n) (declared x v gs) [] g (All-nil (IsGuarded n))
+declared_numbered n (next_var p gs {us} {vs} {x} {n = v} {ds} d l) g h = All-cons (IsGuarded n) (declared x v gs) ds g (declared_numbered n l g (cut n us (at p signs.Comma ∷ vs) h).1.1)
+declared_numbered n (end_part p gs) g h = All-nil (IsGuarded n)
+declared_numbered n (else_part p q gs {us} d) g h = declared_numbered n d g (cut n us (at q signs.GroupEnd ∷ []) h.1).0
+declared_numbered n (elif_part p m gs {us} {vs} {cs} {ds} a b) g h =
+    let k = cut n us vs h.1 in
+    All-append (IsGuarded n) cs ds (declared_numbered n a (more_guards n m true gs h.0 g) k.0) (declared_numbered n b (more_guards n m false gs h.0 g) k.1)
+
+return_numbered : {ts : List Item} {c : Code} (n : ℕ) → Returns ts c → IsNumbered n c
+return_numbered n no_return = tt
+return_numbered n (return p q r v) = tt
+
+body_numbered : {ts : List Item} {c : Code} {p : Place} (n : ℕ) → Body ts c p → AreConditionsOf n ts → IsNumbered n c
+body_numbered n (body p {us} {vs} {ws} {c} {d} s r e) h = followed_numbered n c d (code_numbered n s (cut n us (vs ++ at p signs.RightBrace ∷ ws) h).0) (return_numbered n r)
+
+main_numbered : {ts : List Item} {c : Code} {p : Place} (n : ℕ) → Main ts c p → AreConditionsOf n ts → IsNumbered n c
+main_numbered n (main p q r s t u {us} {vs} o b) h = body_numbered n b (cut n us (at s signs.Close ∷ at t signs.LeftBrace ∷ vs) h.1.1.1).1.1.1
+
+file_numbered : (n : ℕ) (items : List Item) (f : File) → Forms items f → AreConditionsOf n items → IsNumbered n f.body × All (IsGuarded n) f.declared
+file_numbered n _ _ (file {us} {vs} d m) h = let k = cut n us vs h in (main_numbered n m k.1, declared_numbered n d (All-nil (IsBelow n)) k.0)
+
+whole_numbered : (n : ℕ) (names : List (List ℕ)) (items : List Item) (f : File) → IsNumbered n f.body × All (IsGuarded n) f.declared → IsConditioned n (whole_of names items f)
+whole_numbered n names items f h = record {
+  body = h.0;
+  declared = elim (has_groups items) as (λ b. All (IsGuarded n) (cond b f.declared [])) [ true ↦ h.1 | false ↦ All-nil (IsGuarded n) ];
+}
+
+pub conditioned_law : Conditioned
+conditioned_law n names items p h s = subst (IsConditioned n) (sym s.is) (whole_numbered n names items s.file (file_numbered n items s.file s.forms h))

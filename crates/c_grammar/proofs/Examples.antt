@@ -1,0 +1,110 @@
+-- Lists of items and what they are read as, worked by hand.
+use Rattle.std.proofs.Common.{◌≡◌, ℕ, pos, negsuc, zero, suc, ◌+◌, Bool, true, false, List, [], ◌∷◌, ◌++◌, Ok, Err, refl}
+use Rattle.fam_outer.specs.declared.faults.Place.{Place}
+use Rattle.c_tree.specs.declared.tree.Op.TheVariants.{Add, Sub, Mul, Lt, Eq, And, Or}
+use Rattle.c_tree.specs.declared.tree.Guard.{Guard}
+use Rattle.c_tree.specs.Tree.{Number, Var, Neg, Not, Binary, Done, Assign, Input, Assert, If, Block, Skip, Cond}
+use Rattle.c_grammar.specs.declared.items.Item.{Item}
+use Rattle.c_grammar.specs.declared.items.Sign.{Sign}
+use Rattle.c_grammar.specs.declared.items.Sign.TheVariants as signs
+use Rattle.c_grammar.specs.Grammar.{at, file_of, declared}
+use Rattle.c_grammar.specs.Kept.{kept}
+use Rattle.c_grammar.specs.Machine.{run, start}
+use Rattle.c_grammar.specs.Deep.{Wrong, Deep, guarded}
+
+-- the place of the n-th item
+abbrev place : ℕ → Place
+place n = record { line = 1; column = n }
+
+abbrev placed : ℕ → List Sign → List Item
+placed n [] = []
+placed n (s ∷ ss) = at (place n) s ∷ placed (n + 1) ss
+
+abbrev items : List Sign → List Item
+items ss = placed 0 ss
+
+abbrev guard : ℕ → Bool → Guard
+guard n b = record { number = n; positive = b }
+
+-- int main ( ) {
+abbrev head : List Sign
+head = signs.Int ∷ signs.Main ∷ signs.Open ∷ signs.Close ∷ signs.LeftBrace ∷ []
+
+-- int x = - 3 , y ; static int x ; extern int input ( void ) ;
+abbrev declarations : List Sign
+declarations =
+    signs.Int ∷ signs.Name 0 ∷ signs.Equals ∷ signs.Oper Sub ∷ signs.Number (pos 3) ∷ signs.Comma ∷ signs.Name 1 ∷ signs.Semicolon
+    ∷ signs.Static ∷ signs.Int ∷ signs.Name 0 ∷ signs.Semicolon ∷ signs.Extern ∷ signs.Int ∷ signs.Input ∷ signs.Open ∷ signs.Void ∷ signs.Close ∷ signs.Semicolon ∷ []
+
+declared_in_order : run start (items (declarations ++ (head ++ signs.RightBrace ∷ []))) ≡ Ok (file_of (declared 0 (negsuc 2) [] ∷ declared 1 (pos 0) [] ∷ declared 0 (pos 0) [] ∷ []) Done (place 24))
+unfolding run
+declared_in_order = refl
+
+-- int main ( ) { x += 2 * y - 1 ; return 0 ; }
+updated_by_an_expression : run start (items (head ++ signs.Name 0 ∷ signs.PlusEquals ∷ signs.Number (pos 2) ∷ signs.Oper Mul ∷ signs.Name 1 ∷ signs.Oper Sub ∷ signs.Number (pos 1) ∷ signs.Semicolon ∷ signs.Return ∷ signs.Number (pos 0) ∷ signs.Semicolon ∷ signs.RightBrace ∷ []))
+    ≡ Ok (file_of [] (Assign (place 5) 0 (Binary Add (Var 0) (Binary Sub (Binary Mul (Number (pos 2)) (Var 1)) (Number (pos 1)))) (Skip (place 13) Done)) (place 16))
+unfolding run
+updated_by_an_expression = refl
+
+-- int main ( ) { x -- ; y = input ( ) ; assert ( x < 1 == y && ! - x || + y ) ; }
+levels_of_operators : run start (items (head ++ signs.Name 0 ∷ signs.MinusMinus ∷ signs.Semicolon ∷ signs.Name 1 ∷ signs.Equals ∷ signs.Input ∷ signs.Open ∷ signs.Close ∷ signs.Semicolon
+    ∷ signs.Assert ∷ signs.Open ∷ signs.Name 0 ∷ signs.Oper Lt ∷ signs.Number (pos 1) ∷ signs.Oper Eq ∷ signs.Name 1 ∷ signs.Oper And ∷ signs.Bang ∷ signs.Oper Sub ∷ signs.Name 0 ∷ signs.Oper Or ∷ signs.Oper Add ∷ signs.Name 1 ∷ signs.Close ∷ signs.Semicolon ∷ signs.RightBrace ∷ []))
+    ≡ Ok (file_of [] (Assign (place 5) 0 (Binary Sub (Var 0) (Number (pos 1))) (Input (place 8) 1 (Assert (place 14) (Binary Or (Binary And (Binary Eq (Binary Lt (Var 0) (Number (pos 1))) (Var 1)) (Not (Neg (Var 0)))) (Var 1)) Done))) (place 30))
+unfolding run
+levels_of_operators = refl
+
+-- int main ( ) { if ( x ) if ( y ) ; else { } }
+nearest_if_has_the_else : run start (items (head ++ signs.If ∷ signs.Open ∷ signs.Name 0 ∷ signs.Close ∷ signs.If ∷ signs.Open ∷ signs.Name 1 ∷ signs.Close ∷ signs.Semicolon ∷ signs.Else ∷ signs.LeftBrace ∷ signs.RightBrace ∷ signs.RightBrace ∷ []))
+    ≡ Ok (file_of [] (If (place 5) (Var 0) (If (place 9) (Var 1) (Skip (place 13) Done) (Block (place 15) Done Done) Done) Done Done) (place 17))
+unfolding run
+nearest_if_has_the_else = refl
+
+-- int main ( ) { #if 0 ; #elif 1 #else ; #endif }, and #if 2 #endif behind it
+in_groups : List Sign
+in_groups = head ++ signs.GroupIf 0 ∷ signs.Semicolon ∷ signs.GroupElif 1 ∷ signs.GroupElse ∷ signs.Semicolon ∷ signs.GroupEnd ∷ signs.RightBrace ∷ signs.GroupIf 2 ∷ signs.GroupEnd ∷ []
+
+elif_is_in_the_no_side : run start (items in_groups) ≡ Ok (file_of [] (Cond 0 (Skip (place 6) Done) (Cond 1 Done (Skip (place 9) Done) Done) Done) (place 11))
+unfolding run in_groups
+elif_is_in_the_no_side = refl
+
+-- with the truths 0 and 0 the last side stays
+last_side_stays : kept (false ∷ false ∷ true ∷ []) (items in_groups) ≡ placed 0 head ++ (at (place 9) signs.Semicolon ∷ at (place 11) signs.RightBrace ∷ [])
+unfolding in_groups
+last_side_stays = refl
+
+-- #if 0 int x ; #elif 1 #if 2 int y ; #endif #else int x = 1 ; #endif int main ( ) { }
+guards_in_order : run start (items (signs.GroupIf 0 ∷ signs.Int ∷ signs.Name 0 ∷ signs.Semicolon ∷ signs.GroupElif 1 ∷ signs.GroupIf 2 ∷ signs.Int ∷ signs.Name 1 ∷ signs.Semicolon ∷ signs.GroupEnd ∷ signs.GroupElse ∷ signs.Int ∷ signs.Name 0 ∷ signs.Equals ∷ signs.Number (pos 1) ∷ signs.Semicolon ∷ signs.GroupEnd ∷ (head ++ signs.RightBrace ∷ [])))
+    ≡ Ok (file_of (declared 0 (pos 0) (guard 0 true ∷ []) ∷ declared 1 (pos 0) (guard 0 false ∷ guard 1 true ∷ guard 2 true ∷ []) ∷ declared 0 (pos 1) (guard 0 false ∷ guard 1 false ∷ []) ∷ []) Done (place 22))
+unfolding run
+guards_in_order = refl
+
+-- int main ( ) { x = ; }: the semicolon is wrong; int main ( ) { x = 1 ;: the end is
+wrong_semicolon : run start (items (head ++ signs.Name 0 ∷ signs.Equals ∷ signs.Semicolon ∷ signs.RightBrace ∷ [])) ≡ Err 2
+unfolding run
+wrong_semicolon = refl
+
+wrong_end : run start (items (head ++ signs.Name 0 ∷ signs.Equals ∷ signs.Number (pos 1) ∷ signs.Semicolon ∷ [])) ≡ Err 0
+unfolding run
+wrong_end = refl
+
+-- so many signs in front
+in_front : ℕ → Sign → List Sign → List Sign
+in_front zero s rest = rest
+in_front (suc n) s rest = s ∷ in_front n s rest
+
+-- 64 blocks may be open, and an expression may have 64 operators; the next one is too deep
+one_block_more : guarded start 0 (items (head ++ in_front 65 signs.LeftBrace (signs.Semicolon ∷ []))) ≡ Err (Deep 2)
+unfolding guarded in_front
+one_block_more = refl
+
+one_operator_more : guarded start 0 (items (head ++ signs.Name 0 ∷ signs.Equals ∷ in_front 65 (signs.Oper Sub) (signs.Name 0 ∷ []))) ≡ Err (Deep 2)
+unfolding guarded in_front
+one_operator_more = refl
+
+enough_operators : guarded start 0 (items (head ++ signs.If ∷ signs.Open ∷ in_front 64 (signs.Oper Sub) (signs.Name 0 ∷ []))) ≡ Err (Wrong 0)
+unfolding guarded in_front
+enough_operators = refl
+
+enough_blocks : guarded start 0 (items (head ++ in_front 64 signs.LeftBrace [])) ≡ Err (Wrong 0)
+unfolding guarded in_front
+enough_blocks = refl

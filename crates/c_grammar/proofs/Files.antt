@@ -1,0 +1,172 @@
+-- What is spelled is read: declarations and files.
+use Rattle.std.proofs.Common.{◌≡◌, suc, ℕ, ℤ, List, [], ◌∷◌, ◌++◌, Ok, refl, sym, ap, ◌∙◌, append_assoc}
+use Rattle.std.proofs.lemmas.List.{append-nil}
+use Rattle.fam_outer.specs.declared.faults.Place.{Place}
+use Rattle.c_tree.specs.declared.tree.Guard.{Guard}
+use Rattle.c_tree.specs.declared.tree.Declared.{Declared}
+use Rattle.c_tree.specs.Tree.{Code, Done, followed}
+use Rattle.c_grammar.specs.declared.items.Sign.{Sign}
+use Rattle.c_grammar.specs.declared.items.Sign.TheVariants as signs
+use Rattle.c_grammar.specs.declared.items.Item.{Item}
+use Rattle.c_grammar.specs.Grammar.{at, Optional, absent, present, Declarator, bare, positive, negative, with_true, with_false, declared, Part, Outer, Vars, Later, Declares, nothing, variables, prototype, section, last_var, next_var, end_part, else_part, elif_part, Returns, no_return, return, Gap, Gaps, GapRest, Empty, no_more, empty_section, empty_end, empty_else, empty_elif, Body, body, Main, main, File, file_of, Forms, file}
+use Rattle.c_grammar.specs.Ahead.{NoElse}
+use Rattle.c_grammar.specs.Machine.{Tailing, Another, Final, Top, Sections, Outermost, InPart, InLast, guards_of, Aim, ToPrototype, ToMain, Outside, AfterInt, Declaring, Parameters, AfterParameters, Ready, Over, with_declared, run, start}
+use Rattle.c_grammar.proofs.Complete.{accepted, followed-none}
+
+-- ---- declarations
+
+-- a name stands first
+abbrev IsName : Sign → Type 0
+IsName (signs.Name x) = Unit {0}
+IsName _ = ⊥
+
+abbrev NameFirst : List Item → Type 0
+NameFirst [] = ⊥
+NameFirst (x ∷ w) = IsName x.sign
+
+vars_first : {gs : List Guard} {ts : List Item} {ds : List Declared} → Declares (Vars gs) ts ds → (w : List Item) → NameFirst (ts ++ w)
+vars_first (last_var p gs (bare q x)) w = tt
+vars_first (last_var p gs (positive q r s x n)) w = tt
+vars_first (last_var p gs (negative q r s t x n)) w = tt
+vars_first (next_var p gs (bare q x) h) w = tt
+vars_first (next_var p gs (positive q r s x n) h) w = tt
+vars_first (next_var p gs (negative q r s t x n) h) w = tt
+
+after_int_same : (secs : Sections) (es : List Declared) (p : Place) (s : Sign) (w : List Item) → IsName s → run (AfterInt secs es) (at p s ∷ w) ≡ run (Declaring secs es) (at p s ∷ w)
+unfolding run
+after_int_same secs es p (signs.Name x) w h = refl
+after_int_same secs es p _ w h = absurd h
+
+after_int : (secs : Sections) (es : List Declared) (w : List Item) → NameFirst w → run (AfterInt secs es) w ≡ run (Declaring secs es) w
+after_int secs es [] h = absurd h
+after_int secs es (x ∷ w) h = after_int_same secs es x.place x.sign w h
+
+int_then : {us : List Item} (p : Place) (secs : Sections) (es : List Declared) (w : List Item) → Optional signs.Static us → NameFirst w → run (Outside secs es) (us ++ at p signs.Int ∷ w) ≡ run (Declaring secs es) w
+unfolding run
+int_then p secs es w (absent s) h = after_int secs es w h
+int_then p secs es w (present q s) h = refl
+
+parameters : {us : List Item} (r s : Place) (aim : Aim) (w : List Item) → Optional signs.Void us → run (Parameters aim) (at r signs.Open ∷ (us ++ at s signs.Close ∷ w)) ≡ run (AfterParameters aim) w
+unfolding run
+parameters r s aim w (absent t) = refl
+parameters r s aim w (present q t) = refl
+
+prototyped : {us : List Item} (p q : Place) (secs : Sections) (es : List Declared) (w : List Item) → Optional signs.Extern us → run (Outside secs es) (us ++ at p signs.Int ∷ at q signs.Input ∷ w) ≡ run (Parameters (ToPrototype secs es)) w
+unfolding run
+prototyped p q secs es w (absent t) = refl
+prototyped p q secs es w (present r t) = refl
+
+at_comma : {us : List Item} {x : ℕ} {n : ℤ} (p : Place) (secs : Sections) (es : List Declared) (w : List Item) → Declarator us x n → run (Declaring secs es) (us ++ at p signs.Comma ∷ w) ≡ run (Declaring secs (with_declared secs es x n)) w
+unfolding run
+at_comma p secs es w (bare q x) = refl
+at_comma p secs es w (positive q r s x n) = refl
+at_comma p secs es w (negative q r s t x n) = refl
+
+at_end_of : {us : List Item} {x : ℕ} {n : ℤ} (p : Place) (secs : Sections) (es : List Declared) (w : List Item) → Declarator us x n → run (Declaring secs es) (us ++ at p signs.Semicolon ∷ w) ≡ run (Outside secs (with_declared secs es x n)) w
+unfolding run
+at_end_of p secs es w (bare q x) = refl
+at_end_of p secs es w (positive q r s x n) = refl
+at_end_of p secs es w (negative q r s t x n) = refl
+
+abbrev pub Goes : Part → List Item → List Declared → Type 0
+Goes (Outer gs) ts ds = (secs : Sections) → guards_of secs ≡ gs → (es : List Declared) (w : List Item) → run (Outside secs es) (ts ++ w) ≡ run (Outside secs (es ++ ds)) w
+Goes (Vars gs) ts ds = (secs : Sections) → guards_of secs ≡ gs → (es : List Declared) (w : List Item) → run (Declaring secs es) (ts ++ w) ≡ run (Outside secs (es ++ ds)) w
+Goes (Later gs) ts ds = (hs : List Guard) (n : ℕ) (outer : Sections) → with_false hs n ≡ gs → (es : List Declared) (w : List Item) → run (Outside (InPart hs n outer) es) (ts ++ w) ≡ run (Outside outer (es ++ ds)) w
+
+regroup : (secs : Sections) (a b c : List Declared) (w : List Item) → run (Outside secs ((a ++ b) ++ c)) w ≡ run (Outside secs (a ++ (b ++ c))) w
+regroup secs a b c w = ap (λ (y : List Declared). run (Outside secs y) w) (append_assoc a b c)
+
+pub goes : {s : Part} {ts : List Item} {ds : List Declared} → Declares s ts ds → Goes s ts ds
+unfolding run
+goes (nothing gs) = λ secs is es w. ap (λ (y : List Declared). run (Outside secs y) w) (sym (append-nil es))
+goes (variables p gs {us} {vs} {ws} {ds} {es = fs} o v d) = λ secs is es w.
+    let re : (us ++ at p signs.Int ∷ (vs ++ ws)) ++ w ≡ us ++ at p signs.Int ∷ (vs ++ (ws ++ w)) = simp append_assoc in
+    ap (run (Outside secs es)) re
+    ∙ int_then p secs es (vs ++ (ws ++ w)) o (vars_first v (ws ++ w))
+    ∙ goes v secs is es (ws ++ w)
+    ∙ goes d secs is (es ++ ds) w
+    ∙ regroup secs es ds fs w
+goes (prototype p q r s t gs {us} {vs} {ws} {es = fs} o v d) = λ secs is es w.
+    let re : (us ++ at p signs.Int ∷ at q signs.Input ∷ at r signs.Open ∷ (vs ++ at s signs.Close ∷ at t signs.Semicolon ∷ ws)) ++ w ≡ us ++ at p signs.Int ∷ at q signs.Input ∷ at r signs.Open ∷ (vs ++ at s signs.Close ∷ at t signs.Semicolon ∷ (ws ++ w)) = simp append_assoc in
+    ap (run (Outside secs es)) re
+    ∙ prototyped p q secs es (at r signs.Open ∷ (vs ++ at s signs.Close ∷ at t signs.Semicolon ∷ (ws ++ w))) o
+    ∙ parameters r s (ToPrototype secs es) (at t signs.Semicolon ∷ (ws ++ w)) v
+    ∙ goes d secs is es w
+goes (section p n gs {us} {vs} {ws} {cs} {ds} {es = fs} a b d) = λ secs is es w.
+    let re : (us ++ (vs ++ ws)) ++ w ≡ us ++ (vs ++ (ws ++ w)) = simp append_assoc in
+    ap (run (Outside (InPart (guards_of secs) n secs) es)) re
+    ∙ goes a (InPart (guards_of secs) n secs) (ap (λ (y : List Guard). with_true y n) is) es (vs ++ (ws ++ w))
+    ∙ goes b (guards_of secs) n secs (ap (λ (y : List Guard). with_false y n) is) (es ++ cs) (ws ++ w)
+    ∙ goes d secs is ((es ++ cs) ++ ds) w
+    ∙ ap (λ (y : List Declared). run (Outside secs y) w) (append_assoc (es ++ cs) ds fs ∙ append_assoc es cs (ds ++ fs))
+goes (last_var p gs {us} {x} {n} v) = λ secs is es w.
+    ap (run (Declaring secs es)) (append_assoc us (at p signs.Semicolon ∷ []) w)
+    ∙ at_end_of p secs es w v
+    ∙ ap (λ (y : List Guard). run (Outside secs (es ++ declared x n y ∷ [])) w) is
+goes (next_var p gs {us} {vs} {x} {n} {ds} v d) = λ secs is es w.
+    ap (run (Declaring secs es)) (append_assoc us (at p signs.Comma ∷ vs) w)
+    ∙ at_comma p secs es (vs ++ w) v
+    ∙ goes d secs is (with_declared secs es x n) w
+    ∙ regroup secs es (declared x n (guards_of secs) ∷ []) ds w
+    ∙ ap (λ (y : List Guard). run (Outside secs (es ++ declared x n y ∷ ds)) w) is
+goes (end_part p gs) = λ hs n outer is es w. ap (λ (y : List Declared). run (Outside outer y) w) (sym (append-nil es))
+goes (else_part p q gs {us} {ds} d) = λ hs n outer is es w.
+    ap (run (Outside (InLast (with_false hs n) outer) es)) (append_assoc us (at q signs.GroupEnd ∷ []) w)
+    ∙ goes d (InLast (with_false hs n) outer) is es (at q signs.GroupEnd ∷ w)
+goes (elif_part p m gs {us} {vs} {cs} {ds} a b) = λ hs n outer is es w.
+    ap (run (Outside (InPart (with_false hs n) m outer) es)) (append_assoc us vs w)
+    ∙ goes a (InPart (with_false hs n) m outer) (ap (λ (y : List Guard). with_true y m) is) es (vs ++ w)
+    ∙ goes b (with_false hs n) m outer (ap (λ (y : List Guard). with_false y m) is) (es ++ cs) w
+    ∙ regroup outer es cs ds w
+
+-- ---- files
+
+abbrev pub Passes : Gap → List Item → Type 0
+Passes Gaps ts = (f : File) (parts : List Tailing) (w : List Item) → run (Over f parts) (ts ++ w) ≡ run (Over f parts) w
+Passes GapRest ts = (f : File) (k : ℕ) (parts : List Tailing) (w : List Item) → run (Over f (Another k ∷ parts)) (ts ++ w) ≡ run (Over f parts) w
+
+pub passes : {s : Gap} {ts : List Item} → Empty s ts → Passes s ts
+unfolding run
+passes no_more = λ f parts w. refl
+passes (empty_section p n {us} {vs} {ws} a b d) = λ f parts w.
+    let re : (us ++ (vs ++ ws)) ++ w ≡ us ++ (vs ++ (ws ++ w)) = simp append_assoc in
+    ap (run (Over f (Another 1 ∷ parts))) re
+    ∙ passes a f (Another 1 ∷ parts) (vs ++ (ws ++ w))
+    ∙ passes b f 1 parts (ws ++ w)
+    ∙ passes d f parts w
+passes (empty_end p) = λ f k parts w. refl
+passes (empty_else p q {us} a) = λ f k parts w.
+    ap (run (Over f (Final k ∷ parts))) (append_assoc us (at q signs.GroupEnd ∷ []) w)
+    ∙ passes a f (Final k ∷ parts) (at q signs.GroupEnd ∷ w)
+passes (empty_elif p n {us} {vs} a b) = λ f k parts w.
+    ap (run (Over f (Another (suc k) ∷ parts))) (append_assoc us vs w)
+    ∙ passes a f (Another (suc k) ∷ parts) (vs ++ w)
+    ∙ passes b f (suc k) parts w
+
+return_no_else : {vs : List Item} {d : Code} (p : Place) (w : List Item) → Returns vs d → NoElse (vs ++ at p signs.RightBrace ∷ w)
+return_no_else p w no_return = tt
+return_no_else p w (return q r s n) = tt
+
+ends_main : {vs : List Item} {d : Code} (p : Place) (ds : List Declared) (c : Code) (w : List Item) → Returns vs d → run (Ready (Top ds c)) (vs ++ at p signs.RightBrace ∷ w) ≡ run (Over (file_of ds (followed c d) p) []) w
+unfolding run
+ends_main p ds c w no_return = ap (λ (y : Code). run (Over (file_of ds y p) []) w) (sym (followed-none c))
+ends_main p ds c w (return q r s n) = refl
+
+over_all : (f : File) → run (Over f []) [] ≡ Ok f
+unfolding run
+over_all f = refl
+
+body_read : {ts : List Item} {c : Code} {p : Place} (ds : List Declared) → Body ts c p → run (Ready (Top ds Done)) ts ≡ Ok (file_of ds c p)
+body_read ds (body p {us} {vs} {ws} {c} {d} s r e) =
+    accepted s (Top ds Done) tt (vs ++ at p signs.RightBrace ∷ ws) (return_no_else p ws r)
+    ∙ ends_main p ds c ws r
+    ∙ ap (run (Over (file_of ds (followed c d) p) [])) (sym (append-nil ws))
+    ∙ passes e (file_of ds (followed c d) p) [] []
+    ∙ over_all (file_of ds (followed c d) p)
+
+main_read : {ts : List Item} {c : Code} {p : Place} (ds : List Declared) → Main ts c p → run (Outside Outermost ds) ts ≡ Ok (file_of ds c p)
+unfolding run
+main_read ds (main p q r s t u {us} {vs} {c} o b) = parameters r s (ToMain ds) (at t signs.LeftBrace ∷ vs) o ∙ body_read ds b
+
+pub is_read : (ts : List Item) (f : File) → Forms ts f → run start ts ≡ Ok f
+is_read _ _ (file {us} {vs} {ds} {c} {p} d m) = goes d Outermost refl [] vs ∙ main_read ds m

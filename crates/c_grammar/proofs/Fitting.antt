@@ -1,0 +1,208 @@
+-- What is spelled is a well-formed program.
+use Rattle.std.proofs.Common.{◌≡◌, ℕ, ℤ, pos, suc, ◌<◌, Bool, true, false, cond, List, [], ◌∷◌, ◌++◌, length, Result, refl, ap, subst, ◌∙◌, arith}
+use Rattle.std.specs.List.{All}
+use Rattle.std.proofs.lemmas.List.Elements.{All-append, All-cons, All-nil}
+use Rattle.std.proofs.lemmas.Int.{ints}
+use Rattle.fam_outer.specs.declared.faults.Place.{Place}
+use Rattle.c_tree.specs.declared.tree.Guard.{Guard}
+use Rattle.c_tree.specs.declared.tree.Declared.{Declared}
+use Rattle.c_tree.specs.Tree.{Term, Code, Done, Assign, Input, Assert, If, While, Block, Skip, Cond, followed}
+use Rattle.c_tree.specs.Value.{IsInt}
+use Rattle.c_tree.specs.Fit.{IsTermOf, IsCodeOf, IsPlain}
+use Rattle.c_tree.specs.Project.{projected_start}
+use Rattle.c_tree.specs.Whole.{IsDeclaredOf}
+use Rattle.c_grammar.specs.declared.items.Item.{Item}
+use Rattle.c_grammar.specs.declared.items.Sign.TheVariants as signs
+use Rattle.c_grammar.specs.Grammar.{at, Prefix, Positive, Negative, Inverse, applied, Expresses, number, name, group, prefix, loose, binary, Shape, Writes, none, more, choice, ends, otherwise, elif, assign, input, update, count, assert, skip, block, while, if_then, if_else, Declarator, bare, positive, negative, declared, Part, Declares, nothing, variables, prototype, section, last_var, next_var, end_part, else_part, elif_part, Returns, no_return, return, Body, body, Main, main, File, Forms, file, has_groups, zeros}
+use Rattle.c_grammar.specs.Machine.{start}
+use Rattle.c_grammar.specs.Deep.{Fault, Answers}
+use Rattle.c_grammar.specs.Facts.{AreFit, WellFormed, PlainWithoutGroups}
+use Rattle.c_tree.proofs.Starts.{length-start, ints-start}
+use Rattle.c_grammar.proofs.Keeping.{no_groups}
+use Rattle.c_grammar.proofs.Deeper.{answers}
+use Rattle.c_grammar.proofs.Sound.{ok_forms}
+use Rattle.c_grammar.proofs.Limits.{fine_files}
+use Rattle.c_grammar.proofs.PlacesRise.{rising_part, file_part}
+
+-- ---- numbers and names
+
+fit_split : (n : ℕ) (xs ys : List Item) → AreFit n (xs ++ ys) → AreFit n xs × AreFit n ys
+fit_split n [] ys h = (tt, h)
+fit_split n (x ∷ xs) ys h = let r = fit_split n xs ys h.1 in ((h.0, r.0), r.1)
+
+applied_fits : (n : ℕ) (u : Prefix) (e : Term) → IsTermOf n e → IsTermOf n (applied u e)
+applied_fits n Positive e h = h
+applied_fits n Negative e h = h
+applied_fits n Inverse e h = h
+
+term_fits : {k : ℕ} {ts : List Item} {e : Term} (n : ℕ) → Expresses k ts e → AreFit n ts → IsTermOf n e
+term_fits n (number p m) h = h.0
+term_fits n (name p x) h = h.0
+term_fits n (group p q {ts} s) h = term_fits n s (fit_split n ts (at q signs.Close ∷ []) h.1).0
+term_fits n (prefix p u {ts} {e} s) h = applied_fits n u e (term_fits n s h.1)
+term_fits n (loose s) h = term_fits n s h
+term_fits n (binary p op {ts} {us} s t) h = let r = fit_split n ts (at p (signs.Oper op) ∷ us) h in (term_fits n s r.0, term_fits n t r.1.1)
+
+followed_fits : (n : ℕ) (c d : Code) → IsCodeOf n c → IsCodeOf n d → IsCodeOf n (followed c d)
+followed_fits n Done d h i = i
+followed_fits n (Assign p x e rest) d h i = (h.0, h.1, followed_fits n rest d h.2 i)
+followed_fits n (Input p x rest) d h i = (h.0, followed_fits n rest d h.1 i)
+followed_fits n (Assert p e rest) d h i = (h.0, followed_fits n rest d h.1 i)
+followed_fits n (If p e a b rest) d h i = (h.0, h.1, h.2, followed_fits n rest d h.3 i)
+followed_fits n (While p e a rest) d h i = (h.0, h.1, followed_fits n rest d h.2 i)
+followed_fits n (Block p a rest) d h i = (h.0, followed_fits n rest d h.1 i)
+followed_fits n (Skip p rest) d h i = followed_fits n rest d h i
+followed_fits n (Cond m a b rest) d h i = (h.0, h.1, followed_fits n rest d h.2 i)
+
+code_fits : {s : Shape} {ts : List Item} {c : Code} (n : ℕ) → Writes s ts c → AreFit n ts → IsCodeOf n c
+code_fits n none h = tt
+code_fits n (more {b} {ts} {us} {c} {d} s l) h = let r = fit_split n ts us h in followed_fits n c d (code_fits n s r.0) (code_fits n l r.1)
+code_fits n (choice p m {ts} {us} {vs} s t l) h = let r = fit_split n ts (us ++ vs) h.1 in let q = fit_split n us vs r.1 in (code_fits n s r.0, code_fits n t q.0, code_fits n l q.1)
+code_fits n (ends p) h = tt
+code_fits n (otherwise p q {ts} s) h = code_fits n s (fit_split n ts (at q signs.GroupEnd ∷ []) h.1).0
+code_fits n (elif p m {ts} {us} s t) h = let r = fit_split n ts us h.1 in (code_fits n s r.0, code_fits n t r.1, tt)
+code_fits n (assign p q r x {ts} e) h = (h.0, term_fits n e (fit_split n ts (at r signs.Semicolon ∷ []) h.1.1).0, tt)
+code_fits n (input p q r s t u x) h = (h.0, tt)
+code_fits n (update p q r x u {ts} e) h = (h.0, (h.0, term_fits n e (fit_split n ts (at r signs.Semicolon ∷ []) h.1.1).0), tt)
+code_fits n (count p q r x u) h = (h.0, (h.0, (omega (arith, ints), omega (arith, ints))), tt)
+code_fits n (assert p q r s {ts} e) h = (term_fits n e (fit_split n ts (at r signs.Close ∷ at s signs.Semicolon ∷ []) h.1.1).0, tt)
+code_fits n (skip p) h = tt
+code_fits n (block p q {ts} s) h = (code_fits n s (fit_split n ts (at q signs.RightBrace ∷ []) h.1).0, tt)
+code_fits n (while p q r {b} {ts} {us} e s) h = let k = fit_split n ts (at r signs.Close ∷ us) h.1.1 in (term_fits n e k.0, code_fits n s k.1.1, tt)
+code_fits n (if_then p q r {b} {ts} {us} e s) h = let k = fit_split n ts (at r signs.Close ∷ us) h.1.1 in (term_fits n e k.0, code_fits n s k.1.1, tt, tt)
+code_fits n (if_else p q r z {b} {ts} {us} {vs} e s t) h =
+    let k = fit_split n ts (at r signs.Close ∷ (us ++ at z signs.Else ∷ vs)) h.1.1 in
+    let l = fit_split n us (at z signs.Else ∷ vs) k.1.1 in
+    (term_fits n e k.0, code_fits n s l.0, code_fits n t l.1.1, tt)
+
+value_fits : {us : List Item} {x : ℕ} {v : ℤ} (n : ℕ) → Declarator us x v → AreFit n us → (x < n) × IsInt v
+value_fits n (bare p x) h = (h.0, record { low = omega (arith, ints); high = omega (arith, ints) })
+value_fits n (positive p q r x v) h = (h.0, record { low = omega (arith, ints, h.1.1.0.0, h.1.1.0.1); high = h.1.1.0.1 })
+value_fits n (negative p q r s x v) h = (h.0, record { low = omega (arith, ints, h.1.1.1.0.0, h.1.1.1.0.1); high = omega (arith, ints, h.1.1.1.0.0, h.1.1.1.0.1) })
+
+one_fits : (n x : ℕ) (v : ℤ) (gs : List Guard) → (x < n) × IsInt v → IsDeclaredOf n (declared x v gs)
+one_fits n x v gs h = record { target = h.0; value = h.1 }
+
+declared_fits : {s : Part} {ts : List Item} {ds : List Declared} (n : ℕ) → Declares s ts ds → AreFit n ts → All (IsDeclaredOf n) ds
+declared_fits n (nothing gs) h = All-nil (IsDeclaredOf n)
+declared_fits n (variables p gs {us} {vs} {ws} {ds} {es} o v d) h =
+    let k = fit_split n us (at p signs.Int ∷ (vs ++ ws)) h in
+    let l = fit_split n vs ws k.1.1 in
+    All-append (IsDeclaredOf n) ds es (declared_fits n v l.0) (declared_fits n d l.1)
+declared_fits n (prototype p q r s t gs {us} {vs} {ws} o v d) h =
+    let k = fit_split n us (at p signs.Int ∷ at q signs.Input ∷ at r signs.Open ∷ (vs ++ at s signs.Close ∷ at t signs.Semicolon ∷ ws)) h in
+    declared_fits n d (fit_split n vs (at s signs.Close ∷ at t signs.Semicolon ∷ ws) k.1.1.1.1).1.1.1
+declared_fits n (section p m gs {us} {vs} {ws} {cs} {ds} {es} a b d) h =
+    let k = fit_split n us (vs ++ ws) h.1 in
+    let l = fit_split n vs ws k.1 in
+    All-append (IsDeclaredOf n) cs (ds ++ es) (declared_fits n a k.0) (All-append (IsDeclaredOf n) ds es (declared_fits n b l.0) (declared_fits n d l.1))
+declared_fits n (last_var p gs {us} {x} {n = v} d) h = All-cons (IsDeclaredOf n) (declared x v gs) [] (one_fits n x v gs (value_fits n d (fit_split n us (at p signs.Semicolon ∷ []) h).0)) (All-nil (IsDeclaredOf n))
+declared_fits n (next_var p gs {us} {vs} {x} {n = v} {ds} d l) h =
+    let k = fit_split n us (at p signs.Comma ∷ vs) h in
+    All-cons (IsDeclaredOf n) (declared x v gs) ds (one_fits n x v gs (value_fits n d k.0)) (declared_fits n l k.1.1)
+declared_fits n (end_part p gs) h = All-nil (IsDeclaredOf n)
+declared_fits n (else_part p q gs {us} d) h = declared_fits n d (fit_split n us (at q signs.GroupEnd ∷ []) h.1).0
+declared_fits n (elif_part p m gs {us} {vs} {cs} {ds} a b) h =
+    let k = fit_split n us vs h.1 in
+    All-append (IsDeclaredOf n) cs ds (declared_fits n a k.0) (declared_fits n b k.1)
+
+-- ---- groups
+
+followed_plain : (c d : Code) → IsPlain c → IsPlain d → IsPlain (followed c d)
+followed_plain Done d h i = i
+followed_plain (Assign p x e rest) d h i = followed_plain rest d h i
+followed_plain (Input p x rest) d h i = followed_plain rest d h i
+followed_plain (Assert p e rest) d h i = followed_plain rest d h i
+followed_plain (If p e a b rest) d h i = (h.0, h.1, followed_plain rest d h.2 i)
+followed_plain (While p e a rest) d h i = (h.0, followed_plain rest d h.1 i)
+followed_plain (Block p a rest) d h i = (h.0, followed_plain rest d h.1 i)
+followed_plain (Skip p rest) d h i = followed_plain rest d h i
+followed_plain (Cond m a b rest) d h i = absurd h
+
+code_plain : {s : Shape} {ts : List Item} {c : Code} → Writes s ts c → has_groups ts ≡ false → IsPlain c
+code_plain none h = tt
+code_plain (more {b} {ts} {us} {c} {d} s l) h = let r = no_groups ts us h in followed_plain c d (code_plain s r.0) (code_plain l r.1)
+code_plain (choice p m s t l) h = absurd cc
+code_plain (ends p) h = tt
+code_plain (otherwise p q s) h = absurd cc
+code_plain (elif p m s t) h = absurd cc
+code_plain (assign p q r x e) h = tt
+code_plain (input p q r s t u x) h = tt
+code_plain (update p q r x u e) h = tt
+code_plain (count p q r x u) h = tt
+code_plain (assert p q r s e) h = tt
+code_plain (skip p) h = tt
+code_plain (block p q {ts} s) h = (code_plain s (no_groups ts (at q signs.RightBrace ∷ []) h).0, tt)
+code_plain (while p q r {b} {ts} {us} e s) h = (code_plain s (no_groups ts (at r signs.Close ∷ us) h).1, tt)
+code_plain (if_then p q r {b} {ts} {us} e s) h = (code_plain s (no_groups ts (at r signs.Close ∷ us) h).1, tt, tt)
+code_plain (if_else p q r z {b} {ts} {us} {vs} e s t) h =
+    let k = no_groups us (at z signs.Else ∷ vs) (no_groups ts (at r signs.Close ∷ (us ++ at z signs.Else ∷ vs)) h).1 in
+    (code_plain s k.0, code_plain t k.1, tt)
+
+return_plain : {ts : List Item} {c : Code} → Returns ts c → IsPlain c
+return_plain no_return = tt
+return_plain (return p q r v) = tt
+
+body_plain : {ts : List Item} {c : Code} {p : Place} → Body ts c p → has_groups ts ≡ false → IsPlain c
+body_plain (body p {us} {vs} {ws} {c} {d} s r e) h = followed_plain c d (code_plain s (no_groups us (vs ++ at p signs.RightBrace ∷ ws) h).0) (return_plain r)
+
+main_plain : {ts : List Item} {c : Code} {p : Place} → Main ts c p → has_groups ts ≡ false → IsPlain c
+main_plain (main p q r s t u {us} {vs} o b) h = body_plain b (no_groups us (at s signs.Close ∷ at t signs.LeftBrace ∷ vs) h).1
+
+file_plain : (items : List Item) (f : File) → Forms items f → has_groups items ≡ false → IsPlain f.body
+file_plain _ _ (file {us} {vs} d m) h = main_plain m (no_groups us vs h).1
+
+pub plain_law : PlainWithoutGroups
+plain_law names items f h s = record { body = file_plain items f s h; declared = ap (λ (b : Bool). cond b f.declared []) h }
+
+-- ---- programs
+
+return_fits : {ts : List Item} {c : Code} (n : ℕ) → Returns ts c → IsCodeOf n c
+return_fits n no_return = tt
+return_fits n (return p q r v) = tt
+
+body_fits : {ts : List Item} {c : Code} {p : Place} (n : ℕ) → Body ts c p → AreFit n ts → IsCodeOf n c
+body_fits n (body p {us} {vs} {ws} {c} {d} s r e) h = followed_fits n c d (code_fits n s (fit_split n us (vs ++ at p signs.RightBrace ∷ ws) h).0) (return_fits n r)
+
+main_fits : {ts : List Item} {c : Code} {p : Place} (n : ℕ) → Main ts c p → AreFit n ts → IsCodeOf n c
+main_fits n (main p q r s t u {us} {vs} o b) h = body_fits n b (fit_split n us (at s signs.Close ∷ at t signs.LeftBrace ∷ vs) h.1.1.1).1.1.1
+
+file_code_fits : (n : ℕ) (items : List Item) (f : File) → Forms items f → AreFit n items → IsCodeOf n f.body
+file_code_fits n _ _ (file {us} {vs} d m) h = main_fits n m (fit_split n us vs h).1
+
+file_declared_fits : (n : ℕ) (items : List Item) (f : File) → Forms items f → AreFit n items → All (IsDeclaredOf n) f.declared
+file_declared_fits n _ _ (file {us} {vs} d m) h = declared_fits n d (fit_split n us vs h).0
+
+zero_is_int : IsInt (pos 0)
+zero_is_int = record { low = omega (arith, ints); high = omega (arith, ints) }
+
+zeros_int : (names : List (List ℕ)) → All IsInt (zeros names)
+zeros_int [] = All-nil IsInt
+zeros_int (x ∷ names) = All-cons IsInt (pos 0) (zeros names) zero_is_int (zeros_int names)
+
+zeros_count : (names : List (List ℕ)) → length (zeros names) ≡ length names
+zeros_count [] = refl
+zeros_count (x ∷ names) = ap suc (zeros_count names)
+
+pub well_formed_law : WellFormed
+well_formed_law names items f few fit rising read =
+    let n : ℕ = length names in
+    let forms : Forms items f = ok_forms items f (subst (λ (r : Result File Fault). Answers r start 0 items) read (answers items start 0)) in
+    let ds : All (IsDeclaredOf n) f.declared = file_declared_fits n items f forms fit in
+    let fine = fine_files items f read in
+    record {
+      few = few;
+      starts = elim (has_groups items) as (λ b. length (cond b (zeros names) (projected_start [] f.declared (zeros names))) ≡ n) [
+        | true ↦ zeros_count names
+        | false ↦ length-start [] f.declared 0 (zeros names) ∙ zeros_count names
+      ];
+      ints = elim (has_groups items) as (λ b. All IsInt (cond b (zeros names) (projected_start [] f.declared (zeros names)))) [
+        | true ↦ zeros_int names
+        | false ↦ ints-start [] f.declared n 0 (zeros names) ds (zeros_int names)
+      ];
+      declared = elim (has_groups items) as (λ b. All (IsDeclaredOf n) (cond b f.declared [])) [ true ↦ ds | false ↦ All-nil (IsDeclaredOf n) ];
+      names = file_code_fits n items f forms fit;
+      rising = rising_part (file_part items f forms) rising;
+      nested = fine.0;
+      small = fine.1;
+    }

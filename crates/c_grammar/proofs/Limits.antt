@@ -1,0 +1,468 @@
+-- What is read within the limits: how deep its statements are, and how many operators its expressions have.
+use Rattle.std.proofs.Common.{◌≡◌, ℕ, ℤ, pos, suc, ◌+◌, ◌≤◌, ◌<◌, ltb, leb, Bool, true, false, cond, ◌||◌, ◌&&◌, List, [], ◌∷◌, length, Option, Some, None, Result, Ok, refl, subst, arith, inl, inr}
+use Rattle.std.specs.Prelude.{IfSome, IfOk, max}
+use Rattle.std.proofs.Math.Nat.{le-max_left, le-max_right, max-eq_left, max-eq_right}
+use Rattle.std.proofs.lemmas.Bool.{cases_lt, leb-false}
+use Rattle.fam_outer.specs.declared.faults.Place.{Place}
+use Rattle.c_tree.specs.declared.tree.Op.{Op}
+use Rattle.c_tree.specs.declared.tree.Op.TheVariants.{Add, Sub}
+use Rattle.c_tree.specs.declared.tree.Declared.{Declared}
+use Rattle.c_tree.specs.Tree.{Term, Neg, Not, Binary, Code, Done, Assign, Input, Assert, If, While, Block, Skip, Cond, followed}
+use Rattle.c_tree.specs.Whole.{operators, nesting, IsSmall}
+use Rattle.c_grammar.specs.declared.items.Sign.{Sign}
+use Rattle.c_grammar.specs.declared.items.Sign.TheVariants as signs
+use Rattle.c_grammar.specs.declared.items.Item.{Item}
+use Rattle.c_grammar.specs.Grammar.{tighter, Positive, Negative, Inverse, File}
+use Rattle.c_grammar.specs.Machine.{Frame, Paren, Pre, Left, Stack, Top, Braces, Yes, No, ThenOf, ElseOf, LoopOf, Use, ToAssign, ToUpdate, ToAssert, ToChoose, ToLoop, Sections, Outermost, InPart, InLast, Aim, ToPrototype, ToMain, Tailing, Another, State, Outside, AfterStatic, AfterExtern, AfterInt, AfterExternInt, Declaring, Bare, Starting, Negating, Started, Parameters, InParameters, AfterVoid, AfterParameters, Ready, Ended, Wants, Has, Named, Opens, InputOpens, InputCloses, Finishing, Returning, Returned, Closing, Over, settle, input_of, want, tested, closed_by, assigned, ended_by, have, folded, else_of, linked, opened, braced, returned, next_part, last_part, group_end, begin, on, named, at_open, at_close, at_semicolon, at_int, at_input, next_condition, last_section, section_end, outside, declaring, main_of, after_int, started, is_bare, starting, negating, in_parameters, after_parameters, returning, closing, over, step, finish, start}
+use Rattle.c_grammar.specs.Deep.{depth, opens_more, is_nested, counted, is_long, is_deep, Fault, ended, went, guarded}
+
+max_parts : (a b k m : ℕ) → max a b + k ≤ m → (a + k ≤ m) × (b + k ≤ m)
+max_parts a b k m h = (omega (arith, le-max_left a b), omega (arith, le-max_right a b))
+
+max_both : (a b k m : ℕ) → a + k ≤ m → b + k ≤ m → max a b + k ≤ m
+max_both a b k m h i = elim (cases_lt a b) [
+  | inl lt ↦ (let is : max a b ≡ b = max-eq_right {n = a} {m = b} (omega arith) in omega (arith, is))
+  | inr ge ↦ (let is : max a b ≡ a = max-eq_left {n = a} {m = b} ge in omega (arith, is))
+]
+
+-- statements within so many others
+abbrev pub Fine : ℕ → Code → Type 0
+Fine k c = (nesting c + k ≤ 64) × IsSmall c
+
+around_one : (a k : ℕ) → a + suc k ≤ 64 → max (a + 1) 0 + k ≤ 64
+around_one a k h = max_both (a + 1) 0 k 64 (omega arith) (omega arith)
+
+around_both : (a b k : ℕ) → a + suc k ≤ 64 → b + suc k ≤ 64 → max (max a b + 1) 0 + k ≤ 64
+around_both a b k h i = let j = max_both a b (suc k) 64 h i in max_both (max a b + 1) 0 k 64 (omega (arith, j)) (omega arith)
+
+fine_followed : (k : ℕ) (c d : Code) → Fine k c → Fine k d → Fine k (followed c d)
+fine_followed k Done d h i = i
+fine_followed k (Assign p x e rest) d h i = let r = fine_followed k rest d (h.0, h.1.1) i in (r.0, (h.1.0, r.1))
+fine_followed k (Input p x rest) d h i = fine_followed k rest d h i
+fine_followed k (Assert p e rest) d h i = let r = fine_followed k rest d (h.0, h.1.1) i in (r.0, (h.1.0, r.1))
+fine_followed k (If p e a b rest) d h i =
+    let m = max_parts (max (nesting a) (nesting b) + 1) (nesting rest) k 64 h.0 in
+    let r = fine_followed k rest d (m.1, h.1.3) i in
+    (max_both (max (nesting a) (nesting b) + 1) (nesting (followed rest d)) k 64 m.0 r.0, (h.1.0, h.1.1, h.1.2, r.1))
+fine_followed k (While p e a rest) d h i =
+    let m = max_parts (nesting a + 1) (nesting rest) k 64 h.0 in
+    let r = fine_followed k rest d (m.1, h.1.2) i in
+    (max_both (nesting a + 1) (nesting (followed rest d)) k 64 m.0 r.0, (h.1.0, h.1.1, r.1))
+fine_followed k (Block p a rest) d h i =
+    let m = max_parts (nesting a + 1) (nesting rest) k 64 h.0 in
+    let r = fine_followed k rest d (m.1, h.1.1) i in
+    (max_both (nesting a + 1) (nesting (followed rest d)) k 64 m.0 r.0, (h.1.0, r.1))
+fine_followed k (Skip p rest) d h i = fine_followed k rest d h i
+fine_followed k (Cond n a b rest) d h i =
+    let m = max_parts (max (nesting a) (nesting b) + 1) (nesting rest) k 64 h.0 in
+    let r = fine_followed k rest d (m.1, h.1.2) i in
+    (max_both (max (nesting a) (nesting b) + 1) (nesting (followed rest d)) k 64 m.0 r.0, (h.1.0, h.1.1, r.1))
+
+-- ---- what is open
+
+abbrev pub LinksFit : List (ℕ × Code) → ℕ → Type 0
+LinksFit [] d = Unit {0}
+LinksFit (l ∷ links) d = Fine (suc (length links) + d) l.1 × LinksFit links d
+
+abbrev pub Fits : Stack → Type 0
+Fits (Top ds made) = Fine 0 made
+Fits (Braces p made outer) = Fine (suc (depth outer)) made × Fits outer
+Fits (Yes links n made outer) = Fine (suc (length links) + depth outer) made × LinksFit links (depth outer) × Fits outer
+Fits (No links n first made outer) = Fine (suc (length links) + depth outer) made × Fine (suc (length links) + depth outer) first × LinksFit links (depth outer) × Fits outer
+Fits (ThenOf p e outer) = (suc (depth outer) ≤ 64) × (operators e ≤ 64) × Fits outer
+Fits (ElseOf p e first outer) = Fine (suc (depth outer)) first × (operators e ≤ 64) × Fits outer
+Fits (LoopOf p e outer) = (suc (depth outer) ≤ 64) × (operators e ≤ 64) × Fits outer
+
+depth_fits : (outer : Stack) → Fits outer → 0 + depth outer ≤ 64
+depth_fits (Top ds made) h = omega arith
+depth_fits (Braces p made outer) h = omega (arith, h.0.0)
+depth_fits (Yes links n made outer) h = omega (arith, h.0.0)
+depth_fits (No links n first made outer) h = omega (arith, h.0.0)
+depth_fits (ThenOf p e outer) h = omega (arith, h.0)
+depth_fits (ElseOf p e first outer) h = omega (arith, h.0.0)
+depth_fits (LoopOf p e outer) h = omega (arith, h.0)
+
+linked_fits : (links : List (ℕ × Code)) (d : ℕ) (c : Code) → LinksFit links d → Fine (length links + d) c → Fine d (linked links c)
+linked_fits [] d c h i = (omega (arith, i.0), i.1)
+linked_fits (l ∷ links) d c h i = linked_fits links d (Cond l.0 l.1 c Done) h.1 (around_both (nesting l.1) (nesting c) (length links + d) (omega (arith, h.0.0)) (omega (arith, i.0)), (h.0.1, i.1, tt))
+
+then_fine : (p : Place) (e : Term) (k : ℕ) (c : Code) → operators e ≤ 64 → Fine (suc k) c → Fine k (If p e c Done Done)
+then_fine p e k c small h = (around_both (nesting c) 0 k h.0 (omega (arith, h.0)), (small, h.1, tt, tt))
+
+else_fine : (p : Place) (e : Term) (k : ℕ) (c d : Code) → operators e ≤ 64 → Fine (suc k) c → Fine (suc k) d → Fine k (If p e c d Done)
+else_fine p e k c d small h i = (around_both (nesting c) (nesting d) k h.0 i.0, (small, h.1, i.1, tt))
+
+loop_fine : (p : Place) (e : Term) (k : ℕ) (c : Code) → operators e ≤ 64 → Fine (suc k) c → Fine k (While p e c Done)
+loop_fine p e k c small h = (around_one (nesting c) k h.0, (small, h.1, tt))
+
+folded_fits : (outer : Stack) (c : Code) → Fits outer → Fine (depth outer) c → Fits (folded outer c)
+folded_fits (Top ds made) c h i = fine_followed 0 made c h i
+folded_fits (Braces p made outer) c h i = (fine_followed (suc (depth outer)) made c h.0 i, h.1)
+folded_fits (Yes links n made outer) c h i = (fine_followed (suc (length links) + depth outer) made c h.0 i, h.1, h.2)
+folded_fits (No links n first made outer) c h i = (fine_followed (suc (length links) + depth outer) made c h.0 i, h.1, h.2, h.3)
+folded_fits (ThenOf p e outer) c h i = folded_fits outer (If p e c Done Done) h.2 (then_fine p e (depth outer) c h.1 i)
+folded_fits (ElseOf p e first outer) c h i = folded_fits outer (If p e first c Done) h.2 (else_fine p e (depth outer) first c h.1 h.0 i)
+folded_fits (LoopOf p e outer) c h i = folded_fits outer (While p e c Done) h.2 (loop_fine p e (depth outer) c h.1 i)
+
+weight : List Frame → ℕ
+weight [] = 0
+weight (Paren ∷ fs) = weight fs
+weight (Pre u ∷ fs) = suc (weight fs)
+weight (Left op a ∷ fs) = suc (operators a) + weight fs
+
+UseFits : Use → Type 0
+UseFits (ToAssign p x outer) = Fits outer
+UseFits (ToUpdate p x u outer) = Fits outer
+UseFits (ToAssert p outer) = Fits outer
+UseFits (ToChoose p outer) = (suc (depth outer) ≤ 64) × Fits outer
+UseFits (ToLoop p outer) = (suc (depth outer) ≤ 64) × Fits outer
+
+StateFits : State → ℕ → Type 0
+StateFits (Ready outer) k = Fits outer
+StateFits (Ended outer c) k = Fits outer × Fine (depth outer) c
+StateFits (Wants fs u) k = UseFits u × (weight fs ≤ k) × (k ≤ 64)
+StateFits (Has fs u e) k = UseFits u × (weight fs + operators e ≤ k) × (k ≤ 64)
+StateFits (Named p x outer) k = Fits outer
+StateFits (Opens u) k = UseFits u
+StateFits (InputOpens p x outer) k = Fits outer
+StateFits (InputCloses p x outer) k = Fits outer
+StateFits (Finishing outer c) k = Fits outer × Fine (depth outer) c
+StateFits (Returning p ds made) k = Fine 0 made
+StateFits (Returned ds made) k = Fine 0 made
+StateFits (Closing ds made) k = Fine 0 made
+StateFits (Over f parts) k = Fine 0 f.body
+StateFits _ k = Unit {0}
+
+-- ---- one item
+
+opened_fits : (n k : ℕ) (outer : Stack) → depth outer < 64 → Fits outer → IfSome (opened n outer) (λ next. StateFits next k)
+unfolding StateFits
+opened_fits n k (Top ds made) lt h = ((omega arith, tt), tt, h)
+opened_fits n k (Braces p made outer) lt h = ((omega arith, tt), tt, h)
+opened_fits n k (Yes links m made outer) lt h = ((omega arith, tt), tt, h)
+opened_fits n k (No links m first made outer) lt h = ((omega arith, tt), tt, h)
+opened_fits n k (ThenOf p e outer) lt h = tt
+opened_fits n k (ElseOf p e first outer) lt h = tt
+opened_fits n k (LoopOf p e outer) lt h = tt
+
+braced_fits : (q : Place) (k : ℕ) (outer : Stack) → Fits outer → IfSome (braced outer q) (λ next. StateFits next k)
+unfolding StateFits
+braced_fits q k (Top ds made) h = h
+braced_fits q k (Braces p made outer) h = (h.1, (around_one (nesting made) (depth outer) h.0.0, (h.0.1, tt)))
+braced_fits q k _ h = tt
+
+returned_fits : (q : Place) (k : ℕ) (outer : Stack) → Fits outer → IfSome (returned outer q) (λ next. StateFits next k)
+unfolding StateFits
+returned_fits q k (Top ds made) h = h
+returned_fits q k _ h = tt
+
+next_fits : (m k : ℕ) (outer : Stack) → depth outer < 64 → Fits outer → IfSome (next_part m outer) (λ next. StateFits next k)
+unfolding StateFits
+next_fits m k (Yes links n made outer) lt h = ((omega arith, tt), (h.0, h.1), h.2)
+next_fits m k _ lt h = tt
+
+last_fits : (k : ℕ) (outer : Stack) → Fits outer → IfSome (last_part outer) (λ next. StateFits next k)
+unfolding StateFits
+last_fits k (Yes links n made outer) h = ((omega (arith, h.0.0), tt), h.0, h.1, h.2)
+last_fits k _ h = tt
+
+end_fits : (k : ℕ) (outer : Stack) → Fits outer → IfSome (group_end outer) (λ next. StateFits next k)
+unfolding StateFits
+end_fits k (Yes links n made outer) h = (h.2, linked_fits links (depth outer) (Cond n made Done Done) h.1 (around_both (nesting made) 0 (length links + depth outer) (omega (arith, h.0.0)) (omega (arith, h.0.0)), (h.0.1, tt, tt)))
+end_fits k (No links n first made outer) h = (h.3, linked_fits links (depth outer) (Cond n first made Done) h.2 (around_both (nesting first) (nesting made) (length links + depth outer) (omega (arith, h.1.0)) (omega (arith, h.0.0)), (h.1.1, h.0.1, tt)))
+end_fits k _ h = tt
+
+begin_fits : (outer : Stack) (p : Place) (s : Sign) (k : ℕ) → (opens_more s && leb 64 (depth outer)) ≡ false → Fits outer → IfSome (begin outer p s) (λ next. StateFits next k)
+unfolding StateFits UseFits
+begin_fits outer p (signs.Name x) k l h = h
+begin_fits outer p signs.Semicolon k l h = (h, (depth_fits outer h, tt))
+begin_fits outer p signs.LeftBrace k l h = let lt = leb-false 64 (depth outer) l in ((omega (arith, lt), tt), h)
+begin_fits outer p signs.RightBrace k l h = braced_fits p k outer h
+begin_fits outer p signs.Assert k l h = h
+begin_fits outer p signs.If k l h = (leb-false 64 (depth outer) l, h)
+begin_fits outer p signs.While k l h = (leb-false 64 (depth outer) l, h)
+begin_fits outer p signs.Return k l h = returned_fits p k outer h
+begin_fits outer p (signs.GroupIf n) k l h = opened_fits n k outer (leb-false 64 (depth outer) l) h
+begin_fits outer p (signs.GroupElif n) k l h = next_fits n k outer (leb-false 64 (depth outer) l) h
+begin_fits outer p signs.GroupElse k l h = last_fits k outer h
+begin_fits outer p signs.GroupEnd k l h = end_fits k outer h
+begin_fits outer p _ k l h = tt
+
+else_fits : (outer : Stack) (c : Code) (k : ℕ) → Fits outer → Fine (depth outer) c → IfSome (else_of outer c) (λ next. StateFits next k)
+unfolding StateFits
+else_fits (Top ds made) c k h i = tt
+else_fits (Braces p made outer) c k h i = tt
+else_fits (Yes links n made outer) c k h i = tt
+else_fits (No links n first made outer) c k h i = tt
+else_fits (ThenOf p e outer) c k h i = (i, h.1, h.2)
+else_fits (ElseOf p e first outer) c k h i = else_fits outer (If p e first c Done) k h.2 (else_fine p e (depth outer) first c h.1 h.0 i)
+else_fits (LoopOf p e outer) c k h i = else_fits outer (While p e c Done) k h.2 (loop_fine p e (depth outer) c h.1 i)
+
+on_fits : (outer : Stack) (c : Code) (p : Place) (s : Sign) (k : ℕ) → (opens_more s && leb 64 (depth (folded outer c))) ≡ false → Fits outer → Fine (depth outer) c → IfSome (on outer c p s) (λ next. StateFits next k)
+on_fits outer c p signs.Else k l h i = else_fits outer c k h i
+on_fits outer c p s k l h i = begin_fits (folded outer c) p s k l (folded_fits outer c h i)
+
+settled : (k : ℕ) (fs : List Frame) (e : Term) (m : ℕ) → weight fs + operators e ≤ m → weight (settle k fs e).0 + operators (settle k fs e).1 ≤ m
+unfolding weight
+settled k [] e m h = h
+settled k (Paren ∷ fs) e m h = h
+settled k (Pre Positive ∷ fs) e m h = settled k fs e m (omega arith)
+settled k (Pre Negative ∷ fs) e m h = settled k fs (Neg e) m (omega arith)
+settled k (Pre Inverse ∷ fs) e m h = settled k fs (Not e) m (omega arith)
+settled k (Left op a ∷ fs) e m h =
+    elim (ltb (tighter op) k) as (λ v. let s : List Frame × Term = cond v (settle k fs (Binary op a e)) (Left op a ∷ fs, e) in weight s.0 + operators s.1 ≤ m) [
+      | true ↦ settled k fs (Binary op a e) m (omega arith)
+      | false ↦ h
+    ]
+
+prefix_fits : (fs : List Frame) (u : Use) (op : Op) (k : ℕ) → UseFits u → weight fs ≤ k → suc k ≤ 64 → IfSome (want fs u (signs.Oper op)) (λ next. StateFits next (suc k))
+unfolding StateFits weight
+prefix_fits fs u Add k h w l = (h, omega arith, l)
+prefix_fits fs u Sub k h w l = (h, omega arith, l)
+prefix_fits fs u _ k h w l = tt
+
+input_fits : (fs : List Frame) (u : Use) (k : ℕ) → UseFits u → IfSome (input_of fs u) (λ next. StateFits next k)
+unfolding StateFits UseFits
+input_fits [] (ToAssign p x outer) k h = h
+input_fits _ _ k h = tt
+
+want_fits : (fs : List Frame) (u : Use) (p : Place) (s : Sign) (k : ℕ) → is_long (Wants fs u) s k ≡ false → StateFits (Wants fs u) k → IfSome (want fs u s) (λ next. StateFits next (counted (Wants fs u) s k))
+unfolding StateFits weight
+want_fits fs u p (signs.Number n) k l h = (h.0, omega (arith, h.1), h.2)
+want_fits fs u p (signs.Name x) k l h = (h.0, omega (arith, h.1), h.2)
+want_fits fs u p signs.Open k l h = let lt = leb-false 65 (suc k) l in (h.0, omega (arith, h.1), omega (arith, lt))
+want_fits fs u p signs.Bang k l h = let lt = leb-false 65 (suc k) l in (h.0, omega (arith, h.1), omega (arith, lt))
+want_fits fs u p (signs.Oper op) k l h = let lt = leb-false 65 (suc k) l in prefix_fits fs u op k h.0 h.1 (omega (arith, lt))
+want_fits fs u p signs.Input k l h = input_fits fs u k h.0
+want_fits fs u p _ k l h = tt
+
+tested_fits : (u : Use) (e : Term) (k : ℕ) → UseFits u → operators e ≤ 64 → IfSome (tested u e) (λ next. StateFits next k)
+unfolding StateFits UseFits
+tested_fits (ToAssign p x outer) e k h w = tt
+tested_fits (ToUpdate p x u outer) e k h w = tt
+tested_fits (ToAssert p outer) e k h w = (h, (depth_fits outer h, (w, tt)))
+tested_fits (ToChoose p outer) e k h w = (h.0, w, h.1)
+tested_fits (ToLoop p outer) e k h w = (h.0, w, h.1)
+
+closed_fits : (fs : List Frame) (u : Use) (e : Term) (k : ℕ) → UseFits u → weight fs + operators e ≤ k → k ≤ 64 → IfSome (closed_by fs u e) (λ next. StateFits next k)
+unfolding StateFits weight
+closed_fits [] u e k h w l = tested_fits u e k h (omega arith)
+closed_fits (Paren ∷ fs) u e k h w l = (h, w, l)
+closed_fits (Pre v ∷ fs) u e k h w l = tt
+closed_fits (Left op a ∷ fs) u e k h w l = tt
+
+assigned_fits : (u : Use) (e : Term) (k : ℕ) → UseFits u → operators e ≤ 64 → IfSome (assigned u e) (λ next. StateFits next k)
+unfolding StateFits UseFits
+assigned_fits (ToAssign p x outer) e k h w = (h, (depth_fits outer h, (omega arith, tt)))
+assigned_fits (ToUpdate p x u outer) e k h w = (h, (depth_fits outer h, (omega arith, tt)))
+assigned_fits (ToAssert p outer) e k h w = tt
+assigned_fits (ToChoose p outer) e k h w = tt
+assigned_fits (ToLoop p outer) e k h w = tt
+
+ended_fits : (fs : List Frame) (u : Use) (e : Term) (k : ℕ) → UseFits u → weight fs + operators e ≤ k → k ≤ 64 → IfSome (ended_by fs u e) (λ next. StateFits next k)
+unfolding weight
+ended_fits [] u e k h w l = assigned_fits u e k h (omega arith)
+ended_fits (f ∷ fs) u e k h w l = tt
+
+have_fits : (fs : List Frame) (u : Use) (e : Term) (p : Place) (s : Sign) (k : ℕ) → is_long (Has fs u e) s k ≡ false → StateFits (Has fs u e) k → IfSome (have fs u e s) (λ next. StateFits next (counted (Has fs u e) s k))
+unfolding StateFits weight
+have_fits fs u e p signs.Close k l h = closed_fits (settle 6 fs e).0 u (settle 6 fs e).1 k h.0 (settled 6 fs e k h.1) h.2
+have_fits fs u e p (signs.Oper op) k l h =
+    let lt = leb-false 65 (suc k) l in
+    let w = settled (suc (tighter op)) fs e k h.1 in
+    (h.0, omega (arith, w), omega (arith, lt))
+have_fits fs u e p signs.Semicolon k l h = ended_fits (settle 6 fs e).0 u (settle 6 fs e).1 k h.0 (settled 6 fs e k h.1) h.2
+have_fits fs u e p _ k l h = tt
+
+named_fits : (q : Place) (x : ℕ) (outer : Stack) (s : Sign) → Fits outer → IfSome (named q x outer s) (λ next. StateFits next 0)
+unfolding StateFits UseFits weight
+named_fits q x outer signs.Equals h = (h, omega arith, omega arith)
+named_fits q x outer signs.PlusEquals h = (h, omega arith, omega arith)
+named_fits q x outer signs.MinusEquals h = (h, omega arith, omega arith)
+named_fits q x outer signs.PlusPlus h = (h, (depth_fits outer h, (omega arith, tt)))
+named_fits q x outer signs.MinusMinus h = (h, (depth_fits outer h, (omega arith, tt)))
+named_fits q x outer _ h = tt
+
+open_fits : (next : State) (s : Sign) → StateFits next 0 → IfSome (at_open next s) (λ n. StateFits n 0)
+open_fits next signs.Open h = h
+open_fits next _ h = tt
+
+close_fits : (next : State) (s : Sign) → StateFits next 0 → IfSome (at_close next s) (λ n. StateFits n 0)
+close_fits next signs.Close h = h
+close_fits next _ h = tt
+
+semicolon_fits : (next : State) (s : Sign) → StateFits next 0 → IfSome (at_semicolon next s) (λ n. StateFits n 0)
+semicolon_fits next signs.Semicolon h = h
+semicolon_fits next _ h = tt
+
+-- declarations leave nothing deep
+condition_fits : (m : ℕ) (secs : Sections) (ds : List Declared) → IfSome (next_condition m secs ds) (λ next. StateFits next 0)
+unfolding StateFits
+condition_fits m Outermost ds = tt
+condition_fits m (InPart gs n outer) ds = tt
+condition_fits m (InLast gs outer) ds = tt
+
+last_section_fits : (secs : Sections) (ds : List Declared) → IfSome (last_section secs ds) (λ next. StateFits next 0)
+unfolding StateFits
+last_section_fits Outermost ds = tt
+last_section_fits (InPart gs n outer) ds = tt
+last_section_fits (InLast gs outer) ds = tt
+
+section_end_fits : (secs : Sections) (ds : List Declared) → IfSome (section_end secs ds) (λ next. StateFits next 0)
+unfolding StateFits
+section_end_fits Outermost ds = tt
+section_end_fits (InPart gs n outer) ds = tt
+section_end_fits (InLast gs outer) ds = tt
+
+outside_fits : (secs : Sections) (ds : List Declared) (s : Sign) → IfSome (outside secs ds s) (λ next. StateFits next 0)
+unfolding StateFits
+outside_fits secs ds signs.Static = tt
+outside_fits secs ds signs.Extern = tt
+outside_fits secs ds signs.Int = tt
+outside_fits secs ds (signs.GroupIf n) = tt
+outside_fits secs ds (signs.GroupElif n) = condition_fits n secs ds
+outside_fits secs ds signs.GroupElse = last_section_fits secs ds
+outside_fits secs ds signs.GroupEnd = section_end_fits secs ds
+outside_fits secs ds _ = tt
+
+int_fits : (next : State) (s : Sign) → StateFits next 0 → IfSome (at_int next s) (λ n. StateFits n 0)
+int_fits next signs.Int h = h
+int_fits next _ h = tt
+
+at_input_fits : (next : State) (s : Sign) → StateFits next 0 → IfSome (at_input next s) (λ n. StateFits n 0)
+at_input_fits next signs.Input h = h
+at_input_fits next _ h = tt
+
+main_fits : (secs : Sections) (ds : List Declared) → IfSome (main_of secs ds) (λ next. StateFits next 0)
+unfolding StateFits
+main_fits Outermost ds = tt
+main_fits _ ds = tt
+
+after_int_fits : (secs : Sections) (ds : List Declared) (s : Sign) → IfSome (after_int secs ds s) (λ next. StateFits next 0)
+unfolding StateFits
+after_int_fits secs ds (signs.Name x) = tt
+after_int_fits secs ds signs.Input = tt
+after_int_fits secs ds signs.Main = main_fits secs ds
+after_int_fits secs ds _ = tt
+
+declaring_fits : (secs : Sections) (ds : List Declared) (s : Sign) → IfSome (declaring secs ds s) (λ next. StateFits next 0)
+unfolding StateFits
+declaring_fits secs ds (signs.Name x) = tt
+declaring_fits secs ds _ = tt
+
+started_fits : (x : ℕ) (n : ℤ) (secs : Sections) (ds : List Declared) (s : Sign) → IfSome (started x n secs ds s) (λ next. StateFits next 0)
+unfolding StateFits
+started_fits x n secs ds signs.Comma = tt
+started_fits x n secs ds signs.Semicolon = tt
+started_fits x n secs ds _ = tt
+
+bare_fits : (x : ℕ) (secs : Sections) (ds : List Declared) (s : Sign) → IfSome (is_bare x secs ds s) (λ next. StateFits next 0)
+unfolding StateFits
+bare_fits x secs ds signs.Equals = tt
+bare_fits x secs ds s = started_fits x (pos 0) secs ds s
+
+starting_fits : (x : ℕ) (secs : Sections) (ds : List Declared) (s : Sign) → IfSome (starting x secs ds s) (λ next. StateFits next 0)
+unfolding StateFits
+starting_fits x secs ds (signs.Number n) = tt
+starting_fits x secs ds (signs.Oper Sub) = tt
+starting_fits x secs ds _ = tt
+
+negating_fits : (x : ℕ) (secs : Sections) (ds : List Declared) (s : Sign) → IfSome (negating x secs ds s) (λ next. StateFits next 0)
+unfolding StateFits
+negating_fits x secs ds (signs.Number n) = tt
+negating_fits x secs ds _ = tt
+
+in_parameters_fits : (aim : Aim) (s : Sign) → IfSome (in_parameters aim s) (λ next. StateFits next 0)
+unfolding StateFits
+in_parameters_fits aim signs.Void = tt
+in_parameters_fits aim signs.Close = tt
+in_parameters_fits aim _ = tt
+
+after_parameters_fits : (aim : Aim) (s : Sign) → IfSome (after_parameters aim s) (λ next. StateFits next 0)
+unfolding StateFits
+after_parameters_fits (ToPrototype secs ds) signs.Semicolon = tt
+after_parameters_fits (ToMain ds) signs.LeftBrace = (omega arith, tt)
+after_parameters_fits _ _ = tt
+
+returning_fits : (p : Place) (ds : List Declared) (made : Code) (s : Sign) → Fine 0 made → IfSome (returning p ds made s) (λ next. StateFits next 0)
+unfolding StateFits
+returning_fits p ds made (signs.Number n) h = fine_followed 0 made (Skip p Done) h (omega arith, tt)
+returning_fits p ds made _ h = tt
+
+closing_fits : (ds : List Declared) (made : Code) (p : Place) (s : Sign) → Fine 0 made → IfSome (closing ds made p s) (λ next. StateFits next 0)
+unfolding StateFits
+closing_fits ds made p signs.RightBrace h = h
+closing_fits ds made p _ h = tt
+
+over_fits : (f : File) (parts : List Tailing) (s : Sign) → Fine 0 f.body → IfSome (over f parts s) (λ next. StateFits next 0)
+unfolding StateFits
+over_fits f parts (signs.GroupIf n) h = h
+over_fits f (Another k ∷ parts) (signs.GroupElif n) h = h
+over_fits f (Another k ∷ parts) signs.GroupElse h = h
+over_fits f (part ∷ parts) signs.GroupEnd h = h
+over_fits f _ _ h = tt
+
+step_fits : (state : State) (p : Place) (s : Sign) (k : ℕ) → is_nested state s ≡ false → is_long state s k ≡ false → StateFits state k → IfSome (step state p s) (λ next. StateFits next (counted state s k))
+unfolding StateFits UseFits weight
+step_fits (Outside secs ds) p s k d l h = outside_fits secs ds s
+step_fits (AfterStatic secs ds) p s k d l h = int_fits (Declaring secs ds) s tt
+step_fits (AfterExtern secs ds) p s k d l h = int_fits (AfterExternInt secs ds) s tt
+step_fits (AfterInt secs ds) p s k d l h = after_int_fits secs ds s
+step_fits (AfterExternInt secs ds) p s k d l h = at_input_fits (Parameters (ToPrototype secs ds)) s tt
+step_fits (Declaring secs ds) p s k d l h = declaring_fits secs ds s
+step_fits (Bare x secs ds) p s k d l h = bare_fits x secs ds s
+step_fits (Starting x secs ds) p s k d l h = starting_fits x secs ds s
+step_fits (Negating x secs ds) p s k d l h = negating_fits x secs ds s
+step_fits (Started x n secs ds) p s k d l h = started_fits x n secs ds s
+step_fits (Parameters aim) p s k d l h = open_fits (InParameters aim) s tt
+step_fits (InParameters aim) p s k d l h = in_parameters_fits aim s
+step_fits (AfterVoid aim) p s k d l h = close_fits (AfterParameters aim) s tt
+step_fits (AfterParameters aim) p s k d l h = after_parameters_fits aim s
+step_fits (Ready outer) p s k d l h = begin_fits outer p s 0 d h
+step_fits (Ended outer c) p s k d l h = on_fits outer c p s 0 d h.0 h.1
+step_fits (Wants fs u) p s k d l h = want_fits fs u p s k l h
+step_fits (Has fs u e) p s k d l h = have_fits fs u e p s k l h
+step_fits (Named q x outer) p s k d l h = named_fits q x outer s h
+step_fits (Opens u) p s k d l h = open_fits (Wants [] u) s (h, omega arith, omega arith)
+step_fits (InputOpens q x outer) p s k d l h = open_fits (InputCloses q x outer) s h
+step_fits (InputCloses q x outer) p s k d l h = close_fits (Finishing outer (Input q x Done)) s (h, (depth_fits outer h, tt))
+step_fits (Finishing outer c) p s k d l h = semicolon_fits (Ended outer c) s h
+step_fits (Returning q ds made) p s k d l h = returning_fits q ds made s h
+step_fits (Returned ds made) p s k d l h = semicolon_fits (Closing ds made) s h
+step_fits (Closing ds made) p s k d l h = closing_fits ds made p s h
+step_fits (Over f parts) p s k d l h = over_fits f parts s h
+
+-- ---- the run
+
+neither : (a b : Bool) → (a || b) ≡ false → (a ≡ false) × (b ≡ false)
+neither true b h = absurd cc
+neither false b h = (refl, h)
+
+IsFine : Result File Fault → Type 0
+IsFine r = IfOk r (λ f. Fine 0 f.body)
+
+finish_fits : (state : State) (k : ℕ) → StateFits state k → IsFine (ended (finish state))
+unfolding StateFits IsFine
+finish_fits (Over f []) k h = h
+finish_fits _ k h = tt
+
+went_fits : (o : Option State) (deep : Bool) (state : State) (s : Sign) (k : ℕ) (go : State → Result File Fault) (n : ℕ) → is_deep state s k ≡ deep → (is_deep state s k ≡ false → IfSome o (λ next. StateFits next (counted state s k))) → ((next : State) → StateFits next (counted state s k) → IsFine (go next)) → IsFine (went o deep go n)
+unfolding IsFine
+went_fits None deep state s k go n is h rec = tt
+went_fits (Some next) true state s k go n is h rec = tt
+went_fits (Some next) false state s k go n is h rec = rec next (h is)
+
+within : (ts : List Item) (state : State) (k : ℕ) → StateFits state k → IsFine (guarded state k ts)
+unfolding guarded
+within [] state k h = finish_fits state k h
+within (x ∷ ts) state k h =
+    went_fits (step state x.place x.sign) (is_deep state x.sign k) state x.sign k (λ next. guarded next (counted state x.sign k) ts) (suc (length ts)) refl
+    (λ d. let r = neither (is_nested state x.sign) (is_long state x.sign k) d in step_fits state x.place x.sign k r.0 r.1 h)
+    (λ next fits. within ts next (counted state x.sign k) fits)
+
+pub fine_files : (items : List Item) (f : File) → guarded start 0 items ≡ Ok f → (nesting f.body ≤ 64) × IsSmall f.body
+unfolding StateFits IsFine
+fine_files items f h =
+    let r = within items start 0 tt in
+    let t : Fine 0 f.body = subst (λ (y : Result File Fault). IfOk y (λ f. Fine 0 f.body)) h r in
+    (omega (arith, t.0), t.1)

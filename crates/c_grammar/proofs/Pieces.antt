@@ -1,0 +1,60 @@
+-- Statements are put where they belong.
+use Rattle.std.proofs.Common.{◌≡◌, Bool, true, false, List, [], ◌∷◌, ◌++◌, sym, ap, subst, ◌∙◌, append_assoc}
+use Rattle.std.proofs.lemmas.List.{append-nil}
+use Rattle.c_tree.specs.Tree.{Code, Done, If, While, Cond, followed}
+use Rattle.c_grammar.specs.declared.items.Sign.TheVariants as signs
+use Rattle.c_grammar.specs.declared.items.Item.{Item}
+use Rattle.c_grammar.specs.Ahead.{IsList}
+use Rattle.c_grammar.specs.Grammar.{at, Listed, Stated, Writes, none, more, choice, while, if_then, if_else}
+use Rattle.c_grammar.specs.Machine.{Stack, Top, Braces, Yes, No, ThenOf, ElseOf, LoopOf, folded}
+use Rattle.c_grammar.proofs.Standing.{Read, Piece}
+use Rattle.c_grammar.proofs.Complete.{followed-none, followed-assoc}
+
+single : {d : Bool} {ts : List Item} {c : Code} → Writes (Stated d) ts c → Writes Listed ts c
+single {d} {ts} {c} s =
+    let h : Writes Listed (ts ++ []) (followed c Done) = more s none in
+    subst (λ (y : List Item). Writes Listed y c) (append-nil ts) (subst (λ (y : Code). Writes Listed (ts ++ []) y) (followed-none c) h)
+
+pub joined : {ts us : List Item} {c d : Code} → Writes Listed ts c → Writes Listed us d → Writes Listed (ts ++ us) (followed c d)
+joined none t = t
+joined {us = us} {d = d} (more {b} {ts = ts} {us = vs} {c} {d = e} s l) t =
+    subst (λ (y : Code). Writes Listed ((ts ++ vs) ++ us) y) (sym (followed-assoc c e d)) (subst (λ (y : List Item). Writes Listed y (followed c (followed e d))) (sym (append_assoc ts vs us)) (more s (joined l t)))
+joined {us = us} {d = d} (choice p n {ts = ts} {us = vs} {vs = ws} {c} {d = e} {e = f} s t l) m =
+    let is : (ts ++ (vs ++ ws)) ++ us ≡ ts ++ (vs ++ (ws ++ us)) = append_assoc ts (vs ++ ws) us ∙ ap (λ (x : List Item). ts ++ x) (append_assoc vs ws us) in
+    subst (λ (y : List Item). Writes Listed (at p (signs.GroupIf n) ∷ y) (Cond n c e (followed f d))) (sym is) (choice p n s t (joined l m))
+
+pub piece : (d : Bool) (outer : Stack) (ts : List Item) (c : Code) → Writes (Stated d) ts c → Piece d outer ts c
+piece d (Top ds made) ts c s = single s
+piece d (Braces p made outer) ts c s = single s
+piece d (Yes links n made outer) ts c s = single s
+piece d (No links n first made outer) ts c s = single s
+piece d (ThenOf p e outer) ts c s = s
+piece d (ElseOf p e first outer) ts c s = s
+piece d (LoopOf p e outer) ts c s = s
+
+pub listed : (outer : Stack) (ts : List Item) (c : Code) → IsList outer → Writes Listed ts c → Piece false outer ts c
+listed (Top ds made) ts c is s = s
+listed (Braces p made outer) ts c is s = s
+listed (Yes links n made outer) ts c is s = s
+listed (No links n first made outer) ts c is s = s
+listed (ThenOf p e outer) ts c is s = absurd is
+listed (ElseOf p e first outer) ts c is s = absurd is
+listed (LoopOf p e outer) ts c is s = absurd is
+
+pub fold_is : (d : Bool) (outer : Stack) (c : Code) (b ts : List Item) → Read outer b → Piece d outer ts c → Read (folded outer c) (b ++ ts)
+fold_is d (Top ds made) c b ts r s = (r.0, r.1 ++ ts, r.2, joined r.3 s, ap (λ (y : List Item). y ++ ts) r.4 ∙ append_assoc r.0 r.1 ts)
+fold_is d (Braces p made outer) c b ts r s = (r.0, r.1 ++ ts, r.2, joined r.3 s, ap (λ (y : List Item). y ++ ts) r.4 ∙ append_assoc r.0 (at p signs.LeftBrace ∷ r.1) ts)
+fold_is d (Yes links n made outer) c b ts r s = (r.0, r.1, r.2 ++ ts, r.3, r.4, r.5, joined r.6 s, ap (λ (y : List Item). y ++ ts) r.7 ∙ append_assoc r.0 (r.1 ++ r.2) ts ∙ ap (λ (y : List Item). r.0 ++ y) (append_assoc r.1 r.2 ts))
+fold_is d (No links n first made outer) c b ts r s = (r.0, r.1, r.2, r.3 ++ ts, r.4, r.5, r.6, r.7, r.8, joined r.9 s, ap (λ (y : List Item). y ++ ts) r.10 ∙ simp append_assoc)
+fold_is d (ThenOf p e outer) c b ts r s =
+    let text : List Item = at p signs.If ∷ at r.0 signs.Open ∷ (r.3 ++ at r.1 signs.Close ∷ ts) in
+    let is : b ++ ts ≡ r.2 ++ text = ap (λ (y : List Item). y ++ ts) r.6 ∙ simp append_assoc in
+    subst (Read (folded outer (If p e c Done Done))) (sym is) (fold_is true outer (If p e c Done Done) r.2 text r.4 (piece true outer text (If p e c Done Done) (if_then p r.0 r.1 r.5 s)))
+fold_is d (ElseOf p e first outer) c b ts r s =
+    let text : List Item = at p signs.If ∷ at r.0 signs.Open ∷ (r.4 ++ at r.1 signs.Close ∷ (r.5 ++ at r.2 signs.Else ∷ ts)) in
+    let is : b ++ ts ≡ r.3 ++ text = ap (λ (y : List Item). y ++ ts) r.9 ∙ simp append_assoc in
+    subst (Read (folded outer (If p e first c Done))) (sym is) (fold_is d outer (If p e first c Done) r.3 text r.6 (piece d outer text (If p e first c Done) (if_else p r.0 r.1 r.2 r.7 r.8 s)))
+fold_is d (LoopOf p e outer) c b ts r s =
+    let text : List Item = at p signs.While ∷ at r.0 signs.Open ∷ (r.3 ++ at r.1 signs.Close ∷ ts) in
+    let is : b ++ ts ≡ r.2 ++ text = ap (λ (y : List Item). y ++ ts) r.6 ∙ simp append_assoc in
+    subst (Read (folded outer (While p e c Done))) (sym is) (fold_is d outer (While p e c Done) r.2 text r.4 (piece d outer text (While p e c Done) (while p r.0 r.1 r.5 s)))

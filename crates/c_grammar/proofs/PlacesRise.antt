@@ -1,0 +1,80 @@
+-- The places of a program are those of some of its items, in order.
+use Rattle.std.proofs.Common.{◌≡◌, List, [], ◌∷◌, ◌++◌, sym, ap, subst, ◌∙◌, append_assoc}
+use Rattle.std.proofs.lemmas.List.{append-nil}
+use Rattle.fam_outer.specs.declared.faults.Place.{Place}
+use Rattle.c_tree.specs.Tree.{Code, followed}
+use Rattle.c_tree.specs.Places.{places_of}
+use Rattle.c_tree.specs.Whole.{IsBeforeAll, IsRising}
+use Rattle.c_tree.proofs.Listed.{places_of-followed}
+use Rattle.c_grammar.specs.declared.items.Item.{Item}
+use Rattle.c_grammar.specs.declared.items.Sign.TheVariants as signs
+use Rattle.c_grammar.specs.Grammar.{at, update_sign, count_sign, Shape, Writes, none, more, choice, ends, otherwise, elif, assign, input, update, count, assert, skip, block, while, if_then, if_else, Returns, no_return, return, Body, body, Main, main, File, Forms, file}
+use Rattle.c_grammar.specs.Facts.{IsBeforeItems, AreRising}
+
+-- the places are those of some of the items
+pub data IsPart : List Place → List Item → Type 0 where
+  end : IsPart [] []
+  keep : (x : Item) {ps : List Place} {w : List Item} → IsPart ps w → IsPart (x.place ∷ ps) (x ∷ w)
+  pass : (x : Item) {ps : List Place} {w : List Item} → IsPart ps w → IsPart ps (x ∷ w)
+
+before_part : (p : Place) {ps : List Place} {w : List Item} → IsPart ps w → IsBeforeItems p w → IsBeforeAll p ps
+before_part p end h = tt
+before_part p (keep x part) h = (h.0, before_part p part h.1)
+before_part p (pass x part) h = before_part p part h.1
+
+pub rising_part : {ps : List Place} {w : List Item} → IsPart ps w → AreRising w → IsRising ps
+rising_part end h = tt
+rising_part (keep x part) h = (before_part x.place part h.0, rising_part part h.1)
+rising_part (pass x part) h = rising_part part h.1
+
+pass_all : (ts : List Item) {ps : List Place} {w : List Item} → IsPart ps w → IsPart ps (ts ++ w)
+pass_all [] part = part
+pass_all (x ∷ ts) part = pass x (pass_all ts part)
+
+joined : {ps qs : List Place} {v w : List Item} → IsPart ps v → IsPart qs w → IsPart (ps ++ qs) (v ++ w)
+joined end q = q
+joined (keep x part) q = keep x (joined part q)
+joined (pass x part) q = pass x (joined part q)
+
+no_part : (w : List Item) → IsPart [] w
+no_part [] = end
+no_part (x ∷ w) = pass x (no_part w)
+
+padded : {ps : List Place} {w : List Item} → IsPart ps w → IsPart (ps ++ []) w
+padded {ps} {w} part = subst (λ (y : List Place). IsPart y w) (sym (append-nil ps)) part
+
+before : {ps : List Place} {v : List Item} (w : List Item) → IsPart ps v → IsPart ps (v ++ w)
+before {ps} {v} w part = subst (λ (y : List Place). IsPart y (v ++ w)) (append-nil ps) (joined part (no_part w))
+
+code_part : {s : Shape} {ts : List Item} {c : Code} → Writes s ts c → IsPart (places_of c) ts
+code_part none = end
+code_part (more {b} {ts} {us} {c} {d} s l) = subst (λ (y : List Place). IsPart y (ts ++ us)) (sym (places_of-followed c d)) (joined (code_part s) (code_part l))
+code_part (choice p m s t l) = pass (at p (signs.GroupIf m)) (joined (code_part s) (joined (code_part t) (code_part l)))
+code_part (ends p) = pass (at p signs.GroupEnd) end
+code_part (otherwise p q s) = pass (at p signs.GroupElse) (before (at q signs.GroupEnd ∷ []) (code_part s))
+code_part (elif p m s t) = pass (at p (signs.GroupElif m)) (joined (code_part s) (padded (code_part t)))
+code_part (assign p q r x {ts} e) = keep (at p (signs.Name x)) (no_part (at q signs.Equals ∷ (ts ++ at r signs.Semicolon ∷ [])))
+code_part (input p q r s t u x) = keep (at p (signs.Name x)) (no_part (at q signs.Equals ∷ at r signs.Input ∷ at s signs.Open ∷ at t signs.Close ∷ at u signs.Semicolon ∷ []))
+code_part (update p q r x u {ts} e) = keep (at p (signs.Name x)) (no_part (at q (update_sign u) ∷ (ts ++ at r signs.Semicolon ∷ [])))
+code_part (count p q r x u) = keep (at p (signs.Name x)) (no_part (at q (count_sign u) ∷ at r signs.Semicolon ∷ []))
+code_part (assert p q r s {ts} e) = keep (at p signs.Assert) (no_part (at q signs.Open ∷ (ts ++ at r signs.Close ∷ at s signs.Semicolon ∷ [])))
+code_part (skip p) = keep (at p signs.Semicolon) end
+code_part (block p q s) = keep (at p signs.LeftBrace) (joined (code_part s) (no_part (at q signs.RightBrace ∷ [])))
+code_part (while p q r {b} {ts} {us} e s) = keep (at p signs.While) (pass (at q signs.Open) (pass_all ts (pass (at r signs.Close) (padded (code_part s)))))
+code_part (if_then p q r {b} {ts} {us} e s) = keep (at p signs.If) (pass (at q signs.Open) (pass_all ts (pass (at r signs.Close) (padded (code_part s)))))
+code_part (if_else p q r z {b} {ts} {us} {vs} e s t) = keep (at p signs.If) (pass (at q signs.Open) (pass_all ts (pass (at r signs.Close) (joined (code_part s) (pass (at z signs.Else) (padded (code_part t)))))))
+
+return_part : {ts : List Item} {c : Code} → Returns ts c → IsPart (places_of c) ts
+return_part no_return = end
+return_part (return p q r v) = keep (at p signs.Return) (no_part (at q (signs.Number v) ∷ at r signs.Semicolon ∷ []))
+
+body_part : {ts : List Item} {c : Code} {p : Place} → Body ts c p → IsPart (places_of c ++ p ∷ []) ts
+body_part (body p {us} {vs} {ws} {c} {d} s r e) =
+    let is : places_of c ++ (places_of d ++ p ∷ []) ≡ places_of (followed c d) ++ p ∷ [] = sym (append_assoc (places_of c) (places_of d) (p ∷ [])) ∙ ap (λ (y : List Place). y ++ p ∷ []) (sym (places_of-followed c d)) in
+    subst (λ (y : List Place). IsPart y (us ++ (vs ++ at p signs.RightBrace ∷ ws))) is (joined (code_part s) (joined (return_part r) (keep (at p signs.RightBrace) (no_part ws))))
+
+main_part : {ts : List Item} {c : Code} {p : Place} → Main ts c p → IsPart (places_of c ++ p ∷ []) ts
+main_part (main p q r s t u {us} {vs} o b) = pass (at p signs.Int) (pass (at q signs.Main) (pass (at r signs.Open) (pass_all us (pass (at s signs.Close) (pass (at t signs.LeftBrace) (body_part b))))))
+
+pub file_part : (items : List Item) (f : File) → Forms items f → IsPart (places_of f.body ++ f.end ∷ []) items
+file_part _ _ (file {us} {vs} d m) = pass_all us (main_part m)

@@ -1,0 +1,60 @@
+-- What is read is spelled.
+use Rattle.std.proofs.Common.{◌≡◌, ℕ, suc, List, [], ◌∷◌, ◌++◌, length, Some, None, Result, Ok, sym, subst, append_assoc}
+use Rattle.std.specs.Prelude.{IfSome, IfOk}
+use Rattle.std.proofs.lemmas.List.{append-nil}
+use Rattle.fam_outer.specs.declared.faults.Place.{Place}
+use Rattle.c_grammar.specs.declared.items.Sign.{Sign}
+use Rattle.c_grammar.specs.declared.items.Item.{Item}
+use Rattle.c_grammar.specs.Grammar.{at, no_more, File, file_of, Forms, file}
+use Rattle.c_grammar.specs.Machine.{Outermost, State, Outside, AfterStatic, AfterExtern, AfterInt, AfterExternInt, Declaring, Bare, Starting, Negating, Started, Parameters, InParameters, AfterVoid, AfterParameters, Ready, Ended, Wants, Has, Named, Opens, InputOpens, InputCloses, Finishing, Returning, Returned, Closing, Over, step, finish, at_end, moved, run, start}
+use Rattle.c_grammar.proofs.Standing.{Tail, Stands}
+use Rattle.c_grammar.proofs.SoundExpressions.{want_keeps, have_keeps}
+use Rattle.c_grammar.proofs.SoundStatements.{begin_keeps, on_keeps, named_keeps, opens_keeps, input_opens_keeps, input_closes_keeps, finishing_keeps}
+use Rattle.c_grammar.proofs.SoundFiles.{outside_keeps, static_keeps, extern_keeps, int_keeps, extern_int_keeps, declaring_keeps, bare_keeps, starting_keeps, negating_keeps, started_keeps, parameters_keeps, in_parameters_keeps, void_keeps, after_parameters_keeps, returning_keeps, return_end_keeps, closing_keeps, over_keeps}
+
+keeps : (state : State) (p : Place) (s : Sign) (a : List Item) → Stands state a → IfSome (step state p s) (λ next. Stands next (a ++ at p s ∷ []))
+keeps (Outside secs ds) p s a r = outside_keeps secs ds p s a r
+keeps (AfterStatic secs ds) p s a r = static_keeps secs ds p s a r
+keeps (AfterExtern secs ds) p s a r = extern_keeps secs ds p s a r
+keeps (AfterInt secs ds) p s a r = int_keeps secs ds p s a r
+keeps (AfterExternInt secs ds) p s a r = extern_int_keeps secs ds p s a r
+keeps (Declaring secs ds) p s a r = declaring_keeps secs ds p s a r
+keeps (Bare x secs ds) p s a r = bare_keeps x secs ds p s a r
+keeps (Starting x secs ds) p s a r = starting_keeps x secs ds p s a r
+keeps (Negating x secs ds) p s a r = negating_keeps x secs ds p s a r
+keeps (Started x n secs ds) p s a r = started_keeps x n secs ds p s a r
+keeps (Parameters aim) p s a r = parameters_keeps aim p s a r
+keeps (InParameters aim) p s a r = in_parameters_keeps aim p s a r
+keeps (AfterVoid aim) p s a r = void_keeps aim p s a r
+keeps (AfterParameters aim) p s a r = after_parameters_keeps aim p s a r
+keeps (Ready outer) p s a r = begin_keeps outer p s a r
+keeps (Ended outer c) p s a r = on_keeps outer c p s a r
+keeps (Wants fs u) p s a r = want_keeps fs u p s a r
+keeps (Has fs u e) p s a r = have_keeps fs u e p s a r
+keeps (Named q x outer) p s a r = named_keeps q x outer p s a r
+keeps (Opens u) p s a r = opens_keeps u p s a r
+keeps (InputOpens q x outer) p s a r = input_opens_keeps q x outer p s a r
+keeps (InputCloses q x outer) p s a r = input_closes_keeps q x outer p s a r
+keeps (Finishing outer c) p s a r = finishing_keeps outer c p s a r
+keeps (Returning q ds made) p s a r = returning_keeps q ds made p s a r
+keeps (Returned ds made) p s a r = return_end_keeps ds made p s a r
+keeps (Closing ds made) p s a r = closing_keeps ds made p s a r
+keeps (Over f parts) p s a r = over_keeps f parts p s a r
+
+finishes : (state : State) (a : List Item) → Stands state a → IfOk (at_end (finish state)) (λ made. Forms a made)
+finishes (Over f []) a r = subst (λ (y : List Item). Forms y f) (append-nil a) (r [] no_more)
+finishes _ a r = tt
+
+sound : (state : State) (ts a : List Item) → Stands state a → IfOk (run state ts) (λ made. Forms (a ++ ts) made)
+unfolding run
+sound state [] a r = subst (λ (y : List Item). IfOk (at_end (finish state)) (λ made. Forms y made)) (sym (append-nil a)) (finishes state a r)
+sound state (x ∷ ts) a r = elim (step state x.place x.sign) as (λ o. IfSome o (λ next. Stands next (a ++ x ∷ [])) → IfOk (moved o (λ next. run next ts) (suc (length ts))) (λ made. Forms (a ++ x ∷ ts) made)) [
+  | None ↦ λ h. tt
+  | Some next ↦ λ h. subst (λ (y : List Item). IfOk (run next ts) (λ made. Forms y made)) (append_assoc a (x ∷ []) ts) (sound next ts (a ++ x ∷ []) h)
+] (keeps state x.place x.sign a r)
+
+whole_tail : (w : List Item) (f : File) → Tail Outermost [] w f → Forms w f
+whole_tail w f t = subst (λ (y : File). Forms w y) (sym t.8) (subst (λ (y : List Item). Forms y (file_of t.2 t.3 t.4)) (sym t.7) (file t.5 t.6))
+
+pub ok_forms : (ts : List Item) (f : File) → run start ts ≡ Ok f → Forms ts f
+ok_forms ts f h = let s = sound start ts [] (λ w g t. whole_tail w g t) in subst (λ (r : Result File ℕ). IfOk r (λ made. Forms ts made)) h s

@@ -1,0 +1,116 @@
+-- What is read is spelled: expressions.
+use Rattle.std.proofs.Common.{◌≡◌, ℕ, zero, suc, ◌≤◌, ltb, true, false, cond, List, [], ◌∷◌, ◌++◌, refl, sym, ap, subst, ◌∙◌, append_assoc, arith, inl, inr}
+use Rattle.std.specs.Prelude.{IfSome}
+use Rattle.std.proofs.lemmas.Bool.{ltb-false, ltb-true, cases_lt}
+use Rattle.fam_outer.specs.declared.faults.Place.{Place}
+use Rattle.c_tree.specs.declared.tree.Op.TheVariants.{Add, Sub}
+use Rattle.c_tree.specs.Tree.{Term, Binary, Done, Assign, Assert}
+use Rattle.c_grammar.specs.declared.items.Sign.{Sign}
+use Rattle.c_grammar.specs.declared.items.Sign.TheVariants as signs
+use Rattle.c_grammar.specs.declared.items.Item.{Item}
+use Rattle.c_grammar.specs.Grammar.{at, tighter, prefix_sign, applied, Expresses, number, name, group, prefix, loose, binary, update_sign, updated, Stated, Writes, assign, update, assert}
+use Rattle.c_grammar.specs.Machine.{Frame, Paren, Pre, Left, room, Use, ToAssign, ToUpdate, ToAssert, ToChoose, ToLoop, Has, settle, input_of, want, tested, closed_by, assigned, ended_by, have}
+use Rattle.c_grammar.proofs.Standing.{Framed, Stands}
+use Rattle.c_grammar.proofs.Complete.{tighter_small}
+use Rattle.c_grammar.proofs.Pieces.{piece}
+
+loosen : (j k : ℕ) {ts : List Item} {e : Term} → j ≤ k → Expresses j ts e → Expresses k ts e
+loosen j zero {ts} {e} le s = let h : j ≡ 0 = omega arith in subst (λ (i : ℕ). Expresses i ts e) h s
+loosen j (suc k) {ts} {e} le s = elim (cases_lt j (suc k)) [
+  | inl lt ↦ loose (loosen j k (omega arith) s)
+  | inr ge ↦ (let h : j ≡ suc k = omega arith in subst (λ (i : ℕ). Expresses i ts e) h s)
+]
+
+record Settled (u : Use) (k : ℕ) (s : List Frame × Term) (a : List Item) : Type 0 where
+  pub before : List Item
+  pub text : List Item
+  pub is_read : Framed u s.0 before
+  pub spells : Expresses k text s.1
+  pub fits : k ≤ room s.0
+  pub parts : a ≡ before ++ text
+
+settle_is : (u : Use) (k : ℕ) → k ≤ 6 → (fs : List Frame) (e : Term) (j : ℕ) → j ≤ k → j ≤ room fs → (b ts : List Item) → Framed u fs b → Expresses j ts e → Settled u k (settle k fs e) (b ++ ts)
+settle_is u k small [] e j le fits b ts r s = record { before = b; text = ts; is_read = r; spells = loosen j k le s; fits = small; parts = refl }
+settle_is u k small (Paren ∷ fs) e j le fits b ts r s = record { before = b; text = ts; is_read = r; spells = loosen j k le s; fits = small; parts = refl }
+settle_is u k small (Pre v ∷ fs) e j le fits b ts r s =
+    let is : b ++ ts ≡ r.1 ++ (at r.0 (prefix_sign v) ∷ ts) = ap (λ (x : List Item). x ++ ts) r.3 ∙ append_assoc r.1 (at r.0 (prefix_sign v) ∷ []) ts in
+    subst (λ (x : List Item). Settled u k (settle k fs (applied v e)) x) (sym is) (settle_is u k small fs (applied v e) 0 (omega arith) (omega arith) r.1 (at r.0 (prefix_sign v) ∷ ts) r.2 (prefix r.0 v (loosen j 0 fits s)))
+settle_is u k small (Left op x ∷ fs) e j le fits b ts r s =
+    elim (ltb (tighter op) k) as (λ v. ltb (tighter op) k ≡ v → Settled u k (cond v (settle k fs (Binary op x e)) (Left op x ∷ fs, e)) (b ++ ts)) [
+      | true ↦ λ h.
+          let is : b ++ ts ≡ r.1 ++ (r.2 ++ at r.0 (signs.Oper op) ∷ ts) = ap (λ (y : List Item). y ++ ts) r.6 ∙ append_assoc r.1 (r.2 ++ at r.0 (signs.Oper op) ∷ []) ts ∙ ap (λ (y : List Item). r.1 ++ y) (append_assoc r.2 (at r.0 (signs.Oper op) ∷ []) ts) in
+          subst (λ (y : List Item). Settled u k (settle k fs (Binary op x e)) y) (sym is)
+          (settle_is u k small fs (Binary op x e) (suc (tighter op)) (ltb-true (tighter op) k h) r.5 r.1 (r.2 ++ at r.0 (signs.Oper op) ∷ ts) r.3 (binary r.0 op r.4 (loosen j (tighter op) fits s)))
+      | false ↦ λ h. record { before = b; text = ts; is_read = r; spells = loosen j k le s; fits = ltb-false (tighter op) k h; parts = refl }
+    ] refl
+
+of_state : (fs : List Frame) (u : Use) (e : Term) (a : List Item) (k : ℕ) → k ≤ 6 → Stands (Has fs u e) a → Settled u k (settle k fs e) a
+of_state fs u e a k small h = subst (λ (y : List Item). Settled u k (settle k fs e) y) (sym h.4) (settle_is u k small fs e 0 (omega arith) (omega arith) h.0 h.1 h.2 h.3)
+
+input_keeps : (fs : List Frame) (u : Use) (p : Place) (a : List Item) → Framed u fs a → IfSome (input_of fs u) (λ next. Stands next (a ++ at p signs.Input ∷ []))
+input_keeps [] (ToAssign q x outer) p a r = (r.0, p, r.1, r.2, ap (λ (y : List Item). y ++ at p signs.Input ∷ []) r.3 ∙ append_assoc r.1 (at q (signs.Name x) ∷ at r.0 signs.Equals ∷ []) (at p signs.Input ∷ []))
+input_keeps _ _ p a r = tt
+
+pub want_keeps : (fs : List Frame) (u : Use) (p : Place) (s : Sign) (a : List Item) → Framed u fs a → IfSome (want fs u s) (λ next. Stands next (a ++ at p s ∷ []))
+want_keeps fs u p (signs.Number n) a r = (a, at p (signs.Number n) ∷ [], r, number p n, refl)
+want_keeps fs u p (signs.Name x) a r = (a, at p (signs.Name x) ∷ [], r, name p x, refl)
+want_keeps fs u p signs.Open a r = (p, a, r, refl)
+want_keeps fs u p signs.Bang a r = (p, a, r, refl)
+want_keeps fs u p (signs.Oper Add) a r = (p, a, r, refl)
+want_keeps fs u p (signs.Oper Sub) a r = (p, a, r, refl)
+want_keeps fs u p signs.Input a r = input_keeps fs u p a r
+want_keeps fs u p _ a r = tt
+
+tested_keeps : (u : Use) (e : Term) (p : Place) (a : List Item) → Settled u 6 ([], e) a → IfSome (tested u e) (λ next. Stands next (a ++ at p signs.Close ∷ []))
+tested_keeps (ToAssign q x outer) e p a d = tt
+tested_keeps (ToUpdate q x u outer) e p a d = tt
+tested_keeps (ToAssert q outer) e p a d =
+    let r = d.is_read in
+    let text : List Item = at q signs.Assert ∷ at r.0 signs.Open ∷ (d.text ++ at p signs.Close ∷ []) in
+    let is : (s : Place) → at q signs.Assert ∷ at r.0 signs.Open ∷ (d.text ++ at p signs.Close ∷ at s signs.Semicolon ∷ []) ≡ text ++ at s signs.Semicolon ∷ [] = λ s. simp append_assoc in (
+      r.1,
+      text,
+      r.2,
+      λ s. subst (λ (y : List Item). Writes (Stated false) y (Assert q e Done)) (is s) (assert q r.0 p s d.spells),
+      ap (λ (y : List Item). y ++ at p signs.Close ∷ []) (d.parts ∙ ap (λ (y : List Item). y ++ d.text) r.3) ∙ simp append_assoc,
+    )
+tested_keeps (ToChoose q outer) e p a d = let r = d.is_read in (r.0, p, r.1, d.text, r.2, d.spells, ap (λ (y : List Item). y ++ at p signs.Close ∷ []) (d.parts ∙ ap (λ (y : List Item). y ++ d.text) r.3) ∙ simp append_assoc)
+tested_keeps (ToLoop q outer) e p a d = let r = d.is_read in (r.0, p, r.1, d.text, r.2, d.spells, ap (λ (y : List Item). y ++ at p signs.Close ∷ []) (d.parts ∙ ap (λ (y : List Item). y ++ d.text) r.3) ∙ simp append_assoc)
+
+closed_keeps : (fs : List Frame) (u : Use) (e : Term) (p : Place) (a : List Item) → Settled u 6 (fs, e) a → IfSome (closed_by fs u e) (λ next. Stands next (a ++ at p signs.Close ∷ []))
+closed_keeps [] u e p a d = tested_keeps u e p a d
+closed_keeps (Paren ∷ fs) u e p a d =
+    let r = d.is_read in (
+      r.1,
+      at r.0 signs.Open ∷ (d.text ++ at p signs.Close ∷ []),
+      r.2,
+      group r.0 p d.spells,
+      ap (λ (y : List Item). y ++ at p signs.Close ∷ []) (d.parts ∙ ap (λ (y : List Item). y ++ d.text) r.3) ∙ simp append_assoc,
+    )
+closed_keeps (Pre v ∷ fs) u e p a d = tt
+closed_keeps (Left op x ∷ fs) u e p a d = tt
+
+assigned_keeps : (u : Use) (e : Term) (p : Place) (a : List Item) → Settled u 6 ([], e) a → IfSome (assigned u e) (λ next. Stands next (a ++ at p signs.Semicolon ∷ []))
+assigned_keeps (ToAssign q x outer) e p a d =
+    let r = d.is_read in
+    let text : List Item = at q (signs.Name x) ∷ at r.0 signs.Equals ∷ (d.text ++ at p signs.Semicolon ∷ []) in
+    (r.1, text, r.2, piece false outer text (Assign q x e Done) (assign q r.0 p x d.spells), ap (λ (y : List Item). y ++ at p signs.Semicolon ∷ []) (d.parts ∙ ap (λ (y : List Item). y ++ d.text) r.3) ∙ simp append_assoc)
+assigned_keeps (ToUpdate q x v outer) e p a d =
+    let r = d.is_read in
+    let text : List Item = at q (signs.Name x) ∷ at r.0 (update_sign v) ∷ (d.text ++ at p signs.Semicolon ∷ []) in
+    (r.1, text, r.2, piece false outer text (updated q x v e) (update q r.0 p x v d.spells), ap (λ (y : List Item). y ++ at p signs.Semicolon ∷ []) (d.parts ∙ ap (λ (y : List Item). y ++ d.text) r.3) ∙ simp append_assoc)
+assigned_keeps (ToAssert q outer) e p a d = tt
+assigned_keeps (ToChoose q outer) e p a d = tt
+assigned_keeps (ToLoop q outer) e p a d = tt
+
+ended_keeps : (fs : List Frame) (u : Use) (e : Term) (p : Place) (a : List Item) → Settled u 6 (fs, e) a → IfSome (ended_by fs u e) (λ next. Stands next (a ++ at p signs.Semicolon ∷ []))
+ended_keeps [] u e p a d = assigned_keeps u e p a d
+ended_keeps (f ∷ fs) u e p a d = tt
+
+pub have_keeps : (fs : List Frame) (u : Use) (e : Term) (p : Place) (s : Sign) (a : List Item) → Stands (Has fs u e) a → IfSome (have fs u e s) (λ next. Stands next (a ++ at p s ∷ []))
+have_keeps fs u e p signs.Close a r = closed_keeps (settle 6 fs e).0 u (settle 6 fs e).1 p a (of_state fs u e a 6 (omega arith) r)
+have_keeps fs u e p (signs.Oper op) a r =
+    let d = of_state fs u e a (suc (tighter op)) (tighter_small op) r in
+    (p, d.before, d.text, d.is_read, d.spells, d.fits, ap (λ (y : List Item). y ++ at p (signs.Oper op) ∷ []) d.parts ∙ append_assoc d.before d.text (at p (signs.Oper op) ∷ []))
+have_keeps fs u e p signs.Semicolon a r = ended_keeps (settle 6 fs e).0 u (settle 6 fs e).1 p a (of_state fs u e a 6 (omega arith) r)
+have_keeps fs u e p _ a r = tt

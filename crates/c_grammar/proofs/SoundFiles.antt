@@ -1,0 +1,265 @@
+-- What is read is spelled: declarations and the end of a file.
+use Rattle.std.proofs.Common.{◌≡◌, ℕ, ℤ, pos, List, [], ◌∷◌, ◌++◌, refl, sym, ap, subst, ◌∙◌, append_assoc}
+use Rattle.std.specs.Prelude.{IfSome}
+use Rattle.std.proofs.lemmas.List.{append-nil}
+use Rattle.fam_outer.specs.declared.faults.Place.{Place}
+use Rattle.c_tree.specs.declared.tree.Op.TheVariants.{Sub}
+use Rattle.c_tree.specs.declared.tree.Declared.{Declared}
+use Rattle.c_tree.specs.Tree.{Code}
+use Rattle.c_grammar.specs.declared.items.Sign.{Sign}
+use Rattle.c_grammar.specs.declared.items.Sign.TheVariants as signs
+use Rattle.c_grammar.specs.declared.items.Item.{Item}
+use Rattle.c_grammar.specs.Grammar.{at, none, Optional, absent, present, bare, positive, negative, with_true, with_false, declared, Outer, Declares, nothing, variables, prototype, section, last_var, next_var, end_part, else_part, elif_part, Gaps, Empty, no_more, empty_section, empty_end, empty_else, empty_elif, main, File, file_of, Forms}
+use Rattle.c_grammar.specs.Machine.{Tailing, Another, Final, Sections, Outermost, InPart, InLast, guards_of, Aim, ToPrototype, ToMain, Outside, AfterStatic, AfterExtern, AfterInt, AfterExternInt, Declaring, Bare, Starting, Negating, Started, Parameters, InParameters, AfterVoid, AfterParameters, Returning, Returned, Closing, Over, with_declared, at_open, at_close, at_semicolon, at_int, at_input, next_condition, last_section, section_end, outside, declaring, main_of, after_int, started, is_bare, starting, negating, in_parameters, after_parameters, returning, closing, over}
+use Rattle.c_grammar.proofs.Standing.{Tail, VarsTail, Trailing, Stands}
+
+-- ---- one item in front of what may come next
+
+moves : {f : File} (a : List Item) (x : Item) (w : List Item) → Forms (a ++ x ∷ w) f → Forms ((a ++ x ∷ []) ++ w) f
+moves {f} a x w h = subst (λ (y : List Item). Forms y f) (sym (append_assoc a (x ∷ []) w)) h
+
+tail_at : (secs : Sections) (ds es : List Declared) (w : List Item) (f : File) → ds ≡ es → Tail secs ds w f → Tail secs es w f
+tail_at secs ds es w f is t = subst (λ (y : List Declared). Tail secs y w f) is t
+
+-- declarations in front
+prepends : (secs : Sections) (ds es : List Declared) (t w : List Item) (f : File) → ((us : List Item) (fs : List Declared) → Declares (Outer (guards_of secs)) us fs → Declares (Outer (guards_of secs)) (t ++ us) (es ++ fs)) → Tail secs (ds ++ es) w f → Tail secs ds (t ++ w) f
+prepends Outermost ds es t w f k r = (t ++ r.0, r.1, es ++ r.2, r.3, r.4, k r.0 r.2 r.5, r.6, ap (λ (y : List Item). t ++ y) r.7 ∙ sym (append_assoc t r.0 r.1), r.8 ∙ ap (λ (y : List Declared). file_of y r.3 r.4) (append_assoc ds es r.2))
+prepends (InPart gs n outer) ds es t w f k r =
+    let is : (ds ++ es) ++ (r.3 ++ r.4) ≡ ds ++ ((es ++ r.3) ++ r.4) = simp append_assoc in
+    (t ++ r.0, r.1, r.2, es ++ r.3, r.4, k r.0 r.3 r.5, r.6, tail_at outer ((ds ++ es) ++ (r.3 ++ r.4)) (ds ++ ((es ++ r.3) ++ r.4)) r.2 f is r.7, ap (λ (y : List Item). t ++ y) r.8 ∙ sym (append_assoc t r.0 (r.1 ++ r.2)))
+prepends (InLast gs outer) ds es t w f k r =
+    (t ++ r.0, r.1, es ++ r.2, r.3, k r.0 r.2 r.4, tail_at outer ((ds ++ es) ++ r.2) (ds ++ (es ++ r.2)) r.1 f (append_assoc ds es r.2) r.5, ap (λ (y : List Item). t ++ y) r.6 ∙ sym (append_assoc t r.0 (at r.3 signs.GroupEnd ∷ r.1)))
+
+vars_tail : {us : List Item} (p : Place) (secs : Sections) (ds : List Declared) (w : List Item) (f : File) → Optional signs.Static us → VarsTail secs ds w f → Tail secs ds (us ++ at p signs.Int ∷ w) f
+vars_tail {us} p secs ds w f o v =
+    let is : (us ++ at p signs.Int ∷ v.0) ++ v.1 ≡ us ++ at p signs.Int ∷ w = append_assoc us (at p signs.Int ∷ v.0) v.1 ∙ ap (λ (y : List Item). us ++ at p signs.Int ∷ y) (sym v.5) in
+    let k : (ws : List Item) (fs : List Declared) → Declares (Outer (guards_of secs)) ws fs → Declares (Outer (guards_of secs)) ((us ++ at p signs.Int ∷ v.0) ++ ws) (v.2 ++ fs) =
+    λ ws fs d. subst (λ (y : List Item). Declares (Outer (guards_of secs)) y (v.2 ++ fs)) (sym (append_assoc us (at p signs.Int ∷ v.0) ws)) (variables p (guards_of secs) o v.3 d) in
+    subst (λ (y : List Item). Tail secs ds y f) is (prepends secs ds v.2 (us ++ at p signs.Int ∷ v.0) v.1 f k v.4)
+
+prototype_tail : {us vs : List Item} (p q r s t : Place) (secs : Sections) (ds : List Declared) (w : List Item) (f : File) → Optional signs.Extern us → Optional signs.Void vs → Tail secs ds w f
+    → Tail secs ds (us ++ at p signs.Int ∷ at q signs.Input ∷ at r signs.Open ∷ (vs ++ at s signs.Close ∷ at t signs.Semicolon ∷ w)) f
+prototype_tail {us} {vs} p q r s t secs ds w f o v h =
+    let text : List Item = us ++ at p signs.Int ∷ at q signs.Input ∷ at r signs.Open ∷ (vs ++ at s signs.Close ∷ at t signs.Semicolon ∷ []) in
+    let re : (ws : List Item) → us ++ at p signs.Int ∷ at q signs.Input ∷ at r signs.Open ∷ (vs ++ at s signs.Close ∷ at t signs.Semicolon ∷ ws) ≡ text ++ ws = λ ws. simp append_assoc in
+    let k : (ws : List Item) (fs : List Declared) → Declares (Outer (guards_of secs)) ws fs → Declares (Outer (guards_of secs)) (text ++ ws) ([] ++ fs) =
+    λ ws fs d. subst (λ (y : List Item). Declares (Outer (guards_of secs)) y fs) (re ws) (prototype p q r s t (guards_of secs) o v d) in
+    subst (λ (y : List Item). Tail secs ds y f) (sym (re w)) (prepends secs ds [] text w f k (tail_at secs ds (ds ++ []) w f (sym (append-nil ds)) h))
+
+open_tail : (p : Place) (n : ℕ) (secs : Sections) (ds : List Declared) (w : List Item) (f : File) → Tail (InPart (guards_of secs) n secs) ds w f → Tail secs ds (at p (signs.GroupIf n) ∷ w) f
+open_tail p n secs ds w f r =
+    let text : List Item = at p (signs.GroupIf n) ∷ (r.0 ++ r.1) in
+    let k : (ws : List Item) (fs : List Declared) → Declares (Outer (guards_of secs)) ws fs → Declares (Outer (guards_of secs)) (text ++ ws) ((r.3 ++ r.4) ++ fs) =
+    λ ws fs d.
+    subst (λ (y : List Item). Declares (Outer (guards_of secs)) (at p (signs.GroupIf n) ∷ y) ((r.3 ++ r.4) ++ fs)) (sym (append_assoc r.0 r.1 ws))
+    (subst (λ (y : List Declared). Declares (Outer (guards_of secs)) (at p (signs.GroupIf n) ∷ (r.0 ++ (r.1 ++ ws))) y) (sym (append_assoc r.3 r.4 fs)) (section p n (guards_of secs) r.5 r.6 d)) in
+    let is : text ++ r.2 ≡ at p (signs.GroupIf n) ∷ w = ap (λ (y : List Item). at p (signs.GroupIf n) ∷ y) (append_assoc r.0 r.1 r.2 ∙ sym r.8) in
+    subst (λ (y : List Item). Tail secs ds y f) is (prepends secs ds (r.3 ++ r.4) text r.2 f k r.7)
+
+-- ---- declarators
+
+pub started_keeps : (x : ℕ) (n : ℤ) (secs : Sections) (ds : List Declared) (p : Place) (s : Sign) (a : List Item) → Stands (Started x n secs ds) a → IfSome (started x n secs ds s) (λ next. Stands next (a ++ at p s ∷ []))
+started_keeps x n secs ds p signs.Comma a r = λ w f v. moves a (at p signs.Comma) w (r (at p signs.Comma ∷ w) f (λ us d. (
+  us ++ at p signs.Comma ∷ v.0,
+  v.1,
+  declared x n (guards_of secs) ∷ v.2,
+  next_var p (guards_of secs) d v.3,
+  tail_at secs (with_declared secs ds x n ++ v.2) (ds ++ declared x n (guards_of secs) ∷ v.2) v.1 f (append_assoc ds (declared x n (guards_of secs) ∷ []) v.2) v.4,
+  ap (λ (y : List Item). us ++ at p signs.Comma ∷ y) v.5 ∙ sym (append_assoc us (at p signs.Comma ∷ v.0) v.1),
+)))
+started_keeps x n secs ds p signs.Semicolon a r = λ w f t. moves a (at p signs.Semicolon) w (r (at p signs.Semicolon ∷ w) f (λ us d. (
+  us ++ at p signs.Semicolon ∷ [],
+  w,
+  declared x n (guards_of secs) ∷ [],
+  last_var p (guards_of secs) d,
+  t,
+  sym (append_assoc us (at p signs.Semicolon ∷ []) w),
+)))
+started_keeps x n secs ds p _ a r = tt
+
+bare_started : (x : ℕ) (secs : Sections) (ds : List Declared) (a : List Item) → Stands (Bare x secs ds) a → Stands (Started x (pos 0) secs ds) a
+bare_started x secs ds a r = λ w f k. r w f (λ p. k (at p (signs.Name x) ∷ []) (bare p x))
+
+pub bare_keeps : (x : ℕ) (secs : Sections) (ds : List Declared) (p : Place) (s : Sign) (a : List Item) → Stands (Bare x secs ds) a → IfSome (is_bare x secs ds s) (λ next. Stands next (a ++ at p s ∷ []))
+bare_keeps x secs ds p signs.Equals a r = λ w f k. moves a (at p signs.Equals) w (r (at p signs.Equals ∷ w) f (λ q. k q p))
+bare_keeps x secs ds p s a r = started_keeps x (pos 0) secs ds p s a (bare_started x secs ds a r)
+
+pub starting_keeps : (x : ℕ) (secs : Sections) (ds : List Declared) (p : Place) (s : Sign) (a : List Item) → Stands (Starting x secs ds) a → IfSome (starting x secs ds s) (λ next. Stands next (a ++ at p s ∷ []))
+starting_keeps x secs ds p (signs.Number n) a r = λ w f k. moves a (at p (signs.Number n)) w (r (at p (signs.Number n) ∷ w) f (λ q t. k (at q (signs.Name x) ∷ at t signs.Equals ∷ at p (signs.Number n) ∷ []) (positive q t p x n)))
+starting_keeps x secs ds p (signs.Oper Sub) a r = λ w f k. moves a (at p (signs.Oper Sub)) w (r (at p (signs.Oper Sub) ∷ w) f (λ q t. k q t p))
+starting_keeps x secs ds p _ a r = tt
+
+pub negating_keeps : (x : ℕ) (secs : Sections) (ds : List Declared) (p : Place) (s : Sign) (a : List Item) → Stands (Negating x secs ds) a → IfSome (negating x secs ds s) (λ next. Stands next (a ++ at p s ∷ []))
+negating_keeps x secs ds p (signs.Number n) a r = λ w f k. moves a (at p (signs.Number n)) w (r (at p (signs.Number n) ∷ w) f (λ q t u. k (at q (signs.Name x) ∷ at t signs.Equals ∷ at u (signs.Oper Sub) ∷ at p (signs.Number n) ∷ []) (negative q t u p x n)))
+negating_keeps x secs ds p _ a r = tt
+
+pub declaring_keeps : (secs : Sections) (ds : List Declared) (p : Place) (s : Sign) (a : List Item) → Stands (Declaring secs ds) a → IfSome (declaring secs ds s) (λ next. Stands next (a ++ at p s ∷ []))
+declaring_keeps secs ds p (signs.Name x) a r = λ w f k. moves a (at p (signs.Name x)) w (r (at p (signs.Name x) ∷ w) f (k p))
+declaring_keeps secs ds p _ a r = tt
+
+-- ---- the first items of declarations
+
+pub static_keeps : (secs : Sections) (ds : List Declared) (p : Place) (s : Sign) (a : List Item) → Stands (AfterStatic secs ds) a → IfSome (at_int (Declaring secs ds) s) (λ next. Stands next (a ++ at p s ∷ []))
+static_keeps secs ds p signs.Int a r = λ w f v. moves a (at p signs.Int) w (r (at p signs.Int ∷ w) f (λ q. vars_tail p secs ds w f (present q signs.Static) v))
+static_keeps secs ds p _ a r = tt
+
+pub extern_keeps : (secs : Sections) (ds : List Declared) (p : Place) (s : Sign) (a : List Item) → Stands (AfterExtern secs ds) a → IfSome (at_int (AfterExternInt secs ds) s) (λ next. Stands next (a ++ at p s ∷ []))
+extern_keeps secs ds p signs.Int a r = λ w f k. moves a (at p signs.Int) w (r (at p signs.Int ∷ w) f (λ q. k q p))
+extern_keeps secs ds p _ a r = tt
+
+pub extern_int_keeps : (secs : Sections) (ds : List Declared) (p : Place) (s : Sign) (a : List Item) → Stands (AfterExternInt secs ds) a → IfSome (at_input (Parameters (ToPrototype secs ds)) s) (λ next. Stands next (a ++ at p s ∷ []))
+extern_int_keeps secs ds p signs.Input a r = λ w f k. moves a (at p signs.Input) w (r (at p signs.Input ∷ w) f (λ q t. k t p (at q signs.Extern ∷ []) (present q signs.Extern)))
+extern_int_keeps secs ds p _ a r = tt
+
+pub main_keeps : (secs : Sections) (ds : List Declared) (p : Place) (a : List Item) → Stands (AfterInt secs ds) a → IfSome (main_of secs ds) (λ next. Stands next (a ++ at p signs.Main ∷ []))
+main_keeps Outermost ds p a r = λ w f k. moves a (at p signs.Main) w (r (at p signs.Main ∷ w) f (λ q. k q p))
+main_keeps _ ds p a r = tt
+
+pub int_keeps : (secs : Sections) (ds : List Declared) (p : Place) (s : Sign) (a : List Item) → Stands (AfterInt secs ds) a → IfSome (after_int secs ds s) (λ next. Stands next (a ++ at p s ∷ []))
+int_keeps secs ds p (signs.Name x) a r = λ w f k. moves a (at p (signs.Name x)) w (r (at p (signs.Name x) ∷ w) f (λ q. vars_tail q secs ds (at p (signs.Name x) ∷ w) f (absent signs.Static) (k p)))
+int_keeps secs ds p signs.Input a r = λ w f k. moves a (at p signs.Input) w (r (at p signs.Input ∷ w) f (λ q. k q p [] (absent signs.Extern)))
+int_keeps secs ds p signs.Main a r = main_keeps secs ds p a r
+int_keeps secs ds p _ a r = tt
+
+-- ---- parameters
+
+pub parameters_keeps : (aim : Aim) (p : Place) (s : Sign) (a : List Item) → Stands (Parameters aim) a → IfSome (at_open (InParameters aim) s) (λ next. Stands next (a ++ at p s ∷ []))
+parameters_keeps aim p signs.Open a r = λ w f k. moves a (at p signs.Open) w (r (at p signs.Open ∷ w) f (k p))
+parameters_keeps aim p _ a r = tt
+
+pub in_parameters_keeps : (aim : Aim) (p : Place) (s : Sign) (a : List Item) → Stands (InParameters aim) a → IfSome (in_parameters aim s) (λ next. Stands next (a ++ at p s ∷ []))
+in_parameters_keeps aim p signs.Void a r = λ w f k. moves a (at p signs.Void) w (r (at p signs.Void ∷ w) f (λ q. k q p))
+in_parameters_keeps aim p signs.Close a r = λ w f k. moves a (at p signs.Close) w (r (at p signs.Close ∷ w) f (λ q. k q p [] (absent signs.Void)))
+in_parameters_keeps aim p _ a r = tt
+
+pub void_keeps : (aim : Aim) (p : Place) (s : Sign) (a : List Item) → Stands (AfterVoid aim) a → IfSome (at_close (AfterParameters aim) s) (λ next. Stands next (a ++ at p s ∷ []))
+void_keeps aim p signs.Close a r = λ w f k. moves a (at p signs.Close) w (r (at p signs.Close ∷ w) f (λ q t. k q p (at t signs.Void ∷ []) (present t signs.Void)))
+void_keeps aim p _ a r = tt
+
+pub after_parameters_keeps : (aim : Aim) (p : Place) (s : Sign) (a : List Item) → Stands (AfterParameters aim) a → IfSome (after_parameters aim s) (λ next. Stands next (a ++ at p s ∷ []))
+after_parameters_keeps (ToPrototype secs ds) p signs.Semicolon a r = λ w f t. moves a (at p signs.Semicolon) w (r (at p signs.Semicolon ∷ w) f (λ u s vs v q z us o. prototype_tail q z u s p secs ds w f o v t))
+after_parameters_keeps (ToMain ds) p signs.LeftBrace a r = (
+  a ++ at p signs.LeftBrace ∷ [],
+  [],
+  λ us c q b. moves a (at p signs.LeftBrace) us (r (at p signs.LeftBrace ∷ us) (file_of ds c q) (λ u s vs v t z. (
+    [],
+    at t signs.Int ∷ at z signs.Main ∷ at u signs.Open ∷ (vs ++ at s signs.Close ∷ at p signs.LeftBrace ∷ us),
+    [],
+    c,
+    q,
+    nothing [],
+    main t z u s p q v b,
+    refl,
+    ap (λ (y : List Declared). file_of y c q) (sym (append-nil ds)),
+  ))),
+  none,
+  sym (append-nil (a ++ at p signs.LeftBrace ∷ [])),
+)
+after_parameters_keeps _ p _ a r = tt
+
+-- ---- groups around declarations
+
+pub condition_keeps : (m : ℕ) (secs : Sections) (ds : List Declared) (p : Place) (a : List Item) → Stands (Outside secs ds) a → IfSome (next_condition m secs ds) (λ next. Stands next (a ++ at p (signs.GroupElif m) ∷ []))
+condition_keeps m Outermost ds p a r = tt
+condition_keeps m (InPart gs n outer) ds p a r = λ w f t. moves a (at p (signs.GroupElif m)) w (r (at p (signs.GroupElif m) ∷ w) f (
+  [],
+  at p (signs.GroupElif m) ∷ (t.0 ++ t.1),
+  t.2,
+  [],
+  t.3 ++ t.4,
+  nothing (with_true gs n),
+  elif_part p m (with_false gs n) t.5 t.6,
+  t.7,
+  ap (λ (y : List Item). at p (signs.GroupElif m) ∷ y) (t.8 ∙ sym (append_assoc t.0 t.1 t.2)),
+))
+condition_keeps m (InLast gs outer) ds p a r = tt
+
+pub last_keeps : (secs : Sections) (ds : List Declared) (p : Place) (a : List Item) → Stands (Outside secs ds) a → IfSome (last_section secs ds) (λ next. Stands next (a ++ at p signs.GroupElse ∷ []))
+last_keeps Outermost ds p a r = tt
+last_keeps (InPart gs n outer) ds p a r = λ w f t. moves a (at p signs.GroupElse) w (r (at p signs.GroupElse ∷ w) f (
+  [],
+  at p signs.GroupElse ∷ (t.0 ++ at t.3 signs.GroupEnd ∷ []),
+  t.1,
+  [],
+  t.2,
+  nothing (with_true gs n),
+  else_part p t.3 (with_false gs n) t.4,
+  t.5,
+  ap (λ (y : List Item). at p signs.GroupElse ∷ y) (t.6 ∙ sym (append_assoc t.0 (at t.3 signs.GroupEnd ∷ []) t.1)),
+))
+last_keeps (InLast gs outer) ds p a r = tt
+
+pub end_keeps : (secs : Sections) (ds : List Declared) (p : Place) (a : List Item) → Stands (Outside secs ds) a → IfSome (section_end secs ds) (λ next. Stands next (a ++ at p signs.GroupEnd ∷ []))
+end_keeps Outermost ds p a r = tt
+end_keeps (InPart gs n outer) ds p a r = λ w f t. moves a (at p signs.GroupEnd) w (r (at p signs.GroupEnd ∷ w) f (
+  [],
+  at p signs.GroupEnd ∷ [],
+  w,
+  [],
+  [],
+  nothing (with_true gs n),
+  end_part p (with_false gs n),
+  tail_at outer ds (ds ++ []) w f (sym (append-nil ds)) t,
+  refl,
+))
+end_keeps (InLast gs outer) ds p a r = λ w f t. moves a (at p signs.GroupEnd) w (r (at p signs.GroupEnd ∷ w) f ([], w, [], p, nothing gs, tail_at outer ds (ds ++ []) w f (sym (append-nil ds)) t, refl))
+
+pub outside_keeps : (secs : Sections) (ds : List Declared) (p : Place) (s : Sign) (a : List Item) → Stands (Outside secs ds) a → IfSome (outside secs ds s) (λ next. Stands next (a ++ at p s ∷ []))
+outside_keeps secs ds p signs.Static a r = λ w f k. moves a (at p signs.Static) w (r (at p signs.Static ∷ w) f (k p))
+outside_keeps secs ds p signs.Extern a r = λ w f k. moves a (at p signs.Extern) w (r (at p signs.Extern ∷ w) f (k p))
+outside_keeps secs ds p signs.Int a r = λ w f k. moves a (at p signs.Int) w (r (at p signs.Int ∷ w) f (k p))
+outside_keeps secs ds p (signs.GroupIf n) a r = λ w f t. moves a (at p (signs.GroupIf n)) w (r (at p (signs.GroupIf n) ∷ w) f (open_tail p n secs ds w f t))
+outside_keeps secs ds p (signs.GroupElif n) a r = condition_keeps n secs ds p a r
+outside_keeps secs ds p signs.GroupElse a r = last_keeps secs ds p a r
+outside_keeps secs ds p signs.GroupEnd a r = end_keeps secs ds p a r
+outside_keeps secs ds p _ a r = tt
+
+-- ---- the end of a file
+
+pub returning_keeps : (q : Place) (ds : List Declared) (made : Code) (p : Place) (s : Sign) (a : List Item) → Stands (Returning q ds made) a → IfSome (returning q ds made s) (λ next. Stands next (a ++ at p s ∷ []))
+returning_keeps q ds made p (signs.Number n) a r = λ t u w e. moves a (at p (signs.Number n)) (at t signs.Semicolon ∷ at u signs.RightBrace ∷ w) (r n p t u w e)
+returning_keeps q ds made p _ a r = tt
+
+pub return_end_keeps : (ds : List Declared) (made : Code) (p : Place) (s : Sign) (a : List Item) → Stands (Returned ds made) a → IfSome (at_semicolon (Closing ds made) s) (λ next. Stands next (a ++ at p s ∷ []))
+return_end_keeps ds made p signs.Semicolon a r = λ u w e. moves a (at p signs.Semicolon) (at u signs.RightBrace ∷ w) (r p u w e)
+return_end_keeps ds made p _ a r = tt
+
+pub closing_keeps : (ds : List Declared) (made : Code) (p : Place) (s : Sign) (a : List Item) → Stands (Closing ds made) a → IfSome (closing ds made p s) (λ next. Stands next (a ++ at p s ∷ []))
+closing_keeps ds made p signs.RightBrace a r = λ w e. moves a (at p signs.RightBrace) w (r p w e)
+closing_keeps ds made p _ a r = tt
+
+trails : (parts : List Tailing) (t w : List Item) → ((us : List Item) → Empty Gaps us → Empty Gaps (t ++ us)) → Trailing parts w → Trailing parts (t ++ w)
+trails [] t w k r = k w r
+trails (Another m ∷ parts) t w k r = (t ++ r.0, r.1, r.2, k r.0 r.3, r.4, r.5, ap (λ (y : List Item). t ++ y) r.6 ∙ sym (append_assoc t r.0 (r.1 ++ r.2)))
+trails (Final m ∷ parts) t w k r = (t ++ r.0, r.1, r.2, k r.0 r.3, r.4, ap (λ (y : List Item). t ++ y) r.5 ∙ sym (append_assoc t r.0 (at r.2 signs.GroupEnd ∷ r.1)))
+
+opens_gap : (p : Place) (n : ℕ) (parts : List Tailing) (w : List Item) → Trailing (Another 1 ∷ parts) w → Trailing parts (at p (signs.GroupIf n) ∷ w)
+opens_gap p n parts w r =
+    let text : List Item = at p (signs.GroupIf n) ∷ (r.0 ++ r.1) in
+    let is : text ++ r.2 ≡ at p (signs.GroupIf n) ∷ w = ap (λ (y : List Item). at p (signs.GroupIf n) ∷ y) (append_assoc r.0 r.1 r.2 ∙ sym r.6) in
+    let k : (us : List Item) → Empty Gaps us → Empty Gaps (text ++ us) = λ us e. subst (λ (y : List Item). Empty Gaps (at p (signs.GroupIf n) ∷ y)) (sym (append_assoc r.0 r.1 us)) (empty_section p n r.3 r.4 e) in
+    subst (Trailing parts) is (trails parts text r.2 k r.5)
+
+pub over_keeps : (f : File) (parts : List Tailing) (p : Place) (s : Sign) (a : List Item) → Stands (Over f parts) a → IfSome (over f parts s) (λ next. Stands next (a ++ at p s ∷ []))
+over_keeps f parts p (signs.GroupIf n) a r = λ w t. moves a (at p (signs.GroupIf n)) w (r (at p (signs.GroupIf n) ∷ w) (opens_gap p n parts w t))
+over_keeps f (Another k ∷ parts) p (signs.GroupElif n) a r = λ w t. moves a (at p (signs.GroupElif n)) w (r (at p (signs.GroupElif n) ∷ w) (
+  [],
+  at p (signs.GroupElif n) ∷ (t.0 ++ t.1),
+  t.2,
+  no_more,
+  empty_elif p n t.3 t.4,
+  t.5,
+  ap (λ (y : List Item). at p (signs.GroupElif n) ∷ y) (t.6 ∙ sym (append_assoc t.0 t.1 t.2)),
+))
+over_keeps f (Another k ∷ parts) p signs.GroupElse a r = λ w t. moves a (at p signs.GroupElse) w (r (at p signs.GroupElse ∷ w) (
+  [],
+  at p signs.GroupElse ∷ (t.0 ++ at t.2 signs.GroupEnd ∷ []),
+  t.1,
+  no_more,
+  empty_else p t.2 t.3,
+  t.4,
+  ap (λ (y : List Item). at p signs.GroupElse ∷ y) (t.5 ∙ sym (append_assoc t.0 (at t.2 signs.GroupEnd ∷ []) t.1)),
+))
+over_keeps f (Another k ∷ parts) p signs.GroupEnd a r = λ w t. moves a (at p signs.GroupEnd) w (r (at p signs.GroupEnd ∷ w) ([], at p signs.GroupEnd ∷ [], w, no_more, empty_end p, t, refl))
+over_keeps f (Final k ∷ parts) p signs.GroupEnd a r = λ w t. moves a (at p signs.GroupEnd) w (r (at p signs.GroupEnd ∷ w) ([], w, p, no_more, t, refl))
+over_keeps f _ p _ a r = tt

@@ -1,0 +1,166 @@
+-- What is read is spelled: statements.
+use Rattle.std.proofs.Common.{◌≡◌, ℕ, false, List, [], ◌∷◌, ◌++◌, refl, sym, ap, subst, ◌∙◌, append_assoc}
+use Rattle.std.specs.Prelude.{IfSome}
+use Rattle.std.proofs.lemmas.List.{append-nil}
+use Rattle.fam_outer.specs.declared.faults.Place.{Place}
+use Rattle.c_tree.specs.Tree.{Code, Done, Input, If, While, Block, Skip, Cond, followed}
+use Rattle.c_grammar.specs.declared.items.Sign.{Sign}
+use Rattle.c_grammar.specs.declared.items.Sign.TheVariants as signs
+use Rattle.c_grammar.specs.declared.items.Item.{Item}
+use Rattle.c_grammar.specs.Grammar.{at, Raise, Lower, Listed, Chained, Writes, none, choice, ends, otherwise, elif, input, count, skip, block, while, if_else, no_return, return, body, file_of, Forms}
+use Rattle.c_grammar.specs.Machine.{Stack, Top, Braces, Yes, No, ThenOf, ElseOf, LoopOf, Use, ToAssign, ToUpdate, ToAssert, ToChoose, ToLoop, Ended, Wants, Named, InputOpens, InputCloses, Finishing, folded, else_of, linked, opened, braced, returned, next_part, last_part, group_end, begin, on, named, at_open, at_close, at_semicolon}
+use Rattle.c_grammar.proofs.Standing.{Begun, Read, Used, UsedAt, Piece, Stands}
+use Rattle.c_grammar.proofs.Complete.{followed-none}
+use Rattle.c_grammar.proofs.Pieces.{piece, listed, fold_is}
+
+-- an `else` comes
+else_is : (outer : Stack) (c : Code) (z : Place) (b ts : List Item) → Read outer b → Piece false outer ts c → IfSome (else_of outer c) (λ next. Stands next (b ++ (ts ++ at z signs.Else ∷ [])))
+else_is (Top ds made) c z b ts r s = tt
+else_is (Braces p made outer) c z b ts r s = tt
+else_is (Yes links n made outer) c z b ts r s = tt
+else_is (No links n first made outer) c z b ts r s = tt
+else_is (ThenOf p e outer) c z b ts r s = (r.0, r.1, z, r.2, r.3, ts, r.4, r.5, s, ap (λ (y : List Item). y ++ (ts ++ at z signs.Else ∷ [])) r.6 ∙ simp append_assoc)
+else_is (ElseOf p e first outer) c z b ts r s =
+    let text : List Item = at p signs.If ∷ at r.0 signs.Open ∷ (r.4 ++ at r.1 signs.Close ∷ (r.5 ++ at r.2 signs.Else ∷ ts)) in
+    let is : b ++ (ts ++ at z signs.Else ∷ []) ≡ r.3 ++ (text ++ at z signs.Else ∷ []) = ap (λ (y : List Item). y ++ (ts ++ at z signs.Else ∷ [])) r.9 ∙ simp append_assoc in
+    subst (λ (y : List Item). IfSome (else_of outer (If p e first c Done)) (λ next. Stands next y)) (sym is) (else_is outer (If p e first c Done) z r.3 text r.6 (piece false outer text (If p e first c Done) (if_else p r.0 r.1 r.2 r.7 r.8 s)))
+else_is (LoopOf p e outer) c z b ts r s =
+    let text : List Item = at p signs.While ∷ at r.0 signs.Open ∷ (r.3 ++ at r.1 signs.Close ∷ ts) in
+    let is : b ++ (ts ++ at z signs.Else ∷ []) ≡ r.2 ++ (text ++ at z signs.Else ∷ []) = ap (λ (y : List Item). y ++ (ts ++ at z signs.Else ∷ [])) r.6 ∙ simp append_assoc in
+    subst (λ (y : List Item). IfSome (else_of outer (While p e c Done)) (λ next. Stands next y)) (sym is) (else_is outer (While p e c Done) z r.2 text r.4 (piece false outer text (While p e c Done) (while p r.0 r.1 r.5 s)))
+
+-- a group ends: its earlier parts are put around the last
+chained : (links : List (ℕ × Code)) (n : ℕ) (us ts : List Item) (first last : Code) → Begun links n us → Writes Listed ts first → (vs : List Item) → Writes Chained vs last → Writes Listed (us ++ (ts ++ vs)) (linked links (Cond n first last Done))
+chained [] n us ts first last g s vs t =
+    let h : Writes Listed (at g.0 (signs.GroupIf n) ∷ (ts ++ (vs ++ []))) (Cond n first last Done) = choice g.0 n s t none in
+    subst (λ (y : List Item). Writes Listed (y ++ (ts ++ vs)) (Cond n first last Done)) (sym g.1) (subst (λ (y : List Item). Writes Listed (at g.0 (signs.GroupIf n) ∷ (ts ++ y)) (Cond n first last Done)) (append-nil vs) h)
+chained (l ∷ links) n us ts first last g s vs t =
+    let text : List Item = at g.0 (signs.GroupElif n) ∷ (ts ++ vs) in
+    let is : us ++ (ts ++ vs) ≡ g.1 ++ (g.2 ++ text) = ap (λ (y : List Item). y ++ (ts ++ vs)) g.5 ∙ simp append_assoc in
+    subst (λ (y : List Item). Writes Listed y (linked (l ∷ links) (Cond n first last Done))) (sym is) (chained links l.0 g.1 g.2 l.1 (Cond n first last Done) g.3 g.4 text (elif g.0 n s t))
+
+-- ---- one item
+
+opened_keeps : (n : ℕ) (outer : Stack) (p : Place) (a : List Item) → Read outer a → IfSome (opened n outer) (λ next. Stands next (a ++ at p (signs.GroupIf n) ∷ []))
+opened_keeps n (Top ds made) p a r = (a, at p (signs.GroupIf n) ∷ [], [], r, tt, (p, refl), none, refl)
+opened_keeps n (Braces q made outer) p a r = (a, at p (signs.GroupIf n) ∷ [], [], r, tt, (p, refl), none, refl)
+opened_keeps n (Yes links m made outer) p a r = (a, at p (signs.GroupIf n) ∷ [], [], r, tt, (p, refl), none, refl)
+opened_keeps n (No links m first made outer) p a r = (a, at p (signs.GroupIf n) ∷ [], [], r, tt, (p, refl), none, refl)
+opened_keeps n (ThenOf q e outer) p a r = tt
+opened_keeps n (ElseOf q e first outer) p a r = tt
+opened_keeps n (LoopOf q e outer) p a r = tt
+
+braced_keeps : (outer : Stack) (p : Place) (a : List Item) → Read outer a → IfSome (braced outer p) (λ next. Stands next (a ++ at p signs.RightBrace ∷ []))
+braced_keeps (Braces q made outer) p a r = (
+  r.0,
+  at q signs.LeftBrace ∷ (r.1 ++ at p signs.RightBrace ∷ []),
+  r.2,
+  piece false outer (at q signs.LeftBrace ∷ (r.1 ++ at p signs.RightBrace ∷ [])) (Block q made Done) (block q p r.3),
+  ap (λ (y : List Item). y ++ at p signs.RightBrace ∷ []) r.4 ∙ append_assoc r.0 (at q signs.LeftBrace ∷ r.1) (at p signs.RightBrace ∷ []),
+)
+braced_keeps (Top ds made) p a r = λ w e.
+    let re : r.0 ++ (r.1 ++ at p signs.RightBrace ∷ w) ≡ ((r.0 ++ r.1) ++ at p signs.RightBrace ∷ []) ++ w = simp append_assoc in
+    let is : r.0 ++ (r.1 ++ at p signs.RightBrace ∷ w) ≡ (a ++ at p signs.RightBrace ∷ []) ++ w = re ∙ ap (λ (y : List Item). (y ++ at p signs.RightBrace ∷ []) ++ w) (sym r.4) in
+    subst (λ (y : List Item). Forms y (file_of ds made p)) is
+    (subst (λ (y : Code). Forms (r.0 ++ (r.1 ++ at p signs.RightBrace ∷ w)) (file_of ds y p)) (followed-none made) (r.2 (r.1 ++ at p signs.RightBrace ∷ w) (followed made Done) p (body p r.3 no_return e)))
+braced_keeps _ p a r = tt
+
+returned_keeps : (outer : Stack) (p : Place) (a : List Item) → Read outer a → IfSome (returned outer p) (λ next. Stands next (a ++ at p signs.Return ∷ []))
+returned_keeps (Top ds made) p a r = λ n s q t w e.
+    let rest : List Item = at s (signs.Number n) ∷ at q signs.Semicolon ∷ at t signs.RightBrace ∷ w in
+    let re : r.0 ++ (r.1 ++ at p signs.Return ∷ rest) ≡ ((r.0 ++ r.1) ++ at p signs.Return ∷ []) ++ rest = simp append_assoc in
+    let is : r.0 ++ (r.1 ++ at p signs.Return ∷ rest) ≡ (a ++ at p signs.Return ∷ []) ++ rest = re ∙ ap (λ (y : List Item). (y ++ at p signs.Return ∷ []) ++ rest) (sym r.4) in
+    subst (λ (y : List Item). Forms y (file_of ds (followed made (Skip p Done)) t)) is (r.2 (r.1 ++ at p signs.Return ∷ rest) (followed made (Skip p Done)) t (body t r.3 (return p s q n) e))
+returned_keeps _ p a r = tt
+
+next_keeps : (m : ℕ) (outer : Stack) (p : Place) (a : List Item) → Read outer a → IfSome (next_part m outer) (λ next. Stands next (a ++ at p (signs.GroupElif m) ∷ []))
+next_keeps m (Yes links n made outer) p a r =
+    (r.0, r.1 ++ (r.2 ++ at p (signs.GroupElif m) ∷ []), [], r.3, r.4, (p, r.1, r.2, r.5, r.6, refl), none, ap (λ (y : List Item). y ++ at p (signs.GroupElif m) ∷ []) r.7 ∙ simp (append_assoc, append-nil))
+next_keeps m _ p a r = tt
+
+last_keeps : (outer : Stack) (p : Place) (a : List Item) → Read outer a → IfSome (last_part outer) (λ next. Stands next (a ++ at p signs.GroupElse ∷ []))
+last_keeps (Yes links n made outer) p a r =
+    (r.0, r.1, r.2, [], p, r.3, r.4, r.5, r.6, none, ap (λ (y : List Item). y ++ at p signs.GroupElse ∷ []) r.7 ∙ simp append_assoc)
+last_keeps _ p a r = tt
+
+end_keeps : (outer : Stack) (p : Place) (a : List Item) → Read outer a → IfSome (group_end outer) (λ next. Stands next (a ++ at p signs.GroupEnd ∷ []))
+end_keeps (Yes links n made outer) p a r = (
+  r.0,
+  r.1 ++ (r.2 ++ at p signs.GroupEnd ∷ []),
+  r.3,
+  listed outer (r.1 ++ (r.2 ++ at p signs.GroupEnd ∷ [])) (linked links (Cond n made Done Done)) r.4 (chained links n r.1 r.2 made Done r.5 r.6 (at p signs.GroupEnd ∷ []) (ends p)),
+  ap (λ (y : List Item). y ++ at p signs.GroupEnd ∷ []) r.7 ∙ simp append_assoc,
+)
+end_keeps (No links n first made outer) p a r =
+    let vs : List Item = at r.4 signs.GroupElse ∷ (r.3 ++ at p signs.GroupEnd ∷ []) in (
+      r.0,
+      r.1 ++ (r.2 ++ vs),
+      r.5,
+      listed outer (r.1 ++ (r.2 ++ vs)) (linked links (Cond n first made Done)) r.6 (chained links n r.1 r.2 first made r.7 r.8 vs (otherwise r.4 p r.9)),
+      ap (λ (y : List Item). y ++ at p signs.GroupEnd ∷ []) r.10 ∙ simp append_assoc,
+    )
+end_keeps _ p a r = tt
+
+pub begin_keeps : (outer : Stack) (p : Place) (s : Sign) (a : List Item) → Read outer a → IfSome (begin outer p s) (λ next. Stands next (a ++ at p s ∷ []))
+begin_keeps outer p (signs.Name x) a r = (a, r, refl)
+begin_keeps outer p signs.Semicolon a r = (a, at p signs.Semicolon ∷ [], r, piece false outer (at p signs.Semicolon ∷ []) (Skip p Done) (skip p), refl)
+begin_keeps outer p signs.LeftBrace a r = (a, [], r, none, refl)
+begin_keeps outer p signs.RightBrace a r = braced_keeps outer p a r
+begin_keeps outer p signs.Assert a r = (a, r, refl)
+begin_keeps outer p signs.Return a r = returned_keeps outer p a r
+begin_keeps outer p signs.If a r = (a, r, refl)
+begin_keeps outer p signs.While a r = (a, r, refl)
+begin_keeps outer p (signs.GroupIf n) a r = opened_keeps n outer p a r
+begin_keeps outer p (signs.GroupElif n) a r = next_keeps n outer p a r
+begin_keeps outer p signs.GroupElse a r = last_keeps outer p a r
+begin_keeps outer p signs.GroupEnd a r = end_keeps outer p a r
+begin_keeps outer p _ a r = tt
+
+pub on_keeps : (outer : Stack) (c : Code) (p : Place) (s : Sign) (a : List Item) → Stands (Ended outer c) a → IfSome (on outer c p s) (λ next. Stands next (a ++ at p s ∷ []))
+on_keeps outer c p signs.Else a r =
+    let is : a ++ at p signs.Else ∷ [] ≡ r.0 ++ (r.1 ++ at p signs.Else ∷ []) = ap (λ (y : List Item). y ++ at p signs.Else ∷ []) r.4 ∙ append_assoc r.0 r.1 (at p signs.Else ∷ []) in
+    subst (λ (y : List Item). IfSome (else_of outer c) (λ next. Stands next y)) (sym is) (else_is outer c p r.0 r.1 r.2 r.3)
+on_keeps outer c p s a r = begin_keeps (folded outer c) p s a (subst (Read (folded outer c)) (sym r.4) (fold_is false outer c r.0 r.1 r.2 r.3))
+
+pub named_keeps : (q : Place) (x : ℕ) (outer : Stack) (p : Place) (s : Sign) (a : List Item) → Stands (Named q x outer) a → IfSome (named q x outer s) (λ next. Stands next (a ++ at p s ∷ []))
+named_keeps q x outer p signs.Equals a r = (p, r.0, r.1, ap (λ (y : List Item). y ++ at p signs.Equals ∷ []) r.2 ∙ append_assoc r.0 (at q (signs.Name x) ∷ []) (at p signs.Equals ∷ []))
+named_keeps q x outer p signs.PlusEquals a r = (p, r.0, r.1, ap (λ (y : List Item). y ++ at p signs.PlusEquals ∷ []) r.2 ∙ append_assoc r.0 (at q (signs.Name x) ∷ []) (at p signs.PlusEquals ∷ []))
+named_keeps q x outer p signs.MinusEquals a r = (p, r.0, r.1, ap (λ (y : List Item). y ++ at p signs.MinusEquals ∷ []) r.2 ∙ append_assoc r.0 (at q (signs.Name x) ∷ []) (at p signs.MinusEquals ∷ []))
+named_keeps q x outer p signs.PlusPlus a r = (r.0, at q (signs.Name x) ∷ at p signs.PlusPlus ∷ [], r.1, (λ s. count q p s x Raise), ap (λ (y : List Item). y ++ at p signs.PlusPlus ∷ []) r.2 ∙ append_assoc r.0 (at q (signs.Name x) ∷ []) (at p signs.PlusPlus ∷ []))
+named_keeps q x outer p signs.MinusMinus a r = (r.0, at q (signs.Name x) ∷ at p signs.MinusMinus ∷ [], r.1, (λ s. count q p s x Lower), ap (λ (y : List Item). y ++ at p signs.MinusMinus ∷ []) r.2 ∙ append_assoc r.0 (at q (signs.Name x) ∷ []) (at p signs.MinusMinus ∷ []))
+named_keeps q x outer p _ a r = tt
+
+opens_use : (u : Use) (p : Place) (a : List Item) → UsedAt u a → Used u (a ++ at p signs.Open ∷ [])
+opens_use (ToAssign q x outer) p a r = absurd r
+opens_use (ToUpdate q x u outer) p a r = absurd r
+opens_use (ToAssert q outer) p a r = (p, r.0, r.1, ap (λ (y : List Item). y ++ at p signs.Open ∷ []) r.2 ∙ append_assoc r.0 (at q signs.Assert ∷ []) (at p signs.Open ∷ []))
+opens_use (ToChoose q outer) p a r = (p, r.0, r.1, ap (λ (y : List Item). y ++ at p signs.Open ∷ []) r.2 ∙ append_assoc r.0 (at q signs.If ∷ []) (at p signs.Open ∷ []))
+opens_use (ToLoop q outer) p a r = (p, r.0, r.1, ap (λ (y : List Item). y ++ at p signs.Open ∷ []) r.2 ∙ append_assoc r.0 (at q signs.While ∷ []) (at p signs.Open ∷ []))
+
+pub opens_keeps : (u : Use) (p : Place) (s : Sign) (a : List Item) → UsedAt u a → IfSome (at_open (Wants [] u) s) (λ next. Stands next (a ++ at p s ∷ []))
+opens_keeps u p signs.Open a r = opens_use u p a r
+opens_keeps u p _ a r = tt
+
+pub input_opens_keeps : (q : Place) (x : ℕ) (outer : Stack) (p : Place) (s : Sign) (a : List Item) → Stands (InputOpens q x outer) a → IfSome (at_open (InputCloses q x outer) s) (λ next. Stands next (a ++ at p s ∷ []))
+input_opens_keeps q x outer p signs.Open a r = (r.0, r.1, p, r.2, r.3, ap (λ (y : List Item). y ++ at p signs.Open ∷ []) r.4 ∙ append_assoc r.2 (at q (signs.Name x) ∷ at r.0 signs.Equals ∷ at r.1 signs.Input ∷ []) (at p signs.Open ∷ []))
+input_opens_keeps q x outer p _ a r = tt
+
+pub input_closes_keeps : (q : Place) (x : ℕ) (outer : Stack) (p : Place) (s : Sign) (a : List Item) → Stands (InputCloses q x outer) a → IfSome (at_close (Finishing outer (Input q x Done)) s) (λ next. Stands next (a ++ at p s ∷ []))
+input_closes_keeps q x outer p signs.Close a r = (
+  r.3,
+  at q (signs.Name x) ∷ at r.0 signs.Equals ∷ at r.1 signs.Input ∷ at r.2 signs.Open ∷ at p signs.Close ∷ [],
+  r.4,
+  λ z. input q r.0 r.1 r.2 p z x,
+  ap (λ (y : List Item). y ++ at p signs.Close ∷ []) r.5 ∙ append_assoc r.3 (at q (signs.Name x) ∷ at r.0 signs.Equals ∷ at r.1 signs.Input ∷ at r.2 signs.Open ∷ []) (at p signs.Close ∷ []),
+)
+input_closes_keeps q x outer p _ a r = tt
+
+pub finishing_keeps : (outer : Stack) (c : Code) (p : Place) (s : Sign) (a : List Item) → Stands (Finishing outer c) a → IfSome (at_semicolon (Ended outer c) s) (λ next. Stands next (a ++ at p s ∷ []))
+finishing_keeps outer c p signs.Semicolon a r = (
+  r.0,
+  r.1 ++ at p signs.Semicolon ∷ [],
+  r.2,
+  piece false outer (r.1 ++ at p signs.Semicolon ∷ []) c (r.3 p),
+  ap (λ (y : List Item). y ++ at p signs.Semicolon ∷ []) r.4 ∙ append_assoc r.0 r.1 (at p signs.Semicolon ∷ []),
+)
+finishing_keeps outer c p _ a r = tt

@@ -1,0 +1,118 @@
+-- What the items that were read so far were, by what is open.
+use Rattle.std.proofs.Common.{◌≡◌, ℕ, ℤ, suc, ◌<◌, Bool, false, List, [], ◌∷◌, ◌++◌}
+use Rattle.fam_outer.specs.declared.faults.Place.{Place}
+use Rattle.c_tree.specs.declared.tree.Op.TheVariants.{Sub}
+use Rattle.c_tree.specs.declared.tree.Declared.{Declared}
+use Rattle.c_tree.specs.Tree.{Code, Done, Skip, followed}
+use Rattle.c_grammar.specs.declared.items.Sign.TheVariants as signs
+use Rattle.c_grammar.specs.declared.items.Item.{Item}
+use Rattle.c_grammar.specs.Ahead.{IsList}
+use Rattle.c_grammar.specs.Grammar.{at, tighter, prefix_sign, Expresses, update_sign, Listed, Stated, Writes, Optional, Declarator, with_true, with_false, Outer, Vars, Later, Declares, Gaps, GapRest, Empty, Body, Main, File, file_of, Forms}
+use Rattle.c_grammar.specs.Machine.{Tailing, Another, Final, Frame, Paren, Pre, Left, room, Stack, Top, Braces, Yes, No, ThenOf, ElseOf, LoopOf, Use, ToAssign, ToUpdate, ToAssert, ToChoose, ToLoop, Sections, Outermost, InPart, InLast, guards_of, Aim, ToPrototype, ToMain, State, Outside, AfterStatic, AfterExtern, AfterInt, AfterExternInt, Declaring, Bare, Starting, Negating, Started, Parameters, InParameters, AfterVoid, AfterParameters, Ready, Ended, Wants, Has, Named, Opens, InputOpens, InputCloses, Finishing, Returning, Returned, Closing, Over}
+
+-- the parts of a group before this one, and its directive
+abbrev pub Begun : List (ℕ × Code) → ℕ → List Item → Type 0
+Begun [] n a = (p : Place) × (a ≡ at p (signs.GroupIf n) ∷ [])
+Begun (l ∷ links) n a = (p : Place) × (b ts : List Item) × Begun links l.0 b × Writes Listed ts l.1 × (a ≡ b ++ (ts ++ at p (signs.GroupElif n) ∷ []))
+
+-- the items of a file up to the body of `main`, with its declarators
+abbrev pub Headed : List Item → List Declared → Type 0
+Headed b ds = (us : List Item) (c : Code) (q : Place) → Body us c q → Forms (b ++ us) (file_of ds c q)
+
+abbrev pub Read : Stack → List Item → Type 0
+Read (Top ds made) a = (b ts : List Item) × Headed b ds × Writes Listed ts made × (a ≡ b ++ ts)
+Read (Braces p made outer) a = (b ts : List Item) × Read outer b × Writes Listed ts made × (a ≡ b ++ (at p signs.LeftBrace ∷ ts))
+Read (Yes links n made outer) a = (b us ts : List Item) × Read outer b × IsList outer × Begun links n us × Writes Listed ts made × (a ≡ b ++ (us ++ ts))
+Read (No links n first made outer) a = (b us vs ts : List Item) × (p : Place) × Read outer b × IsList outer × Begun links n us × Writes Listed vs first × Writes Listed ts made × (a ≡ b ++ (us ++ (vs ++ at p signs.GroupElse ∷ ts)))
+Read (ThenOf p e outer) a = (q r : Place) × (b ts : List Item) × Read outer b × Expresses 6 ts e × (a ≡ b ++ (at p signs.If ∷ at q signs.Open ∷ (ts ++ at r signs.Close ∷ [])))
+Read (ElseOf p e first outer) a = (q r z : Place) × (b ts us : List Item) × Read outer b × Expresses 6 ts e × Writes (Stated false) us first × (a ≡ b ++ (at p signs.If ∷ at q signs.Open ∷ (ts ++ at r signs.Close ∷ (us ++ at z signs.Else ∷ []))))
+Read (LoopOf p e outer) a = (q r : Place) × (b ts : List Item) × Read outer b × Expresses 6 ts e × (a ≡ b ++ (at p signs.While ∷ at q signs.Open ∷ (ts ++ at r signs.Close ∷ [])))
+
+abbrev pub Used : Use → List Item → Type 0
+Used (ToAssign p x outer) a = (q : Place) × (b : List Item) × Read outer b × (a ≡ b ++ (at p (signs.Name x) ∷ at q signs.Equals ∷ []))
+Used (ToUpdate p x u outer) a = (q : Place) × (b : List Item) × Read outer b × (a ≡ b ++ (at p (signs.Name x) ∷ at q (update_sign u) ∷ []))
+Used (ToAssert p outer) a = (q : Place) × (b : List Item) × Read outer b × (a ≡ b ++ (at p signs.Assert ∷ at q signs.Open ∷ []))
+Used (ToChoose p outer) a = (q : Place) × (b : List Item) × Read outer b × (a ≡ b ++ (at p signs.If ∷ at q signs.Open ∷ []))
+Used (ToLoop p outer) a = (q : Place) × (b : List Item) × Read outer b × (a ≡ b ++ (at p signs.While ∷ at q signs.Open ∷ []))
+
+abbrev pub UsedAt : Use → List Item → Type 0
+UsedAt (ToAssign p x outer) a = ⊥
+UsedAt (ToUpdate p x u outer) a = ⊥
+UsedAt (ToAssert p outer) a = (b : List Item) × Read outer b × (a ≡ b ++ at p signs.Assert ∷ [])
+UsedAt (ToChoose p outer) a = (b : List Item) × Read outer b × (a ≡ b ++ at p signs.If ∷ [])
+UsedAt (ToLoop p outer) a = (b : List Item) × Read outer b × (a ≡ b ++ at p signs.While ∷ [])
+
+abbrev pub Framed : Use → List Frame → List Item → Type 0
+Framed u [] a = Used u a
+Framed u (Paren ∷ fs) a = (p : Place) × (b : List Item) × Framed u fs b × (a ≡ b ++ at p signs.Open ∷ [])
+Framed u (Pre v ∷ fs) a = (p : Place) × (b : List Item) × Framed u fs b × (a ≡ b ++ at p (prefix_sign v) ∷ [])
+Framed u (Left op x ∷ fs) a = (p : Place) × (b us : List Item) × Framed u fs b × Expresses (suc (tighter op)) us x × (tighter op < room fs) × (a ≡ b ++ (us ++ at p (signs.Oper op) ∷ []))
+
+-- what is put into the stack: in a list any list, elsewhere one statement
+abbrev pub Piece : Bool → Stack → List Item → Code → Type 0
+Piece d (Top ds made) ts c = Writes Listed ts c
+Piece d (Braces p made outer) ts c = Writes Listed ts c
+Piece d (Yes links n made outer) ts c = Writes Listed ts c
+Piece d (No links n first made outer) ts c = Writes Listed ts c
+Piece d (ThenOf p e outer) ts c = Writes (Stated d) ts c
+Piece d (ElseOf p e first outer) ts c = Writes (Stated d) ts c
+Piece d (LoopOf p e outer) ts c = Writes (Stated d) ts c
+
+-- ---- what may come next
+
+-- each text that may come next makes a file with what was read so far
+abbrev pub Follows : List Item → (List Item → File → Type 0) → Type 0
+Follows a P = (w : List Item) (f : File) → P w f → Forms (a ++ w) f
+
+-- the rest of a file from where a declaration may begin
+abbrev pub Tail : Sections → List Declared → List Item → File → Type 0
+Tail Outermost ds w f = (ts us : List Item) × (es : List Declared) × (c : Code) × (q : Place) × Declares (Outer []) ts es × Main us c q × (w ≡ ts ++ us) × (f ≡ file_of (ds ++ es) c q)
+Tail (InPart gs n outer) ds w f = (ts vs us : List Item) × (es fs : List Declared) × Declares (Outer (with_true gs n)) ts es × Declares (Later (with_false gs n)) vs fs × Tail outer (ds ++ (es ++ fs)) us f × (w ≡ ts ++ (vs ++ us))
+Tail (InLast gs outer) ds w f = (ts us : List Item) × (es : List Declared) × (q : Place) × Declares (Outer gs) ts es × Tail outer (ds ++ es) us f × (w ≡ ts ++ at q signs.GroupEnd ∷ us)
+
+abbrev pub VarsTail : Sections → List Declared → List Item → File → Type 0
+VarsTail secs ds w f = (ts us : List Item) × (es : List Declared) × Declares (Vars (guards_of secs)) ts es × Tail secs (ds ++ es) us f × (w ≡ ts ++ us)
+
+abbrev pub StartedTail : ℕ → ℤ → Sections → List Declared → List Item → File → Type 0
+StartedTail x n secs ds w f = (us : List Item) → Declarator us x n → VarsTail secs ds (us ++ w) f
+
+abbrev pub ParametersTail : Aim → List Item → File → Type 0
+ParametersTail (ToPrototype secs ds) w f = (p q : Place) (us : List Item) → Optional signs.Extern us → Tail secs ds (us ++ at p signs.Int ∷ at q signs.Input ∷ w) f
+ParametersTail (ToMain ds) w f = (p q : Place) → Tail Outermost ds (at p signs.Int ∷ at q signs.Main ∷ w) f
+
+-- the rest of a file behind `main`
+abbrev pub Trailing : List Tailing → List Item → Type 0
+Trailing [] w = Empty Gaps w
+Trailing (Another k ∷ parts) w = (ts vs us : List Item) × Empty Gaps ts × Empty GapRest vs × Trailing parts us × (w ≡ ts ++ (vs ++ us))
+Trailing (Final k ∷ parts) w = (ts us : List Item) × (q : Place) × Empty Gaps ts × Trailing parts us × (w ≡ ts ++ at q signs.GroupEnd ∷ us)
+
+-- ---- what the items read so far were, by the state
+
+abbrev pub Stands : State → List Item → Type 0
+Stands (Outside secs ds) a = Follows a (Tail secs ds)
+Stands (AfterStatic secs ds) a = Follows a (λ w f. (p : Place) → Tail secs ds (at p signs.Static ∷ w) f)
+Stands (AfterExtern secs ds) a = Follows a (λ w f. (p : Place) → Tail secs ds (at p signs.Extern ∷ w) f)
+Stands (AfterInt secs ds) a = Follows a (λ w f. (p : Place) → Tail secs ds (at p signs.Int ∷ w) f)
+Stands (AfterExternInt secs ds) a = Follows a (λ w f. (p q : Place) → Tail secs ds (at p signs.Extern ∷ at q signs.Int ∷ w) f)
+Stands (Declaring secs ds) a = Follows a (VarsTail secs ds)
+Stands (Bare x secs ds) a = Follows a (λ w f. (p : Place) → VarsTail secs ds (at p (signs.Name x) ∷ w) f)
+Stands (Starting x secs ds) a = Follows a (λ w f. (p q : Place) → VarsTail secs ds (at p (signs.Name x) ∷ at q signs.Equals ∷ w) f)
+Stands (Negating x secs ds) a = Follows a (λ w f. (p q r : Place) → VarsTail secs ds (at p (signs.Name x) ∷ at q signs.Equals ∷ at r (signs.Oper Sub) ∷ w) f)
+Stands (Started x n secs ds) a = Follows a (StartedTail x n secs ds)
+Stands (Parameters aim) a = Follows a (ParametersTail aim)
+Stands (InParameters aim) a = Follows a (λ w f. (r : Place) → ParametersTail aim (at r signs.Open ∷ w) f)
+Stands (AfterVoid aim) a = Follows a (λ w f. (r t : Place) → ParametersTail aim (at r signs.Open ∷ at t signs.Void ∷ w) f)
+Stands (AfterParameters aim) a = Follows a (λ w f. (r s : Place) (us : List Item) → Optional signs.Void us → ParametersTail aim (at r signs.Open ∷ (us ++ at s signs.Close ∷ w)) f)
+Stands (Ready outer) a = Read outer a
+Stands (Ended outer c) a = (b ts : List Item) × Read outer b × Piece false outer ts c × (a ≡ b ++ ts)
+Stands (Wants fs u) a = Framed u fs a
+Stands (Has fs u e) a = (b ts : List Item) × Framed u fs b × Expresses 0 ts e × (a ≡ b ++ ts)
+Stands (Named p x outer) a = (b : List Item) × Read outer b × (a ≡ b ++ at p (signs.Name x) ∷ [])
+Stands (Opens u) a = UsedAt u a
+Stands (InputOpens p x outer) a = (q r : Place) × (b : List Item) × Read outer b × (a ≡ b ++ (at p (signs.Name x) ∷ at q signs.Equals ∷ at r signs.Input ∷ []))
+Stands (InputCloses p x outer) a = (q r s : Place) × (b : List Item) × Read outer b × (a ≡ b ++ (at p (signs.Name x) ∷ at q signs.Equals ∷ at r signs.Input ∷ at s signs.Open ∷ []))
+Stands (Finishing outer c) a = (b ts : List Item) × Read outer b × ((q : Place) → Writes (Stated false) (ts ++ at q signs.Semicolon ∷ []) c) × (a ≡ b ++ ts)
+Stands (Returning r ds made) a = (n : ℤ) (s q p : Place) (w : List Item) → Empty Gaps w → Forms (a ++ at s (signs.Number n) ∷ at q signs.Semicolon ∷ at p signs.RightBrace ∷ w) (file_of ds (followed made (Skip r Done)) p)
+Stands (Returned ds made) a = (q p : Place) (w : List Item) → Empty Gaps w → Forms (a ++ at q signs.Semicolon ∷ at p signs.RightBrace ∷ w) (file_of ds made p)
+Stands (Closing ds made) a = (p : Place) (w : List Item) → Empty Gaps w → Forms (a ++ at p signs.RightBrace ∷ w) (file_of ds made p)
+Stands (Over f parts) a = (w : List Item) → Trailing parts w → Forms (a ++ w) f

@@ -1,0 +1,34 @@
+-- What may stand ahead of a reader.
+use Rattle.std.specs.Prelude.{ℕ, suc, ◌≤◌, List, [], ◌∷◌}
+use Rattle.c_grammar.specs.declared.items.Sign.{Sign}
+use Rattle.c_grammar.specs.declared.items.Sign.TheVariants as signs
+use Rattle.c_grammar.specs.declared.items.Item.{Item}
+use Rattle.c_grammar.specs.Grammar.{tighter}
+use Rattle.c_grammar.specs.Machine.{Stack, Top, Braces, Yes, No, ThenOf, ElseOf, LoopOf}
+
+-- an operator that comes next is not tighter than a level
+abbrev pub IsLooser : ℕ → Sign → Type 0
+IsLooser k (signs.Oper op) = k ≤ suc (tighter op)
+IsLooser k _ = Unit {0}
+
+abbrev pub Loose : ℕ → List Item → Type 0
+Loose k [] = Unit {0}
+Loose k (x ∷ w) = IsLooser k x.sign
+
+-- the innermost that is open is a list
+abbrev pub IsList : Stack → Type 0
+IsList (Top ds made) = Unit {0}
+IsList (Braces p made outer) = Unit {0}
+IsList (Yes links n made outer) = Unit {0}
+IsList (No links n first made outer) = Unit {0}
+IsList (ThenOf p e outer) = ⊥
+IsList (ElseOf p e first outer) = ⊥
+IsList (LoopOf p e outer) = ⊥
+
+abbrev pub IsNoElse : Sign → Type 0
+IsNoElse signs.Else = ⊥
+IsNoElse _ = Unit {0}
+
+abbrev pub NoElse : List Item → Type 0
+NoElse [] = Unit {0}
+NoElse (x ∷ w) = IsNoElse x.sign

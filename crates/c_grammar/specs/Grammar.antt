@@ -1,0 +1,217 @@
+-- Which lists of items spell an expression, a statement, a list of statements, declarations and a file. The grammar is a
+-- part of that of ISO/IEC 9899:2011, 6.5 to 6.9, with the group directives of 6.10.1 as items.
+use Rattle.std.specs.Prelude.{◌≡◌, ℕ, ℤ, pos, neg_ℤ, suc, Bool, true, false, ◌||◌, if◌then◌else◌, List, [], ◌∷◌, ◌++◌, map}
+use Rattle.fam_outer.specs.declared.faults.Place.{Place}
+use Rattle.c_tree.specs.declared.tree.Op.{Op}
+use Rattle.c_tree.specs.declared.tree.Op.TheVariants.{Add, Sub, Mul, Div, Rem, Lt, Le, Gt, Ge, Eq, Ne, And, Or}
+use Rattle.c_tree.specs.declared.tree.Guard.{Guard}
+use Rattle.c_tree.specs.declared.tree.Declared.{Declared}
+use Rattle.c_tree.specs.Tree.{Term, Number, Var, Neg, Not, Binary, Code, Done, Assign, Input, Assert, If, While, Block, Skip, Cond, followed, Whole}
+use Rattle.c_tree.specs.Project.{projected_start}
+use Rattle.c_grammar.specs.declared.items.Sign.{Sign}
+use Rattle.c_grammar.specs.declared.items.Sign.TheVariants as signs
+use Rattle.c_grammar.specs.declared.items.Item.{Item}
+
+abbrev pub at : Place → Sign → Item
+at p s = record { place = p; sign = s }
+
+-- ---- expressions
+
+-- how many levels of operators bind tighter
+abbrev pub tighter : Op → ℕ
+tighter Mul = 0
+tighter Div = 0
+tighter Rem = 0
+tighter Add = 1
+tighter Sub = 1
+tighter Lt = 2
+tighter Le = 2
+tighter Gt = 2
+tighter Ge = 2
+tighter Eq = 3
+tighter Ne = 3
+tighter And = 4
+tighter Or = 5
+
+pub data Prefix : Type 0 where
+  Positive : Prefix
+  Negative : Prefix
+  Inverse : Prefix
+
+abbrev pub prefix_sign : Prefix → Sign
+prefix_sign Positive = signs.Oper Add
+prefix_sign Negative = signs.Oper Sub
+prefix_sign Inverse = signs.Bang
+
+-- `+e` is read as `e`
+abbrev pub applied : Prefix → Term → Term
+applied Positive e = e
+applied Negative e = Neg e
+applied Inverse e = Not e
+
+-- an expression of a level: 0 is a unary one, 1 a product, then sums, relations, equalities, `&&`, and 6 is any
+pub data Expresses : ℕ → List Item → Term → Type 0 where
+  number : (p : Place) (n : ℤ) → Expresses 0 (at p (signs.Number n) ∷ []) (Number n)
+  name : (p : Place) (x : ℕ) → Expresses 0 (at p (signs.Name x) ∷ []) (Var x)
+  group : (p q : Place) {ts : List Item} {e : Term} → Expresses 6 ts e → Expresses 0 (at p signs.Open ∷ (ts ++ at q signs.Close ∷ [])) e
+  prefix : (p : Place) (u : Prefix) {ts : List Item} {e : Term} → Expresses 0 ts e → Expresses 0 (at p (prefix_sign u) ∷ ts) (applied u e)
+  loose : {k : ℕ} {ts : List Item} {e : Term} → Expresses k ts e → Expresses (suc k) ts e
+  binary : (p : Place) (op : Op) {ts us : List Item} {a b : Term} → Expresses (suc (tighter op)) ts a → Expresses (tighter op) us b → Expresses (suc (tighter op)) (ts ++ at p (signs.Oper op) ∷ us) (Binary op a b)
+
+-- ---- statements
+
+-- `x += e;` and `x -= e;`, and `x++;` and `x--;`: the sign, and the operator that it means
+pub data Update : Type 0 where
+  Raise : Update
+  Lower : Update
+
+abbrev pub update_sign : Update → Sign
+update_sign Raise = signs.PlusEquals
+update_sign Lower = signs.MinusEquals
+
+abbrev pub count_sign : Update → Sign
+count_sign Raise = signs.PlusPlus
+count_sign Lower = signs.MinusMinus
+
+abbrev pub update_op : Update → Op
+update_op Raise = Add
+update_op Lower = Sub
+
+-- the variable, changed by an expression
+abbrev pub updated : Place → ℕ → Update → Term → Code
+updated p x u e = Assign p x (Binary (update_op u) (Var x) e) Done
+
+-- a list; a statement, and whether it ends in an `if` without `else`; what closes a group, with its later parts
+pub data Shape : Type 0 where
+  Listed : Shape
+  Stated : (dangles : Bool) → Shape
+  Chained : Shape
+
+-- a statement is a list of one, and an absent `else` is the empty list; `#elif` opens a choice in the no side
+pub data Writes : Shape → List Item → Code → Type 0 where
+  none : Writes Listed [] Done
+  more : {b : Bool} {ts us : List Item} {c d : Code} → Writes (Stated b) ts c → Writes Listed us d → Writes Listed (ts ++ us) (followed c d)
+  choice : (p : Place) (n : ℕ) {ts us vs : List Item} {c d e : Code} → Writes Listed ts c → Writes Chained us d → Writes Listed vs e → Writes Listed (at p (signs.GroupIf n) ∷ (ts ++ (us ++ vs))) (Cond n c d e)
+  ends : (p : Place) → Writes Chained (at p signs.GroupEnd ∷ []) Done
+  otherwise : (p q : Place) {ts : List Item} {c : Code} → Writes Listed ts c → Writes Chained (at p signs.GroupElse ∷ (ts ++ at q signs.GroupEnd ∷ [])) c
+  elif : (p : Place) (n : ℕ) {ts us : List Item} {c d : Code} → Writes Listed ts c → Writes Chained us d → Writes Chained (at p (signs.GroupElif n) ∷ (ts ++ us)) (Cond n c d Done)
+  assign : (p q r : Place) (x : ℕ) {ts : List Item} {e : Term} → Expresses 6 ts e → Writes (Stated false) (at p (signs.Name x) ∷ at q signs.Equals ∷ (ts ++ at r signs.Semicolon ∷ [])) (Assign p x e Done)
+  input : (p q r s t u : Place) (x : ℕ) → Writes (Stated false) (at p (signs.Name x) ∷ at q signs.Equals ∷ at r signs.Input ∷ at s signs.Open ∷ at t signs.Close ∷ at u signs.Semicolon ∷ []) (Input p x Done)
+  update : (p q r : Place) (x : ℕ) (u : Update) {ts : List Item} {e : Term} → Expresses 6 ts e → Writes (Stated false) (at p (signs.Name x) ∷ at q (update_sign u) ∷ (ts ++ at r signs.Semicolon ∷ [])) (updated p x u e)
+  count : (p q r : Place) (x : ℕ) (u : Update) → Writes (Stated false) (at p (signs.Name x) ∷ at q (count_sign u) ∷ at r signs.Semicolon ∷ []) (updated p x u (Number (pos 1)))
+  assert : (p q r s : Place) {ts : List Item} {e : Term} → Expresses 6 ts e → Writes (Stated false) (at p signs.Assert ∷ at q signs.Open ∷ (ts ++ at r signs.Close ∷ at s signs.Semicolon ∷ [])) (Assert p e Done)
+  skip : (p : Place) → Writes (Stated false) (at p signs.Semicolon ∷ []) (Skip p Done)
+  block : (p q : Place) {ts : List Item} {c : Code} → Writes Listed ts c → Writes (Stated false) (at p signs.LeftBrace ∷ (ts ++ at q signs.RightBrace ∷ [])) (Block p c Done)
+  while : (p q r : Place) {b : Bool} {ts us : List Item} {e : Term} {c : Code} → Expresses 6 ts e → Writes (Stated b) us c → Writes (Stated b) (at p signs.While ∷ at q signs.Open ∷ (ts ++ at r signs.Close ∷ us)) (While p e c Done)
+  if_then : (p q r : Place) {b : Bool} {ts us : List Item} {e : Term} {c : Code} → Expresses 6 ts e → Writes (Stated b) us c → Writes (Stated true) (at p signs.If ∷ at q signs.Open ∷ (ts ++ at r signs.Close ∷ us)) (If p e c Done Done)
+  if_else : (p q r s : Place) {b : Bool} {ts us vs : List Item} {e : Term} {c d : Code} → Expresses 6 ts e → Writes (Stated false) us c → Writes (Stated b) vs d → Writes (Stated b) (at p signs.If ∷ at q signs.Open ∷ (ts ++ at r signs.Close ∷ (us ++ at s signs.Else ∷ vs))) (If p e c d Done)
+
+-- ---- declarations
+
+-- at most one item, with this sign
+pub data Optional : Sign → List Item → Type 0 where
+  absent : (s : Sign) → Optional s []
+  present : (p : Place) (s : Sign) → Optional s (at p s ∷ [])
+
+-- a variable with its start value, which is 0 where none stands
+pub data Declarator : List Item → ℕ → ℤ → Type 0 where
+  bare : (p : Place) (x : ℕ) → Declarator (at p (signs.Name x) ∷ []) x (pos 0)
+  positive : (p q r : Place) (x : ℕ) (n : ℤ) → Declarator (at p (signs.Name x) ∷ at q signs.Equals ∷ at r (signs.Number n) ∷ []) x n
+  negative : (p q r s : Place) (x : ℕ) (n : ℤ) → Declarator (at p (signs.Name x) ∷ at q signs.Equals ∷ at r (signs.Oper Sub) ∷ at s (signs.Number n) ∷ []) x (neg_ℤ n)
+
+-- the guards of what stands where a condition is true, and where it is false, within these guards
+abbrev pub with_true : List Guard → ℕ → List Guard
+with_true gs n = gs ++ record { number = n; positive = true } ∷ []
+
+abbrev pub with_false : List Guard → ℕ → List Guard
+with_false gs n = gs ++ record { number = n; positive = false } ∷ []
+
+abbrev pub declared : ℕ → ℤ → List Guard → Declared
+declared x n gs = record { target = x; value = n; guards = gs }
+
+-- declarations within guards; declarators up to a semicolon; what closes a group, where these guards hold in its later parts
+pub data Part : Type 0 where
+  Outer : (gs : List Guard) → Part
+  Vars : (gs : List Guard) → Part
+  Later : (gs : List Guard) → Part
+
+-- the declarators that a list of items declares, in its order; a declaration of `input` leaves nothing
+pub data Declares : Part → List Item → List Declared → Type 0 where
+  nothing : (gs : List Guard) → Declares (Outer gs) [] []
+  variables : (p : Place) (gs : List Guard) {us vs ws : List Item} {ds es : List Declared} → Optional signs.Static us → Declares (Vars gs) vs ds → Declares (Outer gs) ws es → Declares (Outer gs) (us ++ at p signs.Int ∷ (vs ++ ws)) (ds ++ es)
+  prototype : (p q r s t : Place) (gs : List Guard) {us vs ws : List Item} {es : List Declared} → Optional signs.Extern us → Optional signs.Void vs → Declares (Outer gs) ws es → Declares (Outer gs) (us ++ at p signs.Int ∷ at q signs.Input ∷ at r signs.Open ∷ (vs ++ at s signs.Close ∷ at t signs.Semicolon ∷ ws)) es
+  section : (p : Place) (n : ℕ) (gs : List Guard) {us vs ws : List Item} {cs ds es : List Declared} → Declares (Outer (with_true gs n)) us cs → Declares (Later (with_false gs n)) vs ds → Declares (Outer gs) ws es → Declares (Outer gs) (at p (signs.GroupIf n) ∷ (us ++ (vs ++ ws))) (cs ++ (ds ++ es))
+  last_var : (p : Place) (gs : List Guard) {us : List Item} {x : ℕ} {n : ℤ} → Declarator us x n → Declares (Vars gs) (us ++ at p signs.Semicolon ∷ []) (declared x n gs ∷ [])
+  next_var : (p : Place) (gs : List Guard) {us vs : List Item} {x : ℕ} {n : ℤ} {ds : List Declared} → Declarator us x n → Declares (Vars gs) vs ds → Declares (Vars gs) (us ++ at p signs.Comma ∷ vs) (declared x n gs ∷ ds)
+  end_part : (p : Place) (gs : List Guard) → Declares (Later gs) (at p signs.GroupEnd ∷ []) []
+  else_part : (p q : Place) (gs : List Guard) {us : List Item} {ds : List Declared} → Declares (Outer gs) us ds → Declares (Later gs) (at p signs.GroupElse ∷ (us ++ at q signs.GroupEnd ∷ [])) ds
+  elif_part : (p : Place) (n : ℕ) (gs : List Guard) {us vs : List Item} {cs ds : List Declared} → Declares (Outer (with_true gs n)) us cs → Declares (Later (with_false gs n)) vs ds → Declares (Later gs) (at p (signs.GroupElif n) ∷ (us ++ vs)) (cs ++ ds)
+
+-- ---- files
+
+-- a `return` with a literal is a `Skip`
+pub data Returns : List Item → Code → Type 0 where
+  no_return : Returns [] Done
+  return : (p q r : Place) (n : ℤ) → Returns (at p signs.Return ∷ at q (signs.Number n) ∷ at r signs.Semicolon ∷ []) (Skip p Done)
+
+pub data Gap : Type 0 where
+  Gaps : Gap
+  GapRest : Gap
+
+-- groups that hold no token
+pub data Empty : Gap → List Item → Type 0 where
+  no_more : Empty Gaps []
+  empty_section : (p : Place) (n : ℕ) {us vs ws : List Item} → Empty Gaps us → Empty GapRest vs → Empty Gaps ws → Empty Gaps (at p (signs.GroupIf n) ∷ (us ++ (vs ++ ws)))
+  empty_end : (p : Place) → Empty GapRest (at p signs.GroupEnd ∷ [])
+  empty_else : (p q : Place) {us : List Item} → Empty Gaps us → Empty GapRest (at p signs.GroupElse ∷ (us ++ at q signs.GroupEnd ∷ []))
+  empty_elif : (p : Place) (n : ℕ) {us vs : List Item} → Empty Gaps us → Empty GapRest vs → Empty GapRest (at p (signs.GroupElif n) ∷ (us ++ vs))
+
+-- the statements of `main`, up to its closing brace, and what may follow
+pub data Body : List Item → Code → Place → Type 0 where
+  body : (p : Place) {us vs ws : List Item} {c d : Code} → Writes Listed us c → Returns vs d → Empty Gaps ws → Body (us ++ (vs ++ at p signs.RightBrace ∷ ws)) (followed c d) p
+
+pub data Main : List Item → Code → Place → Type 0 where
+  main : (p q r s t u : Place) {us vs : List Item} {c : Code} → Optional signs.Void us → Body vs c u → Main (at p signs.Int ∷ at q signs.Main ∷ at r signs.Open ∷ (us ++ at s signs.Close ∷ at t signs.LeftBrace ∷ vs)) c u
+
+-- what a file has: its declarators in the order of the text, its statements, and the place of its last brace
+pub record File : Type 0 where
+  pub declared : List Declared
+  pub body : Code
+  pub end : Place
+
+abbrev pub file_of : List Declared → Code → Place → File
+file_of ds c p = record { declared = ds; body = c; end = p }
+
+pub data Forms : List Item → File → Type 0 where
+  file : {us vs : List Item} {ds : List Declared} {c : Code} {p : Place} → Declares (Outer []) us ds → Main vs c p → Forms (us ++ vs) (file_of ds c p)
+
+abbrev pub is_group : Sign → Bool
+is_group (signs.GroupIf n) = true
+is_group (signs.GroupElif n) = true
+is_group signs.GroupElse = true
+is_group signs.GroupEnd = true
+is_group _ = false
+
+abbrev pub has_groups : List Item → Bool
+has_groups [] = false
+has_groups (x ∷ ts) = is_group x.sign || has_groups ts
+
+abbrev pub zeros : List (List ℕ) → List ℤ
+zeros names = map (λ name. pos 0) names
+
+-- the program of a file over a list of names: without groups it is plain, and its start values are those of the last
+-- declaration of each name, else 0; with groups it keeps the declarators
+abbrev pub whole_of : List (List ℕ) → List Item → File → Whole
+whole_of names items f = record {
+  names = names;
+  start = if has_groups items then zeros names else projected_start [] f.declared (zeros names);
+  declared = if has_groups items then f.declared else [];
+  body = f.body;
+  end = f.end;
+}
+
+-- a list of items spells a program over a list of names
+pub record Spells (names : List (List ℕ)) (p : Whole) (items : List Item) : Type 0 where
+  pub file : File
+  pub forms : Forms items file
+  pub is : p ≡ whole_of names items file

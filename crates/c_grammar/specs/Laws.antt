@@ -1,0 +1,80 @@
+-- The laws of the grammar and of reading item by item.
+use Rattle.std.specs.Prelude.{◌≡◌, ℕ, List, [], ◌∷◌, ◌++◌, length, Option, Some, None, Result, Ok, Err}
+use Rattle.c_tree.specs.Tree.{Whole}
+use Rattle.c_grammar.specs.declared.items.Item.{Item}
+use Rattle.c_grammar.specs.Grammar.{File, Forms, Spells, whole_of}
+use Rattle.c_grammar.specs.Machine.{State, step, finish, run, start}
+use Rattle.c_grammar.specs.Deep.{guarded, Answers}
+
+-- the program of a file that was read
+abbrev pub program_in : List (List ℕ) → List Item → Result File ℕ → Result Whole ℕ
+program_in names items (Ok f) = Ok (whole_of names items f)
+program_in names items (Err n) = Err n
+
+-- the program that the machine reads, or how many items there are from the wrong one on
+abbrev pub read : List (List ℕ) → List Item → Result Whole ℕ
+read names items = program_in names items (run start items)
+
+-- no list of items that spells a program begins so
+abbrev pub Stops : List Item → List Item → Type 0
+Stops before [] = (f : File) → Forms before f → ⊥
+Stops before (x ∷ rest) = (more : List Item) (f : File) → Forms (before ++ x ∷ more) f → ⊥
+
+-- the first wrong item, or the end, with so many items from it on: what stands before it goes on to a file, and with it
+-- nothing does, whichever names there are
+pub record IsWrong (ts : List Item) (n : ℕ) : Type 0 where
+  pub before : List Item
+  pub rest : List Item
+  pub cut : ts ≡ before ++ rest
+  pub left : length rest ≡ n
+  pub tail : List Item
+  pub made : File
+  pub goes_on : Forms (before ++ tail) made
+  pub stops : Stops before rest
+
+-- the state after these items, where each of them can be taken
+abbrev pub on_with : Option State → (State → Option State) → Option State
+on_with None go = None
+on_with (Some state) go = go state
+
+abbrev pub after : State → List Item → Option State
+after state [] = Some state
+after state (x ∷ ts) = on_with (step state x.place x.sign) (λ next. after next ts)
+
+-- ---- the laws
+
+-- over one list of names, a list of items spells at most one program
+abbrev pub AtMostOne : Type 0
+AtMostOne = (names : List (List ℕ)) (items : List Item) (p q : Whole) → Spells names p items → Spells names q items → p ≡ q
+
+-- what is spelled is read
+abbrev pub Complete : Type 0
+Complete = (names : List (List ℕ)) (items : List Item) (p : Whole) → Spells names p items → read names items ≡ Ok p
+
+-- what is read is spelled
+abbrev pub Sound : Type 0
+Sound = (names : List (List ℕ)) (items : List Item) (p : Whole) → read names items ≡ Ok p → Spells names p items
+
+-- each state that the machine may come to has a text that ends the file
+abbrev pub Completes : Type 0
+Completes = (state : State) → (tail : List Item) × (made : File) × (run state tail ≡ Ok made)
+
+-- the machine stops at the first wrong item, or at the end where no file ends there
+abbrev pub FindsWrong : Type 0
+FindsWrong = (names : List (List ℕ)) (items : List Item) (n : ℕ) → read names items ≡ Err n → IsWrong items n
+
+-- an item is wrong exactly where the machine can't take it: after items that lead to a state, some file goes on with the
+-- next item where the state can take it, and none does where it can't
+abbrev pub StepsDecide : Type 0
+StepsDecide = (before : List Item) (state : State) (x : Item) → after start before ≡ Some state → step state x.place x.sign ≡ None → (more : List Item) (f : File) → Forms (before ++ x ∷ more) f → ⊥
+
+abbrev pub StepsGoOn : Type 0
+StepsGoOn = (before : List Item) (state : State) → after start before ≡ Some state → (tail : List Item) × (f : File) × Forms (before ++ tail) f
+
+-- a list of items that leads to a state is a file exactly where the state is final
+abbrev pub EndsDecide : Type 0
+EndsDecide = (items : List Item) (state : State) → after start items ≡ Some state → finish state ≡ None → (f : File) → Forms items f → ⊥
+
+-- the run with limits does what the run without does, or stops at the first item at which too much is open
+abbrev pub Limited : Type 0
+Limited = (items : List Item) → Answers (guarded start 0 items) start 0 items

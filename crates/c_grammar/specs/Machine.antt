@@ -1,0 +1,410 @@
+-- Reading item by item, with what is open.
+use Rattle.std.specs.Prelude.{ℕ, ℤ, pos, neg_ℤ, suc, nat_lt, List, [], ◌∷◌, ◌++◌, length, Option, Some, None, option_map, Result, Ok, Err, if◌then◌else◌}
+use Rattle.fam_outer.specs.declared.faults.Place.{Place}
+use Rattle.c_tree.specs.declared.tree.Op.{Op}
+use Rattle.c_tree.specs.declared.tree.Op.TheVariants.{Add, Sub}
+use Rattle.c_tree.specs.declared.tree.Guard.{Guard}
+use Rattle.c_tree.specs.declared.tree.Declared.{Declared}
+use Rattle.c_tree.specs.Tree.{Term, Number, Var, Binary, Code, Done, Assign, Input, Assert, If, While, Block, Skip, Cond, followed}
+use Rattle.c_grammar.specs.declared.items.Sign.{Sign}
+use Rattle.c_grammar.specs.declared.items.Sign.TheVariants as signs
+use Rattle.c_grammar.specs.declared.items.Item.{Item}
+use Rattle.c_grammar.specs.Grammar.{tighter, Prefix, Positive, Negative, Inverse, applied, Update, Raise, Lower, updated, with_true, with_false, declared, File, file_of}
+
+-- what waits for an operand
+pub data Frame : Type 0 where
+  Paren : Frame
+  Pre : (u : Prefix) → Frame
+  Left : (op : Op) (a : Term) → Frame
+
+-- the loosest expression that may stand next
+abbrev pub room : List Frame → ℕ
+room [] = 6
+room (Paren ∷ fs) = 6
+room (Pre u ∷ fs) = 0
+room (Left op a ∷ fs) = tighter op
+
+-- the statements that are open, the innermost first; a list has the statements that it has so far, and the outermost one,
+-- that of `main`, the declarators before it
+pub data Stack : Type 0 where
+  Top : (ds : List Declared) (made : Code) → Stack
+  Braces : (p : Place) (made : Code) (outer : Stack) → Stack
+  Yes : (links : List (ℕ × Code)) (n : ℕ) (made : Code) (outer : Stack) → Stack
+  No : (links : List (ℕ × Code)) (n : ℕ) (first : Code) (made : Code) (outer : Stack) → Stack
+  ThenOf : (p : Place) (e : Term) (outer : Stack) → Stack
+  ElseOf : (p : Place) (e : Term) (first : Code) (outer : Stack) → Stack
+  LoopOf : (p : Place) (e : Term) (outer : Stack) → Stack
+
+-- what an expression is for
+pub data Use : Type 0 where
+  ToAssign : (p : Place) (x : ℕ) (outer : Stack) → Use
+  ToUpdate : (p : Place) (x : ℕ) (u : Update) (outer : Stack) → Use
+  ToAssert : (p : Place) (outer : Stack) → Use
+  ToChoose : (p : Place) (outer : Stack) → Use
+  ToLoop : (p : Place) (outer : Stack) → Use
+
+-- the groups around declarations: a part with a condition, and the guards before it; the last part, with its guards
+pub data Sections : Type 0 where
+  Outermost : Sections
+  InPart : (gs : List Guard) (n : ℕ) (outer : Sections) → Sections
+  InLast : (gs : List Guard) (outer : Sections) → Sections
+
+-- the guards of a declarator that stands here
+abbrev pub guards_of : Sections → List Guard
+guards_of Outermost = []
+guards_of (InPart gs n outer) = with_true gs n
+guards_of (InLast gs outer) = gs
+
+-- what parentheses after a name of a function are for
+pub data Aim : Type 0 where
+  ToPrototype : (secs : Sections) (ds : List Declared) → Aim
+  ToMain : (ds : List Declared) → Aim
+
+-- a group behind `main`: another part may come, or this one is the last; and how many conditions it has so far
+pub data Tailing : Type 0 where
+  Another : (k : ℕ) → Tailing
+  Final : (k : ℕ) → Tailing
+
+pub data State : Type 0 where
+  -- a declaration may begin, after these declarators
+  Outside : (secs : Sections) (ds : List Declared) → State
+  AfterStatic : (secs : Sections) (ds : List Declared) → State
+  AfterExtern : (secs : Sections) (ds : List Declared) → State
+  AfterInt : (secs : Sections) (ds : List Declared) → State
+  AfterExternInt : (secs : Sections) (ds : List Declared) → State
+  -- a declarator comes
+  Declaring : (secs : Sections) (ds : List Declared) → State
+  Bare : (x : ℕ) (secs : Sections) (ds : List Declared) → State
+  Starting : (x : ℕ) (secs : Sections) (ds : List Declared) → State
+  Negating : (x : ℕ) (secs : Sections) (ds : List Declared) → State
+  Started : (x : ℕ) (n : ℤ) (secs : Sections) (ds : List Declared) → State
+  -- parentheses after the name of a function: before them, in them, after `void`, and behind them
+  Parameters : (aim : Aim) → State
+  InParameters : (aim : Aim) → State
+  AfterVoid : (aim : Aim) → State
+  AfterParameters : (aim : Aim) → State
+  -- a statement may begin
+  Ready : (outer : Stack) → State
+  -- a statement has ended; an `else` may come
+  Ended : (outer : Stack) (c : Code) → State
+  Wants : (fs : List Frame) (u : Use) → State
+  Has : (fs : List Frame) (u : Use) (e : Term) → State
+  Named : (p : Place) (x : ℕ) (outer : Stack) → State
+  Opens : (u : Use) → State
+  InputOpens : (p : Place) (x : ℕ) (outer : Stack) → State
+  InputCloses : (p : Place) (x : ℕ) (outer : Stack) → State
+  -- a semicolon ends the statement
+  Finishing : (outer : Stack) (c : Code) → State
+  -- the end of `main`: after `return`, after its number, and before the closing brace
+  Returning : (p : Place) (ds : List Declared) (made : Code) → State
+  Returned : (ds : List Declared) (made : Code) → State
+  Closing : (ds : List Declared) (made : Code) → State
+  -- `main` is closed; the groups that are open
+  Over : (f : File) (parts : List Tailing) → State
+
+-- ---- expressions
+
+-- the operators that bind tighter are applied
+abbrev pub settle : ℕ → List Frame → Term → List Frame × Term
+settle k [] e = ([], e)
+settle k (Paren ∷ fs) e = (Paren ∷ fs, e)
+settle k (Pre u ∷ fs) e = settle k fs (applied u e)
+settle k (Left op a ∷ fs) e = if nat_lt (tighter op) k then settle k fs (Binary op a e) else (Left op a ∷ fs, e)
+
+abbrev pub prefix_of : Op → Option Prefix
+prefix_of Add = Some Positive
+prefix_of Sub = Some Negative
+prefix_of _ = None
+
+abbrev pub input_of : List Frame → Use → Option State
+input_of [] (ToAssign p x outer) = Some (InputOpens p x outer)
+input_of _ _ = None
+
+abbrev pub want : List Frame → Use → Sign → Option State
+want fs u (signs.Number n) = Some (Has fs u (Number n))
+want fs u (signs.Name x) = Some (Has fs u (Var x))
+want fs u signs.Open = Some (Wants (Paren ∷ fs) u)
+want fs u signs.Bang = Some (Wants (Pre Inverse ∷ fs) u)
+want fs u (signs.Oper op) = option_map (λ v. Wants (Pre v ∷ fs) u) (prefix_of op)
+want fs u signs.Input = input_of fs u
+want fs u _ = None
+
+abbrev pub tested : Use → Term → Option State
+tested (ToAssign p x outer) e = None
+tested (ToUpdate p x u outer) e = None
+tested (ToAssert p outer) e = Some (Finishing outer (Assert p e Done))
+tested (ToChoose p outer) e = Some (Ready (ThenOf p e outer))
+tested (ToLoop p outer) e = Some (Ready (LoopOf p e outer))
+
+abbrev pub closed_by : List Frame → Use → Term → Option State
+closed_by [] u e = tested u e
+closed_by (Paren ∷ fs) u e = Some (Has fs u e)
+closed_by (Pre v ∷ fs) u e = None
+closed_by (Left op a ∷ fs) u e = None
+
+abbrev pub assigned : Use → Term → Option State
+assigned (ToAssign p x outer) e = Some (Ended outer (Assign p x e Done))
+assigned (ToUpdate p x u outer) e = Some (Ended outer (updated p x u e))
+assigned (ToAssert p outer) e = None
+assigned (ToChoose p outer) e = None
+assigned (ToLoop p outer) e = None
+
+abbrev pub ended_by : List Frame → Use → Term → Option State
+ended_by [] u e = assigned u e
+ended_by (f ∷ fs) u e = None
+
+abbrev pub have : List Frame → Use → Term → Sign → Option State
+have fs u e signs.Close = closed_by (settle 6 fs e).0 u (settle 6 fs e).1
+have fs u e (signs.Oper op) = Some (Wants (Left op (settle (suc (tighter op)) fs e).1 ∷ (settle (suc (tighter op)) fs e).0) u)
+have fs u e signs.Semicolon = ended_by (settle 6 fs e).0 u (settle 6 fs e).1
+have fs u e _ = None
+
+-- ---- statements
+
+-- the statement is put where it belongs, and no `else` comes
+abbrev pub folded : Stack → Code → Stack
+folded (Top ds made) c = Top ds (followed made c)
+folded (Braces p made outer) c = Braces p (followed made c) outer
+folded (Yes links n made outer) c = Yes links n (followed made c) outer
+folded (No links n first made outer) c = No links n first (followed made c) outer
+folded (ThenOf p e outer) c = folded outer (If p e c Done Done)
+folded (ElseOf p e first outer) c = folded outer (If p e first c Done)
+folded (LoopOf p e outer) c = folded outer (While p e c Done)
+
+-- the nearest `if` that an `else` may belong to
+abbrev pub else_of : Stack → Code → Option State
+else_of (Top ds made) c = None
+else_of (Braces p made outer) c = None
+else_of (Yes links n made outer) c = None
+else_of (No links n first made outer) c = None
+else_of (ThenOf p e outer) c = Some (Ready (ElseOf p e c outer))
+else_of (ElseOf p e first outer) c = else_of outer (If p e first c Done)
+else_of (LoopOf p e outer) c = else_of outer (While p e c Done)
+
+-- the earlier parts of a group around its later ones
+abbrev pub linked : List (ℕ × Code) → Code → Code
+linked [] c = c
+linked (l ∷ links) c = linked links (Cond l.0 l.1 c Done)
+
+abbrev pub opened : ℕ → Stack → Option State
+opened n (Top ds made) = Some (Ready (Yes [] n Done (Top ds made)))
+opened n (Braces p made outer) = Some (Ready (Yes [] n Done (Braces p made outer)))
+opened n (Yes links m made outer) = Some (Ready (Yes [] n Done (Yes links m made outer)))
+opened n (No links m first made outer) = Some (Ready (Yes [] n Done (No links m first made outer)))
+opened n (ThenOf p e outer) = None
+opened n (ElseOf p e first outer) = None
+opened n (LoopOf p e outer) = None
+
+abbrev pub braced : Stack → Place → Option State
+braced (Braces p made outer) q = Some (Ended outer (Block p made Done))
+braced (Top ds made) q = Some (Over (file_of ds made q) [])
+braced _ q = None
+
+abbrev pub returned : Stack → Place → Option State
+returned (Top ds made) p = Some (Returning p ds made)
+returned _ p = None
+
+abbrev pub next_part : ℕ → Stack → Option State
+next_part m (Yes links n made outer) = Some (Ready (Yes ((n, made) ∷ links) m Done outer))
+next_part m _ = None
+
+abbrev pub last_part : Stack → Option State
+last_part (Yes links n made outer) = Some (Ready (No links n made Done outer))
+last_part _ = None
+
+abbrev pub group_end : Stack → Option State
+group_end (Yes links n made outer) = Some (Ended outer (linked links (Cond n made Done Done)))
+group_end (No links n first made outer) = Some (Ended outer (linked links (Cond n first made Done)))
+group_end _ = None
+
+abbrev pub begin : Stack → Place → Sign → Option State
+begin outer p (signs.Name x) = Some (Named p x outer)
+begin outer p signs.Semicolon = Some (Ended outer (Skip p Done))
+begin outer p signs.LeftBrace = Some (Ready (Braces p Done outer))
+begin outer p signs.RightBrace = braced outer p
+begin outer p signs.Assert = Some (Opens (ToAssert p outer))
+begin outer p signs.If = Some (Opens (ToChoose p outer))
+begin outer p signs.While = Some (Opens (ToLoop p outer))
+begin outer p signs.Return = returned outer p
+begin outer p (signs.GroupIf n) = opened n outer
+begin outer p (signs.GroupElif n) = next_part n outer
+begin outer p signs.GroupElse = last_part outer
+begin outer p signs.GroupEnd = group_end outer
+begin outer p _ = None
+
+abbrev pub on : Stack → Code → Place → Sign → Option State
+on outer c p signs.Else = else_of outer c
+on outer c p s = begin (folded outer c) p s
+
+abbrev pub named : Place → ℕ → Stack → Sign → Option State
+named p x outer signs.Equals = Some (Wants [] (ToAssign p x outer))
+named p x outer signs.PlusEquals = Some (Wants [] (ToUpdate p x Raise outer))
+named p x outer signs.MinusEquals = Some (Wants [] (ToUpdate p x Lower outer))
+named p x outer signs.PlusPlus = Some (Finishing outer (updated p x Raise (Number (pos 1))))
+named p x outer signs.MinusMinus = Some (Finishing outer (updated p x Lower (Number (pos 1))))
+named p x outer _ = None
+
+-- the state, where it is this sign
+abbrev pub at_open : State → Sign → Option State
+at_open next signs.Open = Some next
+at_open next _ = None
+
+abbrev pub at_close : State → Sign → Option State
+at_close next signs.Close = Some next
+at_close next _ = None
+
+abbrev pub at_semicolon : State → Sign → Option State
+at_semicolon next signs.Semicolon = Some next
+at_semicolon next _ = None
+
+abbrev pub at_int : State → Sign → Option State
+at_int next signs.Int = Some next
+at_int next _ = None
+
+abbrev pub at_input : State → Sign → Option State
+at_input next signs.Input = Some next
+at_input next _ = None
+
+-- ---- declarations
+
+abbrev pub next_condition : ℕ → Sections → List Declared → Option State
+next_condition m Outermost ds = None
+next_condition m (InPart gs n outer) ds = Some (Outside (InPart (with_false gs n) m outer) ds)
+next_condition m (InLast gs outer) ds = None
+
+abbrev pub last_section : Sections → List Declared → Option State
+last_section Outermost ds = None
+last_section (InPart gs n outer) ds = Some (Outside (InLast (with_false gs n) outer) ds)
+last_section (InLast gs outer) ds = None
+
+abbrev pub section_end : Sections → List Declared → Option State
+section_end Outermost ds = None
+section_end (InPart gs n outer) ds = Some (Outside outer ds)
+section_end (InLast gs outer) ds = Some (Outside outer ds)
+
+abbrev pub outside : Sections → List Declared → Sign → Option State
+outside secs ds signs.Static = Some (AfterStatic secs ds)
+outside secs ds signs.Extern = Some (AfterExtern secs ds)
+outside secs ds signs.Int = Some (AfterInt secs ds)
+outside secs ds (signs.GroupIf n) = Some (Outside (InPart (guards_of secs) n secs) ds)
+outside secs ds (signs.GroupElif n) = next_condition n secs ds
+outside secs ds signs.GroupElse = last_section secs ds
+outside secs ds signs.GroupEnd = section_end secs ds
+outside secs ds _ = None
+
+abbrev pub declaring : Sections → List Declared → Sign → Option State
+declaring secs ds (signs.Name x) = Some (Bare x secs ds)
+declaring secs ds _ = None
+
+-- `main` stands outside every group
+abbrev pub main_of : Sections → List Declared → Option State
+main_of Outermost ds = Some (Parameters (ToMain ds))
+main_of _ ds = None
+
+abbrev pub after_int : Sections → List Declared → Sign → Option State
+after_int secs ds (signs.Name x) = Some (Bare x secs ds)
+after_int secs ds signs.Input = Some (Parameters (ToPrototype secs ds))
+after_int secs ds signs.Main = main_of secs ds
+after_int secs ds _ = None
+
+-- the declarators with one more
+abbrev pub with_declared : Sections → List Declared → ℕ → ℤ → List Declared
+with_declared secs ds x n = ds ++ declared x n (guards_of secs) ∷ []
+
+abbrev pub started : ℕ → ℤ → Sections → List Declared → Sign → Option State
+started x n secs ds signs.Comma = Some (Declaring secs (with_declared secs ds x n))
+started x n secs ds signs.Semicolon = Some (Outside secs (with_declared secs ds x n))
+started x n secs ds _ = None
+
+abbrev pub is_bare : ℕ → Sections → List Declared → Sign → Option State
+is_bare x secs ds signs.Equals = Some (Starting x secs ds)
+is_bare x secs ds s = started x (pos 0) secs ds s
+
+abbrev pub starting : ℕ → Sections → List Declared → Sign → Option State
+starting x secs ds (signs.Number n) = Some (Started x n secs ds)
+starting x secs ds (signs.Oper Sub) = Some (Negating x secs ds)
+starting x secs ds _ = None
+
+abbrev pub negating : ℕ → Sections → List Declared → Sign → Option State
+negating x secs ds (signs.Number n) = Some (Started x (neg_ℤ n) secs ds)
+negating x secs ds _ = None
+
+abbrev pub in_parameters : Aim → Sign → Option State
+in_parameters aim signs.Void = Some (AfterVoid aim)
+in_parameters aim signs.Close = Some (AfterParameters aim)
+in_parameters aim _ = None
+
+abbrev pub after_parameters : Aim → Sign → Option State
+after_parameters (ToPrototype secs ds) signs.Semicolon = Some (Outside secs ds)
+after_parameters (ToMain ds) signs.LeftBrace = Some (Ready (Top ds Done))
+after_parameters _ _ = None
+
+-- ---- the end of a file
+
+abbrev pub returning : Place → List Declared → Code → Sign → Option State
+returning p ds made (signs.Number n) = Some (Returned ds (followed made (Skip p Done)))
+returning p ds made _ = None
+
+abbrev pub closing : List Declared → Code → Place → Sign → Option State
+closing ds made p signs.RightBrace = Some (Over (file_of ds made p) [])
+closing ds made p _ = None
+
+abbrev pub over : File → List Tailing → Sign → Option State
+over f parts (signs.GroupIf n) = Some (Over f (Another 1 ∷ parts))
+over f (Another k ∷ parts) (signs.GroupElif n) = Some (Over f (Another (suc k) ∷ parts))
+over f (Another k ∷ parts) signs.GroupElse = Some (Over f (Final k ∷ parts))
+over f (part ∷ parts) signs.GroupEnd = Some (Over f parts)
+over f _ _ = None
+
+-- ---- the machine
+
+-- what an item leads to, where the state can take it
+abbrev pub step : State → Place → Sign → Option State
+step (Outside secs ds) p s = outside secs ds s
+step (AfterStatic secs ds) p s = at_int (Declaring secs ds) s
+step (AfterExtern secs ds) p s = at_int (AfterExternInt secs ds) s
+step (AfterInt secs ds) p s = after_int secs ds s
+step (AfterExternInt secs ds) p s = at_input (Parameters (ToPrototype secs ds)) s
+step (Declaring secs ds) p s = declaring secs ds s
+step (Bare x secs ds) p s = is_bare x secs ds s
+step (Starting x secs ds) p s = starting x secs ds s
+step (Negating x secs ds) p s = negating x secs ds s
+step (Started x n secs ds) p s = started x n secs ds s
+step (Parameters aim) p s = at_open (InParameters aim) s
+step (InParameters aim) p s = in_parameters aim s
+step (AfterVoid aim) p s = at_close (AfterParameters aim) s
+step (AfterParameters aim) p s = after_parameters aim s
+step (Ready outer) p s = begin outer p s
+step (Ended outer c) p s = on outer c p s
+step (Wants fs u) p s = want fs u s
+step (Has fs u e) p s = have fs u e s
+step (Named q x outer) p s = named q x outer s
+step (Opens u) p s = at_open (Wants [] u) s
+step (InputOpens q x outer) p s = at_open (InputCloses q x outer) s
+step (InputCloses q x outer) p s = at_close (Finishing outer (Input q x Done)) s
+step (Finishing outer c) p s = at_semicolon (Ended outer c) s
+step (Returning q ds made) p s = returning q ds made s
+step (Returned ds made) p s = at_semicolon (Closing ds made) s
+step (Closing ds made) p s = closing ds made p s
+step (Over f parts) p s = over f parts s
+
+-- the file, where it may end here
+abbrev pub finish : State → Option File
+finish (Over f []) = Some f
+finish _ = None
+
+abbrev pub at_end : Option File → Result File ℕ
+at_end None = Err 0
+at_end (Some f) = Ok f
+
+abbrev pub moved : Option State → (State → Result File ℕ) → ℕ → Result File ℕ
+moved None go n = Err n
+moved (Some state) go n = go state
+
+-- the file, or how many items there are from the wrong one on
+unfoldable pub run : State → List Item → Result File ℕ
+run state [] = at_end (finish state)
+run state (x ∷ ts) = moved (step state x.place x.sign) (λ next. run next ts) (suc (length ts))
+
+abbrev pub start : State
+start = Outside Outermost []

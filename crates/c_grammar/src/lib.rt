@@ -1,0 +1,7 @@
+//! The grammar of C files with groups: which lists of items spell a file, and the laws of reading them item by item.
+#![tactic(auto)]
+
+pub mod items;
+pub mod laws;
+
+pub use items::{Item, Sign};
