@@ -1,0 +1,5 @@
+pub mod Blanking
+pub mod Faulting
+pub mod Piecing
+pub mod Listing
+pub mod Coding
