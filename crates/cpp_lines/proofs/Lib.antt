@@ -3,3 +3,5 @@ pub mod Faulting
 pub mod Piecing
 pub mod Listing
 pub mod Coding
+pub mod Places
+pub mod Deciding

@@ -1,5 +1,5 @@
 -- The first fault of a text at its comments and line ends.
-use Rattle.std.specs.Prelude.{ℕ, ◌+◌, ◌-◌, Bool, false, ◌&&◌, ◌||◌, ◌==◌, List, [], ◌∷◌, length, take, drop, Option, Some, None, is_none, option_map, Result, Ok, Err, if◌then◌else◌}
+use Rattle.std.specs.Prelude.{◌≡◌, ℕ, zero, suc, ◌+◌, ◌-◌, ◌<◌, ◌≤◌, Bool, false, ◌&&◌, ◌||◌, ◌==◌, List, [], ◌∷◌, length, take, drop, Option, Some, None, is_none, option_map, Result, Ok, Err, if◌then◌else◌}
 use Rattle.std.specs.List.{list_any}
 use Rattle.fam_outer.specs.declared.faults.Place.{Place}
 use Rattle.fam_outer.specs.declared.faults.FileCode.{FileCode}
@@ -64,3 +64,27 @@ blanked_or text (Some fault) = Err fault
 
 abbrev pub without_comments : List ℕ → Result (List ℕ) (FileCode × Place)
 without_comments text = blanked_or text (first_fault text)
+
+-- ---- the same by offsets
+
+-- how many bytes are left, at this offset, of a comment that opened before it; the first argument is that of offset 0
+abbrev pub left_at : ℕ → ℕ → List ℕ → ℕ
+left_at left zero bytes = left
+left_at left (suc n) [] = 0
+left_at left (suc n) (b ∷ bs) = left_at (comment_left left (b ∷ bs) - 1) n bs
+
+-- the fault at an offset of the text
+abbrev pub fault_of : List ℕ → ℕ → Option FileCode
+fault_of text offset = fault_at text offset (left_at 0 offset text) (drop offset text)
+
+-- no offset from the first to before the second has a fault
+abbrev pub HasNoneBetween : List ℕ → ℕ → ℕ → Type 0
+HasNoneBetween text start end = (offset : ℕ) → start ≤ offset → offset < end → fault_of text offset ≡ None
+
+-- the fault with its place, at this offset or behind it, with none before; or there is none from here on
+abbrev pub IsFirstFrom : List ℕ → ℕ → Option (FileCode × Place) → Type 0
+IsFirstFrom text start None = HasNoneBetween text start (length text)
+IsFirstFrom text start (Some fault) = (offset : ℕ) × (start ≤ offset) × (offset < length text) × (fault_of text offset ≡ Some fault.0) × (fault.1 ≡ place_at text offset) × HasNoneBetween text start offset
+
+abbrev pub IsFirstFault : List ℕ → Option (FileCode × Place) → Type 0
+IsFirstFault text answer = IsFirstFrom text 0 answer

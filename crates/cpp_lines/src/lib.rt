@@ -6,6 +6,7 @@ pub mod code;
 mod comments;
 mod directives;
 pub mod faults;
+pub mod laws;
 pub mod line;
 pub mod lines;
 
