@@ -18,7 +18,6 @@ abbrev head_of : List Bool → Bool
 head_of [] = false
 head_of (b ∷ bs) = b
 
-
 abbrev IsAlike : List ℕ → List ℕ → Type 0
 IsAlike xs ys = (count_by is_newline xs ≡ count_by is_newline ys) × (length (last_line xs) ≡ length (last_line ys)) × (list_any is_newline xs ≡ list_any is_newline ys) × (length xs ≡ length ys)
 
@@ -33,11 +32,13 @@ alike (b ∷ bs) (c ∷ cs) e =
     let h : is_newline b ≡ is_newline c = ap head_of e in
     let k = alike bs cs (ap (drop 1) e) in
     let any : (is_newline b || list_any is_newline bs) ≡ (is_newline c || list_any is_newline cs) = ap (λ (v : Bool). v || list_any is_newline bs) h ∙ ap (λ (v : Bool). is_newline c || v) k.2 in
-    let len : length (b ∷ bs) ≡ length (c ∷ cs) = ap suc k.3 in
-    (counted b bs ∙ ap (λ (v : Bool). cond v 1 0 + count_by is_newline bs) h ∙ ap (λ (n : ℕ). cond (is_newline c) 1 0 + n) k.0 ∙ sym (counted c cs),
+    let len : length (b ∷ bs) ≡ length (c ∷ cs) = ap suc k.3 in (
+      counted b bs ∙ ap (λ (v : Bool). cond v 1 0 + count_by is_newline bs) h ∙ ap (λ (n : ℕ). cond (is_newline c) 1 0 + n) k.0 ∙ sym (counted c cs),
       ap (λ (v : Bool). length (cond v (last_line bs) (b ∷ bs))) any
-      ∙ elim (is_newline c || list_any is_newline cs) as (λ v. length (cond v (last_line bs) (b ∷ bs)) ≡ length (cond v (last_line cs) (c ∷ cs))) [ true ↦ k.1 | false ↦ len ],
-      any, len)
+          ∙ elim (is_newline c || list_any is_newline cs) as (λ v. length (cond v (last_line bs) (b ∷ bs)) ≡ length (cond v (last_line cs) (c ∷ cs))) [ true ↦ k.1 | false ↦ len ],
+      any,
+      len,
+    )
 
 front_alike : (xs ys : List ℕ) (n : ℕ) → newlines xs ≡ newlines ys → newlines (take n xs) ≡ newlines (take n ys)
 front_alike xs ys zero e = refl

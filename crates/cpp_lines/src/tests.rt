@@ -85,6 +85,14 @@ fn texts_are_refused(rt: HostRuntime) {
     }
 }
 
+/// The lines and the code of a text.
+fn read(rt: &impl Abort, alloc: Global, text: &[u8]) -> Result<(Lines, Text), FileRefusal> {
+    assert!(rt; text.len() <= 1_048_576);
+    let lines = plain_lines(alloc, text)?;
+    let code = code_text(alloc, text, lines.items())?;
+    Ok((lines, code))
+}
+
 /// A line by its kind, its first offset, the offset behind it, and its place.
 fn line(kind: LineKind, start: u32, end: u32, line: u32, column: u32) -> Line {
     Line {
@@ -104,10 +112,8 @@ fn lines_and_code(rt: HostRuntime) -> Result<(), FileRefusal> {
         line(LineKind::Code, 33, 33, 3, 1),
         line(LineKind::Include, 34, 52, 4, 1),
     ];
-    let lines = lined(&rt, rt.alloc(), text)?;
+    let (lines, code) = read(&rt, rt.alloc(), text)?;
     assert_eq!(rt; lines.items(), wanted.as_slice());
-    assert!(rt; text.len() <= 1_048_576);
-    let code = code_text(rt.alloc(), text, lines.items())?;
     assert_eq!(rt;
         code.bytes(),
         b"                         \nint x;\n\n                  ".as_slice()
