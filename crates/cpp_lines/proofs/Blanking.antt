@@ -2,7 +2,7 @@
 use Rattle.std.proofs.Common.{◌≡◌, ℕ, suc, ◌+◌, ◌-◌, ◌≤◌, Bool, true, false, cond, List, [], ◌∷◌, ◌++◌, length, Option, Some, None, refl, sym, ap, subst, ◌∙◌, append_assoc, arith}
 use Rattle.std.specs.Prelude.{option_map}
 use Rattle.cpp_lines.specs.Bytes.{begins_with}
-use Rattle.cpp_lines.specs.Comments.{block_len, comment_left, blanked_byte, blank_from, blank}
+use Rattle.cpp_lines.specs.Comments.{block_len, comment_left, blanked_byte, blank_from}
 
 pub begins_len : (x y : ℕ) (bytes : List ℕ) → begins_with x y bytes ≡ true → 2 ≤ length bytes
 begins_len x y [] e = absurd cc

@@ -1,9 +1,9 @@
 -- The code of a text line by line.
-use Rattle.std.proofs.Common.{◌≡◌, ℕ, suc, ◌+◌, ◌-◌, ◌≤◌, Bool, true, false, not, cond, eqb, List, [], ◌∷◌, ◌++◌, length, take, drop, refl, sym, ap, subst, ◌∙◌, append_assoc, arith}
+use Rattle.std.proofs.Common.{◌≡◌, ℕ, suc, ◌+◌, ◌-◌, ◌≤◌, Bool, true, false, not, cond, List, [], ◌∷◌, ◌++◌, length, take, drop, refl, sym, ap, subst, ◌∙◌, append_assoc, arith}
 use Rattle.std.proofs.lemmas.Int.{clamps}
-use Rattle.std.specs.Prelude.{min, map, ◌||◌, ◌&&◌, nat_le}
+use Rattle.std.specs.Prelude.{min, ◌||◌}
 use Rattle.std.specs.List.{list_any, prefix_len}
-use Rattle.std.proofs.lemmas.Bool.{or_parts, eqb-true}
+use Rattle.std.proofs.lemmas.Bool.{or_parts}
 use Rattle.std.proofs.lemmas.List.{append-nil, length-drop, length-append, drop-drop}
 use Rattle.fam_outer.specs.Places.{is_newline}
 use Rattle.cpp_lines.specs.declared.line.Line.{Line}

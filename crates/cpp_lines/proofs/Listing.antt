@@ -1,5 +1,5 @@
 -- Steps of the loop over lines.
-use Rattle.std.proofs.Common.{◌≡◌, ℕ, suc, ◌+◌, ◌≤◌, Bool, true, false, not, cond, List, [], ◌∷◌, ◌++◌, length, take, drop, Option, Some, None, Result, Ok, Err, refl, sym, ap, subst, ◌∙◌, append_assoc, arith}
+use Rattle.std.proofs.Common.{◌≡◌, ℕ, suc, ◌+◌, Bool, true, false, not, cond, List, [], ◌∷◌, ◌++◌, length, take, drop, Option, Some, None, Result, Ok, Err, refl, sym, ap, subst, ◌∙◌, append_assoc, arith}
 use Rattle.std.specs.List.{list_any}
 use Rattle.std.proofs.lemmas.List.{append-nil}
 use Rattle.fam_outer.specs.declared.faults.Place.{Place}
@@ -15,7 +15,7 @@ use Rattle.cpp_lines.specs.declared.directives.Directive.{Directive}
 use Rattle.cpp_lines.specs.declared.directives.Directive.TheVariants as named
 use Rattle.cpp_lines.specs.declared.line.LineKind.TheVariants.{Code}
 use Rattle.cpp_lines.specs.Directives.{begins_directive, behind_hash, directive_of, plain_directive, plain_kind}
-use Rattle.cpp_lines.specs.Lines.{pieces, line_with, plain_line, before, plain_lines_from, is_code, IsLineAt, AreLinesFrom}
+use Rattle.cpp_lines.specs.Lines.{line_with, plain_line, before, plain_lines_from, is_code, IsLineAt, AreLinesFrom}
 use Rattle.cpp_lines.proofs.Faulting.{front_more}
 
 -- these lines in front of what is read behind them

@@ -1,12 +1,11 @@
 -- Places stay where newlines stay.
-use Rattle.std.proofs.Common.{◌≡◌, ℕ, zero, suc, ◌+◌, Bool, true, false, not, cond, eqb, List, [], ◌∷◌, length, take, drop, ◌-◌, refl, sym, ap, subst, ◌∙◌, arith}
-use Rattle.std.specs.Prelude.{◌||◌, ◌&&◌, map, count_by}
+use Rattle.std.proofs.Common.{◌≡◌, ℕ, zero, suc, ◌+◌, Bool, true, false, not, cond, List, [], ◌∷◌, length, take, drop, ◌-◌, refl, sym, ap, ◌∙◌}
+use Rattle.std.specs.Prelude.{◌||◌, map, count_by}
 use Rattle.std.specs.List.{list_any}
 use Rattle.std.proofs.lemmas.List.Sums.{sum_by-cons}
-use Rattle.fam_outer.specs.declared.faults.Place.{Place}
-use Rattle.fam_outer.specs.Places.{is_newline, last_line, end_place, place_at}
+use Rattle.fam_outer.specs.Places.{is_newline, last_line, place_at}
 use Rattle.fam_outer.proofs.Placing.{one_spot}
-use Rattle.cpp_lines.specs.Comments.{comment_left, blanked_byte, blank_from, blank}
+use Rattle.cpp_lines.specs.Comments.{comment_left, blanked_byte, blank_from}
 use Rattle.cpp_lines.specs.Directives.{begins_directive}
 use Rattle.cpp_lines.specs.Code.{code_byte, code_from}
 

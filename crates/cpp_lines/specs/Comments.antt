@@ -1,5 +1,5 @@
 -- Comments, and the text without them (ISO/IEC 9899:2011, 6.4.9). A quote opens nothing: the subset has no strings and no character constants.
-use Rattle.std.specs.Prelude.{ℕ, zero, suc, ◌+◌, ◌-◌, Bool, ◌==◌, List, [], ◌∷◌, length, drop, Option, Some, None, option_map, unwrap_or, if◌then◌else◌}
+use Rattle.std.specs.Prelude.{ℕ, zero, suc, ◌+◌, ◌-◌, ◌==◌, List, [], ◌∷◌, length, drop, Option, Some, None, option_map, unwrap_or, if◌then◌else◌}
 use Rattle.std.specs.List.{prefix_len}
 use Rattle.fam_outer.specs.Places.{is_newline}
 use Rattle.cpp_lines.specs.Bytes.{begins_with, is_line_byte}

@@ -1,5 +1,4 @@
-use Rattle.std.proofs.Common.{◌≡◌, ◌+◌, ◌≤◌, List, ◌∷◌, length, refl, sym, ap, ◌∙◌, arith}
-use Rattle.std.specs.Prelude.{option_map}
+use Rattle.std.proofs.Common.{length, sym, ap, ◌∙◌, arith}
 use Rattle.cpp_lines.specs.Comments.{block_len}
 use Rattle.cpp_lines.proofs.Blanking.{begins_len, none_passed, found_on, passed_on, ended_on}
 use Rattle.cpp_lines.proofs.comments.block_len.Goals as goal

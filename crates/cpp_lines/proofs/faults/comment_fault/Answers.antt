@@ -1,4 +1,4 @@
-use Rattle.std.proofs.Common.{◌≡◌, ◌≤◌, ℕ, true, false, length, take, sym, ap, subst, ◌∙◌}
+use Rattle.std.proofs.Common.{◌≤◌, ℕ, true, false, length, take, sym, ap, subst, ◌∙◌}
 use Rattle.cpp_lines.specs.Comments.{comment_len}
 use Rattle.cpp_lines.proofs.Faulting.{touches_same, comment_is}
 use Rattle.cpp_lines.proofs.faults.comment_fault.Goals as goal

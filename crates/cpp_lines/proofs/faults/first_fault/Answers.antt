@@ -1,5 +1,5 @@
-use Rattle.std.proofs.Common.{◌≡◌, ◌+◌, ◌-◌, ◌≤◌, List, ℕ, [], ◌∷◌, ◌++◌, length, take, drop, sym, ap, ◌∙◌, arith}
-use Rattle.std.specs.Prelude.{Option, Some, None}
+use Rattle.std.proofs.Common.{◌≡◌, ◌-◌, List, ℕ, ◌∷◌, ◌++◌, length, take, drop, sym, ap, ◌∙◌, arith}
+use Rattle.std.specs.Prelude.{Some}
 use Rattle.fam_outer.specs.declared.faults.Place.{Place}
 use Rattle.fam_outer.specs.Places.{end_place, last_line}
 use Rattle.cpp_lines.specs.Faults.{first_fault_from, first_fault}

@@ -1,4 +1,4 @@
-use Rattle.std.proofs.Common.{◌≡◌, ◌≤◌, length, take, ◌∙◌, arith}
+use Rattle.std.proofs.Common.{◌∙◌, arith}
 use Rattle.cpp_lines.proofs.Faulting.{last_at_newline, last_at_byte}
 use Rattle.cpp_lines.proofs.faults.last_line_len.Goals as goal
 use Rattle.cpp_lines.proofs.faults.last_line_len.Goals.{then-b-eq10, else-b-eq10}

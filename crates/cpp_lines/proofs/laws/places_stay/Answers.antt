@@ -1,5 +1,3 @@
-use Rattle.std.proofs.Common.{◌≡◌, ℕ, List, length}
-use Rattle.fam_outer.specs.Places.{place_at}
 use Rattle.cpp_lines.specs.Comments.{blank}
 use Rattle.cpp_lines.specs.Directives.{begins_directive}
 use Rattle.cpp_lines.specs.Code.{code_from, code_of}

@@ -1,4 +1,4 @@
-use Rattle.std.proofs.Common.{◌≡◌, ℕ, List, [], ◌∷◌, drop, take, sym, ap, subst, ◌∙◌}
+use Rattle.std.proofs.Common.{ℕ, List, drop, take, sym, ap, subst, ◌∙◌}
 use Rattle.cpp_lines.proofs.Piecing.{IsFirst, whole_line, first_line}
 use Rattle.cpp_lines.proofs.lines.cut_line.Goals as goal
 
