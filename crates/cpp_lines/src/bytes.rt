@@ -1,0 +1,115 @@
+//! Bytes at the front of a text, and the place behind one.
+#![tactic(auto)]
+
+ghost use Rattle.std.specs.Prelude.{◌≡◌, ℕ, ◌<◌, ◌≤◌, ◌+◌, ◌^◌, List, [], ◌∷◌, ◌++◌, length, take, drop, MatchOption};
+ghost use Rattle.std.specs.List.{prefix_len};
+ghost use Rattle.fam_outer.specs.Places.{end_place};
+ghost use Rattle.cpp_lines.specs.Bytes as kinds;
+
+use fam_outer::Place;
+
+/// The first byte and those behind it.
+pub(crate) fn cut(bytes: &[u8]) -> Option<(u8, &[u8])>
+    ensures { MatchOption result (bytes.now ≡ []) (λ x. bytes.now ≡ x.0 ∷ x.1.now) }
+{
+    match bytes {
+        [] => None,
+        [b, behind @ ..] => Some((*b, behind)),
+    }
+}
+
+/// White space but a newline.
+pub(crate) fn is_gap(b: u8) -> bool
+    ensures { result ≡ kinds.is_gap b }
+{
+    matches!(b, b' ' | b'\t' | 11..=13)
+}
+
+/// A letter, a digit or an underscore.
+pub(crate) fn is_word_byte(b: u8) -> bool
+    ensures { result ≡ kinds.is_word_byte b }
+{
+    matches!(b, b'_' | b'a'..=b'z' | b'A'..=b'Z' | b'0'..=b'9')
+}
+
+/// Whether the first two bytes are these.
+pub(crate) fn begins_with(first: u8, second: u8, bytes: &[u8]) -> bool
+    ensures { result ≡ kinds.begins_with first second bytes.now }
+{
+    match bytes {
+        [] => false,
+        [_] => false,
+        [b, c, ..] => *b == first && *c == second,
+    }
+}
+
+/// Whether the first byte is this.
+pub(crate) fn has_first(first: u8, bytes: &[u8]) -> bool
+    ensures { result ≡ kinds.has_first first bytes.now }
+{
+    match bytes {
+        [] => false,
+        [b, ..] => *b == first,
+    }
+}
+
+/// How many bytes stand before the newline, or the end.
+pub(crate) fn line_len(bytes: &[u8]) -> usize
+    ensures value { result ≡ prefix_len kinds.is_line_byte bytes.now }
+    ensures within { result ≤ length bytes.now }
+{
+    bytes.iter().take_while(|b| **b != b'\n').count()
+}
+
+/// How many bytes of white space but newlines stand at the front.
+pub(crate) fn gap_len(bytes: &[u8]) -> usize
+    ensures value { result ≡ prefix_len kinds.is_gap bytes.now }
+    ensures within { result ≤ length bytes.now }
+{
+    bytes.iter().take_while(|b| is_gap(**b)).count()
+}
+
+/// What stands behind them.
+pub(crate) fn behind_gap(bytes: &[u8]) -> &[u8]
+    ensures { result.now ≡ kinds.behind_gap bytes.now }
+{
+    bytes.split_at(gap_len(bytes)).1
+}
+
+/// How many letters, digits and underscores stand at the front.
+fn word_len(bytes: &[u8]) -> usize
+    ensures value { result ≡ prefix_len kinds.is_word_byte bytes.now }
+    ensures within { result ≤ length bytes.now }
+{
+    bytes.iter().take_while(|b| is_word_byte(**b)).count()
+}
+
+/// The letters, digits and underscores at the front, and what stands behind them.
+pub(crate) fn split_word(bytes: &[u8]) -> (&[u8], &[u8])
+    ensures word { result.0.now ≡ take (prefix_len kinds.is_word_byte bytes.now) bytes.now }
+    ensures behind { result.1.now ≡ drop (prefix_len kinds.is_word_byte bytes.now) bytes.now }
+{
+    bytes.split_at(word_len(bytes))
+}
+
+/// The place behind a byte.
+pub(crate) fn after(b: u8, place: Place) -> Place
+    requires line { place.line < 2 ^ 31 }
+    requires column { place.column < 2 ^ 31 }
+    ensures value { (front : List ℕ) → place ≡ end_place front → result ≡ end_place (front ++ b ∷ []) }
+    ensures line { result.line ≤ place.line + 1 }
+    ensures column { result.column ≤ place.column + 1 }
+    ensures positive { 1 ≤ place.column → 1 ≤ result.column }
+{
+    if b == b'\n' {
+        Place {
+            line: place.line + 1,
+            column: 1,
+        }
+    } else {
+        Place {
+            line: place.line,
+            column: place.column + 1,
+        }
+    }
+}

@@ -1,0 +1,137 @@
+//! Directive lines (ISO/IEC 9899:2011, 6.10).
+#![tactic(auto)]
+
+ghost use Rattle.std.specs.Prelude.{◌≡◌, true, map};
+ghost use Rattle.std.specs.Str.{bytes_eq};
+ghost use Rattle.cpp_lines.specs.Directives as specs;
+
+use crate::bytes::{behind_gap, has_first, is_gap, split_word};
+use crate::line::LineKind;
+use fam_outer::FileCode;
+
+/// A known directive.
+#[derive(Clone, Copy, Debug, PartialEq, Eq)]
+pub(crate) enum Directive {
+    Include,
+    If,
+    Ifdef,
+    Ifndef,
+    Elif,
+    Else,
+    Endif,
+}
+
+/// The names of the known directives.
+const NAMES: [(&str, Directive); 7] = [
+    ("include", Directive::Include),
+    ("if", Directive::If),
+    ("ifdef", Directive::Ifdef),
+    ("ifndef", Directive::Ifndef),
+    ("elif", Directive::Elif),
+    ("else", Directive::Else),
+    ("endif", Directive::Endif),
+];
+
+/// Whether the line at the front is a directive line: its first byte that is not white space is `#`.
+pub(crate) fn begins_directive(bytes: &[u8]) -> bool
+    ensures { result ≡ specs.begins_directive bytes.now }
+{
+    has_first(b'#', behind_gap(bytes))
+}
+
+/// Whether the bytes are this text.
+fn is(bytes: &[u8], text: &str) -> bool
+    ensures { result ≡ bytes_eq bytes.now text.now }
+{
+    bytes == text.as_bytes()
+}
+
+/// The directive that a table gives a word.
+fn directive_in(table: &[(&str, Directive)], word: &[u8]) -> Option<Directive>
+    ensures { result ≡ specs.directive_in (map (λ entry. (entry.0.now, entry.1)) table.now) word.now }
+{
+    for (name, directive) in table {
+        if is(word, *name) {
+            return Some(*directive);
+        }
+    }
+    None
+}
+
+/// The directive with this name.
+fn directive_named(word: &[u8]) -> Option<Directive>
+    ensures { result ≡ specs.directive_named word.now }
+{
+    directive_in(&NAMES, word)
+}
+
+/// Nothing but white space.
+fn is_gap_only(bytes: &[u8]) -> bool
+    ensures { result ≡ specs.is_gap_only bytes.now }
+{
+    bytes.iter().all(|b| is_gap(*b))
+}
+
+/// Exactly `<assert.h>`, with white space before and behind it.
+fn is_assert_header(bytes: &[u8]) -> bool
+    ensures { result ≡ specs.is_assert_header bytes.now }
+{
+    let name = behind_gap(bytes);
+    let (front, behind) = name.split_at(name.len().min(10));
+    is(front, "<assert.h>") && is_gap_only(behind)
+}
+
+/// Whether this may stand behind the directive's name.
+fn may_stand_behind(directive: Directive, rest: &[u8]) -> bool
+    ensures { result ≡ specs.may_stand_behind directive rest.now }
+{
+    match directive {
+        Directive::Include => is_assert_header(rest),
+        Directive::Else => is_gap_only(rest),
+        Directive::Endif => is_gap_only(rest),
+        Directive::If => true,
+        Directive::Ifdef => true,
+        Directive::Ifndef => true,
+        Directive::Elif => true,
+    }
+}
+
+/// The directive of what stands behind `#`; none, where it is no known one, an include of another header, or `else` or
+/// `endif` with text behind it.
+pub(crate) fn directive_of(bytes: &[u8]) -> Option<Directive>
+    ensures { result ≡ specs.directive_of bytes.now }
+{
+    let (word, rest) = split_word(bytes);
+    match directive_named(word) {
+        None => None,
+        Some(directive) => {
+            if may_stand_behind(directive, rest) {
+                Some(directive)
+            } else {
+                None
+            }
+        }
+    }
+}
+
+/// What stands behind `#` and white space in a directive line.
+pub(crate) fn behind_hash(line: &[u8]) -> &[u8]
+    requires { specs.begins_directive line.now ≡ true }
+    ensures { result.now ≡ specs.behind_hash line.now }
+{
+    behind_gap(&behind_gap(line)[1..])
+}
+
+/// The kind of a line without a model.
+pub(crate) fn plain_kind(line: &[u8]) -> Result<LineKind, FileCode>
+    ensures { result ≡ specs.plain_kind line.now }
+{
+    if !begins_directive(line) {
+        return Ok(LineKind::Code);
+    }
+    match directive_of(behind_hash(line)) {
+        None => Err(FileCode::Directive),
+        Some(Directive::Include) => Ok(LineKind::Include),
+        Some(_) => Err(FileCode::GroupHere),
+    }
+}

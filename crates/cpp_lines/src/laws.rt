@@ -1,0 +1,21 @@
+//! Laws of comments and lines, for the crates above: each function does nothing, and its contract is the law.
+#![tactic(auto)]
+
+ghost use Rattle.std.specs.Prelude.{◌≡◌, ℕ, List, length};
+ghost use Rattle.fam_outer.specs.Places.{place_at};
+ghost use Rattle.cpp_lines.specs.Code.{code_of};
+ghost use Rattle.cpp_lines.specs.Comments.{blank};
+ghost use Rattle.cpp_lines.specs.Faults.{IsFirstFault, first_fault};
+
+/// A blanked text and its code have as many bytes as the text, each at the place where it was.
+pub fn places_stay()
+    ensures blanked { (text : List ℕ) (offset : ℕ) → place_at (blank text) offset ≡ place_at text offset }
+    ensures code { (text : List ℕ) (offset : ℕ) → place_at (code_of text) offset ≡ place_at text offset }
+    ensures blanked_len { (text : List ℕ) → length (blank text) ≡ length text }
+    ensures code_len { (text : List ℕ) → length (code_of text) ≡ length text }
+{}
+
+/// What `blank_comments` refuses is the fault at the first offset that has one; a text that it blanks has none.
+pub fn first_fault_decides()
+    ensures { (text : List ℕ) → IsFirstFault text (first_fault text) }
+{}

@@ -1,0 +1,19 @@
+//! Comments, lines and the code between directives (ISO/IEC 9899:2011, 5.1.1.2 and 6.10).
+#![tactic(auto)]
+
+mod bytes;
+pub mod code;
+mod comments;
+mod directives;
+pub mod faults;
+pub mod laws;
+pub mod line;
+pub mod lines;
+
+pub use code::code_text;
+pub use faults::blank_comments;
+pub use line::{Line, LineKind, Lines};
+pub use lines::plain_lines;
+
+#[cfg(test)]
+mod tests;

@@ -1,0 +1,85 @@
+//! The lines of a blanked text.
+#![tactic(auto)]
+
+ghost use Rattle.std.specs.Prelude.{◌≡◌, ◌≤◌, ◌<◌, ◌+◌, ◌^◌, false, List, [], ◌∷◌, ◌++◌, length, IfOk, MatchOption};
+ghost use Rattle.std.specs.List.{list_any};
+ghost use Rattle.fam_outer.specs.Places.{is_newline};
+ghost use Rattle.fam_outer.specs.Refusals.{Gives};
+ghost use Rattle.cpp_lines.specs.Lines as specs;
+
+use crate::bytes::{cut, gap_len, line_len};
+use crate::directives::{begins_directive, plain_kind};
+use crate::line::{Line, Lines};
+use fam_outer::{FileRefusal, Place};
+use std::alloc::Global;
+
+/// The first line, and what stands behind its newline; none where no newline comes.
+fn cut_line(bytes: &[u8]) -> Option<(&[u8], &[u8])>
+    ensures { MatchOption result (specs.pieces bytes.now ≡ bytes.now ∷ []) (λ x. (specs.pieces bytes.now ≡ x.0.now ∷ specs.pieces x.1.now)
+        × (bytes.now ≡ x.0.now ++ 10 ∷ x.1.now) × (list_any is_newline x.0.now ≡ false)) }
+{
+    let (line, behind) = bytes.split_at(line_len(bytes));
+    match cut(behind) {
+        None => None,
+        Some((_, rest)) => Some((line, rest)),
+    }
+}
+
+/// The place of `#` in a directive line, and of the first byte of another line.
+fn line_place(first: Place, line: &[u8]) -> Place
+    requires short { length line.now ≤ 1048576 }
+    requires column { first.column ≤ 1 }
+    ensures { result ≡ specs.line_place first line.now }
+{
+    if !begins_directive(line) {
+        return first;
+    }
+    Place {
+        line: first.line,
+        column: first.column + gap_len(line) as u32,
+    }
+}
+
+/// A line whose first byte stands at this offset and place, or its fault.
+fn plain_line(start: u32, first: Place, line: &[u8]) -> Result<Line, FileRefusal>
+    requires short { start + length line.now ≤ 1048576 }
+    requires column { first.column ≤ 1 }
+    ensures { Gives (λ line. line) result (specs.plain_line start first line.now) }
+{
+    let place = line_place(first, line);
+    match plain_kind(line) {
+        Ok(kind) => Ok(Line {
+            kind,
+            start,
+            end: start + line.len() as u32,
+            place,
+        }),
+        Err(code) => Err(FileRefusal::Fault { code, place }),
+    }
+}
+
+/// The lines of a blanked text that has no groups.
+///
+/// Its lines are the pieces between its newlines, so there is one more than there are newlines, and each is code or an
+/// include. It answers `Directive` at the `#` of a directive that is none of the six group directives `if`, `ifdef`,
+/// `ifndef`, `elif`, `else` and `endif`, nor `include` with exactly `<assert.h>`, and of `else` or `endif` with text behind
+/// it; and `GroupHere` at the `#` of any other group directive. The first place decides. It answers `NoMemory` for want of
+/// memory.
+pub fn plain_lines(alloc: Global, blanked: &[u8]) -> Result<Lines, FileRefusal>
+    requires { length blanked.now ≤ 1048576 }
+    ensures value { Gives (λ lines. lines) result (specs.plain_lines_of blanked.now) }
+    ensures lines { IfOk result (λ lines. specs.AreLinesOf blanked.now lines) }
+{
+    let mut list = Vec::new(alloc);
+    let mut first = Place { line: 1, column: 1 };
+    let mut start: u32 = 0;
+    let mut rest = blanked;
+    'lines: while let Some((line, behind)) = cut_line(rest) {
+        list.push(plain_line(start, first, line)?)?;
+        first.line += 1;
+        start += line.len() as u32 + 1;
+        rest = behind;
+    }
+    list.push(plain_line(start, first, rest)?)?;
+    Ok(Lines::from_vec(list))
+}
