@@ -52,7 +52,7 @@ gap_same (b ∷ bs) rest = elim (is_gap b) as (λ t. has_first 35 (drop (cond t 
 
 -- ---- the pieces of a text
 
-not_none : (bytes : List ℕ) → pieces bytes ≡ [] → ⊥
+pub not_none : (bytes : List ℕ) → pieces bytes ≡ [] → ⊥
 not_none [] e = absurd cc
 not_none (b ∷ bs) e = elim (is_newline b) as (λ t. cond t ([] ∷ pieces bs) (in_first b (pieces bs)) ≡ [] → ⊥) [
   | true ↦ λ h. absurd cc
@@ -71,13 +71,13 @@ line_bytes (b ∷ bs) e = elim (is_newline b) as (λ t. drop (cond (not t) (1 + 
 ] e
 
 -- one piece alone is the text, of several the first is a line with its newline
-last_piece : (bytes p : List ℕ) → pieces bytes ≡ p ∷ [] → (bytes ≡ p) × (list_any is_newline p ≡ false)
+pub last_piece : (bytes p : List ℕ) → pieces bytes ≡ p ∷ [] → (bytes ≡ p) × (list_any is_newline p ≡ false)
 last_piece bytes p e = elim (drop (prefix_len is_line_byte bytes) bytes) as (λ ys. drop (prefix_len is_line_byte bytes) bytes ≡ ys → (bytes ≡ p) × (list_any is_newline p ≡ false)) [
   | [] ↦ λ h. (let same : bytes ≡ p = ap first_of_lists (sym (whole_line bytes h) ∙ e) in (same, subst (λ (xs : List ℕ). list_any is_newline xs ≡ false) same (line_bytes bytes h)))
   | c ∷ rest ↦ λ h. absurd (not_none rest (ap (drop 1) (sym (first_line bytes c rest h).0 ∙ e)))
 ] refl
 
-next_piece : (bytes p q : List ℕ) (qs : List (List ℕ)) → pieces bytes ≡ p ∷ q ∷ qs → (rest : List ℕ) × (bytes ≡ p ++ 10 ∷ rest) × (list_any is_newline p ≡ false) × (pieces rest ≡ q ∷ qs)
+pub next_piece : (bytes p q : List ℕ) (qs : List (List ℕ)) → pieces bytes ≡ p ∷ q ∷ qs → (rest : List ℕ) × (bytes ≡ p ++ 10 ∷ rest) × (list_any is_newline p ≡ false) × (pieces rest ≡ q ∷ qs)
 next_piece bytes p q qs e = elim (drop (prefix_len is_line_byte bytes) bytes) as (λ ys. drop (prefix_len is_line_byte bytes) bytes ≡ ys → (rest : List ℕ) × (bytes ≡ p ++ 10 ∷ rest) × (list_any is_newline p ≡ false) × (pieces rest ≡ q ∷ qs)) [
   | [] ↦ λ h. (let bad : (bytes ∷ []) ≡ p ∷ q ∷ qs = sym (whole_line bytes h) ∙ e in absurd cc)
   | c ∷ rest ↦ λ h. (let f = first_line bytes c rest h in

@@ -5,3 +5,4 @@ pub mod Listing
 pub mod Coding
 pub mod Places
 pub mod Deciding
+pub mod Placed

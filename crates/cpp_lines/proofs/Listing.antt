@@ -79,7 +79,7 @@ next_place text start next rest line more first er ec none ef en =
 
 -- ---- the lines that are read are those of the text
 
-abbrev IsCodeOr : Bool → Result LineKind FileCode → Type 0
+abbrev pub IsCodeOr : Bool → Result LineKind FileCode → Type 0
 IsCodeOr directive (Ok kind) = is_code kind ≡ not directive
 IsCodeOr directive (Err code) = Unit
 
@@ -93,11 +93,11 @@ no_code (Some named.Elif) = tt
 no_code (Some named.Else) = tt
 no_code (Some named.Endif) = tt
 
-kind_is : (line : List ℕ) → IsCodeOr (begins_directive line) (plain_kind line)
+pub kind_is : (line : List ℕ) → IsCodeOr (begins_directive line) (plain_kind line)
 kind_is line = elim (begins_directive line) as (λ t. IsCodeOr t (cond t (plain_directive (directive_of (behind_hash line))) (Ok Code))) [ true ↦ no_code (directive_of (behind_hash line)) | false ↦ refl ]
 
 -- the value of an `Ok`
-abbrev got : {X Y : Type 0} → X → Result X Y → X
+abbrev pub got : {X Y : Type 0} → X → Result X Y → X
 got x (Ok y) = y
 got x (Err e) = x
 
@@ -107,7 +107,7 @@ line_is start first p l e = elim (plain_kind p) as (λ r. IsCodeOr (begins_direc
   | Err code ↦ λ k h. absurd cc
 ] (kind_is p) e
 
-both : (r : Result Line (FileCode × Place)) (q : Result (List Line) (FileCode × Place)) (ls : List Line) → before r q ≡ Ok ls → (l : Line) × (ks : List Line) × (r ≡ Ok l) × (q ≡ Ok ks) × ((l ∷ ks) ≡ ls)
+pub both : (r : Result Line (FileCode × Place)) (q : Result (List Line) (FileCode × Place)) (ls : List Line) → before r q ≡ Ok ls → (l : Line) × (ks : List Line) × (r ≡ Ok l) × (q ≡ Ok ks) × ((l ∷ ks) ≡ ls)
 both (Ok l) (Ok ks) ls e = (l, ks, refl, refl, ap (got ls) e)
 both (Ok l) (Err f) ls e = absurd cc
 both (Err f) q ls e = absurd cc

@@ -36,7 +36,7 @@ comment_fault text offset rest =
     if is_open rest then Some OpenComment
     else (if touches_directive text offset (comment_len rest) then Some CommentAtDirective else None)
 
--- the fault at this offset, where so many bytes are left of a comment that opened before
+-- the fault at this offset, where so many bytes are left of a comment that opened before; a splice and a comment begin with different bytes
 abbrev pub fault_at : List ℕ → ℕ → ℕ → List ℕ → Option FileCode
 fault_at text offset left rest =
     if is_splice rest then Some Splice

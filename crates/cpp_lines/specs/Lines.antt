@@ -1,5 +1,5 @@
 -- The lines of a blanked text.
-use Rattle.std.specs.Prelude.{◌≡◌, ⊤, ℕ, ◌+◌, Bool, true, false, not, List, [], ◌∷◌, length, Result, Ok, Err, if◌then◌else◌}
+use Rattle.std.specs.Prelude.{◌≡◌, ⊤, ℕ, ◌+◌, Bool, true, false, not, List, [], ◌∷◌, length, drop, Result, Ok, Err, if◌then◌else◌}
 use Rattle.std.specs.List.{prefix_len}
 use Rattle.fam_outer.specs.declared.faults.Place.{Place}
 use Rattle.fam_outer.specs.declared.faults.FileCode.{FileCode}
@@ -67,3 +67,8 @@ AreLinesFrom start (p ∷ ps) (l ∷ ls) = IsLineAt start p l × AreLinesFrom (s
 
 unfoldable pub AreLinesOf : List ℕ → List Line → Type 0
 AreLinesOf text lines = AreLinesFrom 0 (pieces text) lines
+
+-- each line has the place of its `#`, behind its white space, or of its first byte where it is code
+abbrev pub ArePlaced : List ℕ → List Line → Type 0
+ArePlaced text [] = ⊤
+ArePlaced text (l ∷ ls) = (l.place ≡ place_at text (if is_code l.kind then l.start else l.start + prefix_len is_gap (drop l.start text))) × ArePlaced text ls

@@ -1,10 +1,12 @@
 //! Laws of comments and lines, for the crates above: each function does nothing, and its contract is the law.
 #![tactic(auto)]
 
-ghost use Rattle.std.specs.Prelude.{◌≡◌, ℕ, List, length};
+ghost use Rattle.std.specs.Prelude.{◌≡◌, ℕ, List, length, Ok};
 ghost use Rattle.fam_outer.specs.Places.{place_at};
 ghost use Rattle.cpp_lines.specs.Code.{code_of};
 ghost use Rattle.cpp_lines.specs.Comments.{blank};
+ghost use Rattle.cpp_lines.specs.declared.line.Line as declared;
+ghost use Rattle.cpp_lines.specs.Lines.{ArePlaced, plain_lines_of};
 ghost use Rattle.cpp_lines.specs.Faults.{IsFirstFault, first_fault};
 
 /// A blanked text and its code have as many bytes as the text, each at the place where it was.
@@ -18,4 +20,9 @@ pub fn places_stay()
 /// What `blank_comments` refuses is the fault at the first offset that has one; a text that it blanks has none.
 pub fn first_fault_decides()
     ensures { (text : List ℕ) → IsFirstFault text (first_fault text) }
+{}
+
+/// The places of the lines that `plain_lines` answers are places of the text.
+pub fn lines_are_placed()
+    ensures { (text : List ℕ) (lines : List declared.Line) → plain_lines_of text ≡ Ok lines → ArePlaced text lines }
 {}
