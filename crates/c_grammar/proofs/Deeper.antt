@@ -3,7 +3,7 @@ use Rattle.std.proofs.Common.{◌≡◌, ℕ, suc, Bool, true, false, List, [], 
 use Rattle.c_grammar.specs.declared.items.Item.{Item}
 use Rattle.c_grammar.specs.Grammar.{File}
 use Rattle.c_grammar.specs.Machine.{State, step, finish, at_end, moved, run, start}
-use Rattle.c_grammar.specs.Deep.{counted, is_deep, Fault, Wrong, Deep, ended, went, guarded, Answers}
+use Rattle.c_grammar.specs.Deep.{IsDeep, counted, is_deep, Fault, Wrong, Deep, ended, went, guarded, Answers}
 use Rattle.c_grammar.proofs.Closing.{completes}
 
 ends_so : (o : Option File) (state : State) (count : ℕ) → finish state ≡ o → Answers (ended o) state count []
@@ -70,3 +70,16 @@ answers (x ∷ ts) state count = goes_so (step state x.place x.sign) (is_deep st
 
 pub limited_law : (items : List Item) → Answers (guarded start 0 items) start 0 items
 limited_law items = answers items start 0
+
+deep_fault : ℕ → Result File Fault
+deep_fault n = Err (Deep n)
+
+pub deep_is_found_law : (items : List Item) (n : ℕ) → IsDeep start 0 items n → guarded start 0 items ≡ Err (Deep n)
+unfolding guarded deep_fault
+deep_is_found_law items n h =
+    let go : State → Result File Fault = λ k. guarded k (counted h.state h.item.sign h.operators) h.rest in
+    ap (guarded start 0) h.cut
+    ∙ h.shallow (h.item ∷ h.rest)
+    ∙ ap (λ (o : Option State). went o (is_deep h.state h.item.sign h.operators) go (suc (length h.rest))) h.goes_on
+    ∙ ap (λ (d : Bool). went (Some h.next) d go (suc (length h.rest))) h.deep
+    ∙ ap deep_fault h.left

@@ -1,7 +1,8 @@
 -- Lists of items and what they are read as, worked by hand.
 use Rattle.std.proofs.Common.{◌≡◌, ℕ, pos, negsuc, zero, suc, ◌+◌, Bool, true, false, List, [], ◌∷◌, ◌++◌, Ok, Err, refl}
 use Rattle.fam_outer.specs.declared.faults.Place.{Place}
-use Rattle.c_tree.specs.declared.tree.Op.TheVariants.{Add, Sub, Mul, Lt, Eq, And, Or}
+use Rattle.c_tree.specs.declared.tree.Op.{Op}
+use Rattle.c_tree.specs.declared.tree.Op.TheVariants.{Add, Sub, Mul, Div, Rem, Lt, Le, Gt, Ge, Eq, Ne, And, Or}
 use Rattle.c_tree.specs.declared.tree.Guard.{Guard}
 use Rattle.c_tree.specs.Tree.{Number, Var, Neg, Not, Binary, Done, Assign, Input, Assert, If, Block, Skip, Cond}
 use Rattle.c_grammar.specs.declared.items.Item.{Item}
@@ -52,6 +53,33 @@ levels_of_operators : run start (items (head ++ signs.Name 0 ∷ signs.MinusMinu
     ≡ Ok (file_of [] (Assign (place 5) 0 (Binary Sub (Var 0) (Number (pos 1))) (Input (place 8) 1 (Assert (place 14) (Binary Or (Binary And (Binary Eq (Binary Lt (Var 0) (Number (pos 1))) (Var 1)) (Not (Neg (Var 0)))) (Var 1)) Done))) (place 30))
 unfolding run
 levels_of_operators = refl
+
+-- assert ( 0 || 1 && 2 E 3 R 4 S 5 P 6 ) ; with an equality E, a relation R, a sum S and a product P
+abbrev chain : Op → Op → Op → Op → List Sign
+chain e r s p =
+    signs.Assert ∷ signs.Open ∷ signs.Name 0 ∷ signs.Oper Or ∷ signs.Name 1 ∷ signs.Oper And ∷ signs.Name 2 ∷ signs.Oper e ∷ signs.Name 3 ∷ signs.Oper r
+    ∷ signs.Name 4 ∷ signs.Oper s ∷ signs.Name 5 ∷ signs.Oper p ∷ signs.Name 6 ∷ signs.Close ∷ signs.Semicolon ∷ []
+
+abbrev IsNested : Op → Op → Op → Op → Type 0
+IsNested e r s p =
+    run start (items (head ++ (chain e r s p ++ signs.RightBrace ∷ [])))
+    ≡ Ok (file_of [] (Assert (place 5) (Binary Or (Var 0) (Binary And (Var 1) (Binary e (Var 2) (Binary r (Var 3) (Binary s (Var 4) (Binary p (Var 5) (Var 6))))))) Done) (place 22))
+
+nested_first : IsNested Eq Lt Add Mul
+unfolding run
+nested_first = refl
+
+nested_second : IsNested Ne Le Sub Div
+unfolding run
+nested_second = refl
+
+nested_third : IsNested Eq Gt Add Rem
+unfolding run
+nested_third = refl
+
+nested_fourth : IsNested Ne Ge Sub Mul
+unfolding run
+nested_fourth = refl
 
 -- int main ( ) { if ( x ) if ( y ) ; else { } }
 nearest_if_has_the_else : run start (items (head ++ signs.If ∷ signs.Open ∷ signs.Name 0 ∷ signs.Close ∷ signs.If ∷ signs.Open ∷ signs.Name 1 ∷ signs.Close ∷ signs.Semicolon ∷ signs.Else ∷ signs.LeftBrace ∷ signs.RightBrace ∷ signs.RightBrace ∷ []))

@@ -5,7 +5,7 @@ use Rattle.c_tree.specs.Tree.{Whole}
 use Rattle.c_grammar.specs.declared.items.Item.{Item}
 use Rattle.c_grammar.specs.Grammar.{File, Forms, whole_of}
 use Rattle.c_grammar.specs.Machine.{State, step, finish, at_end, moved, run, start}
-use Rattle.c_grammar.specs.Laws.{program_in, IsWrong, on_with, after, AtMostOne, Complete, Sound, FindsWrong, StepsDecide, StepsGoOn, EndsDecide}
+use Rattle.c_grammar.specs.Laws.{Stops, program_in, IsWrong, on_with, after, AtMostOne, Complete, Sound, FindsWrong, WrongIsFound, StepsDecide, StepsGoOn, EndsDecide}
 use Rattle.c_grammar.proofs.Files.{is_read}
 use Rattle.c_grammar.proofs.Closing.{completes}
 use Rattle.c_grammar.proofs.Sound.{ok_forms}
@@ -121,3 +121,31 @@ steps_go_on_law before state h = let c = completes state in (c.0, c.1, ok_forms 
 pub ends_decide_law : EndsDecide
 unfolding run
 ends_decide_law items state h is f s = never f 0 (run start items) (is_read items f s) (ap (run start) (sym (append-nil items)) ∙ leads items state h [] ∙ ap at_end is)
+
+-- ---- only there
+
+reaches : (from : State) (ts w : List Item) (f : File) → run from (ts ++ w) ≡ Ok f → (state : State) × (after from ts ≡ Some state)
+unfolding run
+reaches from [] w f h = (from, refl)
+reaches from (x ∷ ts) w f h = elim (step from x.place x.sign) as (λ o. moved o (λ next. run next (ts ++ w)) (suc (length (ts ++ w))) ≡ Ok f → (state : State) × (on_with o (λ next. after next ts) ≡ Some state)) [
+  | None ↦ λ e. absurd cc
+  | Some next ↦ λ e. reaches next ts w f e
+] h
+
+found_at : (before rest : List Item) (state : State) → after start before ≡ Some state → Stops before rest → run start (before ++ rest) ≡ failed (length rest)
+unfolding run
+found_at before [] state is stops = leads before state is [] ∙ elim (finish state) as (λ o. finish state ≡ o → at_end o ≡ failed 0) [
+  | None ↦ λ e. refl
+  | Some f ↦ λ e. absurd (stops f (ok_forms before f (ap (run start) (sym (append-nil before)) ∙ leads before state is [] ∙ ap at_end e)))
+] refl
+found_at before (x ∷ rest) state is stops = leads before state is (x ∷ rest) ∙ elim (step state x.place x.sign) as (λ o. step state x.place x.sign ≡ o → moved o (λ next. run next rest) (suc (length rest)) ≡ failed (suc (length rest))) [
+  | None ↦ λ e. refl
+  | Some next ↦ λ e.
+      let c = completes next in
+      absurd (stops c.0 c.1 (ok_forms (before ++ x ∷ c.0) c.1 (leads before state is (x ∷ c.0) ∙ ap (λ (o : Option State). moved o (λ k. run k c.0) (suc (length c.0))) e ∙ c.2)))
+] refl
+
+pub wrong_is_found_law : WrongIsFound
+wrong_is_found_law names items n h =
+    let r = reaches start h.before h.tail h.made (is_read (h.before ++ h.tail) h.made h.goes_on) in
+    ap (program_in names items) (ap (run start) h.cut ∙ found_at h.before h.rest r.0 r.1 h.stops ∙ ap failed h.left)

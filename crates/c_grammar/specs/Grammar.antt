@@ -154,6 +154,7 @@ pub data Returns : List Item → Code → Type 0 where
   no_return : Returns [] Done
   return : (p q r : Place) (n : ℤ) → Returns (at p signs.Return ∷ at q (signs.Number n) ∷ at r signs.Semicolon ∷ []) (Skip p Done)
 
+-- groups, or what closes one
 pub data Gap : Type 0 where
   Gaps : Gap
   GapRest : Gap
@@ -170,6 +171,7 @@ pub data Empty : Gap → List Item → Type 0 where
 pub data Body : List Item → Code → Place → Type 0 where
   body : (p : Place) {us vs ws : List Item} {c d : Code} → Writes Listed us c → Returns vs d → Empty Gaps ws → Body (us ++ (vs ++ at p signs.RightBrace ∷ ws)) (followed c d) p
 
+-- `main`
 pub data Main : List Item → Code → Place → Type 0 where
   main : (p q r s t u : Place) {us vs : List Item} {c : Code} → Optional signs.Void us → Body vs c u → Main (at p signs.Int ∷ at q signs.Main ∷ at r signs.Open ∷ (us ++ at s signs.Close ∷ at t signs.LeftBrace ∷ vs)) c u
 
@@ -182,9 +184,11 @@ pub record File : Type 0 where
 abbrev pub file_of : List Declared → Code → Place → File
 file_of ds c p = record { declared = ds; body = c; end = p }
 
+-- declarations, and then `main`
 pub data Forms : List Item → File → Type 0 where
   file : {us vs : List Item} {ds : List Declared} {c : Code} {p : Place} → Declares (Outer []) us ds → Main vs c p → Forms (us ++ vs) (file_of ds c p)
 
+-- a group directive
 abbrev pub is_group : Sign → Bool
 is_group (signs.GroupIf n) = true
 is_group (signs.GroupElif n) = true

@@ -4,7 +4,7 @@ use Rattle.c_tree.specs.Tree.{Whole}
 use Rattle.c_grammar.specs.declared.items.Item.{Item}
 use Rattle.c_grammar.specs.Grammar.{File, Forms, Spells, whole_of}
 use Rattle.c_grammar.specs.Machine.{State, step, finish, run, start}
-use Rattle.c_grammar.specs.Deep.{guarded, Answers}
+use Rattle.c_grammar.specs.Deep.{Answers, Deep, IsDeep, guarded}
 
 -- the program of a file that was read
 abbrev pub program_in : List (List ℕ) → List Item → Result File ℕ → Result Whole ℕ
@@ -63,6 +63,10 @@ Completes = (state : State) → (tail : List Item) × (made : File) × (run stat
 abbrev pub FindsWrong : Type 0
 FindsWrong = (names : List (List ℕ)) (items : List Item) (n : ℕ) → read names items ≡ Err n → IsWrong items n
 
+-- and nowhere else
+abbrev pub WrongIsFound : Type 0
+WrongIsFound = (names : List (List ℕ)) (items : List Item) (n : ℕ) → IsWrong items n → read names items ≡ Err n
+
 -- an item is wrong exactly where the machine can't take it: after items that lead to a state, some file goes on with the
 -- next item where the state can take it, and none does where it can't
 abbrev pub StepsDecide : Type 0
@@ -78,3 +82,7 @@ EndsDecide = (items : List Item) (state : State) → after start items ≡ Some 
 -- the run with limits does what the run without does, or stops at the first item at which too much is open
 abbrev pub Limited : Type 0
 Limited = (items : List Item) → Answers (guarded start 0 items) start 0 items
+
+-- and nowhere else
+abbrev pub DeepIsFound : Type 0
+DeepIsFound = (items : List Item) (n : ℕ) → IsDeep start 0 items n → guarded start 0 items ≡ Err (Deep n)

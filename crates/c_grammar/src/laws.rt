@@ -3,7 +3,7 @@
 
 ghost use Rattle.c_grammar.specs.Facts.{Conditioned, PlainWithoutGroups, WellFormed};
 ghost use Rattle.c_grammar.specs.Kept.{Preprocesses};
-ghost use Rattle.c_grammar.specs.Laws.{AtMostOne, Complete, Completes, EndsDecide, FindsWrong, Limited, Sound, StepsDecide, StepsGoOn};
+ghost use Rattle.c_grammar.specs.Laws.{AtMostOne, Complete, Completes, DeepIsFound, EndsDecide, FindsWrong, Limited, Sound, StepsDecide, StepsGoOn, WrongIsFound};
 
 /// Over one list of names, a list of items spells at most one program.
 pub fn spells_at_most_one()
@@ -26,9 +26,10 @@ pub fn closes_what_is_open()
 {}
 
 /// Reading stops at the first item with which no file goes on, whichever names it has, or at the end where no file
-/// ends there.
+/// ends there, and nowhere else.
 pub fn stops_at_the_first_wrong_item()
-    ensures { FindsWrong }
+    ensures there { FindsWrong }
+    ensures alone { WrongIsFound }
 {}
 
 /// After items that lead to a state some file goes on, none with an item that the state can't take, and the items are a
@@ -40,9 +41,10 @@ pub fn steps_decide()
 {}
 
 /// The reading with limits does what the reading without them does, up to the first item that some file goes on with
-/// but at which too much is open.
+/// but at which too much is open. There it stops.
 pub fn limits_stop_only_what_is_deep()
-    ensures { Limited }
+    ensures there { Limited }
+    ensures alone { DeepIsFound }
 {}
 
 /// A file that is read within the limits, over at most 16 names and with numbers that an `int` has, is a well-formed
