@@ -67,15 +67,15 @@ FindsWrong = (names : List (List ℕ)) (items : List Item) (n : ℕ) → read na
 abbrev pub WrongIsFound : Type 0
 WrongIsFound = (names : List (List ℕ)) (items : List Item) (n : ℕ) → IsWrong items n → read names items ≡ Err n
 
--- an item is wrong exactly where the machine can't take it: after items that lead to a state, some file goes on with the
--- next item where the state can take it, and none does where it can't
+-- after items that lead to a state no file goes on with an item that the state can't take
 abbrev pub StepsDecide : Type 0
 StepsDecide = (before : List Item) (state : State) (x : Item) → after start before ≡ Some state → step state x.place x.sign ≡ None → (more : List Item) (f : File) → Forms (before ++ x ∷ more) f → ⊥
 
+-- items that lead to a state go on to some file
 abbrev pub StepsGoOn : Type 0
 StepsGoOn = (before : List Item) (state : State) → after start before ≡ Some state → (tail : List Item) × (f : File) × Forms (before ++ tail) f
 
--- a list of items that leads to a state is a file exactly where the state is final
+-- a list of items that leads to a state is a file only where the state is final
 abbrev pub EndsDecide : Type 0
 EndsDecide = (items : List Item) (state : State) → after start items ≡ Some state → finish state ≡ None → (f : File) → Forms items f → ⊥
 
