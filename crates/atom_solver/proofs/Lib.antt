@@ -1,0 +1,6 @@
+pub mod Cutting
+pub mod Known
+pub mod Ordered
+pub mod Pointing
+pub mod Splitting
+pub mod Wants

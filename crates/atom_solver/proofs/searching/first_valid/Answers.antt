@@ -1,0 +1,20 @@
+use Rattle.std.proofs.lemmas.Result.{IfOk-weaker}
+use Rattle.std.proofs.Common.{ℤ, List, Option, map, ap, ◌∙◌}
+use Rattle.linear_atoms.specs.declared.atoms.Config.{Config}
+use Rattle.cpp_conditions.specs.Propositions.{true_at}
+use Rattle.cpp_conditions.specs.View.{proposition}
+use Rattle.atom_solver.specs.Solutions.{Finds}
+use Rattle.atom_solver.specs.Spans.{ranges, meets, FindsIn, span_of}
+use Rattle.atom_solver.proofs.Pointing.{box_is, found_model}
+use Rattle.atom_solver.proofs.searching.first_valid.Goals as goal
+
+pub search-requires-clause-ranges : goal.search-requires-clause-ranges
+search-requires-clause-ranges c =
+    box_is c.args.model.now.features c.deref.result.now (c.deref.ensures.value ∙ c.in_ok-spans.ensures ∙ ap (map span_of) c.items.ensures) c.requires.ranges
+
+pub returns : goal.returns
+returns c =
+    let p = proposition c.args.wanted.now in
+    IfOk-weaker c.search.result (λ (found : Option Config). FindsIn (ranges c.deref.result.now) (meets c.items-2.result.now p) found) (λ (found : Option Config). Finds c.args.model.now (λ (values : List ℤ). true_at values p) found)
+    (λ found f. found_model c.args.model.now p c.deref.result.now c.items-2.result.now found (c.deref.ensures.value ∙ c.in_ok-spans.ensures ∙ ap (map span_of) c.items.ensures) c.items-2.ensures f)
+    c.search.ensures

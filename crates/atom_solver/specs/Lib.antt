@@ -1,0 +1,5 @@
+pub mod Fit
+pub mod Plausible
+pub mod Solutions
+pub mod Spans
+pub mod Wanted

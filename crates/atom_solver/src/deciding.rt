@@ -1,0 +1,103 @@
+//! What conditions say over a box, by logic of three values.
+#![tactic(auto)]
+
+ghost use Rattle.std.specs.Prelude.{◌≡◌, ℤ, List, Bool, true, false, not, ◌&&◌, ◌||◌, [], ◌∷◌, MatchOption, length};
+ghost use Rattle.linear_atoms.specs.Atoms.{AreRanges, IsWithin};
+ghost use Rattle.cpp_conditions.specs.Propositions.{IsFit, true_at};
+ghost use Rattle.cpp_conditions.specs.Validity.{AreFit};
+ghost use Rattle.cpp_conditions.specs.View.{proposition};
+ghost use Rattle.atom_solver.specs.Spans.{ranges, Agrees, IsKnown, meets};
+
+use crate::bounds::of_atom;
+use crate::spans::Span;
+use cpp_conditions::Condition;
+
+/// What is known of a negation.
+fn negation(inner: Option<bool>) -> Option<bool>
+    ensures { (p : Bool) → Agrees inner p → Agrees result (not p) }
+{
+    match inner {
+        None => None,
+        Some(truth) => Some(!truth),
+    }
+}
+
+/// What is known of a conjunction.
+fn both(left: Option<bool>, right: Option<bool>) -> Option<bool>
+    ensures { (p q : Bool) → Agrees left p → Agrees right q → Agrees result (p && q) }
+{
+    match (left, right) {
+        (Some(false), _) => Some(false),
+        (_, Some(false)) => Some(false),
+        (Some(true), Some(true)) => Some(true),
+        _ => None,
+    }
+}
+
+/// What is known of a disjunction.
+fn either(left: Option<bool>, right: Option<bool>) -> Option<bool>
+    ensures { (p q : Bool) → Agrees left p → Agrees right q → Agrees result (p || q) }
+{
+    match (left, right) {
+        (Some(true), _) => Some(true),
+        (_, Some(true)) => Some(true),
+        (Some(false), Some(false)) => Some(false),
+        _ => None,
+    }
+}
+
+/// What is known of a condition: a truth that it has at every configuration of the box, or None.
+fn decided(condition: &Condition, spans: &[Span]) -> Option<bool>
+    requires fit { IsFit (length spans.now) (proposition condition.now) }
+    requires ranges { AreRanges (ranges spans.now) }
+    ensures { IsKnown (ranges spans.now) (proposition condition.now) result }
+{
+    match condition {
+        Condition::Const(truth) => Some(*truth),
+        Condition::Test(atom) => of_atom(atom, spans),
+        Condition::Not(inner) => negation(decided(inner, spans)),
+        Condition::And(left, right) => both(decided(left, spans), decided(right, spans)),
+        Condition::Or(left, right) => either(decided(left, spans), decided(right, spans)),
+    }
+}
+
+/// Whether a condition is known to be false on the whole box.
+fn is_false(condition: &Condition, spans: &[Span]) -> bool
+    requires fit { IsFit (length spans.now) (proposition condition.now) }
+    requires ranges { AreRanges (ranges spans.now) }
+    ensures { result ≡ true → (values : List ℤ) → IsWithin (ranges spans.now) values → true_at values (proposition condition.now) ≡ false }
+{
+    match decided(condition, spans) {
+        None => false,
+        Some(truth) => !truth,
+    }
+}
+
+/// The first condition and those behind it.
+pub(crate) fn cut(conditions: &[Condition]) -> Option<(&Condition, &[Condition])>
+    ensures { MatchOption result (conditions.now ≡ []) (λ x. conditions.now ≡ x.0.now ∷ x.1.now) }
+{
+    match conditions {
+        [] => None,
+        [first, behind @ ..] => Some((first, behind)),
+    }
+}
+
+/// Whether a constraint or what is wanted is known to be false on the whole box.
+pub(crate) fn is_ruled_out(spans: &[Span], constraints: &[Condition], wanted: &Condition) -> bool
+    requires constraints { AreFit (length spans.now) constraints.now }
+    requires wanted { IsFit (length spans.now) (proposition wanted.now) }
+    requires ranges { AreRanges (ranges spans.now) }
+    ensures { result ≡ true → (values : List ℤ) → IsWithin (ranges spans.now) values → meets constraints.now (proposition wanted.now) values ≡ false }
+{
+    match cut(constraints) {
+        None => is_false(wanted, spans),
+        Some((first, behind)) => {
+            if is_false(first, spans) {
+                true
+            } else {
+                is_ruled_out(spans, behind, wanted)
+            }
+        }
+    }
+}

@@ -1,0 +1,17 @@
+//! Least configurations of feature models, and what the linear tests of a model and a file can say together.
+#![tactic(auto)]
+
+mod bounds;
+mod deciding;
+pub mod plausibility;
+mod points;
+mod searching;
+pub mod solving;
+mod spans;
+mod wanted;
+
+pub use plausibility::plausible;
+pub use solving::{implied, least, least_where};
+
+#[cfg(test)]
+mod tests;

@@ -1,0 +1,57 @@
+//! The search: a box is ruled out by bounds, or cut in two, the lower half first.
+#![tactic(auto)]
+
+ghost use Rattle.std.specs.Prelude.{◌≡◌, ℤ, List, IfOk, length};
+ghost use Rattle.linear_atoms.specs.Atoms.{AreRanges};
+ghost use Rattle.cpp_conditions.specs.Propositions.{IsFit, true_at};
+ghost use Rattle.cpp_conditions.specs.Validity.{AreFit};
+ghost use Rattle.cpp_conditions.specs.View.{proposition};
+ghost use Rattle.atom_solver.specs.Solutions.{Finds};
+ghost use Rattle.atom_solver.specs.Spans.{ranges, meets, FindsIn};
+
+use crate::deciding::is_ruled_out;
+use crate::points::at_point;
+use crate::spans::{Span, cut_box, spans_of};
+use cpp_conditions::{Condition, Model};
+use fam_outer::NoMemory;
+use linear_atoms::Config;
+use std::alloc::Global;
+
+/// The first configuration of the box at which the constraints and what is wanted are true.
+fn search(
+    alloc: Global,
+    spans: &[Span],
+    constraints: &[Condition],
+    wanted: &Condition,
+) -> Result<Option<Config>, NoMemory>
+    requires constraints { AreFit (length spans.now) constraints.now }
+    requires wanted { IsFit (length spans.now) (proposition wanted.now) }
+    requires ranges { AreRanges (ranges spans.now) }
+    ensures { IfOk result (λ found. FindsIn (ranges spans.now) (meets constraints.now (proposition wanted.now)) found) }
+{
+    if is_ruled_out(spans, constraints, wanted) {
+        return Ok(None);
+    }
+    match cut_box(alloc, spans)? {
+        None => at_point(alloc, spans, constraints, wanted),
+        Some(halves) => match search(alloc, &halves.lower, constraints, wanted)? {
+            Some(config) => Ok(Some(config)),
+            None => search(alloc, &halves.upper, constraints, wanted),
+        },
+    }
+}
+
+/// The first of the valid configurations at which the condition is true.
+pub(crate) fn first_valid(
+    alloc: Global,
+    model: &Model,
+    wanted: &Condition,
+) -> Result<Option<Config>, NoMemory>
+    requires constraints { AreFit (length model.now.features) model.now.constraints }
+    requires wanted { IsFit (length model.now.features) (proposition wanted.now) }
+    requires ranges { AreRanges model.now.features }
+    ensures { IfOk result (λ found. Finds model.now (λ (values : List ℤ). true_at values (proposition wanted.now)) found) }
+{
+    let spans = spans_of(alloc, model.features.items())?;
+    search(alloc, &spans, model.constraints.items(), wanted)
+}
