@@ -1,8 +1,7 @@
 -- What holds of a box and of its halves.
-use Rattle.std.proofs.Common.{◌≡◌, ℕ, suc, ◌+◌, ◌<◌, ◌≤◌, ℤ, pos, ◌+ℤ◌, ◌-ℤ◌, ◌≤ℤ◌, ◌<ℤ◌, int_le, unsigned_abs, Bool, true, false, ◌⊎◌, inl, inr, List, [], ◌∷◌, ◌++◌, length, Option, Some, None, sym, ap, subst, refl, ◌∙◌, arith}
+use Rattle.std.proofs.Common.{◌≡◌, ℕ, suc, ◌<◌, ◌≤◌, ℤ, pos, ◌+ℤ◌, ◌-ℤ◌, ◌≤ℤ◌, ◌<ℤ◌, int_le, unsigned_abs, Bool, true, false, ◌⊎◌, inl, inr, List, [], ◌∷◌, ◌++◌, length, Option, Some, None, sym, ap, subst, refl, ◌∙◌, arith}
 use Rattle.std.proofs.lemmas.Int.{ints}
 use Rattle.std.proofs.lemmas.Bool.{false≢true}
-use Rattle.linear_atoms.specs.declared.atoms.Feature.{Feature}
 use Rattle.linear_atoms.specs.declared.atoms.Config.{Config}
 use Rattle.linear_atoms.specs.Atoms.{IsWithin, AreRanges}
 use Rattle.linear_atoms.specs.declared.atoms.Atom.{Atom}
@@ -11,7 +10,7 @@ use Rattle.cpp_conditions.specs.Propositions.{Proposition, IsFit}
 use Rattle.cpp_conditions.specs.Validity.{AreFit}
 use Rattle.atom_solver.specs.declared.spans.Span.{Span}
 use Rattle.atom_solver.specs.Solutions.{IsBefore}
-use Rattle.atom_solver.specs.Spans.{ranges, AreSingle, width, IsSplit, IsFirstIn, FindsIn}
+use Rattle.atom_solver.specs.Spans.{ranges, AreSingle, width, IsSplit, FindsIn}
 
 order_by : (b : Bool) (m n : ℤ) → b ≡ int_le m n → (m ≤ℤ n) ⊎ (n <ℤ m)
 order_by true m n e = inl (grind (arith, ints))

@@ -99,20 +99,3 @@ fn least_vectors_are_found(rt: HostRuntime) -> Result<(), Fail> {
     assert!(rt; pair(least_where(alloc, &model, &atoms, &below)?) == Some((1, 0)));
     Ok(())
 }
-
-#[test]
-fn vectors_are_plausible(rt: HostRuntime) -> Result<(), Fail> {
-    let alloc = rt.alloc();
-    let model = model(alloc)?;
-    let atoms = [
-        at_least(alloc, 0, 1)?,
-        at_least(alloc, 1, 3)?,
-        at_least(alloc, 1, 4)?,
-    ];
-    let formula = plausible(alloc, &model, &atoms)?;
-    assert!(rt; formula.on(&[false, true, false]));
-    assert!(rt; formula.on(&[true, true, true]));
-    assert!(rt; !formula.on(&[false, false, false]));
-    assert!(rt; !formula.on(&[true, false, true]));
-    Ok(())
-}
