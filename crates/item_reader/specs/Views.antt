@@ -1,0 +1,119 @@
+-- What contracts see of what is open: the data of the machine, without boxes and capacities. A list whose innermost
+-- comes last is seen with the innermost first.
+use Rattle.std.specs.Prelude.{◌≡◌, ℕ, List, map, reverse, Option, Result, IfOk, option_map}
+use Rattle.fam_outer.specs.declared.text.NoMemory.{NoMemory}
+use Rattle.c_tree.specs.View.{term, front, code}
+use Rattle.c_tree.specs.Tree.{Code, Done}
+use Rattle.c_grammar.specs.Grammar as grammar
+use Rattle.c_grammar.specs.Machine as machine
+use Rattle.item_reader.specs.declared.states.Prefix.{Prefix}
+use Rattle.item_reader.specs.declared.states.Prefix.TheVariants as prefixes
+use Rattle.item_reader.specs.declared.states.Update.{Update}
+use Rattle.item_reader.specs.declared.states.Update.TheVariants as updates
+use Rattle.item_reader.specs.declared.states.Frame.{Frame}
+use Rattle.item_reader.specs.declared.states.Frame.TheVariants as frames
+use Rattle.item_reader.specs.declared.states.Link.{Link}
+use Rattle.item_reader.specs.declared.states.Stack.{Stack}
+use Rattle.item_reader.specs.declared.states.Stack.TheVariants as stacks
+use Rattle.item_reader.specs.declared.states.Purpose.{Purpose}
+use Rattle.item_reader.specs.declared.states.Purpose.TheVariants as purposes
+use Rattle.item_reader.specs.declared.states.Sections.{Sections}
+use Rattle.item_reader.specs.declared.states.Sections.TheVariants as sections
+use Rattle.item_reader.specs.declared.states.Aim.{Aim}
+use Rattle.item_reader.specs.declared.states.Aim.TheVariants as aims
+use Rattle.item_reader.specs.declared.states.Tailing.{Tailing}
+use Rattle.item_reader.specs.declared.states.Tailing.TheVariants as tailings
+use Rattle.item_reader.specs.declared.states.File.{File}
+use Rattle.item_reader.specs.declared.states.State.{State}
+use Rattle.item_reader.specs.declared.states.State.TheVariants as states
+
+abbrev pub as_prefix : Prefix → grammar.Prefix
+as_prefix prefixes.Positive = grammar.Positive
+as_prefix prefixes.Negative = grammar.Negative
+as_prefix prefixes.Inverse = grammar.Inverse
+
+abbrev pub as_update : Update → grammar.Update
+as_update updates.Raise = grammar.Raise
+as_update updates.Lower = grammar.Lower
+
+abbrev pub as_frame : Frame → machine.Frame
+as_frame frames.Paren = machine.Paren
+as_frame (frames.Pre u) = machine.Pre (as_prefix u)
+as_frame (frames.Left op a) = machine.Left op (term a)
+
+abbrev pub as_frames : List Frame → List machine.Frame
+as_frames list = map as_frame (reverse list)
+
+abbrev pub as_link : Link → ℕ × Code
+as_link link = (link.number, code link.made.items)
+
+abbrev pub as_links : List Link → List (ℕ × Code)
+as_links list = map as_link (reverse list)
+
+abbrev pub as_stack : Stack → machine.Stack
+as_stack (stacks.Top declared made) = machine.Top declared.items (code made.items)
+as_stack (stacks.Braces' place made q outer) = machine.Braces place (code made.items) (as_stack outer)
+as_stack (stacks.Yes' links number made q outer) = machine.Yes (as_links links.items) number (code made.items) (as_stack outer)
+as_stack (stacks.No' links number first made q outer) = machine.No (as_links links.items) number (code first.items) (code made.items) (as_stack outer)
+as_stack (stacks.ThenOf' place test q outer) = machine.ThenOf place (term test) (as_stack outer)
+as_stack (stacks.ElseOf' place test first q outer) = machine.ElseOf place (term test) (code first.items) (as_stack outer)
+as_stack (stacks.LoopOf' place test q outer) = machine.LoopOf place (term test) (as_stack outer)
+
+abbrev pub as_purpose : Purpose → machine.Use
+as_purpose (purposes.ToAssign place target outer) = machine.ToAssign place target (as_stack outer)
+as_purpose (purposes.ToUpdate place target update outer) = machine.ToUpdate place target (as_update update) (as_stack outer)
+as_purpose (purposes.ToAssert place outer) = machine.ToAssert place (as_stack outer)
+as_purpose (purposes.ToChoose place outer) = machine.ToChoose place (as_stack outer)
+as_purpose (purposes.ToLoop place outer) = machine.ToLoop place (as_stack outer)
+
+abbrev pub as_sections : Sections → machine.Sections
+as_sections sections.Outermost = machine.Outermost
+as_sections (sections.InPart' guards number q outer) = machine.InPart guards.items number (as_sections outer)
+as_sections (sections.InLast' guards q outer) = machine.InLast guards.items (as_sections outer)
+
+abbrev pub as_aim : Aim → machine.Aim
+as_aim (aims.ToPrototype secs declared) = machine.ToPrototype (as_sections secs) declared.items
+as_aim (aims.ToMain declared) = machine.ToMain declared.items
+
+abbrev pub as_tailing : Tailing → machine.Tailing
+as_tailing (tailings.Another k) = machine.Another k
+as_tailing (tailings.Final k) = machine.Final k
+
+abbrev pub as_parts : List Tailing → List machine.Tailing
+as_parts list = map as_tailing (reverse list)
+
+abbrev pub as_file : File → grammar.File
+as_file file = grammar.file_of file.declared.items (code file.body.items) file.end
+
+abbrev pub as_state : State → machine.State
+as_state (states.Outside secs ds) = machine.Outside (as_sections secs) ds.items
+as_state (states.AfterStatic secs ds) = machine.AfterStatic (as_sections secs) ds.items
+as_state (states.AfterExtern secs ds) = machine.AfterExtern (as_sections secs) ds.items
+as_state (states.AfterInt secs ds) = machine.AfterInt (as_sections secs) ds.items
+as_state (states.AfterExternInt secs ds) = machine.AfterExternInt (as_sections secs) ds.items
+as_state (states.Declaring secs ds) = machine.Declaring (as_sections secs) ds.items
+as_state (states.Bare x secs ds) = machine.Bare x (as_sections secs) ds.items
+as_state (states.Starting x secs ds) = machine.Starting x (as_sections secs) ds.items
+as_state (states.Negating x secs ds) = machine.Negating x (as_sections secs) ds.items
+as_state (states.Started x n secs ds) = machine.Started x n (as_sections secs) ds.items
+as_state (states.Parameters aim) = machine.Parameters (as_aim aim)
+as_state (states.InParameters aim) = machine.InParameters (as_aim aim)
+as_state (states.AfterVoid aim) = machine.AfterVoid (as_aim aim)
+as_state (states.AfterParameters aim) = machine.AfterParameters (as_aim aim)
+as_state (states.Ready outer) = machine.Ready (as_stack outer)
+as_state (states.Ended outer statement) = machine.Ended (as_stack outer) (front statement Done)
+as_state (states.Wants fs purpose) = machine.Wants (as_frames fs.items) (as_purpose purpose)
+as_state (states.Has fs purpose operand) = machine.Has (as_frames fs.items) (as_purpose purpose) (term operand)
+as_state (states.Named place target outer) = machine.Named place target (as_stack outer)
+as_state (states.Opens purpose) = machine.Opens (as_purpose purpose)
+as_state (states.InputOpens place target outer) = machine.InputOpens place target (as_stack outer)
+as_state (states.InputCloses place target outer) = machine.InputCloses place target (as_stack outer)
+as_state (states.Finishing outer statement) = machine.Finishing (as_stack outer) (front statement Done)
+as_state (states.Returning place ds made) = machine.Returning place ds.items (code made.items)
+as_state (states.Returned ds made) = machine.Returned ds.items (code made.items)
+as_state (states.Closing ds made) = machine.Closing ds.items (code made.items)
+as_state (states.Over file parts) = machine.Over (as_file file) (as_parts parts.items)
+
+-- the state is what the machine comes to, where there is memory
+abbrev pub Moves : Result (Option State) NoMemory → Option machine.State → Type 0
+Moves result expected = IfOk result (λ next. option_map as_state next ≡ expected)

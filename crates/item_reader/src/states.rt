@@ -1,0 +1,280 @@
+//! What is open between two items.
+#![tactic(auto)]
+
+use c_tree::{Declared, Expr, Guard, Op, Stmt};
+use fam_outer::Place;
+
+/// A prefix of an expression.
+#[derive(Clone, Copy, Drop)]
+pub(crate) enum Prefix {
+    Positive,
+    Negative,
+    Inverse,
+}
+
+/// What `+=` and `++`, and `-=` and `--`, do to a variable.
+#[derive(Clone, Copy, Drop)]
+pub(crate) enum Update {
+    Raise,
+    Lower,
+}
+
+/// What waits for an operand: a parenthesis, a prefix, or an operator behind its left operand.
+#[derive(Drop)]
+pub(crate) enum Frame {
+    Paren,
+    Pre(Prefix),
+    Left(Op, Expr),
+}
+
+/// An earlier part of a section of groups: its condition and its statements.
+#[derive(Drop)]
+pub(crate) struct Link {
+    pub number: u32,
+    pub made: Vec<Stmt>,
+}
+
+/// The statements and groups that are open, the innermost first. A list has the statements that it has so far. `Top` is
+/// the list of `main`, behind the declarators. `Yes` is a part with a condition, and `No` the part behind `#else`.
+#[derive(Drop)]
+pub(crate) enum Stack {
+    Top {
+        declared: Vec<Declared>,
+        made: Vec<Stmt>,
+    },
+    Braces {
+        place: Place,
+        made: Vec<Stmt>,
+        outer: Box<Stack>,
+    },
+    Yes {
+        links: Vec<Link>,
+        number: u32,
+        made: Vec<Stmt>,
+        outer: Box<Stack>,
+    },
+    No {
+        links: Vec<Link>,
+        number: u32,
+        first: Vec<Stmt>,
+        made: Vec<Stmt>,
+        outer: Box<Stack>,
+    },
+    ThenOf {
+        place: Place,
+        test: Expr,
+        outer: Box<Stack>,
+    },
+    ElseOf {
+        place: Place,
+        test: Expr,
+        first: Vec<Stmt>,
+        outer: Box<Stack>,
+    },
+    LoopOf {
+        place: Place,
+        test: Expr,
+        outer: Box<Stack>,
+    },
+}
+
+/// What an expression is for.
+#[derive(Drop)]
+pub(crate) enum Purpose {
+    ToAssign {
+        place: Place,
+        target: u32,
+        outer: Stack,
+    },
+    ToUpdate {
+        place: Place,
+        target: u32,
+        update: Update,
+        outer: Stack,
+    },
+    ToAssert {
+        place: Place,
+        outer: Stack,
+    },
+    ToChoose {
+        place: Place,
+        outer: Stack,
+    },
+    ToLoop {
+        place: Place,
+        outer: Stack,
+    },
+}
+
+/// The groups around declarations: a part with a condition, with the guards before it, and the last part with its guards.
+#[derive(Drop)]
+pub(crate) enum Sections {
+    Outermost,
+    InPart {
+        guards: Vec<Guard>,
+        number: u32,
+        outer: Box<Sections>,
+    },
+    InLast {
+        guards: Vec<Guard>,
+        outer: Box<Sections>,
+    },
+}
+
+/// What the parentheses behind the name of a function are for.
+#[derive(Drop)]
+pub(crate) enum Aim {
+    ToPrototype {
+        sections: Sections,
+        declared: Vec<Declared>,
+    },
+    ToMain {
+        declared: Vec<Declared>,
+    },
+}
+
+/// A section of groups behind `main`, with the number of its conditions: another part may come, or this one is the last.
+#[derive(Clone, Copy, Drop)]
+pub(crate) enum Tailing {
+    Another(usize),
+    Final(usize),
+}
+
+/// A file whose `main` is closed.
+#[derive(Drop)]
+pub(crate) struct File {
+    pub declared: Vec<Declared>,
+    pub body: Vec<Stmt>,
+    pub end: Place,
+}
+
+/// What was read so far.
+#[derive(Drop)]
+pub(crate) enum State {
+    /// A declaration may begin.
+    Outside {
+        sections: Sections,
+        declared: Vec<Declared>,
+    },
+    AfterStatic {
+        sections: Sections,
+        declared: Vec<Declared>,
+    },
+    AfterExtern {
+        sections: Sections,
+        declared: Vec<Declared>,
+    },
+    AfterInt {
+        sections: Sections,
+        declared: Vec<Declared>,
+    },
+    AfterExternInt {
+        sections: Sections,
+        declared: Vec<Declared>,
+    },
+    /// A declarator comes.
+    Declaring {
+        sections: Sections,
+        declared: Vec<Declared>,
+    },
+    /// Behind the name, behind `=`, behind `-`, and behind the start value of a declarator.
+    Bare {
+        name: u32,
+        sections: Sections,
+        declared: Vec<Declared>,
+    },
+    Starting {
+        name: u32,
+        sections: Sections,
+        declared: Vec<Declared>,
+    },
+    Negating {
+        name: u32,
+        sections: Sections,
+        declared: Vec<Declared>,
+    },
+    Started {
+        name: u32,
+        value: i64,
+        sections: Sections,
+        declared: Vec<Declared>,
+    },
+    /// Before parentheses, in them, behind `void` in them, and behind them.
+    Parameters {
+        aim: Aim,
+    },
+    InParameters {
+        aim: Aim,
+    },
+    AfterVoid {
+        aim: Aim,
+    },
+    AfterParameters {
+        aim: Aim,
+    },
+    /// A statement may begin.
+    Ready {
+        outer: Stack,
+    },
+    /// A statement has ended, and an `else` may come.
+    Ended {
+        outer: Stack,
+        statement: Stmt,
+    },
+    /// An operand comes.
+    Wants {
+        frames: Vec<Frame>,
+        purpose: Purpose,
+    },
+    /// Behind an operand.
+    Has {
+        frames: Vec<Frame>,
+        purpose: Purpose,
+        operand: Expr,
+    },
+    /// Behind the name at the front of a statement.
+    Named {
+        place: Place,
+        target: u32,
+        outer: Stack,
+    },
+    /// A parenthesis before an expression comes.
+    Opens {
+        purpose: Purpose,
+    },
+    /// Behind `input`, and behind its parenthesis.
+    InputOpens {
+        place: Place,
+        target: u32,
+        outer: Stack,
+    },
+    InputCloses {
+        place: Place,
+        target: u32,
+        outer: Stack,
+    },
+    /// The semicolon of a statement comes.
+    Finishing {
+        outer: Stack,
+        statement: Stmt,
+    },
+    /// Behind `return`, behind its number, and before the closing brace of `main`.
+    Returning {
+        place: Place,
+        declared: Vec<Declared>,
+        made: Vec<Stmt>,
+    },
+    Returned {
+        declared: Vec<Declared>,
+        made: Vec<Stmt>,
+    },
+    Closing {
+        declared: Vec<Declared>,
+        made: Vec<Stmt>,
+    },
+    /// `main` is closed, and these groups are open.
+    Over {
+        file: File,
+        parts: Vec<Tailing>,
+    },
+}
