@@ -1,4 +1,10 @@
 //! A reader of items: a list of items is read into a program, item by item, with all that is open in a value of its own.
 #![tactic(auto)]
 
+mod expressions;
+mod frames;
+mod groups;
+mod lists;
+mod stacks;
+mod statements;
 mod states;

@@ -1,0 +1,34 @@
+-- Lists whose innermost comes last.
+use Rattle.std.proofs.Common.{◌≡◌, List, [], ◌∷◌, ◌++◌, refl}
+use Rattle.std.specs.Prelude.{map, reverse}
+use Rattle.std.proofs.lemmas.List.{reverse-append}
+use Rattle.item_reader.specs.declared.states.Frame.{Frame}
+use Rattle.item_reader.specs.declared.states.Link.{Link}
+use Rattle.item_reader.specs.declared.states.Tailing.{Tailing}
+use Rattle.item_reader.specs.Views.{as_frame, as_frames, as_link, as_links, as_tailing, as_parts}
+
+pub frames_none : as_frames [] ≡ []
+unfolding as_frames
+frames_none = refl
+
+pub frames_more : (list : List Frame) (x : Frame) → as_frames (list ++ x ∷ []) ≡ as_frame x ∷ as_frames list
+unfolding as_frames
+frames_more list x = rw reverse-append refl
+
+pub links_none : as_links [] ≡ []
+unfolding as_links
+links_none = refl
+
+pub links_more : (list : List Link) (x : Link) → as_links (list ++ x ∷ []) ≡ as_link x ∷ as_links list
+unfolding as_links
+links_more list x = rw reverse-append refl
+
+pub parts_none : as_parts [] ≡ []
+unfolding as_parts
+parts_none = refl
+
+pub parts_more : (list : List Tailing) (x : Tailing) → as_parts (list ++ x ∷ []) ≡ as_tailing x ∷ as_parts list
+unfolding as_parts
+parts_more list x = rw reverse-append refl
+
+pub ruleset lists = (frames_none, frames_more, links_none, links_more, parts_none, parts_more)

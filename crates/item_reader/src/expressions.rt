@@ -1,0 +1,281 @@
+//! Signs in an expression.
+#![tactic(auto)]
+
+ghost use Rattle.std.specs.Prelude.{◌≡◌, [], ◌∷◌, Some, option_map, IfOk};
+ghost use Rattle.c_tree.specs.Tree.{Done};
+ghost use Rattle.c_tree.specs.View.{term, front};
+ghost use Rattle.c_grammar.specs.Grammar as grammar;
+ghost use Rattle.c_grammar.specs.Machine as machine;
+ghost use Rattle.c_grammar.specs.declared.items.Sign.TheVariants as signs;
+ghost use Rattle.item_reader.specs.Views.{Moves, as_frame, as_frames, as_purpose, as_state, as_update};
+
+use crate::frames::{binary, no_frames, prefix_of, settle, take_frame, tighter, with_frame};
+use crate::states::{Frame, Prefix, Purpose, Stack, State, Update};
+use c_grammar::Sign;
+use c_tree::{Expr, Op, Stmt};
+use fam_outer::{NoMemory, Place};
+use std::alloc::Global;
+
+/// One more waits, and an operand comes.
+fn waiting(
+    frames: Vec<Frame>,
+    frame: Frame,
+    purpose: Purpose,
+) -> Result<Option<State>, NoMemory>
+    ensures { Moves result (Some (machine.Wants (as_frame frame ∷ as_frames frames.items) (as_purpose purpose))) }
+{
+    let frames = with_frame(frames, frame)?;
+    Ok(Some(State::Wants { frames, purpose }))
+}
+
+/// An expression comes.
+pub(crate) fn expected(alloc: Global, purpose: Purpose) -> State
+    ensures { as_state result ≡ machine.Wants [] (as_purpose purpose) }
+{
+    State::Wants {
+        frames: no_frames(alloc),
+        purpose,
+    }
+}
+
+/// `input` in place of an expression.
+fn input_of(mut frames: Vec<Frame>, purpose: Purpose) -> Option<State>
+    ensures { option_map as_state result ≡ machine.input_of (as_frames frames.items) (as_purpose purpose) }
+{
+    match take_frame(&mut frames) {
+        None => input_for(purpose),
+        Some(_) => None,
+    }
+}
+
+/// `input` as the whole expression.
+fn input_for(purpose: Purpose) -> Option<State>
+    ensures { option_map as_state result ≡ machine.input_of [] (as_purpose purpose) }
+{
+    match purpose {
+        Purpose::ToAssign {
+            place,
+            target,
+            outer,
+        } => Some(State::InputOpens {
+            place,
+            target,
+            outer,
+        }),
+        Purpose::ToUpdate { .. }
+        | Purpose::ToAssert { .. }
+        | Purpose::ToChoose { .. }
+        | Purpose::ToLoop { .. } => None,
+    }
+}
+
+/// What a sign leads to where an operand comes.
+pub(crate) fn want(
+    frames: Vec<Frame>,
+    purpose: Purpose,
+    sign: Sign,
+) -> Result<Option<State>, NoMemory>
+    ensures { Moves result (machine.want (as_frames frames.items) (as_purpose purpose) sign) }
+{
+    match sign {
+        Sign::Number(n) => Ok(Some(State::Has {
+            frames,
+            purpose,
+            operand: Expr::Number(n),
+        })),
+        Sign::Name(x) => Ok(Some(State::Has {
+            frames,
+            purpose,
+            operand: Expr::Var(x),
+        })),
+        Sign::Open => waiting(frames, Frame::Paren, purpose),
+        Sign::Bang => waiting(frames, Frame::Pre(Prefix::Inverse), purpose),
+        Sign::Oper(op) => prefixed(frames, purpose, op),
+        Sign::Input => Ok(input_of(frames, purpose)),
+        _ => Ok(None),
+    }
+}
+
+/// An operator where an operand comes.
+fn prefixed(frames: Vec<Frame>, purpose: Purpose, op: Op) -> Result<Option<State>, NoMemory>
+    ensures { Moves result (machine.want (as_frames frames.items) (as_purpose purpose) (signs.Oper op)) }
+{
+    match prefix_of(op) {
+        Some(prefix) => waiting(frames, Frame::Pre(prefix), purpose),
+        None => Ok(None),
+    }
+}
+
+/// The statement that changes a variable by an expression.
+pub(crate) fn updated(
+    alloc: Global,
+    place: Place,
+    target: u32,
+    update: Update,
+    by: Expr,
+) -> Result<Stmt, NoMemory>
+    ensures { IfOk result (λ made. front made Done ≡ grammar.updated place target (as_update update) (term by)) }
+{
+    let op = match update {
+        Update::Raise => Op::Add,
+        Update::Lower => Op::Sub,
+    };
+    let value = binary(alloc, op, Expr::Var(target), by)?;
+    Ok(Stmt::Assign {
+        place,
+        target,
+        value,
+    })
+}
+
+/// The expression in the parentheses of a statement is whole.
+fn tested(alloc: Global, purpose: Purpose, test: Expr) -> Result<Option<State>, NoMemory>
+    ensures { Moves result (machine.tested (as_purpose purpose) (term test)) }
+{
+    match purpose {
+        Purpose::ToAssign { .. } | Purpose::ToUpdate { .. } => Ok(None),
+        Purpose::ToAssert { place, outer } => Ok(Some(State::Finishing {
+            outer,
+            statement: Stmt::Assert { place, test },
+        })),
+        Purpose::ToChoose { place, outer } => {
+            let outer = Stack::ThenOf {
+                place,
+                test,
+                outer: Box::new(alloc, outer)?,
+            };
+            Ok(Some(State::Ready { outer }))
+        }
+        Purpose::ToLoop { place, outer } => {
+            let outer = Stack::LoopOf {
+                place,
+                test,
+                outer: Box::new(alloc, outer)?,
+            };
+            Ok(Some(State::Ready { outer }))
+        }
+    }
+}
+
+/// A closing parenthesis behind an operand, with all operators applied.
+fn closed_by(
+    alloc: Global,
+    mut frames: Vec<Frame>,
+    purpose: Purpose,
+    operand: Expr,
+) -> Result<Option<State>, NoMemory>
+    ensures { Moves result (machine.closed_by (as_frames frames.items) (as_purpose purpose) (term operand)) }
+{
+    match take_frame(&mut frames) {
+        None => tested(alloc, purpose, operand),
+        Some(Frame::Paren) => Ok(Some(State::Has {
+            frames,
+            purpose,
+            operand,
+        })),
+        Some(Frame::Pre(_)) | Some(Frame::Left(_, _)) => Ok(None),
+    }
+}
+
+/// The expression that a statement ends with is whole.
+fn assigned(alloc: Global, purpose: Purpose, value: Expr) -> Result<Option<State>, NoMemory>
+    ensures { Moves result (machine.assigned (as_purpose purpose) (term value)) }
+{
+    match purpose {
+        Purpose::ToAssign {
+            place,
+            target,
+            outer,
+        } => Ok(Some(State::Ended {
+            outer,
+            statement: Stmt::Assign {
+                place,
+                target,
+                value,
+            },
+        })),
+        Purpose::ToUpdate {
+            place,
+            target,
+            update,
+            outer,
+        } => {
+            let statement = updated(alloc, place, target, update, value)?;
+            Ok(Some(State::Ended { outer, statement }))
+        }
+        Purpose::ToAssert { .. } | Purpose::ToChoose { .. } | Purpose::ToLoop { .. } => Ok(None),
+    }
+}
+
+/// A semicolon behind an operand, with all operators applied.
+fn ended_by(
+    alloc: Global,
+    mut frames: Vec<Frame>,
+    purpose: Purpose,
+    operand: Expr,
+) -> Result<Option<State>, NoMemory>
+    ensures { Moves result (machine.ended_by (as_frames frames.items) (as_purpose purpose) (term operand)) }
+{
+    match take_frame(&mut frames) {
+        None => assigned(alloc, purpose, operand),
+        Some(_) => Ok(None),
+    }
+}
+
+/// A closing parenthesis behind an operand.
+fn closed(
+    alloc: Global,
+    frames: Vec<Frame>,
+    purpose: Purpose,
+    operand: Expr,
+) -> Result<Option<State>, NoMemory>
+    ensures { Moves result (machine.have (as_frames frames.items) (as_purpose purpose) (term operand) signs.Close) }
+{
+    let (frames, operand) = settle(alloc, 6, frames, operand)?;
+    closed_by(alloc, frames, purpose, operand)
+}
+
+/// A semicolon behind an operand.
+fn ended(
+    alloc: Global,
+    frames: Vec<Frame>,
+    purpose: Purpose,
+    operand: Expr,
+) -> Result<Option<State>, NoMemory>
+    ensures { Moves result (machine.have (as_frames frames.items) (as_purpose purpose) (term operand) signs.Semicolon) }
+{
+    let (frames, operand) = settle(alloc, 6, frames, operand)?;
+    ended_by(alloc, frames, purpose, operand)
+}
+
+/// An operator behind an operand.
+fn operated(
+    alloc: Global,
+    frames: Vec<Frame>,
+    purpose: Purpose,
+    operand: Expr,
+    op: Op,
+) -> Result<Option<State>, NoMemory>
+    ensures { Moves result (machine.have (as_frames frames.items) (as_purpose purpose) (term operand) (signs.Oper op)) }
+{
+    let (frames, left) = settle(alloc, tighter(op) + 1, frames, operand)?;
+    waiting(frames, Frame::Left(op, left), purpose)
+}
+
+/// What a sign leads to behind an operand.
+pub(crate) fn have(
+    alloc: Global,
+    frames: Vec<Frame>,
+    purpose: Purpose,
+    operand: Expr,
+    sign: Sign,
+) -> Result<Option<State>, NoMemory>
+    ensures { Moves result (machine.have (as_frames frames.items) (as_purpose purpose) (term operand) sign) }
+{
+    match sign {
+        Sign::Close => closed(alloc, frames, purpose, operand),
+        Sign::Oper(op) => operated(alloc, frames, purpose, operand, op),
+        Sign::Semicolon => ended(alloc, frames, purpose, operand),
+        _ => Ok(None),
+    }
+}

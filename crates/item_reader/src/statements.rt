@@ -1,0 +1,194 @@
+//! Signs where a statement may begin, and behind a name at its front.
+#![tactic(auto)]
+
+ghost use Rattle.std.specs.Prelude.{◌≡◌, Some, option_map, pos};
+ghost use Rattle.c_tree.specs.Tree.{Done, Number};
+ghost use Rattle.c_tree.specs.View.{front};
+ghost use Rattle.c_grammar.specs.Grammar as grammar;
+ghost use Rattle.c_grammar.specs.Machine as machine;
+ghost use Rattle.item_reader.specs.Views.{Moves, as_stack, as_state, as_update};
+
+use crate::expressions::{expected, updated};
+use crate::groups::{group_end, last_part, next_part, opened};
+use crate::lists::block;
+use crate::stacks::{else_of, folded};
+use crate::states::{File, Purpose, Stack, State, Update};
+use c_grammar::Sign;
+use c_tree::{Expr, Stmt};
+use fam_outer::{NoMemory, Place};
+use std::alloc::Global;
+
+/// A closing brace: a block ends, or `main`.
+#[tactic(auto, using(crate::proofs::Lists::lists, crate::proofs::Statements::statements))]
+fn braced(alloc: Global, outer: Stack, end: Place) -> Option<State>
+    ensures { option_map as_state result ≡ machine.braced (as_stack outer) end }
+{
+    match outer {
+        Stack::Top { declared, made } => Some(State::Over {
+            file: File {
+                declared,
+                body: made,
+                end,
+            },
+            parts: Vec::new(alloc),
+        }),
+        Stack::Braces { place, made, outer } => Some(State::Ended {
+            outer: Box::into_inner(outer),
+            statement: block(place, made),
+        }),
+        _ => None,
+    }
+}
+
+/// `return`, in the list of `main` alone.
+fn returned(outer: Stack, place: Place) -> Option<State>
+    ensures { option_map as_state result ≡ machine.returned (as_stack outer) place }
+{
+    match outer {
+        Stack::Top { declared, made } => Some(State::Returning {
+            place,
+            declared,
+            made,
+        }),
+        _ => None,
+    }
+}
+
+/// A block begins.
+fn block_in(alloc: Global, outer: Stack, place: Place) -> Result<Option<State>, NoMemory>
+    ensures { Moves result (Some (machine.Ready (machine.Braces place Done (as_stack outer)))) }
+{
+    let outer = Stack::Braces {
+        place,
+        made: Vec::new(alloc),
+        outer: Box::new(alloc, outer)?,
+    };
+    Ok(Some(State::Ready { outer }))
+}
+
+/// What a sign leads to where a statement may begin.
+pub(crate) fn begin(
+    alloc: Global,
+    outer: Stack,
+    place: Place,
+    sign: Sign,
+) -> Result<Option<State>, NoMemory>
+    ensures { Moves result (machine.begin (as_stack outer) place sign) }
+{
+    match sign {
+        Sign::Name(target) => Ok(Some(State::Named {
+            place,
+            target,
+            outer,
+        })),
+        Sign::Semicolon => Ok(Some(State::Ended {
+            outer,
+            statement: Stmt::Skip { place },
+        })),
+        Sign::LeftBrace => block_in(alloc, outer, place),
+        Sign::RightBrace => Ok(braced(alloc, outer, place)),
+        Sign::Assert => Ok(Some(State::Opens {
+            purpose: Purpose::ToAssert { place, outer },
+        })),
+        Sign::If => Ok(Some(State::Opens {
+            purpose: Purpose::ToChoose { place, outer },
+        })),
+        Sign::While => Ok(Some(State::Opens {
+            purpose: Purpose::ToLoop { place, outer },
+        })),
+        Sign::Return => Ok(returned(outer, place)),
+        Sign::GroupIf(number) => opened(alloc, number, outer),
+        Sign::GroupElif(number) => next_part(alloc, number, outer),
+        Sign::GroupElse => Ok(last_part(alloc, outer)),
+        Sign::GroupEnd => group_end(alloc, outer),
+        _ => Ok(None),
+    }
+}
+
+/// No `else` comes behind a statement.
+fn begin_behind(
+    alloc: Global,
+    outer: Stack,
+    statement: Stmt,
+    place: Place,
+    sign: Sign,
+) -> Result<Option<State>, NoMemory>
+    ensures { Moves result (machine.begin (machine.folded (as_stack outer) (front statement Done)) place sign) }
+{
+    let outer = folded(alloc, outer, statement)?;
+    begin(alloc, outer, place, sign)
+}
+
+/// What a sign leads to behind a statement.
+pub(crate) fn on(
+    alloc: Global,
+    outer: Stack,
+    statement: Stmt,
+    place: Place,
+    sign: Sign,
+) -> Result<Option<State>, NoMemory>
+    ensures { Moves result (machine.on (as_stack outer) (front statement Done) place sign) }
+{
+    match sign {
+        Sign::Else => else_of(alloc, outer, statement),
+        _ => begin_behind(alloc, outer, statement, place, sign),
+    }
+}
+
+/// `++` or `--` behind a name.
+fn counting(
+    alloc: Global,
+    place: Place,
+    target: u32,
+    update: Update,
+    outer: Stack,
+) -> Result<Option<State>, NoMemory>
+    ensures { Moves result (Some (machine.Finishing (as_stack outer) (grammar.updated place target (as_update update) (Number (pos 1))))) }
+{
+    let statement = updated(alloc, place, target, update, Expr::Number(1))?;
+    Ok(Some(State::Finishing { outer, statement }))
+}
+
+/// What a sign leads to behind the name at the front of a statement.
+#[tactic(auto, using(crate::proofs::Lists::lists))]
+pub(crate) fn named(
+    alloc: Global,
+    place: Place,
+    target: u32,
+    outer: Stack,
+    sign: Sign,
+) -> Result<Option<State>, NoMemory>
+    ensures { Moves result (machine.named place target (as_stack outer) sign) }
+{
+    match sign {
+        Sign::Equals => Ok(Some(expected(
+            alloc,
+            Purpose::ToAssign {
+                place,
+                target,
+                outer,
+            },
+        ))),
+        Sign::PlusEquals => Ok(Some(expected(
+            alloc,
+            Purpose::ToUpdate {
+                place,
+                target,
+                update: Update::Raise,
+                outer,
+            },
+        ))),
+        Sign::MinusEquals => Ok(Some(expected(
+            alloc,
+            Purpose::ToUpdate {
+                place,
+                target,
+                update: Update::Lower,
+                outer,
+            },
+        ))),
+        Sign::PlusPlus => counting(alloc, place, target, Update::Raise, outer),
+        Sign::MinusMinus => counting(alloc, place, target, Update::Lower, outer),
+        _ => Ok(None),
+    }
+}
