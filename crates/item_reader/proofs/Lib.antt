@@ -1,2 +1,2 @@
-pub mod Lists
-pub mod Statements
+pub mod Innermost
+pub mod Holding

@@ -17,11 +17,7 @@ use fam_outer::{NoMemory, Place};
 use std::alloc::Global;
 
 /// One more waits, and an operand comes.
-fn waiting(
-    frames: Vec<Frame>,
-    frame: Frame,
-    purpose: Purpose,
-) -> Result<Option<State>, NoMemory>
+fn waiting(frames: Vec<Frame>, frame: Frame, purpose: Purpose) -> Result<Option<State>, NoMemory>
     ensures { Moves result (Some (machine.Wants (as_frame frame ∷ as_frames frames.items) (as_purpose purpose))) }
 {
     let frames = with_frame(frames, frame)?;

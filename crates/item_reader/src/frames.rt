@@ -1,5 +1,5 @@
 //! What waits for an operand, the innermost last.
-#![tactic(auto, using(crate::proofs::Lists::lists))]
+#![tactic(auto, using(crate::proofs::Innermost::innermost))]
 
 ghost use Rattle.std.specs.Prelude.{◌≡◌, ◌<◌, ◌+◌, [], ◌∷◌, IfOk, IfSome, MatchOption, vec_len, option_map};
 ghost use Rattle.c_tree.specs.Tree.{Binary};
@@ -77,11 +77,7 @@ pub(crate) fn applied(alloc: Global, prefix: Prefix, operand: Expr) -> Result<Ex
 pub(crate) fn binary(alloc: Global, op: Op, left: Expr, right: Expr) -> Result<Expr, NoMemory>
     ensures { IfOk result (λ made. term made ≡ Binary op (term left) (term right)) }
 {
-    Ok(Expr::Binary(
-        op,
-        Box::new(alloc, left)?,
-        Box::new(alloc, right)?,
-    ))
+    Ok(Expr::Binary(op, Box::new(alloc, left)?, Box::new(alloc, right)?))
 }
 
 /// The operators that bind tighter than a level are applied.

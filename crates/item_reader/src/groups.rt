@@ -1,5 +1,5 @@
 //! Groups among statements.
-#![tactic(auto, using(crate::proofs::Lists::lists))]
+#![tactic(auto, using(crate::proofs::Innermost::innermost))]
 
 ghost use Rattle.std.specs.Prelude.{◌≡◌, ◌<◌, ◌∷◌, [], Some, IfSome, IfOk, MatchOption, option_map, vec_len};
 ghost use Rattle.c_tree.specs.Tree.{Done};
@@ -63,11 +63,7 @@ fn part_in(alloc: Global, number: u32, outer: Stack) -> Result<Option<State>, No
 }
 
 /// A section of groups, where a list is open.
-pub(crate) fn opened(
-    alloc: Global,
-    number: u32,
-    outer: Stack,
-) -> Result<Option<State>, NoMemory>
+pub(crate) fn opened(alloc: Global, number: u32, outer: Stack) -> Result<Option<State>, NoMemory>
     ensures { Moves result (machine.opened number (as_stack outer)) }
 {
     match outer {
@@ -77,11 +73,7 @@ pub(crate) fn opened(
 }
 
 /// The next part with a condition.
-pub(crate) fn next_part(
-    alloc: Global,
-    number: u32,
-    outer: Stack,
-) -> Result<Option<State>, NoMemory>
+pub(crate) fn next_part(alloc: Global, number: u32, outer: Stack) -> Result<Option<State>, NoMemory>
     ensures { Moves result (machine.next_part number (as_stack outer)) }
 {
     match outer {

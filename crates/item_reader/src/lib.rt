@@ -5,6 +5,7 @@ mod expressions;
 mod frames;
 mod groups;
 mod lists;
+mod marks;
 mod stacks;
 mod statements;
 mod states;

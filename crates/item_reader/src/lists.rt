@@ -1,5 +1,5 @@
 //! Lists of statements, and the statements that are made of them.
-#![tactic(auto, using(crate::proofs::Statements::statements))]
+#![tactic(auto, using(crate::proofs::Holding::holding))]
 
 ghost use Rattle.std.specs.Prelude.{◌≡◌, IfOk};
 ghost use Rattle.c_tree.specs.Tree.{Block, Cond, Done, If, While, followed};
@@ -27,12 +27,7 @@ pub(crate) fn with_statement(mut list: Vec<Stmt>, statement: Stmt) -> Result<Vec
 }
 
 /// An `if` without `else`.
-pub(crate) fn if_then(
-    alloc: Global,
-    place: Place,
-    test: Expr,
-    yes: Stmt,
-) -> Result<Stmt, NoMemory>
+pub(crate) fn if_then(alloc: Global, place: Place, test: Expr, yes: Stmt) -> Result<Stmt, NoMemory>
     ensures { IfOk result (λ made. front made Done ≡ If place (term test) (front yes Done) Done Done) }
 {
     let yes = only(alloc, yes)?;
@@ -64,12 +59,7 @@ pub(crate) fn if_else(
 }
 
 /// A loop.
-pub(crate) fn loop_of(
-    alloc: Global,
-    place: Place,
-    test: Expr,
-    body: Stmt,
-) -> Result<Stmt, NoMemory>
+pub(crate) fn loop_of(alloc: Global, place: Place, test: Expr, body: Stmt) -> Result<Stmt, NoMemory>
     ensures { IfOk result (λ made. front made Done ≡ While place (term test) (front body Done) Done) }
 {
     let body = only(alloc, body)?;

@@ -24,4 +24,4 @@ front_Block place body rest = rw (front_out, outs-Block) refl
 pub front_Cond : (number : ℕ) (p q : Vec Stmt Global) (rest : Code) → front (variant.Cond number p q) rest ≡ Cond number (code p.items) (code q.items) rest
 front_Cond number p q rest = rw (front_out, outs-Cond) refl
 
-pub ruleset statements = (front_If, front_While, front_Block, front_Cond, code-push)
+pub ruleset holding = (front_If, front_While, front_Block, front_Cond, code-push)

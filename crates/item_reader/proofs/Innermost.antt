@@ -31,4 +31,4 @@ pub parts_more : (list : List Tailing) (x : Tailing) → as_parts (list ++ x ∷
 unfolding as_parts
 parts_more list x = rw reverse-append refl
 
-pub ruleset lists = (frames_none, frames_more, links_none, links_more, parts_none, parts_more)
+pub ruleset innermost = (frames_none, frames_more, links_none, links_more, parts_none, parts_more)

@@ -1,0 +1,39 @@
+//! Signs that a state wants, and no other.
+#![tactic(auto)]
+
+ghost use Rattle.std.specs.Prelude.{◌≡◌, option_map};
+ghost use Rattle.c_grammar.specs.Machine as machine;
+ghost use Rattle.item_reader.specs.Views.{as_state};
+
+use crate::states::State;
+use c_grammar::Sign;
+
+/// The state behind an opening parenthesis.
+pub(crate) fn at_open(next: State, sign: Sign) -> Option<State>
+    ensures { option_map as_state result ≡ machine.at_open (as_state next) sign }
+{
+    match sign {
+        Sign::Open => Some(next),
+        _ => None,
+    }
+}
+
+/// The state behind a closing parenthesis.
+pub(crate) fn at_close(next: State, sign: Sign) -> Option<State>
+    ensures { option_map as_state result ≡ machine.at_close (as_state next) sign }
+{
+    match sign {
+        Sign::Close => Some(next),
+        _ => None,
+    }
+}
+
+/// The state behind a semicolon.
+pub(crate) fn at_semicolon(next: State, sign: Sign) -> Option<State>
+    ensures { option_map as_state result ≡ machine.at_semicolon (as_state next) sign }
+{
+    match sign {
+        Sign::Semicolon => Some(next),
+        _ => None,
+    }
+}
