@@ -1,4 +1,8 @@
 //! A reader of items: a list of items is read into a program, item by item, with all that is open in a value of its own.
 #![tactic(auto)]
 
+mod declarations;
+mod endings;
+mod parameters;
+mod sections;
 mod states;
