@@ -1,2 +1,3 @@
 pub mod Views
 pub mod Signs
+pub mod Kinds

@@ -6,3 +6,5 @@ mod endings;
 mod parameters;
 mod sections;
 mod states;
+mod steps;
+mod stubs;
