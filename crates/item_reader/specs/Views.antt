@@ -41,13 +41,13 @@ as_frame frames.Paren = machine.Paren
 as_frame (frames.Pre u) = machine.Pre (as_prefix u)
 as_frame (frames.Left op a) = machine.Left op (term a)
 
-abbrev pub as_frames : List Frame → List machine.Frame
+unfoldable pub as_frames : List Frame → List machine.Frame
 as_frames list = map as_frame (reverse list)
 
 abbrev pub as_link : Link → ℕ × Code
 as_link link = (link.number, code link.made.items)
 
-abbrev pub as_links : List Link → List (ℕ × Code)
+unfoldable pub as_links : List Link → List (ℕ × Code)
 as_links list = map as_link (reverse list)
 
 abbrev pub as_stack : Stack → machine.Stack
@@ -79,7 +79,7 @@ abbrev pub as_tailing : Tailing → machine.Tailing
 as_tailing (tailings.Another numbers) = machine.Another (length numbers.items)
 as_tailing (tailings.Final numbers) = machine.Final (length numbers.items)
 
-abbrev pub as_parts : List Tailing → List machine.Tailing
+unfoldable pub as_parts : List Tailing → List machine.Tailing
 as_parts list = map as_tailing (reverse list)
 
 abbrev pub as_file : File → grammar.File

@@ -34,6 +34,7 @@ pub(crate) fn returning(
 }
 
 /// Behind the `return` of `main`, whose brace comes.
+#[tactic(auto, using(crate::proofs::Parts::parts))]
 pub(crate) fn closing(
     alloc: Global,
     declared: Vec<Declared>,
@@ -60,7 +61,7 @@ pub(crate) fn closing(
 }
 
 /// The innermost part, and the others.
-#[tactic(auto, using(crate::proofs::Parts::parts_more))]
+#[tactic(auto, using(crate::proofs::Parts::parts))]
 fn cut(parts: Vec<Tailing>) -> Option<(Tailing, Vec<Tailing>)>
     ensures { MatchOption result (as_parts parts.items ≡ []) (λ x. as_parts parts.items ≡ as_tailing x.0 ∷ as_parts x.1.items) }
 {
@@ -70,7 +71,7 @@ fn cut(parts: Vec<Tailing>) -> Option<(Tailing, Vec<Tailing>)>
 }
 
 /// One more part, the innermost.
-#[tactic(auto, using(crate::proofs::Parts::parts_more))]
+#[tactic(auto, using(crate::proofs::Parts::parts))]
 fn put(parts: Vec<Tailing>, innermost: Tailing) -> Result<Vec<Tailing>, NoMemory>
     ensures { IfOk result (λ made. as_parts made.items ≡ as_tailing innermost ∷ as_parts parts.items) }
 {

@@ -3,6 +3,7 @@
 
 mod declarations;
 mod endings;
+mod limits;
 mod parameters;
 mod sections;
 mod states;

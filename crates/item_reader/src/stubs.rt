@@ -70,6 +70,7 @@ pub(crate) fn named(
     Err(NoMemory)
 }
 
+#[tactic(auto, using(crate::proofs::Parts::frames_none))]
 pub(crate) fn no_frames(alloc: Global) -> Vec<Frame>
     ensures { as_frames result.items ≡ [] }
 {
