@@ -4,8 +4,7 @@ use Rattle.std.specs.Prelude.{map, reverse}
 use Rattle.std.proofs.lemmas.List.{reverse-append}
 use Rattle.item_reader.specs.declared.states.Frame.{Frame}
 use Rattle.item_reader.specs.declared.states.Link.{Link}
-use Rattle.item_reader.specs.declared.states.Tailing.{Tailing}
-use Rattle.item_reader.specs.Views.{as_frame, as_frames, as_link, as_links, as_tailing, as_parts}
+use Rattle.item_reader.specs.Views.{as_frame, as_frames, as_link, as_links}
 
 pub frames_none : as_frames [] ≡ []
 unfolding as_frames
@@ -23,12 +22,4 @@ pub links_more : (list : List Link) (x : Link) → as_links (list ++ x ∷ []) �
 unfolding as_links
 links_more list x = rw reverse-append refl
 
-pub parts_none : as_parts [] ≡ []
-unfolding as_parts
-parts_none = refl
-
-pub parts_more : (list : List Tailing) (x : Tailing) → as_parts (list ++ x ∷ []) ≡ as_tailing x ∷ as_parts list
-unfolding as_parts
-parts_more list x = rw reverse-append refl
-
-pub ruleset innermost = (frames_none, frames_more, links_none, links_more, parts_none, parts_more)
+pub ruleset innermost = (frames_none, frames_more, links_none, links_more)

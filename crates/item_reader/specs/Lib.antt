@@ -1,1 +1,4 @@
 pub mod Views
+pub mod Signs
+pub mod Kinds
+pub mod Limits

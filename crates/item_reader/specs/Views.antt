@@ -1,6 +1,6 @@
 -- What contracts see of what is open: the data of the machine, without boxes and capacities. A list whose innermost
 -- comes last is seen with the innermost first.
-use Rattle.std.specs.Prelude.{◌≡◌, ℕ, List, map, reverse, Option, Result, IfOk, option_map}
+use Rattle.std.specs.Prelude.{◌≡◌, ℕ, List, map, length, reverse, Option, Result, IfOk, option_map}
 use Rattle.fam_outer.specs.declared.text.NoMemory.{NoMemory}
 use Rattle.c_tree.specs.View.{term, front, code}
 use Rattle.c_tree.specs.Tree.{Code, Done}
@@ -76,8 +76,8 @@ as_aim (aims.ToPrototype secs declared) = machine.ToPrototype (as_sections secs)
 as_aim (aims.ToMain declared) = machine.ToMain declared.items
 
 abbrev pub as_tailing : Tailing → machine.Tailing
-as_tailing (tailings.Another k) = machine.Another k
-as_tailing (tailings.Final k) = machine.Final k
+as_tailing (tailings.Another numbers) = machine.Another (length numbers.items)
+as_tailing (tailings.Final numbers) = machine.Final (length numbers.items)
 
 unfoldable pub as_parts : List Tailing → List machine.Tailing
 as_parts list = map as_tailing (reverse list)

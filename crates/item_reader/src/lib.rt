@@ -1,11 +1,17 @@
 //! A reader of items: a list of items is read into a program, item by item, with all that is open in a value of its own.
 #![tactic(auto)]
 
+mod declarations;
+mod endings;
 mod expressions;
 mod frames;
 mod groups;
+mod limits;
 mod lists;
 mod marks;
+mod parameters;
+mod sections;
 mod stacks;
 mod statements;
 mod states;
+mod steps;

@@ -3,14 +3,14 @@
 
 ghost use Rattle.std.specs.Prelude.{◌≡◌, IfOk};
 ghost use Rattle.c_tree.specs.Tree.{Done};
-ghost use Rattle.c_tree.specs.View.{front};
+ghost use Rattle.c_tree.specs.View.{code, front, term};
 ghost use Rattle.c_grammar.specs.Machine as machine;
-ghost use Rattle.item_reader.specs.Views.{Moves, as_stack};
+ghost use Rattle.item_reader.specs.Views.{Moves, as_stack, as_state};
 
 use crate::lists::{if_else, if_then, loop_of, only, with_statement};
 use crate::states::{Stack, State};
-use c_tree::Stmt;
-use fam_outer::NoMemory;
+use c_tree::{Expr, Stmt};
+use fam_outer::{NoMemory, Place};
 use std::alloc::Global;
 
 /// The statement is put where it belongs, and no `else` comes.
@@ -76,6 +76,20 @@ pub(crate) fn folded(alloc: Global, stack: Stack, statement: Stmt) -> Result<Sta
     }
 }
 
+/// The side of an `if` behind `else` comes.
+fn other_side(place: Place, test: Expr, first: Vec<Stmt>, outer: Box<Stack>) -> State
+    ensures { as_state result ≡ machine.Ready (machine.ElseOf place (term test) (code first.items) (as_stack outer.value)) }
+{
+    State::Ready {
+        outer: Stack::ElseOf {
+            place,
+            test,
+            first,
+            outer,
+        },
+    }
+}
+
 /// The nearest `if` that an `else` may belong to goes on with its other side.
 pub(crate) fn else_of(
     alloc: Global,
@@ -88,14 +102,7 @@ pub(crate) fn else_of(
         Stack::Top { .. } | Stack::Braces { .. } | Stack::Yes { .. } | Stack::No { .. } => Ok(None),
         Stack::ThenOf { place, test, outer } => {
             let first = only(alloc, statement)?;
-            Ok(Some(State::Ready {
-                outer: Stack::ElseOf {
-                    place,
-                    test,
-                    first,
-                    outer,
-                },
-            }))
+            Ok(Some(other_side(place, test, first, outer)))
         }
         Stack::ElseOf {
             place,

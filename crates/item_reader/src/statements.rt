@@ -19,7 +19,7 @@ use fam_outer::{NoMemory, Place};
 use std::alloc::Global;
 
 /// A closing brace: a block ends, or `main`.
-#[tactic(auto, using(crate::proofs::Innermost::innermost, crate::proofs::Holding::holding))]
+#[tactic(auto, using(crate::proofs::Parts::parts, crate::proofs::Holding::holding))]
 fn braced(alloc: Global, outer: Stack, end: Place) -> Option<State>
     ensures { option_map as_state result ≡ machine.braced (as_stack outer) end }
 {
@@ -150,7 +150,6 @@ fn counting(
 }
 
 /// What a sign leads to behind the name at the front of a statement.
-#[tactic(auto, using(crate::proofs::Innermost::innermost))]
 pub(crate) fn named(
     alloc: Global,
     place: Place,

@@ -133,11 +133,11 @@ pub(crate) enum Aim {
     },
 }
 
-/// A section of groups behind `main`, with the number of its conditions: another part may come, or this one is the last.
-#[derive(Clone, Copy, Drop)]
+/// A section of groups behind `main`, with its conditions so far: another part may come, or this one is the last.
+#[derive(Drop)]
 pub(crate) enum Tailing {
-    Another(usize),
-    Final(usize),
+    Another(Vec<u32>),
+    Final(Vec<u32>),
 }
 
 /// A file whose `main` is closed.

@@ -1,0 +1,188 @@
+//! Declarations of variables, and the heads of functions up to their names.
+#![tactic(auto)]
+
+ghost use Rattle.std.specs.Prelude.{◌≡◌, IfOk, option_map};
+ghost use Rattle.c_grammar.specs.Machine as machine;
+ghost use Rattle.item_reader.specs.Signs.{IsUnsigned};
+ghost use Rattle.item_reader.specs.Views.{as_sections, as_state, Moves};
+
+use crate::sections::guards_of;
+use crate::states::{Aim, Sections, State};
+use c_grammar::Sign;
+use c_tree::{Declared, Guards, Op};
+use fam_outer::NoMemory;
+use std::alloc::Global;
+
+/// The state, where the sign is `int`.
+pub(crate) fn at_int(next: State, sign: Sign) -> Option<State>
+    ensures { option_map as_state result ≡ machine.at_int (as_state next) sign }
+{
+    match sign {
+        Sign::Int => Some(next),
+        _ => None,
+    }
+}
+
+/// The state, where the sign is `input`.
+pub(crate) fn at_input(next: State, sign: Sign) -> Option<State>
+    ensures { option_map as_state result ≡ machine.at_input (as_state next) sign }
+{
+    match sign {
+        Sign::Input => Some(next),
+        _ => None,
+    }
+}
+
+/// Where a declarator comes.
+pub(crate) fn declaring(sections: Sections, declared: Vec<Declared>, sign: Sign) -> Option<State>
+    ensures { option_map as_state result ≡ machine.declaring (as_sections sections) declared.items sign }
+{
+    match sign {
+        Sign::Name(name) => Some(State::Bare {
+            name,
+            sections,
+            declared,
+        }),
+        _ => None,
+    }
+}
+
+/// Behind `int main`, which stands outside every group.
+fn main_of(sections: Sections, declared: Vec<Declared>) -> Option<State>
+    ensures { option_map as_state result ≡ machine.main_of (as_sections sections) declared.items }
+{
+    match sections {
+        Sections::Outermost => Some(State::Parameters {
+            aim: Aim::ToMain { declared },
+        }),
+        _other => None,
+    }
+}
+
+/// Behind `int` at the front of a declaration.
+pub(crate) fn after_int(sections: Sections, declared: Vec<Declared>, sign: Sign) -> Option<State>
+    ensures { option_map as_state result ≡ machine.after_int (as_sections sections) declared.items sign }
+{
+    match sign {
+        Sign::Name(name) => Some(State::Bare {
+            name,
+            sections,
+            declared,
+        }),
+        Sign::Input => Some(State::Parameters {
+            aim: Aim::ToPrototype { sections, declared },
+        }),
+        Sign::Main => main_of(sections, declared),
+        _ => None,
+    }
+}
+
+/// The declarators with one more, under the guards of the groups around it.
+fn with_declared(
+    alloc: Global,
+    sections: &Sections,
+    declared: Vec<Declared>,
+    name: u32,
+    value: i64,
+) -> Result<Vec<Declared>, NoMemory>
+    ensures { IfOk result (λ made. made.items ≡ machine.with_declared (as_sections sections.now) declared.items name value) }
+{
+    let mut declared = declared;
+    let guards = guards_of(alloc, sections)?;
+    declared.push(Declared {
+        target: name,
+        value,
+        guards: Guards::from_vec(guards),
+    })?;
+    Ok(declared)
+}
+
+/// Behind a declarator.
+pub(crate) fn started(
+    alloc: Global,
+    name: u32,
+    value: i64,
+    sections: Sections,
+    declared: Vec<Declared>,
+    sign: Sign,
+) -> Result<Option<State>, NoMemory>
+    ensures { Moves result (machine.started name value (as_sections sections) declared.items sign) }
+{
+    match sign {
+        Sign::Comma => {
+            let declared = with_declared(alloc, &sections, declared, name, value)?;
+            Ok(Some(State::Declaring { sections, declared }))
+        }
+        Sign::Semicolon => {
+            let declared = with_declared(alloc, &sections, declared, name, value)?;
+            Ok(Some(State::Outside { sections, declared }))
+        }
+        _ => Ok(None),
+    }
+}
+
+/// Behind a declared name, whose start value is 0 where none comes.
+pub(crate) fn is_bare(
+    alloc: Global,
+    name: u32,
+    sections: Sections,
+    declared: Vec<Declared>,
+    sign: Sign,
+) -> Result<Option<State>, NoMemory>
+    ensures { Moves result (machine.is_bare name (as_sections sections) declared.items sign) }
+{
+    match sign {
+        Sign::Equals => Ok(Some(State::Starting {
+            name,
+            sections,
+            declared,
+        })),
+        _ => started(alloc, name, 0, sections, declared, sign),
+    }
+}
+
+/// Behind the `=` of a declarator.
+pub(crate) fn starting(
+    name: u32,
+    sections: Sections,
+    declared: Vec<Declared>,
+    sign: Sign,
+) -> Option<State>
+    ensures { option_map as_state result ≡ machine.starting name (as_sections sections) declared.items sign }
+{
+    match sign {
+        Sign::Number(value) => Some(State::Started {
+            name,
+            value,
+            sections,
+            declared,
+        }),
+        Sign::Oper(Op::Sub) => Some(State::Negating {
+            name,
+            sections,
+            declared,
+        }),
+        _ => None,
+    }
+}
+
+/// Behind the `-` of a start value.
+pub(crate) fn negating(
+    name: u32,
+    sections: Sections,
+    declared: Vec<Declared>,
+    sign: Sign,
+) -> Option<State>
+    requires { IsUnsigned sign }
+    ensures { option_map as_state result ≡ machine.negating name (as_sections sections) declared.items sign }
+{
+    match sign {
+        Sign::Number(value) => Some(State::Started {
+            name,
+            value: -value,
+            sections,
+            declared,
+        }),
+        _ => None,
+    }
+}

@@ -1,0 +1,173 @@
+//! The end of `main`, and the groups behind it.
+#![tactic(auto)]
+
+ghost use Rattle.std.specs.Prelude.{◌≡◌, [], ◌∷◌, IfOk, MatchOption, option_map};
+ghost use Rattle.c_tree.specs.View.{code};
+ghost use Rattle.c_grammar.specs.Machine as machine;
+ghost use Rattle.c_grammar.specs.declared.items.Sign.TheVariants as signs;
+ghost use Rattle.item_reader.specs.Views.{as_file, as_parts, as_state, as_tailing, Moves};
+
+use crate::states::{File, State, Tailing};
+use c_grammar::Sign;
+use c_tree::{Declared, Stmt};
+use fam_outer::{NoMemory, Place};
+use std::alloc::Global;
+
+/// Behind `return`, which leaves a statement that does nothing.
+#[tactic(auto, using(crate::proofs::Parts::code_skip))]
+pub(crate) fn returning(
+    place: Place,
+    declared: Vec<Declared>,
+    made: Vec<Stmt>,
+    sign: Sign,
+) -> Result<Option<State>, NoMemory>
+    ensures { Moves result (machine.returning place declared.items (code made.items) sign) }
+{
+    match sign {
+        Sign::Number(_) => {
+            let mut made = made;
+            made.push(Stmt::Skip { place })?;
+            Ok(Some(State::Returned { declared, made }))
+        }
+        _ => Ok(None),
+    }
+}
+
+/// Behind the `return` of `main`, whose brace comes.
+#[tactic(auto, using(crate::proofs::Parts::parts))]
+pub(crate) fn closing(
+    alloc: Global,
+    declared: Vec<Declared>,
+    made: Vec<Stmt>,
+    place: Place,
+    sign: Sign,
+) -> Option<State>
+    ensures { option_map as_state result ≡ machine.closing declared.items (code made.items) place sign }
+{
+    match sign {
+        Sign::RightBrace => {
+            let file = File {
+                declared,
+                body: made,
+                end: place,
+            };
+            Some(State::Over {
+                file,
+                parts: Vec::new(alloc),
+            })
+        }
+        _ => None,
+    }
+}
+
+/// The innermost part, and the others.
+#[tactic(auto, using(crate::proofs::Parts::parts))]
+fn cut(parts: Vec<Tailing>) -> Option<(Tailing, Vec<Tailing>)>
+    ensures { MatchOption result (as_parts parts.items ≡ []) (λ x. as_parts parts.items ≡ as_tailing x.0 ∷ as_parts x.1.items) }
+{
+    let mut parts = parts;
+    let innermost = parts.pop()?;
+    Some((innermost, parts))
+}
+
+/// One more part, the innermost.
+#[tactic(auto, using(crate::proofs::Parts::parts))]
+fn put(parts: Vec<Tailing>, innermost: Tailing) -> Result<Vec<Tailing>, NoMemory>
+    ensures { IfOk result (λ made. as_parts made.items ≡ as_tailing innermost ∷ as_parts parts.items) }
+{
+    let mut parts = parts;
+    parts.push(innermost)?;
+    Ok(parts)
+}
+
+/// A section opens behind `main`.
+fn tail_start(
+    alloc: Global,
+    file: File,
+    parts: Vec<Tailing>,
+    number: u32,
+) -> Result<Option<State>, NoMemory>
+    ensures { Moves result (machine.over (as_file file) (as_parts parts.items) (signs.GroupIf number)) }
+{
+    let mut numbers = Vec::new(alloc);
+    numbers.push(number)?;
+    let parts = put(parts, Tailing::Another(numbers))?;
+    Ok(Some(State::Over { file, parts }))
+}
+
+/// The next part of a section behind `main`, where another may come.
+fn tail_condition(
+    file: File,
+    parts: Vec<Tailing>,
+    number: u32,
+) -> Result<Option<State>, NoMemory>
+    ensures { Moves result (machine.over (as_file file) (as_parts parts.items) (signs.GroupElif number)) }
+{
+    let Some((innermost, parts)) = cut(parts) else {
+        return Ok(None);
+    };
+    match innermost {
+        Tailing::Another(numbers) => {
+            let mut numbers = numbers;
+            numbers.push(number)?;
+            let parts = put(parts, Tailing::Another(numbers))?;
+            Ok(Some(State::Over { file, parts }))
+        }
+        Tailing::Final(_numbers) => Ok(None),
+    }
+}
+
+/// The last part of a section behind `main`, where another may come.
+fn tail_last(file: File, parts: Vec<Tailing>) -> Result<Option<State>, NoMemory>
+    ensures { Moves result (machine.over (as_file file) (as_parts parts.items) signs.GroupElse) }
+{
+    let Some((innermost, parts)) = cut(parts) else {
+        return Ok(None);
+    };
+    match innermost {
+        Tailing::Another(numbers) => {
+            let parts = put(parts, Tailing::Final(numbers))?;
+            Ok(Some(State::Over { file, parts }))
+        }
+        Tailing::Final(_numbers) => Ok(None),
+    }
+}
+
+/// The end of a section behind `main`, where one is open.
+fn tail_end(file: File, parts: Vec<Tailing>) -> Option<State>
+    ensures { option_map as_state result ≡ machine.over (as_file file) (as_parts parts.items) signs.GroupEnd }
+{
+    let (_innermost, parts) = cut(parts)?;
+    Some(State::Over { file, parts })
+}
+
+/// Behind the brace of `main`.
+pub(crate) fn over(
+    alloc: Global,
+    file: File,
+    parts: Vec<Tailing>,
+    sign: Sign,
+) -> Result<Option<State>, NoMemory>
+    ensures { Moves result (machine.over (as_file file) (as_parts parts.items) sign) }
+{
+    match sign {
+        Sign::GroupIf(number) => tail_start(alloc, file, parts, number),
+        Sign::GroupElif(number) => tail_condition(file, parts, number),
+        Sign::GroupElse => tail_last(file, parts),
+        Sign::GroupEnd => Ok(tail_end(file, parts)),
+        _ => Ok(None),
+    }
+}
+
+/// The file, where it may end here.
+pub(crate) fn finish(state: State) -> Option<File>
+    ensures { option_map as_file result ≡ machine.finish (as_state state) }
+{
+    match state {
+        State::Over { file, parts } => match cut(parts) {
+            None => Some(file),
+            Some(_open) => None,
+        },
+        _other => None,
+    }
+}

@@ -1,0 +1,155 @@
+//! The groups around declarations, and what may stand outside every function.
+#![tactic(auto)]
+
+ghost use Rattle.std.specs.Prelude.{◌≡◌, IfOk, option_map};
+ghost use Rattle.c_grammar.specs.Grammar as grammar;
+ghost use Rattle.c_grammar.specs.Machine as machine;
+ghost use Rattle.c_grammar.specs.declared.items.Sign.TheVariants as signs;
+ghost use Rattle.item_reader.specs.Views.{as_sections, as_state, Moves};
+
+use crate::states::{Sections, State};
+use c_grammar::Sign;
+use c_tree::{Declared, Guard};
+use fam_outer::NoMemory;
+use std::alloc::Global;
+
+/// These guards, and that a condition is true.
+fn with_true(alloc: Global, guards: &[Guard], number: u32) -> Result<Vec<Guard>, NoMemory>
+    ensures { IfOk result (λ made. made.items ≡ grammar.with_true guards.now number) }
+{
+    let mut made = Vec::from_slice(alloc, guards)?;
+    made.push(Guard {
+        number,
+        positive: true,
+    })?;
+    Ok(made)
+}
+
+/// These guards, and that a condition is false.
+fn with_false(guards: Vec<Guard>, number: u32) -> Result<Vec<Guard>, NoMemory>
+    ensures { IfOk result (λ made. made.items ≡ grammar.with_false guards.items number) }
+{
+    let mut guards = guards;
+    guards.push(Guard {
+        number,
+        positive: false,
+    })?;
+    Ok(guards)
+}
+
+/// The guards of a declarator that stands here.
+pub(crate) fn guards_of(alloc: Global, sections: &Sections) -> Result<Vec<Guard>, NoMemory>
+    ensures { IfOk result (λ made. made.items ≡ machine.guards_of (as_sections sections.now)) }
+{
+    match sections {
+        Sections::Outermost => Ok(Vec::new(alloc)),
+        Sections::InPart { guards, number, .. } => with_true(alloc, guards, *number),
+        Sections::InLast { guards, .. } => Ok(Vec::from_slice(alloc, guards)?),
+    }
+}
+
+/// A section opens.
+fn section_start(
+    alloc: Global,
+    number: u32,
+    sections: Sections,
+    declared: Vec<Declared>,
+) -> Result<Option<State>, NoMemory>
+    ensures { Moves result (machine.outside (as_sections sections) declared.items (signs.GroupIf number)) }
+{
+    let guards = guards_of(alloc, &sections)?;
+    let outer = Box::new(alloc, sections)?;
+    let sections = Sections::InPart {
+        guards,
+        number,
+        outer,
+    };
+    Ok(Some(State::Outside { sections, declared }))
+}
+
+/// The next part of a section, where another may come.
+fn next_condition(
+    next: u32,
+    sections: Sections,
+    declared: Vec<Declared>,
+) -> Result<Option<State>, NoMemory>
+    ensures { Moves result (machine.next_condition next (as_sections sections) declared.items) }
+{
+    match sections {
+        Sections::InPart {
+            guards,
+            number,
+            outer,
+        } => {
+            let guards = with_false(guards, number)?;
+            let sections = Sections::InPart {
+                guards,
+                number: next,
+                outer,
+            };
+            Ok(Some(State::Outside { sections, declared }))
+        }
+        _other => Ok(None),
+    }
+}
+
+/// The last part of a section, where another may come.
+fn last_section(sections: Sections, declared: Vec<Declared>) -> Result<Option<State>, NoMemory>
+    ensures { Moves result (machine.last_section (as_sections sections) declared.items) }
+{
+    match sections {
+        Sections::InPart {
+            guards,
+            number,
+            outer,
+        } => {
+            let guards = with_false(guards, number)?;
+            let sections = Sections::InLast { guards, outer };
+            Ok(Some(State::Outside { sections, declared }))
+        }
+        _other => Ok(None),
+    }
+}
+
+/// The end of a section, where one is open.
+fn section_end(sections: Sections, declared: Vec<Declared>) -> Option<State>
+    ensures { option_map as_state result ≡ machine.section_end (as_sections sections) declared.items }
+{
+    let outer = match sections {
+        Sections::Outermost => return None,
+        Sections::InPart {
+            guards: _guards,
+            number: _number,
+            outer,
+        } => outer,
+        Sections::InLast {
+            guards: _guards,
+            outer,
+        } => outer,
+    };
+    Some(State::Outside {
+        sections: Box::into_inner(outer),
+        declared,
+    })
+}
+
+/// Where a declaration may begin.
+pub(crate) fn outside(
+    alloc: Global,
+    sections: Sections,
+    declared: Vec<Declared>,
+    sign: Sign,
+) -> Result<Option<State>, NoMemory>
+    ensures { Moves result (machine.outside (as_sections sections) declared.items sign) }
+{
+    match sign {
+        Sign::Static => Ok(Some(State::AfterStatic { sections, declared })),
+        Sign::Extern => Ok(Some(State::AfterExtern { sections, declared })),
+        Sign::Int => Ok(Some(State::AfterInt { sections, declared })),
+        Sign::GroupIf(number) => section_start(alloc, number, sections, declared),
+        Sign::GroupElif(number) => next_condition(number, sections, declared),
+        Sign::GroupElse => last_section(sections, declared),
+        Sign::GroupEnd => Ok(section_end(sections, declared)),
+        _ => Ok(None),
+    }
+}
