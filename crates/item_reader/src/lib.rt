@@ -3,9 +3,13 @@
 
 mod declarations;
 mod endings;
+mod files;
 mod limits;
 mod parameters;
+mod programs;
+pub mod reading;
 mod sections;
 mod states;
 mod steps;
 mod stubs;
+pub mod unread;
