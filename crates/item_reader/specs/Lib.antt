@@ -2,3 +2,5 @@ pub mod Views
 pub mod Signs
 pub mod Kinds
 pub mod Limits
+pub mod Reading
+pub mod Taking

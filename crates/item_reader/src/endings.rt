@@ -96,11 +96,7 @@ fn tail_start(
 }
 
 /// The next part of a section behind `main`, where another may come.
-fn tail_condition(
-    file: File,
-    parts: Vec<Tailing>,
-    number: u32,
-) -> Result<Option<State>, NoMemory>
+fn tail_condition(file: File, parts: Vec<Tailing>, number: u32) -> Result<Option<State>, NoMemory>
     ensures { Moves result (machine.over (as_file file) (as_parts parts.items) (signs.GroupElif number)) }
 {
     let Some((innermost, parts)) = cut(parts) else {

@@ -4,14 +4,21 @@
 mod declarations;
 mod endings;
 mod expressions;
+mod files;
 mod frames;
 mod groups;
 mod limits;
 mod lists;
 mod marks;
 mod parameters;
+mod programs;
+pub mod reading;
 mod sections;
 mod stacks;
 mod statements;
 mod states;
 mod steps;
+pub mod unread;
+
+pub use reading::read_items;
+pub use unread::Unread;

@@ -1,0 +1,65 @@
+-- What the reading comes to, by the laws of the grammar.
+use Rattle.std.proofs.Common.{◌≡◌, ◌≤◌, ℕ, false, List, [], ◌∷◌, length, Result, Ok, Err, refl, subst, ap, sym, ◌∙◌}
+use Rattle.std.specs.Prelude.{pos, ◌≤ℤ◌}
+use Rattle.c_tree.specs.Tree.{Whole}
+use Rattle.c_tree.specs.Whole.{IsProgram, IsPlainProgram}
+use Rattle.c_grammar.specs.declared.items.Item.{Item}
+use Rattle.c_grammar.specs.declared.items.Sign.{Sign}
+use Rattle.c_grammar.specs.declared.items.Sign.TheVariants as signs
+use Rattle.c_grammar.specs.Facts.{AreFit, IsFit, AreRising, WellFormed, PlainWithoutGroups}
+use Rattle.c_grammar.specs.Grammar.{File, Spells, has_groups, whole_of}
+use Rattle.c_grammar.specs.Laws.{FindsWrong, IsWrong, Limited, Sound, program_in}
+use Rattle.c_grammar.specs.Machine.{run, start}
+use Rattle.c_grammar.specs.Deep as limits
+use Rattle.c_grammar.specs.Deep.{Answers, Fault, guarded}
+use Rattle.c_tree.specs.declared.tree.Program.{Program}
+use Rattle.item_reader.specs.declared.unread.Unread.{Unread}
+use Rattle.item_reader.specs.declared.unread.Unread.TheVariants as unread
+use Rattle.item_reader.specs.Reading.{IsDeepAt, IsRead, IsWrongAt, OnWrong, StopsAt}
+use Rattle.item_reader.specs.Signs.{IsUnsigned}
+use Rattle.item_reader.specs.Taking.{AreUnsigned, Reads}
+
+unsigned_sign : (count : ℕ) (s : Sign) → IsFit count s → IsUnsigned s
+unsigned_sign count (signs.Number n) h = h.0
+unsigned_sign count _ h = tt
+
+-- numbers that an `int` literal has are not negative
+pub unsigned_items : (count : ℕ) (items : List Item) → AreFit count items → AreUnsigned items
+unsigned_items count [] h = tt
+unsigned_items count (x ∷ w) h = (unsigned_sign count x.sign h.0, unsigned_items count w h.1)
+
+answered : Limited → (items : List Item) (r : Result File Fault) → guarded start 0 items ≡ r → Answers r start 0 items
+answered limited items r e = subst (λ (r : Result File Fault). Answers r start 0 items) e (limited items)
+
+-- what is read is spelled
+pub spelled : Limited → Sound → (names : List (List ℕ)) (items : List Item) (p : Whole) → IsRead names items p → Spells names p items
+spelled limited sound names items p r =
+    sound names items p (ap (program_in names items) (answered limited items (Ok r.file) r.reads) ∙ ap (λ (q : Whole). Ok q) (sym r.is))
+
+pub formed : WellFormed → (names : List (List ℕ)) (items : List Item) (p : Whole) → length names ≤ 16 → AreFit (length names) items → AreRising items → IsRead names items p → IsProgram p
+formed law names items p few fit rising r = subst IsProgram (sym r.is) (law names items r.file few fit rising r.reads)
+
+pub plain : PlainWithoutGroups → (names : List (List ℕ)) (items : List Item) (p : Whole) → Spells names p items → has_groups items ≡ false → IsPlainProgram p
+plain law names items p s none = subst IsPlainProgram (sym s.is) (law names items s.file none s.forms)
+
+-- where the machine stops as wrong
+pub wrong_there : Limited → FindsWrong → (items : List Item) (n : ℕ) → StopsAt items n limits.Wrong → IsWrongAt items n
+wrong_there limited finds items n s = record {
+  left = s.left;
+  position = s.position;
+  wrong = finds [] items s.left (ap (program_in [] items) (answered limited items (Err (limits.Wrong s.left)) s.stops));
+}
+
+-- where it stops as too deep
+pub deep_there : Limited → (items : List Item) (n : ℕ) → StopsAt items n limits.Deep → IsDeepAt items n
+deep_there limited items n s = record {
+  left = s.left;
+  position = s.position;
+  deep = answered limited items (Err (limits.Deep s.left)) s.stops;
+}
+
+-- what is refused as wrong
+pub refused : Limited → FindsWrong → (e : Unread) (items : List Item) → Reads items (Err e) → OnWrong {X = Program} (Err e) (IsWrongAt items)
+refused limited finds unread.NoMemory items r = tt
+refused limited finds (unread.Wrong n) items r = wrong_there limited finds items n r
+refused limited finds (unread.Deep n) items r = tt

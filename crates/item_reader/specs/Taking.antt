@@ -1,0 +1,47 @@
+-- One item, with what is open before it.
+use Rattle.std.specs.Prelude.{◌≡◌, ◌≤◌, ℕ, false, true, Option, Some, None, Result, Ok, Err, List, [], ◌∷◌}
+use Rattle.c_grammar.specs.declared.items.Item.{Item}
+use Rattle.c_grammar.specs.Grammar as grammar
+use Rattle.c_grammar.specs.Machine as machine
+use Rattle.c_grammar.specs.Machine.{start, step}
+use Rattle.c_grammar.specs.Deep as limits
+use Rattle.c_grammar.specs.Deep.{counted, is_deep, guarded}
+use Rattle.item_reader.specs.declared.states.State.{State}
+use Rattle.item_reader.specs.declared.states.File.{File}
+use Rattle.item_reader.specs.declared.unread.Unread.{Unread}
+use Rattle.item_reader.specs.declared.unread.Unread.TheVariants as unread
+use Rattle.item_reader.specs.Reading.{StopsAt}
+use Rattle.item_reader.specs.Signs.{IsUnsigned}
+use Rattle.item_reader.specs.Views.{as_file, as_state}
+
+-- the state behind an item, and the operators of its expression so far
+pub record IsTaken (state : machine.State) (count : ℕ) (x : Item) (next : machine.State) (operators : ℕ) : Type 0 where
+  pub goes : step state x.place x.sign ≡ Some next
+  pub shallow : is_deep state x.sign count ≡ false
+  pub counts : operators ≡ counted state x.sign count
+  pub few : operators ≤ 64
+
+-- the state can take the item, but too much is open
+pub record IsTooMuch (state : machine.State) (count : ℕ) (x : Item) : Type 0 where
+  pub next : machine.State
+  pub goes : step state x.place x.sign ≡ Some next
+  pub deep : is_deep state x.sign count ≡ true
+
+-- what one item at a position leads to
+abbrev pub Takes : machine.State → ℕ → Item → ℕ → Result (State × ℕ) Unread → Type 0
+Takes state count x n (Ok made) = IsTaken state count x (as_state made.0) made.1
+Takes state count x n (Err unread.NoMemory) = Unit {0}
+Takes state count x n (Err (unread.Wrong m)) = (m ≡ n) × (step state x.place x.sign ≡ None)
+Takes state count x n (Err (unread.Deep m)) = (m ≡ n) × IsTooMuch state count x
+
+-- what the items lead to
+abbrev pub Reads : List Item → Result File Unread → Type 0
+Reads items (Ok file) = guarded start 0 items ≡ Ok (as_file file)
+Reads items (Err unread.NoMemory) = Unit {0}
+Reads items (Err (unread.Wrong n)) = StopsAt items n limits.Wrong
+Reads items (Err (unread.Deep n)) = StopsAt items n limits.Deep
+
+-- the numbers of the items are not negative
+abbrev pub AreUnsigned : List Item → Type 0
+AreUnsigned [] = Unit {0}
+AreUnsigned (x ∷ w) = IsUnsigned x.sign × AreUnsigned w

@@ -1,0 +1,58 @@
+//! The file that a list of items spells.
+#![tactic(auto)]
+
+ghost use Rattle.std.specs.Prelude.{◌≡◌, ◌≤◌, ℕ};
+ghost use Rattle.item_reader.specs.Signs.{IsUnsigned};
+ghost use Rattle.item_reader.specs.Taking.{AreUnsigned, Reads, Takes};
+ghost use Rattle.item_reader.specs.Views.{as_state};
+
+use crate::endings::finish;
+use crate::limits::{counted, is_deep};
+use crate::states::{File, Sections, State};
+use crate::steps::step;
+use crate::unread::Unread;
+use c_grammar::Item;
+use std::alloc::Global;
+
+/// What the item at a position leads to, and how many operators its expression has so far.
+#[tactic(auto, using(crate::proofs::Taking::shallow_few))]
+fn take(
+    alloc: Global,
+    state: State,
+    count: u32,
+    item: Item,
+    position: usize,
+) -> Result<(State, u32), Unread>
+    requires unsigned { IsUnsigned item.sign }
+    requires few { count ≤ 64 }
+    ensures { Takes (as_state state) count item position result }
+{
+    let deep = is_deep(&state, item.sign, count);
+    let operators = counted(&state, item.sign, count);
+    match step(alloc, state, item.place, item.sign)? {
+        None => Err(Unread::Wrong(position)),
+        Some(_next) if deep => Err(Unread::Deep(position)),
+        Some(next) => Ok((next, operators)),
+    }
+}
+
+/// The file that the items spell.
+pub(crate) fn read_file(alloc: Global, items: &[Item]) -> Result<File, Unread>
+    requires { AreUnsigned items.now }
+    ensures { Reads items.now result }
+{
+    let mut state = State::Outside {
+        sections: Sections::Outermost,
+        declared: Vec::new(alloc),
+    };
+    let mut count = 0;
+    for (position, item) in items.iter().enumerate() {
+        let (next, operators) = take(alloc, state, count, *item, position)?;
+        state = next;
+        count = operators;
+    }
+    match finish(state) {
+        Some(file) => Ok(file),
+        None => Err(Unread::Wrong(items.len())),
+    }
+}

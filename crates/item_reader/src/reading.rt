@@ -1,0 +1,59 @@
+//! The program that a list of items spells.
+#![tactic(auto)]
+
+ghost use Rattle.std.specs.Prelude.{◌≡◌, ◌≤◌, length, false, IfOk};
+ghost use Rattle.c_tree.specs.View.{whole};
+ghost use Rattle.c_tree.specs.Whole.{IsProgram, IsPlainProgram};
+ghost use Rattle.c_grammar.specs.Facts.{AreFit, AreRising};
+ghost use Rattle.c_grammar.specs.Grammar.{Spells, has_groups};
+ghost use Rattle.item_reader.specs.Reading.{IsDeepAt, IsRead, IsWrongAt, OnDeep, OnWrong};
+
+use crate::files::read_file;
+use crate::programs::program_of;
+use crate::unread::Unread;
+use c_grammar::Item;
+use c_grammar::laws::{
+    files_are_programs, limits_stop_only_what_is_deep, spells_what_is_read,
+    stops_at_the_first_wrong_item,
+};
+use c_tree::{Names, Program};
+use std::alloc::Global;
+
+/// The program that a list of items spells over these names.
+///
+/// An item is a token or a group directive (`#if`, `#elif`, `#else`, `#endif`) of a C file, and the grammar is that of
+/// `c_grammar`: declarations of `int` variables, which may stand in groups, and then `main` (ISO/IEC 9899:2011, 6.5 to
+/// 6.10.1). Without groups the program is plain, and a variable starts with the value of its last declarator, else with
+/// 0. With groups each group of statements is a `Cond`, and each declarator is kept with the guards of the groups around
+/// it.
+///
+/// The conditions are that there are at most 16 names, that the items name these alone, that the numbers are from 0 to
+/// 2147483647, and that the places rise.
+///
+/// The reading goes from item to item, and the first item that it can't take decides.
+///
+/// - `Wrong(n)`: no file goes on with item `n`, whichever names it has, though some file goes on with the items before
+///   it. Where `n` is the number of the items, some file goes on with all of them, but none ends behind them.
+/// - `Deep(n)`: some file goes on with item `n`, but too much is open at it: it opens an `if`, a `while`, a block, a
+///   group or the next part of a group inside 64 of these, or it is the 65th operator or opening parenthesis of an
+///   expression. The brace of `main` is no block, and each `#elif` counts as one more around what follows in its section.
+/// - `NoMemory`: want of memory, and nothing else.
+pub fn read_items(alloc: Global, names: Names, items: &[Item]) -> Result<Program, Unread>
+    requires few { length names ≤ 16 }
+    requires fit { AreFit (length names) items.now }
+    requires rising { AreRising items.now }
+    ensures spells { IfOk result (λ p. Spells names (whole p) items.now) }
+    ensures read { IfOk result (λ p. IsRead names items.now (whole p)) }
+    ensures program { IfOk result (λ p. IsProgram (whole p)) }
+    ensures plain { IfOk result (λ p. has_groups items.now ≡ false → IsPlainProgram (whole p)) }
+    ensures wrong { OnWrong result (IsWrongAt items.now) }
+    ensures deep { OnDeep result (IsDeepAt items.now) }
+{
+    spells_what_is_read();
+    stops_at_the_first_wrong_item();
+    limits_stop_only_what_is_deep();
+    files_are_programs();
+    let file = read_file(alloc, items)?;
+    let program = program_of(alloc, names, items, file)?;
+    Ok(program)
+}
