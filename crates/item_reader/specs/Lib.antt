@@ -1,6 +1,6 @@
 pub mod Views
 pub mod Signs
-pub mod Kinds
+pub mod Stages
 pub mod Limits
 pub mod Reading
 pub mod Taking

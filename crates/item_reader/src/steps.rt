@@ -1,11 +1,11 @@
 //! One step: what an item leads to.
 #![tactic(auto)]
 
-ghost use Rattle.std.specs.Prelude.{◌≡◌, option_map};
+ghost use Rattle.std.specs.Prelude.{◌≡◌, ◌≤◌, option_map};
 ghost use Rattle.c_tree.specs.Tree as tree;
 ghost use Rattle.c_grammar.specs.Machine as machine;
-ghost use Rattle.item_reader.specs.Kinds.{IsBehindDeclarations, IsAtEdge};
 ghost use Rattle.item_reader.specs.Signs.{IsUnsigned};
+ghost use Rattle.item_reader.specs.Stages.{stage};
 ghost use Rattle.item_reader.specs.Views.{as_stack, as_state, Moves};
 
 use crate::declarations::{
@@ -47,6 +47,22 @@ pub(crate) fn step(
             Ok(at_input(State::Parameters { aim }, sign))
         }
         State::Declaring { sections, declared } => Ok(declaring(sections, declared, sign)),
+        other => step_declarator(alloc, other, place, sign),
+    }
+}
+
+/// The step of a state from a declarator on.
+fn step_declarator(
+    alloc: Global,
+    state: State,
+    place: Place,
+    sign: Sign,
+) -> Result<Option<State>, NoMemory>
+    requires unsigned { IsUnsigned sign }
+    requires stage { 1 ≤ stage (as_state state) }
+    ensures { Moves result (machine.step (as_state state) place sign) }
+{
+    match state {
         State::Bare {
             name,
             sections,
@@ -72,30 +88,48 @@ pub(crate) fn step(
     }
 }
 
-/// The step of a state behind the declarations.
+/// The step of a state from the statements on.
 fn step_statement(
     alloc: Global,
     state: State,
     place: Place,
     sign: Sign,
 ) -> Result<Option<State>, NoMemory>
-    requires { IsBehindDeclarations (as_state state) }
+    requires { 2 ≤ stage (as_state state) }
     ensures { Moves result (machine.step (as_state state) place sign) }
 {
     match state {
         State::Ready { outer } => begin(alloc, outer, place, sign),
         State::Ended { outer, statement } => on(alloc, outer, statement, place, sign),
+        State::Named {
+            place,
+            target,
+            outer,
+        } => named(alloc, place, target, outer, sign),
+        State::Finishing { outer, statement } => {
+            Ok(at_semicolon(State::Ended { outer, statement }, sign))
+        }
+        other => step_operand(alloc, other, place, sign),
+    }
+}
+
+/// The step of a state from an expression on.
+fn step_operand(
+    alloc: Global,
+    state: State,
+    place: Place,
+    sign: Sign,
+) -> Result<Option<State>, NoMemory>
+    requires { 3 ≤ stage (as_state state) }
+    ensures { Moves result (machine.step (as_state state) place sign) }
+{
+    match state {
         State::Wants { frames, purpose } => want(frames, purpose, sign),
         State::Has {
             frames,
             purpose,
             operand,
         } => have(alloc, frames, purpose, operand, sign),
-        State::Named {
-            place,
-            target,
-            outer,
-        } => named(alloc, place, target, outer, sign),
         State::Opens { purpose } => {
             let next = expected(alloc, purpose);
             Ok(at_open(next, sign))
@@ -117,9 +151,6 @@ fn step_statement(
             target,
             outer,
         } => Ok(input_closes(place, target, outer, sign)),
-        State::Finishing { outer, statement } => {
-            Ok(at_semicolon(State::Ended { outer, statement }, sign))
-        }
         other => step_edge(alloc, other, place, sign),
     }
 }
@@ -140,7 +171,7 @@ fn step_edge(
     place: Place,
     sign: Sign,
 ) -> Result<Option<State>, NoMemory>
-    requires { IsAtEdge (as_state state) }
+    requires { 4 ≤ stage (as_state state) }
     ensures { Moves result (machine.step (as_state state) place sign) }
 {
     match state {

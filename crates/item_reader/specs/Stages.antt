@@ -1,0 +1,34 @@
+-- The stages of a file: which function takes the step of a state.
+use Rattle.std.specs.Prelude.{ℕ}
+use Rattle.c_grammar.specs.Machine.{State, Outside, AfterStatic, AfterExtern, AfterInt, AfterExternInt, Declaring, Bare, Starting, Negating, Started, Parameters, InParameters, AfterVoid, AfterParameters, Ready, Ended, Wants, Has, Named, Opens, InputOpens, InputCloses, Finishing, Returning, Returned, Closing, Over}
+
+-- 0 before a declarator, 1 in it, 2 at a statement, 3 at an expression or at `input`, 4 in the parentheses of a function
+-- or at the end of a file
+abbrev pub stage : State → ℕ
+stage (Outside secs ds) = 0
+stage (AfterStatic secs ds) = 0
+stage (AfterExtern secs ds) = 0
+stage (AfterInt secs ds) = 0
+stage (AfterExternInt secs ds) = 0
+stage (Declaring secs ds) = 0
+stage (Bare x secs ds) = 1
+stage (Starting x secs ds) = 1
+stage (Negating x secs ds) = 1
+stage (Started x n secs ds) = 1
+stage (Ready outer) = 2
+stage (Ended outer c) = 2
+stage (Named p x outer) = 2
+stage (Finishing outer c) = 2
+stage (Wants fs u) = 3
+stage (Has fs u e) = 3
+stage (Opens u) = 3
+stage (InputOpens p x outer) = 3
+stage (InputCloses p x outer) = 3
+stage (Parameters aim) = 4
+stage (InParameters aim) = 4
+stage (AfterVoid aim) = 4
+stage (AfterParameters aim) = 4
+stage (Returning p ds made) = 4
+stage (Returned ds made) = 4
+stage (Closing ds made) = 4
+stage (Over f parts) = 4
