@@ -1,15 +1,14 @@
 -- What the reading comes to, by the laws of the grammar.
-use Rattle.std.proofs.Common.{◌≡◌, ◌≤◌, ℕ, false, List, [], ◌∷◌, length, Result, Ok, Err, refl, subst, ap, sym, ◌∙◌}
-use Rattle.std.specs.Prelude.{pos, ◌≤ℤ◌}
+use Rattle.std.proofs.Common.{◌≡◌, ◌≤◌, ℕ, false, List, [], ◌∷◌, length, Result, Ok, Err, subst, ap, sym, ◌∙◌}
 use Rattle.c_tree.specs.Tree.{Whole}
 use Rattle.c_tree.specs.Whole.{IsProgram, IsPlainProgram}
 use Rattle.c_grammar.specs.declared.items.Item.{Item}
 use Rattle.c_grammar.specs.declared.items.Sign.{Sign}
 use Rattle.c_grammar.specs.declared.items.Sign.TheVariants as signs
 use Rattle.c_grammar.specs.Facts.{AreFit, IsFit, AreRising, WellFormed, PlainWithoutGroups}
-use Rattle.c_grammar.specs.Grammar.{File, Spells, has_groups, whole_of}
-use Rattle.c_grammar.specs.Laws.{FindsWrong, IsWrong, Limited, Sound, program_in}
-use Rattle.c_grammar.specs.Machine.{run, start}
+use Rattle.c_grammar.specs.Grammar.{File, Spells, has_groups}
+use Rattle.c_grammar.specs.Laws.{FindsWrong, Limited, Sound, program_in}
+use Rattle.c_grammar.specs.Machine.{start}
 use Rattle.c_grammar.specs.Deep as limits
 use Rattle.c_grammar.specs.Deep.{Answers, Fault, guarded}
 use Rattle.c_tree.specs.declared.tree.Program.{Program}

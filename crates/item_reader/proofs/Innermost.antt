@@ -1,6 +1,5 @@
 -- Lists whose innermost comes last.
 use Rattle.std.proofs.Common.{◌≡◌, List, [], ◌∷◌, ◌++◌, refl}
-use Rattle.std.specs.Prelude.{map, reverse}
 use Rattle.std.proofs.lemmas.List.{reverse-append}
 use Rattle.item_reader.specs.declared.states.Frame.{Frame}
 use Rattle.item_reader.specs.declared.states.Link.{Link}

@@ -1,5 +1,5 @@
 -- One item, and then the others.
-use Rattle.std.proofs.Common.{◌≡◌, ◌≤◌, ◌<◌, ◌+◌, ℕ, suc, Bool, true, false, ◌||◌, List, [], ◌∷◌, length, drop, get_or, subst, add-one, add-zero, Option, Some, None, Result, Ok, Err, refl, ap, sym, ◌∙◌, arith}
+use Rattle.std.proofs.Common.{◌≡◌, ◌≤◌, ◌<◌, ◌+◌, ℕ, suc, Bool, true, false, ◌||◌, List, ◌∷◌, length, drop, get_or, subst, add-one, add-zero, Option, Some, None, Result, Err, ap, sym, ◌∙◌, arith}
 use Rattle.std.specs.Prelude.{nat_le}
 use Rattle.std.proofs.lemmas.Bool.Decides.{nat_tests}
 use Rattle.std.proofs.lemmas.List.{length-drop, drop_all}
@@ -14,7 +14,6 @@ use Rattle.item_reader.specs.Reading.{StopsAt}
 use Rattle.item_reader.specs.declared.unread.Unread.{Unread}
 use Rattle.item_reader.specs.declared.unread.Unread.TheVariants as unread
 use Rattle.item_reader.specs.Taking.{AreUnsigned, IsTaken, IsTooMuch, Takes, Reads}
-use Rattle.item_reader.specs.Signs.{IsUnsigned}
 
 or_right : (a b : Bool) → (a || b) ≡ false → b ≡ false
 or_right true b e = cc

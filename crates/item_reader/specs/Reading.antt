@@ -1,13 +1,10 @@
 -- What the reader of items answers.
 use Rattle.std.specs.Prelude.{◌≡◌, ◌+◌, ℕ, List, length, Result, Ok, Err}
-use Rattle.c_tree.specs.declared.tree.Program.{Program}
 use Rattle.c_tree.specs.Tree.{Whole}
-use Rattle.c_tree.specs.View.{whole}
 use Rattle.c_grammar.specs.declared.items.Item.{Item}
 use Rattle.c_grammar.specs.Grammar as grammar
 use Rattle.c_grammar.specs.Grammar.{whole_of}
 use Rattle.c_grammar.specs.Machine.{start}
-use Rattle.c_grammar.specs.Deep as limits
 use Rattle.c_grammar.specs.Deep.{Fault, IsDeep, guarded}
 use Rattle.c_grammar.specs.Laws.{IsWrong}
 use Rattle.item_reader.specs.declared.unread.Unread.{Unread}

@@ -1,7 +1,6 @@
 -- One item, with what is open before it.
-use Rattle.std.specs.Prelude.{◌≡◌, ◌≤◌, ℕ, false, true, Option, Some, None, Result, Ok, Err, List, [], ◌∷◌}
+use Rattle.std.specs.Prelude.{◌≡◌, ◌≤◌, ℕ, false, true, Some, None, Result, Ok, Err, List, [], ◌∷◌}
 use Rattle.c_grammar.specs.declared.items.Item.{Item}
-use Rattle.c_grammar.specs.Grammar as grammar
 use Rattle.c_grammar.specs.Machine as machine
 use Rattle.c_grammar.specs.Machine.{start, step}
 use Rattle.c_grammar.specs.Deep as limits
