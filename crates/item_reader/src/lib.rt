@@ -22,3 +22,6 @@ pub mod unread;
 
 pub use reading::read_items;
 pub use unread::Unread;
+
+#[cfg(test)]
+mod tests;
