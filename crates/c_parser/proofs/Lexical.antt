@@ -1,6 +1,9 @@
--- Facts of the tokens of a text and of their items.
-use Rattle.std.proofs.Common.{◌≡◌, ℕ, ◌≤◌, ◌<◌, Bool, true, false, List, [], ◌∷◌, length, Option, Some, None, Ok, refl, sym, subst, arith, inl, inr, eq-eqb}
-use Rattle.std.specs.Prelude.{ℤ, pos, IfSome, IsTrue, ◌||◌, ◌&&◌, if◌then◌else◌, unwrap_or, nat_lt, nat_eq}
+-- Facts of the tokens of a text, and of their items: they lie in the text, their places rise, their numbers are literals,
+-- their names are below the count of names, and there are no groups.
+use Rattle.std.proofs.Common.{◌≡◌, ℕ, suc, ◌+◌, ◌≤◌, ◌<◌, ◌⊎◌, cond, Bool, true, false, List, [], ◌∷◌, ◌++◌, length, Option, Some, None, Ok, refl, sym, subst, arith, inl, inr, eq-eqb}
+use Rattle.std.specs.List.{list_any}
+use Rattle.std.proofs.lemmas.List.{length-append}
+use Rattle.std.specs.Prelude.{ℤ, pos, not, IfSome, IsTrue, ◌||◌, ◌&&◌, if◌then◌else◌, unwrap_or, nat_lt, nat_eq}
 use Rattle.std.specs.Str.{bytes_eq}
 use Rattle.std.specs.Fmt.{decimal}
 use Rattle.std.proofs.lemmas.List.{length-drop}
@@ -14,12 +17,19 @@ use Rattle.c_tokens.specs.Lexemes.{kind_of}
 use Rattle.fam_outer.specs.Places.{place_at, IsEarlier}
 use Rattle.c_tokens.specs.Reading.{StandBetween, IsReading, tokens_of}
 use Rattle.c_tree.specs.Whole.{is_before}
-use Rattle.c_parser.specs.declared.items.Sign.{Sign}
-use Rattle.c_parser.specs.declared.items.Sign.TheVariants as signs
+use Rattle.c_grammar.specs.declared.items.Sign.{Sign}
+use Rattle.c_grammar.specs.declared.items.Sign.TheVariants as signs
 use Rattle.c_parser.specs.Signs.{is_among, sign_in, other_keywords, used_words, keyword_of, marks}
-use Rattle.c_parser.specs.Items.{sign_of, word_sign, names_with, lexeme_in, items_from, items_of}
-use Rattle.c_parser.specs.Numbering.{AreWithin}
-use Rattle.c_parser.specs.Facts.{IsLiteral, AreLiterals, IsBeforeItems, AreRising}
+use Rattle.c_parser.specs.Items.{sign_of, word_sign, names_with, lexeme_in, items_from}
+use Rattle.c_parser.specs.Items.{with_name, names_with_word, names_from, number_in}
+use Rattle.c_parser.specs.declared.numbering.Numbered.{Numbered}
+use Rattle.c_parser.specs.Items.{listed}
+use Rattle.c_parser.specs.Signing.{AreWithin, IsListed}
+use Rattle.c_parser.specs.Stages.{AreProper}
+use Rattle.c_grammar.specs.declared.items.Item.{Item}
+use Rattle.c_grammar.specs.Facts.{IsFit, AreFit, IsBeforeItems, AreRising}
+use Rattle.c_grammar.specs.Grammar.{is_group, has_groups}
+use Rattle.c_parser.proofs.Growing.{grows}
 
 -- the laws of tokens that are used here
 pub record TokenLaws : Type 0 where
@@ -58,55 +68,109 @@ rising laws text start names (t ∷ ts) end h = (
   rising laws text t.end (names_with names t.kind (lexeme_in text t)) ts end h.1.1,
 )
 
--- ---- literals
+or_none : (a b : Bool) → a ≡ false → b ≡ false → (a || b) ≡ false
+or_none true b h k = absurd cc
+or_none false b h k = k
 
-abbrev HasLiterals : List (List ℕ × Sign) → Type 0
-HasLiterals [] = Unit {0}
-HasLiterals (e ∷ es) = IsLiteral e.1 × HasLiterals es
+-- ---- names
 
-table_literal : (table : List (List ℕ × Sign)) → HasLiterals table → (w : List ℕ) → IfSome (sign_in table w) IsLiteral
-table_literal [] h w = tt
-table_literal (e ∷ es) h w = elim (bytes_eq w e.0) as (λ b. IfSome (if b then Some e.1 else sign_in es w) IsLiteral) [
+-- a name is new, or it has a number below the count
+pub new_or_old : (names : List (List ℕ)) (w : List ℕ) → ((list_any (bytes_eq w) names ≡ false) × (number_in names w ≡ length names)) ⊎ ((list_any (bytes_eq w) names ≡ true) × (number_in names w < length names))
+new_or_old [] w = inl (refl, refl)
+new_or_old (n ∷ ns) w =
+    elim (bytes_eq w n) as (λ b. (((b || list_any (bytes_eq w) ns) ≡ false) × (cond (not b) (1 + number_in ns w) 0 ≡ suc (length ns))) ⊎ (((b || list_any (bytes_eq w) ns) ≡ true) × (cond (not b) (1 + number_in ns w) 0 < suc (length ns)))) [
+      | true ↦ inr (refl, omega arith)
+      | false ↦ elim (new_or_old ns w) [
+        | inl h ↦ inl (h.0, omega (arith, h.1))
+        | inr h ↦ inr (h.0, omega (arith, h.1))
+      ]
+    ]
+
+-- the number of a name is below the count of the names with it
+pub number_below : (names : List (List ℕ)) (w : List ℕ) → number_in names w < length (with_name names w)
+number_below names w = elim (new_or_old names w) [
+  | inl h ↦ rw h.0 (omega (arith, h.1, length-append names (w ∷ [])))
+  | inr h ↦ rw h.0 h.1
+]
+
+-- ---- signs
+
+-- the sign is no name and no group, and a number is a literal
+abbrev pub IsConstant : Sign → Type 0
+IsConstant s = ((count : ℕ) → IsFit count s) × (is_group s ≡ false)
+
+abbrev AreConstant : List (List ℕ × Sign) → Type 0
+AreConstant [] = Unit {0}
+AreConstant (e ∷ es) = IsConstant e.1 × AreConstant es
+
+pub table_constant : (table : List (List ℕ × Sign)) → AreConstant table → (w : List ℕ) → IfSome (sign_in table w) IsConstant
+table_constant [] h w = tt
+table_constant (e ∷ es) h w = elim (bytes_eq w e.0) as (λ b. IfSome (if b then Some e.1 else sign_in es w) IsConstant) [
   | true ↦ h.0
-  | false ↦ table_literal es h.1 w
+  | false ↦ table_constant es h.1 w
 ]
 
-used_literal : HasLiterals used_words
-used_literal = (tt, (tt, (tt, (tt, (tt, (tt, (tt, (tt, (tt, (tt, (tt, tt)))))))))))
+used_constant : AreConstant used_words
+used_constant = ((λ _. tt, refl), ((λ _. tt, refl), ((λ _. tt, refl), ((λ _. tt, refl), ((λ _. tt, refl), ((λ _. tt, refl), ((λ _. tt, refl), ((λ _. tt, refl), ((λ _. tt, refl), ((λ _. tt, refl), ((λ _. tt, refl), tt)))))))))))
 
-keyword_literal : (w : List ℕ) → IfSome (keyword_of w) IsLiteral
-keyword_literal w = elim (is_among other_keywords w) as (λ b. IfSome (if b then Some signs.Reserved else sign_in used_words w) IsLiteral) [
-  | true ↦ tt
-  | false ↦ table_literal used_words used_literal w
+pub marks_constant : AreConstant marks
+marks_constant = ((λ _. tt, refl), ((λ _. tt, refl), ((λ _. tt, refl), ((λ _. tt, refl), ((λ _. tt, refl), ((λ _. tt, refl), ((λ _. tt, refl), ((λ _. tt, refl), ((λ _. tt, refl), ((λ _. tt, refl), ((λ _. tt, refl), ((λ _. tt, refl), ((λ _. tt, refl), ((λ _. tt, refl), ((λ _. tt, refl), ((λ _. tt, refl), ((λ _. tt, refl), ((λ _. tt, refl), ((λ _. tt, refl), ((λ _. tt, refl), ((λ _. tt, refl), ((λ _. tt, refl), ((λ _. tt, refl), ((λ _. tt, refl), ((λ _. tt, refl), tt)))))))))))))))))))))))))
+
+pub keyword_constant : (w : List ℕ) → IfSome (keyword_of w) IsConstant
+keyword_constant w = elim (is_among other_keywords w) as (λ b. IfSome (if b then Some signs.Reserved else sign_in used_words w) IsConstant) [
+  | true ↦ (λ _. tt, refl)
+  | false ↦ table_constant used_words used_constant w
 ]
 
-word_literal : (names : List (List ℕ)) (w : List ℕ) (o : Option Sign) → IfSome o IsLiteral → IsLiteral (word_sign names w o)
-word_literal names w (Some s) h = h
-word_literal names w None h = tt
+pub unwrapped_constant : (o : Option Sign) → IfSome o IsConstant → IsConstant (unwrap_or o signs.Reserved)
+unwrapped_constant (Some s) h = h
+unwrapped_constant None h = (λ _. tt, refl)
 
-unwrapped_literal : (o : Option Sign) → IfSome o IsLiteral → IsLiteral (unwrap_or o signs.Reserved)
-unwrapped_literal (Some s) h = h
-unwrapped_literal None h = tt
+-- a sign is fit for the names with it, and no group
+pub record IsPlainSign (count : ℕ) (s : Sign) : Type 0 where
+  pub fit : IsFit count s
+  pub no_group : is_group s ≡ false
 
-marks_literal : HasLiterals marks
-marks_literal = (tt, (tt, (tt, (tt, (tt, (tt, (tt, (tt, (tt, (tt, (tt, (tt, (tt, (tt, (tt, (tt, (tt, (tt, (tt, (tt, (tt, (tt, (tt, (tt, (tt, tt)))))))))))))))))))))))))
+word_fit : (names : List (List ℕ)) (w : List ℕ) (o : Option Sign) → IfSome o IsConstant → (count : ℕ) → length (names_with_word names w o) ≤ count → IsPlainSign count (word_sign names w o)
+word_fit names w (Some s) h count le = record { fit = h.0 count; no_group = h.1 }
+word_fit names w None h count le = record { fit = omega (arith, number_below names w, le); no_group = refl }
 
-sign_literal : TokenLaws → (names : List (List ℕ)) (kind : TokenKind) (w : List ℕ) → kind_of w ≡ Some kind → IsLiteral (sign_of names kind w)
-sign_literal laws names (kinds.Number n) w is = let h = laws.literal w n is in (omega (arith, ints, h.1, h.2), omega (arith, ints, h.1, h.2))
-sign_literal laws names kinds.Word w is = word_literal names w (keyword_of w) (keyword_literal w)
-sign_literal laws names kinds.Mark w is = unwrapped_literal (sign_in marks w) (table_literal marks marks_literal w)
+sign_fit : TokenLaws → (names : List (List ℕ)) (kind : TokenKind) (w : List ℕ) → kind_of w ≡ Some kind → (count : ℕ) → length (names_with names kind w) ≤ count → IsPlainSign count (sign_of names kind w)
+sign_fit laws names (kinds.Number n) w is count le = let h = laws.literal w n is in record { fit = (omega (arith, ints, h.1, h.2), omega (arith, ints, h.1, h.2)); no_group = refl }
+sign_fit laws names kinds.Word w is count le = word_fit names w (keyword_of w) (keyword_constant w) count le
+sign_fit laws names kinds.Mark w is count le = let h = unwrapped_constant (sign_in marks w) (table_constant marks marks_constant w) in record { fit = h.0 count; no_group = h.1 }
 
-literals : TokenLaws → (text : List ℕ) (start : ℕ) (names : List (List ℕ)) (ts : List Token) (end : ℕ) → StandBetween text start ts end → AreLiterals (items_from text names ts)
-literals laws text start names [] end h = tt
-literals laws text start names (t ∷ ts) end h = (sign_literal laws names t.kind (lexeme_in text t) h.1.0.kind, literals laws text t.end (names_with names t.kind (lexeme_in text t)) ts end h.1.1)
+fit_from : TokenLaws → (text : List ℕ) (start : ℕ) (names : List (List ℕ)) (ts : List Token) (end : ℕ) → StandBetween text start ts end → (count : ℕ) → length (names_from text names ts) ≤ count → AreFit count (items_from text names ts) × (has_groups (items_from text names ts) ≡ false)
+fit_from laws text start names [] end h count le = (tt, refl)
+fit_from laws text start names (t ∷ ts) end h count le =
+    let next = names_with names t.kind (lexeme_in text t) in
+    let here = sign_fit laws names t.kind (lexeme_in text t) h.1.0.kind count (omega (arith, grows text (names_with names t.kind (lexeme_in text t)) ts, le)) in
+    let rest = fit_from laws text t.end (names_with names t.kind (lexeme_in text t)) ts end h.1.1 count le in
+    ((here.fit, rest.0), or_none (is_group (sign_of names t.kind (lexeme_in text t))) (has_groups (items_from text (names_with names t.kind (lexeme_in text t)) ts)) here.no_group rest.1)
+
+-- ---- how many tokens there are
+
+few_from : (text : List ℕ) (start : ℕ) (ts : List Token) (end : ℕ) → StandBetween text start ts end → start + length ts ≤ end
+few_from text start [] end h = omega (arith, h.order)
+few_from text start (t ∷ ts) end h = omega (arith, h.0.order, h.1.0.begins, few_from text t.end ts end h.1.1)
 
 -- ---- of all tokens of a text
 
 pub tokens_within : TokenLaws → (text : List ℕ) (ts : List Token) → tokens_of text ≡ Ok ts → AreWithin (length text) ts
 tokens_within laws text ts is = within text 0 ts (length text) (stand laws text ts is)
 
-pub items_rise : TokenLaws → (text : List ℕ) (ts : List Token) → tokens_of text ≡ Ok ts → AreRising (items_of text ts)
-items_rise laws text ts is = rising laws text 0 [] ts (length text) (stand laws text ts is)
+pub tokens_few : TokenLaws → (text : List ℕ) (ts : List Token) → tokens_of text ≡ Ok ts → length ts ≤ length text
+tokens_few laws text ts is = omega (arith, few_from text 0 ts (length text) (stand laws text ts is))
 
-pub items_literal : TokenLaws → (text : List ℕ) (ts : List Token) → tokens_of text ≡ Ok ts → AreLiterals (items_of text ts)
-items_literal laws text ts is = literals laws text 0 [] ts (length text) (stand laws text ts is)
+pub items_rise : TokenLaws → (text : List ℕ) (given : List (List ℕ)) (ts : List Token) → tokens_of text ≡ Ok ts → AreRising (items_from text given ts)
+items_rise laws text given ts is = rising laws text 0 given ts (length text) (stand laws text ts is)
+
+pub items_fit : TokenLaws → (text : List ℕ) (given : List (List ℕ)) (ts : List Token) → tokens_of text ≡ Ok ts → AreFit (length (names_from text given ts)) (items_from text given ts)
+items_fit laws text given ts is = (fit_from laws text 0 given ts (length text) (stand laws text ts is) (length (names_from text given ts)) (omega arith)).0
+
+pub items_plain : TokenLaws → (text : List ℕ) (given : List (List ℕ)) (ts : List Token) → tokens_of text ≡ Ok ts → has_groups (items_from text given ts) ≡ false
+items_plain laws text given ts is = (fit_from laws text 0 given ts (length text) (stand laws text ts is) (length (names_from text given ts)) (omega arith)).1
+
+-- what was numbered may be given to a reader
+pub proper_items : TokenLaws → (given : List (List ℕ)) (text : List ℕ) (ts : List Token) (made : Numbered) → tokens_of text ≡ Ok ts → IsListed (listed given text ts) made → AreProper made.names made.items.items
+proper_items laws given text ts made is h = rw (h.names_are, h.items_are) (record { fit = items_fit laws text given ts is; rising = items_rise laws text given ts is; plain = items_plain laws text given ts is })

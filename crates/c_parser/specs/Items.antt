@@ -1,27 +1,25 @@
 -- The items of tokens: their signs and places, with the identifiers numbered by their first occurrence.
-use Rattle.std.specs.Prelude.{ℕ, suc, List, [], ◌∷◌, ◌++◌, Option, Some, None, if◌then◌else◌}
+use Rattle.std.specs.Prelude.{◌≡◌, ℕ, false, List, [], ◌∷◌, ◌++◌, Option, Some, None, if◌then◌else◌}
+use Rattle.std.specs.List.{list_any, position_or_len}
 use Rattle.std.specs.Str.{bytes_eq}
 use Rattle.fam_outer.specs.declared.faults.Place.{Place}
 use Rattle.c_tokens.specs.declared.token.Token.{Token}
 use Rattle.c_tokens.specs.declared.token.TokenKind.{TokenKind}
 use Rattle.c_tokens.specs.declared.token.TokenKind.TheVariants as kinds
 use Rattle.c_tokens.specs.Reading.{slice}
-use Rattle.c_parser.specs.declared.items.Item.{Item}
-use Rattle.c_parser.specs.declared.items.Sign.{Sign}
-use Rattle.c_parser.specs.declared.items.Sign.TheVariants as signs
-use Rattle.c_parser.specs.Signs.{is_among, keyword_of, mark_of}
-
-abbrev pub at : Place → Sign → Item
-at p s = record { place = p; sign = s }
+use Rattle.c_grammar.specs.declared.items.Item.{Item}
+use Rattle.c_grammar.specs.declared.items.Sign.{Sign}
+use Rattle.c_grammar.specs.declared.items.Sign.TheVariants as signs
+use Rattle.c_grammar.specs.Grammar.{at}
+use Rattle.c_parser.specs.Signs.{keyword_of, mark_of}
 
 -- the number of a name in a list of names, which is their count where it is new
 abbrev pub number_in : List (List ℕ) → List ℕ → ℕ
-number_in [] name = 0
-number_in (n ∷ ns) name = if bytes_eq name n then 0 else suc (number_in ns name)
+number_in names name = position_or_len (bytes_eq name) names
 
 -- the names, with this one where it is new
 abbrev pub with_name : List (List ℕ) → List ℕ → List (List ℕ)
-with_name names name = if is_among names name then names else names ++ name ∷ []
+with_name names name = if list_any (bytes_eq name) names then names else names ++ name ∷ []
 
 -- the sign of a word, where these are the names before it
 abbrev pub word_sign : List (List ℕ) → List ℕ → Option Sign → Sign
@@ -59,8 +57,20 @@ abbrev pub names_from : List ℕ → List (List ℕ) → List Token → List (Li
 names_from bytes names [] = names
 names_from bytes names (t ∷ ts) = names_from bytes (names_with names t.kind (lexeme_in bytes t)) ts
 
-abbrev pub items_of : List ℕ → List Token → List Item
-items_of bytes ts = items_from bytes [] ts
+-- names, and items whose names are numbered in them
+pub record Listed : Type 0 where
+  pub names : List (List ℕ)
+  pub items : List Item
 
-abbrev pub names_of : List ℕ → List Token → List (List ℕ)
-names_of bytes ts = names_from bytes [] ts
+-- the items of the tokens of a text, where these names are given before its own
+abbrev pub listed : List (List ℕ) → List ℕ → List Token → Listed
+listed given bytes ts = record { names = names_from bytes given ts; items = items_from bytes given ts }
+
+-- each of these names is new behind those before it
+abbrev pub AreNewBehind : List (List ℕ) → List (List ℕ) → Type 0
+AreNewBehind before [] = Unit {0}
+AreNewBehind before (name ∷ names) = (list_any (bytes_eq name) before ≡ false) × AreNewBehind (before ++ name ∷ []) names
+
+-- no name stands twice
+abbrev pub AreDistinct : List (List ℕ) → Type 0
+AreDistinct names = AreNewBehind [] names

@@ -1,9 +1,7 @@
 pub mod Signs
 pub mod Items
-pub mod Grammar
+pub mod Signing
+pub mod Names
 pub mod Reading
-pub mod Machine
-pub mod Facts
-pub mod Descent
-pub mod Numbering
-pub mod Parsing
+pub mod Judging
+pub mod Stages

@@ -1,17 +1,24 @@
 -- What a file is read as: the program that it spells, or its refusal.
-use Rattle.std.specs.Prelude.{◌≡◌, ◌⊎◌, ⊤, ℕ, ◌≤◌, ◌<◌, List, length, Result, Ok, Err}
+use Rattle.std.specs.Prelude.{◌≡◌, ◌⊎◌, ◌<◌, ⊤, ℕ, nat_lt, List, [], length, slice_get, Option, Some, None, Result, Ok, Err, if◌then◌else◌}
 use Rattle.fam_outer.specs.declared.faults.Place.{Place}
 use Rattle.fam_outer.specs.declared.faults.FileCode.{FileCode}
-use Rattle.fam_outer.specs.declared.faults.FileCode.TheVariants.{Syntax, TooLong}
+use Rattle.fam_outer.specs.declared.faults.FileCode.TheVariants.{Syntax, TooDeep, TooLong}
 use Rattle.fam_outer.specs.declared.faults.FileRefusal.{FileRefusal}
 use Rattle.fam_outer.specs.declared.faults.FileRefusal.TheVariants as refusals
-use Rattle.c_tokens.specs.declared.token.Token.{Token}
+use Rattle.fam_outer.specs.Places.{end_place}
+use Rattle.cpp_lines.specs.Faults.{without_comments}
+use Rattle.cpp_lines.specs.Lines.{plain_lines_of}
+use Rattle.cpp_lines.specs.Code.{code_of}
 use Rattle.c_tokens.specs.Reading.{tokens_of}
 use Rattle.c_tree.specs.Tree.{Whole}
 use Rattle.c_tree.specs.View.{whole}
 use Rattle.c_tree.specs.declared.tree.Program.{Program}
-use Rattle.c_parser.specs.Items.{items_of, names_of}
-use Rattle.c_parser.specs.Grammar.{Spells}
+use Rattle.c_grammar.specs.declared.items.Item.{Item}
+use Rattle.c_grammar.specs.Grammar.{Spells}
+use Rattle.item_reader.specs.Reading.{IsWrongAt, IsDeepAt, NothingDeep}
+use Rattle.c_parser.specs.Items.{Listed, listed}
+use Rattle.std.specs.List.{All}
+use Rattle.c_parser.specs.Names.{declared_by, first_name_fault}
 
 -- the greatest number of bytes
 abbrev pub limit : ℕ
@@ -21,38 +28,89 @@ limit = 1048576
 abbrev pub file_place : Place
 file_place = record { line = 1; column = 1 }
 
--- the tokens of these bytes spell the program
-abbrev pub IsSpelled : List ℕ → List Token → Whole → Type 0
-IsSpelled bytes ts p = Spells (names_of bytes ts) (items_of bytes ts) p
+-- one phase after another; the first fault decides
+abbrev pub and_then : {X Y : Type 0} → Result X (FileCode × Place) → (X → Result Y (FileCode × Place)) → Result Y (FileCode × Place)
+and_then (Ok x) next = next x
+and_then (Err fault) next = Err fault
 
-pub record IsReadAs (bytes : List ℕ) (p : Whole) : Type 0 where
-  pub within : length bytes ≤ limit
-  pub tokens : List Token
-  pub tokens_are : tokens_of bytes ≡ Ok tokens
-  pub spelled : IsSpelled bytes tokens p
+-- ---- the phases before the grammar: the length, the comments, the lines, and the tokens of the code
 
-pub record IsTooLong (bytes : List ℕ) (fault : FileCode × Place) : Type 0 where
-  pub longer : limit < length bytes
-  pub is : fault ≡ (TooLong, file_place)
+abbrev pub within_limit : List ℕ → Result (List ℕ) (FileCode × Place)
+within_limit bytes = if nat_lt limit (length bytes) then Err (TooLong, file_place) else Ok bytes
 
--- a byte or a number that is no token
-pub record HasNoTokens (bytes : List ℕ) (fault : FileCode × Place) : Type 0 where
-  pub within : length bytes ≤ limit
-  pub is : tokens_of bytes ≡ Err fault
+abbrev pub code_of_blanked : List ℕ → Result (List ℕ) (FileCode × Place)
+code_of_blanked blanked = and_then (plain_lines_of blanked) (λ lines. Ok (code_of blanked))
 
-pub record SpellsNothing (bytes : List ℕ) (fault : FileCode × Place) : Type 0 where
-  pub within : length bytes ≤ limit
-  pub tokens : List Token
-  pub tokens_are : tokens_of bytes ≡ Ok tokens
-  pub nothing : (p : Whole) → IsSpelled bytes tokens p → ⊥
-  pub is : fault ≡ (Syntax, file_place)
+-- the code of a file without groups, or the first fault
+unfoldable pub code_of_file : List ℕ → Result (List ℕ) (FileCode × Place)
+code_of_file bytes = and_then (within_limit bytes) (λ text. and_then (without_comments text) code_of_blanked)
 
+abbrev pub items_of_code : List (List ℕ) → List ℕ → Result Listed (FileCode × Place)
+items_of_code given code = and_then (tokens_of code) (λ ts. Ok (listed given code ts))
+
+-- the items of a file without groups, or the first fault, where these names are given
+unfoldable pub items_of : List (List ℕ) → List ℕ → Result Listed (FileCode × Place)
+items_of given bytes = and_then (code_of_file bytes) (items_of_code given)
+
+-- ---- the grammar, and then the names
+
+-- the place of an item, or the end
+abbrev pub place_or : Option Item → Place → Place
+place_or None end = end
+place_or (Some x) end = x.place
+
+abbrev pub place_with : List Item → ℕ → Place → Place
+place_with items n end = place_or (slice_get items n) end
+
+-- the items spell the program within the limits
+pub record IsSpelled (l : Listed) (p : Whole) : Type 0 where
+  pub spelled : Spells l.names p l.items
+  pub shallow : NothingDeep l.items
+
+-- so does a program whose names have no fault
+pub record IsAccepted (l : Listed) (p : Whole) : Type 0 where
+  pub spelled : IsSpelled l p
+  pub names : first_name_fault l.items ≡ None
+
+-- the item at a position, or the end behind all, is the first wrong one
+pub record HasWrong (l : Listed) (end : Place) (fault : FileCode × Place) : Type 0 where
+  pub position : ℕ
+  pub wrong : IsWrongAt l.items position
+  pub is : fault ≡ (Syntax, place_with l.items position end)
+
+-- at the item at a position too much is open
+pub record HasDeep (l : Listed) (end : Place) (fault : FileCode × Place) : Type 0 where
+  pub position : ℕ
+  pub deep : IsDeepAt l.items position
+  pub is : fault ≡ (TooDeep, place_with l.items position end)
+
+-- the items spell a program, and a name has a fault
+pub record HasNameFault (l : Listed) (fault : FileCode × Place) : Type 0 where
+  pub program : Whole
+  pub spelled : IsSpelled l program
+  pub is : first_name_fault l.items ≡ Some fault
+
+abbrev pub Refuses : Listed → Place → FileCode × Place → Type 0
+Refuses l end fault = HasWrong l end fault ⊎ (HasDeep l end fault ⊎ HasNameFault l fault)
+
+-- what the bytes of a file are read as, where these names are given before its own
+abbrev pub ReadsOver : List (List ℕ) → List ℕ → Result Whole (FileCode × Place) → Type 0
+ReadsOver given bytes (Ok p) = (l : Listed) × (items_of given bytes ≡ Ok l) × IsAccepted l p
+ReadsOver given bytes (Err fault) = (items_of given bytes ≡ Err fault) ⊎ ((l : Listed) × (items_of given bytes ≡ Ok l) × Refuses l (end_place bytes) fault)
+
+-- the same, where none is given
 abbrev pub Reads : List ℕ → Result Whole (FileCode × Place) → Type 0
-Reads bytes (Ok p) = IsReadAs bytes p
-Reads bytes (Err fault) = IsTooLong bytes fault ⊎ (HasNoTokens bytes fault ⊎ SpellsNothing bytes fault)
+Reads bytes answer = ReadsOver [] bytes answer
+
+-- each name that a file declares is among these
+abbrev pub DeclaresAmong : List (List ℕ) → List ℕ → Type 0
+DeclaresAmong given bytes = (l : Listed) → items_of given bytes ≡ Ok l → All (λ x. x < length given) (declared_by l.items)
 
 -- what a call that reads a file answers; want of memory is free
+abbrev pub IsReadOver : List (List ℕ) → List ℕ → Result Program FileRefusal → Type 0
+IsReadOver given bytes (Ok program) = ReadsOver given bytes (Ok (whole program))
+IsReadOver given bytes (Err (refusals.Fault code place)) = ReadsOver given bytes (Err (code, place))
+IsReadOver given bytes (Err refusals.NoMemory) = ⊤
+
 abbrev pub IsRead : List ℕ → Result Program FileRefusal → Type 0
-IsRead bytes (Ok program) = Reads bytes (Ok (whole program))
-IsRead bytes (Err (refusals.Fault code place)) = Reads bytes (Err (code, place))
-IsRead bytes (Err refusals.NoMemory) = ⊤
+IsRead bytes answer = IsReadOver [] bytes answer

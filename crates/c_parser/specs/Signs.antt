@@ -2,8 +2,8 @@
 use Rattle.std.specs.Prelude.{ℕ, Bool, false, ◌||◌, List, [], ◌∷◌, codes, Option, Some, None, unwrap_or, if◌then◌else◌}
 use Rattle.std.specs.Str.{bytes_eq}
 use Rattle.c_tree.specs.declared.tree.Op.TheVariants.{Add, Sub, Mul, Div, Rem, Lt, Le, Gt, Ge, Eq, Ne, And, Or}
-use Rattle.c_parser.specs.declared.items.Sign.{Sign}
-use Rattle.c_parser.specs.declared.items.Sign.TheVariants as signs
+use Rattle.c_grammar.specs.declared.items.Sign.{Sign}
+use Rattle.c_grammar.specs.declared.items.Sign.TheVariants as signs
 
 -- the word is one of the list
 abbrev pub is_among : List (List ℕ) → List ℕ → Bool

@@ -1,18 +1,27 @@
 //! Laws of reading files, for the crates above: each function does nothing, and its contract is the law.
 #![tactic(auto)]
 
-ghost use Rattle.std.specs.Prelude.{◌≡◌, ℕ, List, Result};
+ghost use Rattle.std.specs.Prelude.{◌≡◌, ◌≤◌, ℕ, List, [], length, Result, Ok};
+ghost use Rattle.std.specs.List.{range_with_len};
 ghost use Rattle.fam_outer.specs.declared.faults.FileCode.{FileCode};
 ghost use Rattle.fam_outer.specs.declared.faults.Place.{Place};
 ghost use Rattle.c_tree.specs.Tree.{Whole};
-ghost use Rattle.c_parser.specs.Reading.{Reads};
+ghost use Rattle.c_parser.specs.Items.{Listed};
+ghost use Rattle.c_parser.specs.Names.{declared_by};
+ghost use Rattle.c_parser.specs.Reading.{ReadsOver, items_of, IsAccepted};
 
 /// A file is read in one way.
 pub fn reads_at_most_once()
-    ensures { (bytes : List ℕ) (r s : Result Whole (FileCode × Place)) → Reads bytes r → Reads bytes s → r ≡ s }
+    ensures { (given : List (List ℕ)) (bytes : List ℕ) (r s : Result Whole (FileCode × Place)) → ReadsOver given bytes r → ReadsOver given bytes s → r ≡ s }
 {}
 
 /// Each file is read as a program, or has a refusal.
 pub fn reads_something()
-    ensures { (bytes : List ℕ) → (r : Result Whole (FileCode × Place)) × Reads bytes r }
+    ensures { (given : List (List ℕ)) (bytes : List ℕ) → (r : Result Whole (FileCode × Place)) × ReadsOver given bytes r }
+{}
+
+/// The names of a program that is read over no given names are those that its file declares, in the order of their
+/// declarations; there are at most 16.
+pub fn names_are_declared()
+    ensures { (bytes : List ℕ) (l : Listed) (p : Whole) → items_of [] bytes ≡ Ok l → IsAccepted l p → (declared_by l.items ≡ range_with_len 0 (length l.names)) × (length l.names ≤ 16) }
 {}

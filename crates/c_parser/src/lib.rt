@@ -1,18 +1,11 @@
-//! The parser of the C subset: straight files.
+//! The parser of the C subset: files without groups.
 #![tactic(auto)]
 
-mod cursor;
-mod declarations;
-pub mod items;
 pub mod laws;
+mod names;
 mod numbering;
+mod places;
+pub mod plain;
 mod signs;
-mod statements;
-mod stop;
-pub mod straight;
-mod sums;
 
-pub use straight::read_straight;
-
-#[cfg(test)]
-mod tests;
+pub use plain::{read_plain, read_plain_with};

@@ -1,62 +1,43 @@
 //! The items of tokens, with the names numbered by their first occurrence.
 #![tactic(auto)]
 
-ghost use Rattle.std.specs.Prelude.{◌≡◌, ◌+◌, ◌≤◌, [], ◌∷◌, length, MatchOption};
-ghost use Rattle.c_parser.specs.declared.items.Sign.TheVariants as signs;
-ghost use Rattle.c_parser.specs.Items as numbers;
-ghost use Rattle.c_parser.specs.Numbering as answers;
+ghost use Rattle.std.specs.Prelude.{◌≡◌, ◌+◌, ◌≤◌, ◌<◌, ◌^◌, [], ◌∷◌, ◌++◌, length, IfOk, MatchOption};
+ghost use Rattle.c_parser.specs.Items as specs;
+ghost use Rattle.c_parser.specs.Signing.{HasSign, HasName, AreWithin, AreListed, IsListed};
 
-use crate::items::{Item, Sign};
 use crate::signs::{keyword, mark};
-use crate::stop::Stop;
+use c_grammar::{Item, Sign};
 use c_tokens::{Token, TokenKind};
-use fam_outer::Text;
+use c_tree::Names;
+use fam_outer::{NoMemory, Text};
+use indexmap::IndexSet;
 use std::alloc::Global;
 
-/// The greatest number of names.
-const MOST_NAMES: usize = 16;
-
 /// The names in the order of their first occurrence, and the items.
-#[derive(Debug, Drop)]
-pub struct Numbered {
-    pub names: Vec<Text>,
+#[derive(Drop)]
+pub(crate) struct Numbered {
+    pub names: Names,
     pub items: Vec<Item>,
 }
 
-/// The number of a name, which is the count of the names where it is new.
-fn number_in(names: &[Text], name: &[u8]) -> u32
-    requires { length names.now ≤ 16 }
-    ensures { result ≡ numbers.number_in names.now name.now }
+/// The number of an identifier, which is added to the names where it is new.
+fn identifier(alloc: Global, names: &mut IndexSet<Text>, name: &[u8]) -> Result<Sign, NoMemory>
+    requires { length names.old.keys < 2 ^ 31 }
+    ensures { IfOk result (λ sign. HasName names.old.keys name.now names.new.keys sign) }
 {
-    let mut number = 0;
-    for other in names {
-        if name == other.bytes() {
-            return number;
-        }
-        number += 1;
-    }
-    number
-}
-
-/// The sign of an identifier, which is added to the names where it is new.
-fn identifier(alloc: Global, names: &mut Vec<Text>, name: &[u8]) -> Result<Sign, Stop>
-    requires { length names.old.items ≤ 16 }
-    ensures { answers.Signs names.old.items names.new.items (signs.Name (numbers.number_in names.old.items name.now)) (numbers.with_name names.old.items name.now) result }
-{
-    let number = number_in(names, name);
-    if (number as usize) == names.len() {
-        if names.len() == MOST_NAMES {
-            return Err(Stop::Wrong);
-        }
-        names.push(Text::from_bytes(alloc, name)?)?;
-    }
-    Ok(Sign::Name(number))
+    let (number, _) = names.insert_full(Text::from_bytes(alloc, name)?)?;
+    Ok(Sign::Name(number as u32))
 }
 
 /// The sign of a token with this kind and text.
-fn sign(alloc: Global, names: &mut Vec<Text>, kind: TokenKind, lexeme: &[u8]) -> Result<Sign, Stop>
-    requires { length names.old.items ≤ 16 }
-    ensures { answers.Signs names.old.items names.new.items (numbers.sign_of names.old.items kind lexeme.now) (numbers.names_with names.old.items kind lexeme.now) result }
+fn sign(
+    alloc: Global,
+    names: &mut IndexSet<Text>,
+    kind: TokenKind,
+    lexeme: &[u8],
+) -> Result<Sign, NoMemory>
+    requires { length names.old.keys < 2 ^ 31 }
+    ensures { IfOk result (λ sign. HasSign names.old.keys kind lexeme.now names.new.keys sign) }
 {
     match kind {
         TokenKind::Number(n) => Ok(Sign::Number(n)),
@@ -78,22 +59,70 @@ fn cut(tokens: &[Token]) -> Option<(Token, &[Token])>
     }
 }
 
-/// The names and the items of the tokens of a text; `Wrong` where there are more than 16 names.
-pub(crate) fn number(alloc: Global, bytes: &[u8], tokens: &[Token]) -> Result<Numbered, Stop>
-    requires { answers.AreWithin (length bytes.now) tokens.now }
-    ensures { answers.Numbers bytes.now tokens.now result }
+/// The items of the tokens of a text, behind these names, which grow by those of the tokens.
+fn items(
+    alloc: Global,
+    names: &mut IndexSet<Text>,
+    bytes: &[u8],
+    tokens: &[Token],
+) -> Result<Vec<Item>, NoMemory>
+    requires within { AreWithin (length bytes.now) tokens.now }
+    requires few { length names.old.keys + length tokens.now < 2 ^ 31 }
+    ensures { IfOk result (λ list. AreListed names.old.keys bytes.now tokens.now names.new.keys list.items) }
 {
-    let mut names = Vec::new(alloc);
     let mut items = Vec::new(alloc);
     let mut rest = tokens;
     'scan: while let Some((token, behind)) = cut(rest) {
         let lexeme = &bytes[token.start as usize..token.end as usize];
-        let sign = sign(alloc, &mut names, token.kind, lexeme)?;
+        let sign = sign(alloc, names, token.kind, lexeme)?;
         items.push(Item {
             place: token.place,
             sign,
         })?;
         rest = behind;
     }
-    Ok(Numbered { names, items })
+    Ok(items)
+}
+
+/// A set of these names, which are distinct.
+fn set_of(alloc: Global, given: &[Text]) -> Result<IndexSet<Text>, NoMemory>
+    requires { specs.AreDistinct given.now }
+    ensures { IfOk result (λ set. set.keys ≡ given.now) }
+{
+    let mut names = IndexSet::new(alloc);
+    for name in given {
+        let _new = names.insert(name.copy(alloc)?)?;
+    }
+    Ok(names)
+}
+
+/// The names of a set.
+fn names_of(alloc: Global, set: &IndexSet<Text>) -> Result<Names, NoMemory>
+    ensures { IfOk result (λ names. names ≡ set.now.keys) }
+{
+    let mut list = Vec::new(alloc);
+    for name in set.as_slice() {
+        list.push(name.copy(alloc)?)?;
+    }
+    Ok(Names::from_vec(list))
+}
+
+/// The names and the items of the tokens of a text, behind given names.
+pub(crate) fn number(
+    alloc: Global,
+    given: &[Text],
+    bytes: &[u8],
+    tokens: &[Token],
+) -> Result<Numbered, NoMemory>
+    requires distinct { specs.AreDistinct given.now }
+    requires within { AreWithin (length bytes.now) tokens.now }
+    requires few { length given.now + length tokens.now < 2 ^ 31 }
+    ensures { IfOk result (λ made. IsListed (specs.listed given.now bytes.now tokens.now) made) }
+{
+    let mut names = set_of(alloc, given)?;
+    let items = items(alloc, &mut names, bytes, tokens)?;
+    Ok(Numbered {
+        names: names_of(alloc, &names)?,
+        items,
+    })
 }

@@ -5,7 +5,7 @@ ghost use Rattle.std.specs.Prelude.{◌≡◌, map};
 ghost use Rattle.std.specs.Str.{bytes_eq};
 ghost use Rattle.c_parser.specs.Signs as tables;
 
-use crate::items::Sign;
+use c_grammar::Sign;
 use c_tree::Op;
 
 /// The keywords of C that the subset does not use (ISO/IEC 9899:2011, 6.4.1), and `_Imaginary`.

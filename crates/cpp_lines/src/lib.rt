@@ -5,12 +5,14 @@ mod bytes;
 pub mod code;
 mod comments;
 mod directives;
+pub mod ends;
 pub mod faults;
 pub mod laws;
 pub mod line;
 pub mod lines;
 
 pub use code::code_text;
+pub use ends::end_place;
 pub use faults::blank_comments;
 pub use line::{Line, LineKind, Lines};
 pub use lines::plain_lines;

@@ -7,14 +7,14 @@ use Rattle.c_grammar.specs.declared.items.Sign.{Sign}
 use Rattle.c_grammar.specs.declared.items.Sign.TheVariants as signs
 use Rattle.c_grammar.specs.Facts.{AreFit, IsFit, AreRising, WellFormed, PlainWithoutGroups}
 use Rattle.c_grammar.specs.Grammar.{File, Spells, has_groups}
-use Rattle.c_grammar.specs.Laws.{FindsWrong, Limited, Sound, program_in}
+use Rattle.c_grammar.specs.Laws.{DeepIsFound, FindsWrong, Limited, Sound, program_in}
 use Rattle.c_grammar.specs.Machine.{start}
 use Rattle.c_grammar.specs.Deep as limits
 use Rattle.c_grammar.specs.Deep.{Answers, Fault, guarded}
 use Rattle.c_tree.specs.declared.tree.Program.{Program}
 use Rattle.item_reader.specs.declared.unread.Unread.{Unread}
 use Rattle.item_reader.specs.declared.unread.Unread.TheVariants as unread
-use Rattle.item_reader.specs.Reading.{IsDeepAt, IsRead, IsWrongAt, OnWrong, StopsAt}
+use Rattle.item_reader.specs.Reading.{IsDeepAt, IsRead, IsWrongAt, NothingDeep, OnWrong, StopsAt}
 use Rattle.item_reader.specs.Signs.{IsUnsigned}
 use Rattle.item_reader.specs.Taking.{AreUnsigned, Reads}
 
@@ -41,12 +41,32 @@ formed law names items p few fit rising r = subst IsProgram (sym r.is) (law name
 pub plain : PlainWithoutGroups → (names : List (List ℕ)) (items : List Item) (p : Whole) → Spells names p items → has_groups items ≡ false → IsPlainProgram p
 plain law names items p s none = subst IsPlainProgram (sym s.is) (law names items s.file none s.forms)
 
+abbrev wrong_fault : ℕ → Result File Fault
+wrong_fault n = Err (limits.Wrong n)
+
+abbrev deep_fault : ℕ → Result File Fault
+deep_fault n = Err (limits.Deep n)
+
+abbrev read_ok : File → Result File Fault
+read_ok f = Ok f
+
+wrong_not_deep : (n k : ℕ) (r : Result File Fault) → r ≡ Err (limits.Wrong n) → r ≡ Err (limits.Deep k) → ⊥
+wrong_not_deep n k r h g = let e : wrong_fault n ≡ deep_fault k = sym h ∙ g in cc
+
+ok_not_deep : (f : File) (k : ℕ) (r : Result File Fault) → r ≡ Ok f → r ≡ Err (limits.Deep k) → ⊥
+ok_not_deep f k r h g = let e : read_ok f ≡ deep_fault k = sym h ∙ g in cc
+
+-- where the items are read, or stop as wrong, at none too much is open
+pub shallow_read : DeepIsFound → (names : List (List ℕ)) (items : List Item) (p : Whole) → IsRead names items p → NothingDeep items
+shallow_read found names items p r = λ k d. ok_not_deep r.file k (guarded start 0 items) r.reads (found items k d)
+
 -- where the machine stops as wrong
-pub wrong_there : Limited → FindsWrong → (items : List Item) (n : ℕ) → StopsAt items n limits.Wrong → IsWrongAt items n
-wrong_there limited finds items n s = record {
+pub wrong_there : Limited → DeepIsFound → FindsWrong → (items : List Item) (n : ℕ) → StopsAt items n limits.Wrong → IsWrongAt items n
+wrong_there limited found finds items n s = record {
   left = s.left;
   position = s.position;
   wrong = finds [] items s.left (ap (program_in [] items) (answered limited items (Err (limits.Wrong s.left)) s.stops));
+  shallow = λ k d. wrong_not_deep s.left k (guarded start 0 items) s.stops (found items k d);
 }
 
 -- where it stops as too deep
@@ -58,7 +78,7 @@ deep_there limited items n s = record {
 }
 
 -- what is refused as wrong
-pub refused : Limited → FindsWrong → (e : Unread) (items : List Item) → Reads items (Err e) → OnWrong {X = Program} (Err e) (IsWrongAt items)
-refused limited finds unread.NoMemory items r = tt
-refused limited finds (unread.Wrong n) items r = wrong_there limited finds items n r
-refused limited finds (unread.Deep n) items r = tt
+pub refused : Limited → DeepIsFound → FindsWrong → (e : Unread) (items : List Item) → Reads items (Err e) → OnWrong {X = Program} (Err e) (IsWrongAt items)
+refused limited found finds unread.NoMemory items r = tt
+refused limited found finds (unread.Wrong n) items r = wrong_there limited found finds items n r
+refused limited found finds (unread.Deep n) items r = tt

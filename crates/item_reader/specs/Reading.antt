@@ -16,11 +16,16 @@ pub record IsRead (names : List (List ℕ)) (items : List Item) (p : Whole) : Ty
   pub reads : guarded start 0 items ≡ Ok file
   pub is : p ≡ whole_of names items file
 
+-- at no item too much is open before a wrong one
+abbrev pub NothingDeep : List Item → Type 0
+NothingDeep items = (k : ℕ) → IsDeep start 0 items k → ⊥
+
 -- the first item with which no file goes on stands at this position, or no file ends behind the last item
 pub record IsWrongAt (items : List Item) (n : ℕ) : Type 0 where
   pub left : ℕ
   pub position : n + left ≡ length items
   pub wrong : IsWrong items left
+  pub shallow : NothingDeep items
 
 -- the first item with which some file goes on, but at which too much is open, stands at this position
 pub record IsDeepAt (items : List Item) (n : ℕ) : Type 0 where

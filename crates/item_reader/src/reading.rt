@@ -6,7 +6,7 @@ ghost use Rattle.c_tree.specs.View.{whole};
 ghost use Rattle.c_tree.specs.Whole.{IsProgram, IsPlainProgram};
 ghost use Rattle.c_grammar.specs.Facts.{AreFit, AreRising};
 ghost use Rattle.c_grammar.specs.Grammar.{Spells, has_groups};
-ghost use Rattle.item_reader.specs.Reading.{IsDeepAt, IsRead, IsWrongAt, OnDeep, OnWrong};
+ghost use Rattle.item_reader.specs.Reading.{IsDeepAt, IsRead, IsWrongAt, NothingDeep, OnDeep, OnWrong};
 
 use crate::files::read_file;
 use crate::programs::program_of;
@@ -27,8 +27,8 @@ use std::alloc::Global;
 /// 0. With groups each group of statements is a `Cond`, and each declarator is kept with the guards of the groups around
 /// it.
 ///
-/// The conditions are that there are at most 16 names, that the items name these alone, that the numbers are from 0 to
-/// 2147483647, and that the places rise.
+/// The conditions are that the items name these names alone, that the numbers are from 0 to 2147483647, and that the
+/// places rise. With at most 16 names the program is well formed.
 ///
 /// The reading goes from item to item, and the first item that it can't take decides.
 ///
@@ -39,12 +39,12 @@ use std::alloc::Global;
 ///   expression. The brace of `main` is no block, and each `#elif` counts as one more around what follows in its section.
 /// - `NoMemory`: want of memory, and nothing else.
 pub fn read_items(alloc: Global, names: Names, items: &[Item]) -> Result<Program, Unread>
-    requires few { length names ≤ 16 }
     requires fit { AreFit (length names) items.now }
     requires rising { AreRising items.now }
     ensures spells { IfOk result (λ p. Spells names (whole p) items.now) }
     ensures read { IfOk result (λ p. IsRead names items.now (whole p)) }
-    ensures program { IfOk result (λ p. IsProgram (whole p)) }
+    ensures shallow { IfOk result (λ p. NothingDeep items.now) }
+    ensures program { length names ≤ 16 → IfOk result (λ p. IsProgram (whole p)) }
     ensures plain { IfOk result (λ p. has_groups items.now ≡ false → IsPlainProgram (whole p)) }
     ensures wrong { OnWrong result (IsWrongAt items.now) }
     ensures deep { OnDeep result (IsDeepAt items.now) }

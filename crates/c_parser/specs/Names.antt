@@ -1,0 +1,53 @@
+-- The names that the items of a file without groups declare, and the first fault of a name (ISO/IEC 9899:2011, 6.5.1 and 6.7).
+-- Before `main` each name is that of a declaration, and behind it each name is used.
+use Rattle.std.specs.Prelude.{ℕ, nat_eq, nat_le, Bool, true, false, List, [], ◌∷◌, ◌++◌, length, Option, Some, None, option_map, if◌then◌else◌}
+use Rattle.std.specs.List.{list_any}
+use Rattle.fam_outer.specs.declared.faults.Place.{Place}
+use Rattle.fam_outer.specs.declared.faults.FileCode.{FileCode}
+use Rattle.fam_outer.specs.declared.faults.FileCode.TheVariants.{Undeclared, Twice, TooManyVariables}
+use Rattle.c_grammar.specs.declared.items.Item.{Item}
+use Rattle.c_grammar.specs.declared.items.Sign.{Sign}
+use Rattle.c_grammar.specs.declared.items.Sign.TheVariants as signs
+use Rattle.cpp_lines.specs.Faults.{or_later}
+
+abbrev pub is_main : Sign → Bool
+is_main signs.Main = true
+is_main _ = false
+
+-- `main` stands among the items
+abbrev pub has_main : List Item → Bool
+has_main items = list_any (λ x. is_main x.sign) items
+
+-- the number of a name
+abbrev pub name_of : Sign → List ℕ
+name_of (signs.Name x) = x ∷ []
+name_of _ = []
+
+-- the names that the items declare, in their order
+abbrev pub declared_by : List Item → List ℕ
+declared_by [] = []
+declared_by (x ∷ xs) = if is_main x.sign then [] else name_of x.sign ++ declared_by xs
+
+-- a name is declared a second time, or is the 17th, where these are declared before it
+abbrev pub declaration_fault : List ℕ → ℕ → Option FileCode
+declaration_fault earlier x =
+    if list_any (nat_eq x) earlier then Some (Twice None)
+    else (if nat_le 16 (length earlier) then Some TooManyVariables else None)
+
+-- a name is used that is not declared
+abbrev pub use_fault : List ℕ → ℕ → Option FileCode
+use_fault declared x = if list_any (nat_eq x) declared then None else Some (Undeclared None)
+
+-- the fault of an item behind these
+abbrev pub name_fault : List Item → Sign → Option FileCode
+name_fault before (signs.Name x) = if has_main before then use_fault (declared_by before) x else declaration_fault (declared_by before) x
+name_fault before _ = None
+
+-- the first fault of a name among the items behind these
+abbrev pub name_fault_from : List Item → List Item → Option (FileCode × Place)
+name_fault_from before [] = None
+name_fault_from before (x ∷ xs) =
+    or_later (option_map (λ code. (code, x.place)) (name_fault before x.sign)) (name_fault_from (before ++ x ∷ []) xs)
+
+unfoldable pub first_name_fault : List Item → Option (FileCode × Place)
+first_name_fault items = name_fault_from [] items

@@ -1,0 +1,36 @@
+-- What numbering the names of tokens answers.
+use Rattle.std.specs.Prelude.{◌≡◌, ◌≤◌, ℕ, List, [], ◌∷◌}
+use Rattle.c_tokens.specs.declared.token.Token.{Token}
+use Rattle.c_tokens.specs.declared.token.TokenKind.{TokenKind}
+use Rattle.c_grammar.specs.declared.items.Item.{Item}
+use Rattle.c_grammar.specs.declared.items.Sign.{Sign}
+use Rattle.c_grammar.specs.declared.items.Sign.TheVariants as signs
+use Rattle.c_parser.specs.declared.numbering.Numbered.{Numbered}
+use Rattle.c_parser.specs.Items.{Listed, number_in, with_name, sign_of, names_with, items_from, names_from}
+
+-- a token lies within so many bytes
+abbrev pub IsWithin : ℕ → Token → Type 0
+IsWithin len t = (t.start ≤ t.end) × (t.end ≤ len)
+
+abbrev pub AreWithin : ℕ → List Token → Type 0
+AreWithin len [] = Unit {0}
+AreWithin len (t ∷ ts) = IsWithin len t × AreWithin len ts
+
+-- the sign of an identifier, and the names that there are then
+pub record HasName (old : List (List ℕ)) (name : List ℕ) (new : List (List ℕ)) (sign : Sign) : Type 0 where
+  pub sign_is : sign ≡ signs.Name (number_in old name)
+  pub names_are : new ≡ with_name old name
+
+-- the sign of a token, and the names that there are then
+pub record HasSign (old : List (List ℕ)) (kind : TokenKind) (lexeme : List ℕ) (new : List (List ℕ)) (sign : Sign) : Type 0 where
+  pub sign_is : sign ≡ sign_of old kind lexeme
+  pub names_are : new ≡ names_with old kind lexeme
+
+-- the items of tokens, and the names that there are then
+pub record AreListed (old : List (List ℕ)) (bytes : List ℕ) (ts : List Token) (new : List (List ℕ)) (items : List Item) : Type 0 where
+  pub names_are : new ≡ names_from bytes old ts
+  pub items_are : items ≡ items_from bytes old ts
+
+pub record IsListed (l : Listed) (made : Numbered) : Type 0 where
+  pub names_are : made.names ≡ l.names
+  pub items_are : made.items.items ≡ l.items

@@ -1,0 +1,39 @@
+-- What the phases of reading a file answer.
+use Rattle.std.specs.Prelude.{◌≡◌, ◌⊎◌, ⊤, ℕ, false, List, length, Result, Ok, Err}
+use Rattle.fam_outer.specs.declared.faults.Place.{Place}
+use Rattle.fam_outer.specs.declared.faults.FileCode.{FileCode}
+use Rattle.fam_outer.specs.declared.faults.FileRefusal.{FileRefusal}
+use Rattle.fam_outer.specs.declared.faults.FileRefusal.TheVariants as refusals
+use Rattle.c_tree.specs.View.{whole}
+use Rattle.c_tree.specs.declared.tree.Program.{Program}
+use Rattle.c_grammar.specs.declared.items.Item.{Item}
+use Rattle.c_grammar.specs.Facts.{AreFit, AreRising}
+use Rattle.c_grammar.specs.Grammar.{has_groups}
+use Rattle.c_parser.specs.declared.numbering.Numbered.{Numbered}
+use Rattle.c_parser.specs.Items.{Listed}
+use Rattle.c_parser.specs.Signing.{IsListed}
+use Rattle.c_parser.specs.Reading.{IsSpelled, HasWrong, HasDeep}
+
+-- items that a reader may be given, and that have no groups
+pub record AreProper (names : List (List ℕ)) (items : List Item) : Type 0 where
+  pub fit : AreFit (length names) items
+  pub rising : AreRising items
+  pub plain : has_groups items ≡ false
+
+abbrev pub ProperIn : Numbered → Type 0
+ProperIn made = AreProper made.names made.items.items
+
+-- the names and items of a file, or its first fault before the grammar; want of memory is free
+abbrev pub Lists : Result Numbered FileRefusal → Result Listed (FileCode × Place) → Type 0
+Lists (Ok made) answer = (l : Listed) × (answer ≡ Ok l) × IsListed l made
+Lists (Err (refusals.Fault code place)) answer = answer ≡ Err (code, place)
+Lists (Err refusals.NoMemory) answer = ⊤
+
+abbrev list : List (List ℕ) → List Item → Listed
+list names items = record { names = names; items = items }
+
+-- the program of the items, or the first wrong item, or that at which too much is open
+abbrev pub IsSpelledAs : List (List ℕ) → List Item → Place → Result Program FileRefusal → Type 0
+IsSpelledAs names items end (Ok program) = IsSpelled (list names items) (whole program)
+IsSpelledAs names items end (Err (refusals.Fault code place)) = HasWrong (list names items) end (code, place) ⊎ HasDeep (list names items) end (code, place)
+IsSpelledAs names items end (Err refusals.NoMemory) = ⊤

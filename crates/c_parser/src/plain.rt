@@ -1,0 +1,166 @@
+//! The program of a file without groups.
+#![tactic(auto)]
+
+ghost use Rattle.std.specs.Prelude.{◌≡◌, ◌≤◌, false, length, IfOk};
+ghost use Rattle.c_tree.specs.View.{whole};
+ghost use Rattle.c_tree.specs.Whole.{IsProgram, IsPlainProgram};
+ghost use Rattle.c_grammar.specs.Grammar.{has_groups};
+ghost use Rattle.fam_outer.specs.Places as outer;
+ghost use Rattle.fam_outer.specs.Refusals.{Gives};
+ghost use Rattle.c_parser.specs.Items.{AreDistinct};
+ghost use Rattle.c_parser.specs.Reading as specs;
+ghost use Rattle.fam_outer.specs.declared.faults.FileRefusal.TheVariants as refusals;
+ghost use Rattle.c_parser.specs.Stages.{Lists, AreProper, ProperIn, IsSpelledAs};
+
+use crate::laws::names_are_declared;
+use crate::names::first_name_fault;
+use crate::numbering::{Numbered, number};
+use c_grammar::Item;
+use c_tokens::laws::{literals_are_decimal, reads_longest_lexemes};
+use c_tokens::tokens;
+use c_tree::{Names, Program};
+use cpp_lines::laws::places_stay;
+use cpp_lines::{blank_comments, code_text, end_place, plain_lines};
+use fam_outer::{FileCode, FileRefusal, Place, Text, places_rise};
+use item_reader::{Unread, read_items};
+use std::alloc::Global;
+
+/// The greatest number of bytes of a file.
+const LIMIT: usize = 1_048_576;
+
+/// A fault at a place.
+fn refused(code: FileCode, place: Place) -> FileRefusal
+    ensures { result ≡ refusals.Fault code place }
+{
+    FileRefusal::Fault { code, place }
+}
+
+/// The code of a file: its bytes without comments and directive lines, so that all places stay.
+#[tactic(auto, unfolding(crate::specs::Reading::code_of_file))]
+fn file_code(alloc: Global, bytes: &[u8]) -> Result<Text, FileRefusal>
+    ensures code { Gives (λ text. text) result (specs.code_of_file bytes.now) }
+    ensures short { IfOk result (λ text. length text ≤ 1048576) }
+{
+    places_stay();
+    if bytes.len() > LIMIT {
+        return Err(refused(
+            FileCode::TooLong,
+            Place { line: 1, column: 1 },
+        ));
+    }
+    let blanked = blank_comments(alloc, bytes)?;
+    let lines = plain_lines(alloc, blanked.bytes())?;
+    Ok(code_text(alloc, blanked.bytes(), lines.items())?)
+}
+
+/// The names and items of a file, where names are given before its own.
+#[tactic(auto, unfolding(crate::specs::Reading::items_of))]
+fn list_items(alloc: Global, given: &[Text], bytes: &[u8]) -> Result<Numbered, FileRefusal>
+    requires few { length given.now ≤ 16 }
+    requires distinct { AreDistinct given.now }
+    ensures listed { Lists result (specs.items_of given.now bytes.now) }
+    ensures proper { IfOk result (λ made. ProperIn made) }
+{
+    reads_longest_lexemes();
+    literals_are_decimal();
+    places_rise();
+    let code = file_code(alloc, bytes)?;
+    let tokens = tokens(alloc, code.bytes())?;
+    Ok(number(alloc, given, code.bytes(), tokens.items())?)
+}
+
+/// The place of the item at a position, or the end of the text.
+fn place_with(items: &[Item], position: usize, bytes: &[u8]) -> Place
+    requires { length bytes.now ≤ 1048576 }
+    ensures { result ≡ specs.place_with items.now position (outer.end_place bytes.now) }
+{
+    match items.get(position) {
+        Some(item) => item.place,
+        None => end_place(bytes),
+    }
+}
+
+/// The program of a file whose names may have a fault.
+fn spelled(
+    alloc: Global,
+    names: Names,
+    items: &[Item],
+    bytes: &[u8],
+) -> Result<Program, FileRefusal>
+    requires short { length bytes.now ≤ 1048576 }
+    requires proper { AreProper names items.now }
+    ensures spelled { IsSpelledAs names items.now (outer.end_place bytes.now) result }
+    ensures program { length names ≤ 16 → IfOk result (λ p. IsProgram (whole p)) }
+    ensures plain { has_groups items.now ≡ false → IfOk result (λ p. IsPlainProgram (whole p)) }
+{
+    match read_items(alloc, names, items) {
+        Ok(program) => Ok(program),
+        Err(Unread::NoMemory) => Err(FileRefusal::NoMemory),
+        Err(Unread::Wrong(position)) => {
+            Err(refused(
+                FileCode::Syntax,
+                place_with(items, position, bytes),
+            ))
+        }
+        Err(Unread::Deep(position)) => {
+            Err(refused(
+                FileCode::TooDeep,
+                place_with(items, position, bytes),
+            ))
+        }
+    }
+}
+
+/// The program of a file, where names are given before its own.
+fn read_over(alloc: Global, given: &[Text], bytes: &[u8]) -> Result<Program, FileRefusal>
+    requires few { length given.now ≤ 16 }
+    requires distinct { AreDistinct given.now }
+    ensures reads { specs.IsReadOver given.now bytes.now result }
+    ensures program { IfOk result (λ p. length (whole p).names ≤ 16 → IsProgram (whole p)) }
+    ensures plain { IfOk result (λ p. IsPlainProgram (whole p)) }
+{
+    let Numbered { names, items } = list_items(alloc, given, bytes)?;
+    let program = spelled(alloc, names, items.as_slice(), bytes)?;
+    match first_name_fault(alloc, items.as_slice())? {
+        Some((code, place)) => Err(refused(code, place)),
+        None => Ok(program),
+    }
+}
+
+/// The program that a file spells.
+///
+/// A file is a list of declarations and then `main`, of the grammar of `c_grammar`, without groups: assignments, `x++`
+/// and `x += e` and the like, `input()`, `assert`, `if`, `while`, blocks and empty statements, with the operators
+/// `! - + * / % < <= > >= == != && ||` of C (ISO/IEC 9899:2011, 6.5, 6.7 and 6.8). Comments are blanked and
+/// `#include <assert.h>` is left out. The names of the program are those that the file declares, in the order of their
+/// first declaration, and a name without a start value starts at 0.
+///
+/// The earliest of these phases that has a fault decides, and in a phase the first place: `TooLong` at 1:1 for more than
+/// 1,048,576 bytes; `OpenComment`, `Splice` and `CommentAtDirective` as `cpp_lines::blank_comments` has them; `Directive`
+/// and `GroupHere` as `cpp_lines::plain_lines` has them; `StrayByte` and `Literal` as `c_tokens::tokens` has them;
+/// `Syntax` at the first token, or the end, at which no file goes on, and `TooDeep` at a statement with 64 around it or
+/// the 65th operator or opening parenthesis of an expression; and then `Undeclared` at a name that is used and nowhere
+/// declared, `Twice` at the second declaration of a name, and `TooManyVariables` at the first declaration of the 17th.
+/// `NoMemory` is want of memory.
+pub fn read_plain(alloc: Global, bytes: &[u8]) -> Result<Program, FileRefusal>
+    ensures reads { specs.IsRead bytes.now result }
+    ensures program { IfOk result (λ p. IsProgram (whole p)) }
+    ensures plain { IfOk result (λ p. IsPlainProgram (whole p)) }
+{
+    names_are_declared();
+    read_over(alloc, &[], bytes)
+}
+
+/// The program that a file spells over these names, of which there are at most 16, all distinct, and among which are all
+/// that the file declares. It has the refusals of `read_plain`, and its names are these.
+pub fn read_plain_with(alloc: Global, names: &[Text], bytes: &[u8]) -> Result<Program, FileRefusal>
+    requires few { length names.now ≤ 16 }
+    requires distinct { AreDistinct names.now }
+    requires declared { specs.DeclaresAmong names.now bytes.now }
+    ensures reads { specs.IsReadOver names.now bytes.now result }
+    ensures names { IfOk result (λ p. (whole p).names ≡ names.now) }
+    ensures program { IfOk result (λ p. IsProgram (whole p)) }
+    ensures plain { IfOk result (λ p. IsPlainProgram (whole p)) }
+{
+    read_over(alloc, names, bytes)
+}

@@ -1,0 +1,21 @@
+//! The end of a text.
+#![tactic(auto)]
+
+ghost use Rattle.std.specs.Prelude.{◌≡◌, ◌≤◌, length};
+ghost use Rattle.fam_outer.specs.Places as places;
+
+use crate::bytes::after;
+use fam_outer::Place;
+
+/// The place at which a text ends: its line is 1 and the number of newlines, and its column 1 and the number of bytes
+/// behind the last newline.
+pub fn end_place(bytes: &[u8]) -> Place
+    requires { length bytes.now ≤ 1048576 }
+    ensures { result ≡ places.end_place bytes.now }
+{
+    let mut place = Place { line: 1, column: 1 };
+    for b in bytes {
+        place = after(*b, place);
+    }
+    place
+}
