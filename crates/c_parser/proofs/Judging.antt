@@ -17,25 +17,25 @@ main_on [] x = elim (is_main x.sign) as (λ b. (b || false) ≡ b) [ true ↦ re
 main_on (y ∷ ys) x = elim (is_main y.sign) as (λ b. (b || has_main (ys ++ x ∷ [])) ≡ ((b || has_main ys) || is_main x.sign)) [ true ↦ refl | false ↦ main_on ys x ]
 
 -- behind `main` nothing is declared
-pub declared_behind : (before : List Item) (x : Item) → has_main before ≡ true → declared_by (before ++ x ∷ []) ≡ declared_by before
-declared_behind [] x h = absurd cc
-declared_behind (y ∷ ys) x h =
-    elim (is_main y.sign) as (λ b. (b || has_main ys) ≡ true → (if b then [] else name_of y.sign ++ declared_by (ys ++ x ∷ [])) ≡ (if b then [] else name_of y.sign ++ declared_by ys)) [
+pub declared_behind : (before xs : List Item) → has_main before ≡ true → declared_by (before ++ xs) ≡ declared_by before
+declared_behind [] xs h = absurd cc
+declared_behind (y ∷ ys) xs h =
+    elim (is_main y.sign) as (λ b. (b || has_main ys) ≡ true → (if b then [] else name_of y.sign ++ declared_by (ys ++ xs)) ≡ (if b then [] else name_of y.sign ++ declared_by ys)) [
       | true ↦ λ _. refl
-      | false ↦ λ g. ap (λ (ns : List ℕ). name_of y.sign ++ ns) (declared_behind ys x g)
+      | false ↦ λ g. ap (λ (ns : List ℕ). name_of y.sign ++ ns) (declared_behind ys xs g)
     ] h
 
 -- before it each name is
-pub declared_on : (before : List Item) (x : Item) → has_main before ≡ false → declared_by (before ++ x ∷ []) ≡ declared_by before ++ declared_by (x ∷ [])
-declared_on [] x h = refl
-declared_on (y ∷ ys) x h =
-    elim (is_main y.sign) as (λ b. (b || has_main ys) ≡ false → (if b then [] else name_of y.sign ++ declared_by (ys ++ x ∷ [])) ≡ (if b then [] else name_of y.sign ++ declared_by ys) ++ declared_by (x ∷ [])) [
+pub declared_on : (before xs : List Item) → has_main before ≡ false → declared_by (before ++ xs) ≡ declared_by before ++ declared_by xs
+declared_on [] xs h = refl
+declared_on (y ∷ ys) xs h =
+    elim (is_main y.sign) as (λ b. (b || has_main ys) ≡ false → (if b then [] else name_of y.sign ++ declared_by (ys ++ xs)) ≡ (if b then [] else name_of y.sign ++ declared_by ys) ++ declared_by xs) [
       | true ↦ λ g. absurd cc
-      | false ↦ λ g. ap (λ (ns : List ℕ). name_of y.sign ++ ns) (declared_on ys x g) ∙ sym (append_assoc (name_of y.sign) (declared_by ys) (declared_by (x ∷ [])))
+      | false ↦ λ g. ap (λ (ns : List ℕ). name_of y.sign ++ ns) (declared_on ys xs g) ∙ sym (append_assoc (name_of y.sign) (declared_by ys) (declared_by xs))
     ] h
 
 -- an item that is no name declares none
-declared_still : (before : List Item) (x : Item) → name_of x.sign ≡ [] → declared_by (before ++ x ∷ []) ≡ declared_by before
+pub declared_still : (before : List Item) (x : Item) → name_of x.sign ≡ [] → declared_by (before ++ x ∷ []) ≡ declared_by before
 declared_still [] x e = elim (is_main x.sign) as (λ b. (if b then [] else name_of x.sign ++ []) ≡ []) [ true ↦ refl | false ↦ rw e refl ]
 declared_still (y ∷ ys) x e = elim (is_main y.sign) as (λ b. (if b then [] else name_of y.sign ++ declared_by (ys ++ x ∷ [])) ≡ (if b then [] else name_of y.sign ++ declared_by ys)) [
   | true ↦ refl
@@ -65,7 +65,7 @@ pub at_use : (before : List Item) (sign : Sign) (known : Known) (x : ℕ) (fault
 at_use before sign known x fault is main k f = subst (λ (s : Sign). Judges before s known fault) (sym is) (record {
   fault_is = f ∙ ap (λ (ns : List ℕ). use_fault ns x) k.declared ∙ ap (λ (b : Bool). if b then use_fault (declared_by before) x else declaration_fault (declared_by before) x) (sym (sym k.main ∙ main));
   known_is = λ _ p. record {
-    declared = k.declared ∙ sym (declared_behind before (at p (signs.Name x)) (sym k.main ∙ main));
+    declared = k.declared ∙ sym (declared_behind before (at p (signs.Name x) ∷ []) (sym k.main ∙ main));
     main = k.main ∙ sym (main_on before (at p (signs.Name x)) ∙ or_false (has_main before));
   };
 })
@@ -74,7 +74,7 @@ pub at_declaration : (before : List Item) (sign : Sign) (known new : Known) (x :
 at_declaration before sign known new x fault is main same k d = subst (λ (s : Sign). Judges before s new fault) (sym is) (record {
   fault_is = d.fault_is ∙ ap (λ (ns : List ℕ). declaration_fault ns x) k.declared ∙ ap (λ (b : Bool). if b then use_fault (declared_by before) x else declaration_fault (declared_by before) x) (sym (sym k.main ∙ main));
   known_is = λ none p. record {
-    declared = d.added none ∙ ap (λ (ns : List ℕ). ns ++ x ∷ []) k.declared ∙ sym (declared_on before (at p (signs.Name x)) (sym k.main ∙ main));
+    declared = d.added none ∙ ap (λ (ns : List ℕ). ns ++ x ∷ []) k.declared ∙ sym (declared_on before (at p (signs.Name x) ∷ []) (sym k.main ∙ main));
     main = same ∙ k.main ∙ sym (main_on before (at p (signs.Name x)) ∙ or_false (has_main before));
   };
 })

@@ -1,5 +1,5 @@
 -- What a file is read as: the program that it spells, or its refusal.
-use Rattle.std.specs.Prelude.{◌≡◌, ◌⊎◌, ◌<◌, ⊤, ℕ, nat_lt, List, [], length, slice_get, Option, Some, None, Result, Ok, Err, if◌then◌else◌}
+use Rattle.std.specs.Prelude.{◌≡◌, ◌⊎◌, ◌<◌, ⊤, ℕ, nat_eq, nat_lt, true, List, [], length, slice_get, Option, Some, None, Result, Ok, Err, if◌then◌else◌}
 use Rattle.fam_outer.specs.declared.faults.Place.{Place}
 use Rattle.fam_outer.specs.declared.faults.FileCode.{FileCode}
 use Rattle.fam_outer.specs.declared.faults.FileCode.TheVariants.{Syntax, TooDeep, TooLong}
@@ -17,7 +17,7 @@ use Rattle.c_grammar.specs.declared.items.Item.{Item}
 use Rattle.c_grammar.specs.Grammar.{Spells}
 use Rattle.item_reader.specs.Reading.{IsWrongAt, IsDeepAt, NothingDeep}
 use Rattle.c_parser.specs.Items.{Listed, listed}
-use Rattle.std.specs.List.{All}
+use Rattle.std.specs.List.{list_any}
 use Rattle.c_parser.specs.Names.{declared_by, first_name_fault}
 
 -- the greatest number of bytes
@@ -102,9 +102,12 @@ ReadsOver given bytes (Err fault) = (items_of given bytes ≡ Err fault) ⊎ ((l
 abbrev pub Reads : List ℕ → Result Whole (FileCode × Place) → Type 0
 Reads bytes answer = ReadsOver [] bytes answer
 
+abbrev pub AreAmong : List (List ℕ) → List Item → Type 0
+AreAmong given items = (x : ℕ) → list_any (nat_eq x) (declared_by items) ≡ true → x < length given
+
 -- each name that a file declares is among these
 abbrev pub DeclaresAmong : List (List ℕ) → List ℕ → Type 0
-DeclaresAmong given bytes = (l : Listed) → items_of given bytes ≡ Ok l → All (λ x. x < length given) (declared_by l.items)
+DeclaresAmong given bytes = (l : Listed) → items_of given bytes ≡ Ok l → AreAmong given l.items
 
 -- what a call that reads a file answers; want of memory is free
 abbrev pub IsReadOver : List (List ℕ) → List ℕ → Result Program FileRefusal → Type 0

@@ -10,15 +10,30 @@ ghost use Rattle.c_parser.specs.Items.{Listed};
 ghost use Rattle.c_parser.specs.Names.{declared_by};
 ghost use Rattle.c_parser.specs.Reading.{ReadsOver, items_of, IsAccepted};
 
+use c_grammar::laws::{
+    limits_stop_only_what_is_deep, reads_what_is_spelled, spells_what_is_read,
+    stops_at_the_first_wrong_item,
+};
+
 /// A file is read in one way.
 pub fn reads_at_most_once()
     ensures { (given : List (List ℕ)) (bytes : List ℕ) (r s : Result Whole (FileCode × Place)) → ReadsOver given bytes r → ReadsOver given bytes s → r ≡ s }
-{}
+{
+    reads_what_is_spelled();
+    spells_what_is_read();
+    stops_at_the_first_wrong_item();
+    limits_stop_only_what_is_deep();
+}
 
 /// Each file is read as a program, or has a refusal.
 pub fn reads_something()
     ensures { (given : List (List ℕ)) (bytes : List ℕ) → (r : Result Whole (FileCode × Place)) × ReadsOver given bytes r }
-{}
+{
+    reads_what_is_spelled();
+    spells_what_is_read();
+    stops_at_the_first_wrong_item();
+    limits_stop_only_what_is_deep();
+}
 
 /// The names of a program that is read over no given names are those that its file declares, in the order of their
 /// declarations; there are at most 16.

@@ -4,7 +4,6 @@
 pub mod laws;
 mod names;
 mod numbering;
-mod places;
 pub mod plain;
 mod signs;
 

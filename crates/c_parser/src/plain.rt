@@ -12,7 +12,6 @@ ghost use Rattle.c_parser.specs.Reading as specs;
 ghost use Rattle.fam_outer.specs.declared.faults.FileRefusal.TheVariants as refusals;
 ghost use Rattle.c_parser.specs.Stages.{Lists, AreProper, ProperIn, IsSpelledAs};
 
-use crate::laws::names_are_declared;
 use crate::names::first_name_fault;
 use crate::numbering::{Numbered, number};
 use c_grammar::Item;
@@ -40,6 +39,7 @@ fn refused(code: FileCode, place: Place) -> FileRefusal
 fn file_code(alloc: Global, bytes: &[u8]) -> Result<Text, FileRefusal>
     ensures code { Gives (λ text. text) result (specs.code_of_file bytes.now) }
     ensures short { IfOk result (λ text. length text ≤ 1048576) }
+    ensures limited { IfOk result (λ _. length bytes.now ≤ 1048576) }
 {
     places_stay();
     if bytes.len() > LIMIT {
@@ -60,6 +60,7 @@ fn list_items(alloc: Global, given: &[Text], bytes: &[u8]) -> Result<Numbered, F
     requires distinct { AreDistinct given.now }
     ensures listed { Lists result (specs.items_of given.now bytes.now) }
     ensures proper { IfOk result (λ made. ProperIn made) }
+    ensures limited { IfOk result (λ _. length bytes.now ≤ 1048576) }
 {
     reads_longest_lexemes();
     literals_are_decimal();
@@ -147,7 +148,6 @@ pub fn read_plain(alloc: Global, bytes: &[u8]) -> Result<Program, FileRefusal>
     ensures program { IfOk result (λ p. IsProgram (whole p)) }
     ensures plain { IfOk result (λ p. IsPlainProgram (whole p)) }
 {
-    names_are_declared();
     read_over(alloc, &[], bytes)
 }
 

@@ -1,0 +1,113 @@
+-- What reading a file over given names answers, by what its phases answered.
+use Rattle.std.proofs.Common.{◌≡◌, ℕ, ◌≤◌, false, true, List, [], ◌∷◌, length, Option, Some, None, Result, Ok, Err, refl, sym, ap, subst, ◌∙◌, arith, inl, inr}
+use Rattle.std.specs.Prelude.{IfOk}
+use Rattle.fam_outer.specs.declared.faults.Place.{Place}
+use Rattle.fam_outer.specs.declared.faults.FileCode.{FileCode}
+use Rattle.fam_outer.specs.declared.faults.FileRefusal.{FileRefusal}
+use Rattle.fam_outer.specs.declared.faults.FileRefusal.TheVariants as refusals
+use Rattle.fam_outer.specs.Places.{end_place}
+use Rattle.std.specs.List.{range_with_len}
+use Rattle.c_tokens.specs.declared.token.Token.{Token}
+use Rattle.c_tokens.specs.Reading.{tokens_of}
+use Rattle.c_tree.specs.Tree.{Whole}
+use Rattle.c_tree.specs.View.{whole}
+use Rattle.c_tree.specs.declared.tree.Program.{Program}
+use Rattle.c_grammar.specs.declared.items.Item.{Item}
+use Rattle.c_parser.specs.declared.numbering.Numbered.{Numbered}
+use Rattle.c_tree.specs.Whole.{IsProgram}
+use Rattle.c_parser.specs.Items.{Listed, listed, items_from, names_from}
+use Rattle.c_parser.specs.Names.{declared_by, first_name_fault, name_fault_from}
+use Rattle.c_parser.specs.Signing.{IsListed}
+use Rattle.c_parser.specs.Stages.{Lists, IsSpelledAs}
+use Rattle.c_parser.specs.Reading.{IsSpelled, IsAccepted, HasWrong, HasDeep, IsReadOver, ReadsOver, DeclaresAmong, AreAmong, items_of, items_of_code, code_of_file, and_then}
+use Rattle.c_parser.proofs.Declared.{AreNumbers, names_from_declared, names_from_given}
+
+abbrev list : List (List ℕ) → List Item → Listed
+list names items = record { names = names; items = items }
+
+same_list : (l : Listed) (made : Numbered) → IsListed l made → list made.names made.items.items ≡ l
+same_list l made h = ap (λ (ns : List (List ℕ)). list ns made.items.items) h.names_are ∙ ap (λ (xs : List Item). list l.names xs) h.items_are
+
+-- no program is spelled
+pub not_spelled : (given : List (List ℕ)) (bytes : List ℕ) (made : Numbered) (e : FileRefusal) → Lists (Ok made) (items_of given bytes) → IsSpelledAs made.names made.items.items (end_place bytes) (Err e) → IsReadOver given bytes (Err e)
+not_spelled given bytes made refusals.NoMemory ls h = tt
+not_spelled given bytes made (refusals.Fault code place) (l, is, m) (inl w) = inr (l, is, inl (subst (λ (x : Listed). HasWrong x (end_place bytes) (code, place)) (same_list l made m) w))
+not_spelled given bytes made (refusals.Fault code place) (l, is, m) (inr w) = inr (l, is, inr (inl (subst (λ (x : Listed). HasDeep x (end_place bytes) (code, place)) (same_list l made m) w)))
+
+-- a name has a fault
+pub wrong_name : (given : List (List ℕ)) (bytes : List ℕ) (made : Numbered) (p : Program) (code : FileCode) (place : Place) → Lists (Ok made) (items_of given bytes) → IsSpelledAs made.names made.items.items (end_place bytes) (Ok p)
+    → first_name_fault made.items.items ≡ Some (code, place) → IsReadOver given bytes (Err (refusals.Fault code place))
+wrong_name given bytes made p code place (l, is, m) s f = inr (l, is, inr (inr (record { program = whole p; spelled = subst (λ (x : Listed). IsSpelled x (whole p)) (same_list l made m) s; is = ap first_name_fault (sym m.items_are) ∙ f })))
+
+-- ---- the items of a file are those of some tokens
+
+pub record StandsFor (given : List (List ℕ)) (l : Listed) : Type 0 where
+  pub code : List ℕ
+  pub tokens : List Token
+  pub is : l ≡ listed given code tokens
+
+abbrev listed_err : FileCode × Place → Result Listed (FileCode × Place)
+listed_err f = Err f
+
+abbrev listed_ok : Listed → Result Listed (FileCode × Place)
+listed_ok l = Ok l
+
+same_listed : (l m : Listed) → listed_ok l ≡ Ok m → m ≡ l
+same_listed l m e = let g : listed_ok l ≡ listed_ok m = e in cc
+
+no_list : (f : FileCode × Place) (l : Listed) (x : Result Listed (FileCode × Place)) → x ≡ Err f → x ≡ Ok l → ⊥
+no_list f l x h k = let e : listed_err f ≡ listed_ok l = sym h ∙ k in cc
+
+by_tokens : (given : List (List ℕ)) (code : List ℕ) (l : Listed) (x : Result (List Token) (FileCode × Place)) → tokens_of code ≡ x → items_of_code given code ≡ Ok l → StandsFor given l
+by_tokens given code l (Ok ts) e h = record { code = code; tokens = ts; is = same_listed (listed given code ts) l (sym (ap (λ (x : Result (List Token) (FileCode × Place)). and_then x (λ ts. Ok (listed given code ts))) e) ∙ h) }
+by_tokens given code l (Err fault) e h = absurd (no_list fault l (items_of_code given code) (ap (λ (x : Result (List Token) (FileCode × Place)). and_then x (λ ts. Ok (listed given code ts))) e) h)
+
+by_code : (given : List (List ℕ)) (bytes : List ℕ) (l : Listed) (x : Result (List ℕ) (FileCode × Place)) → code_of_file bytes ≡ x → and_then (code_of_file bytes) (items_of_code given) ≡ Ok l → StandsFor given l
+by_code given bytes l (Ok code) e h = by_tokens given code l (tokens_of code) refl (sym (ap (λ (x : Result (List ℕ) (FileCode × Place)). and_then x (items_of_code given)) e) ∙ h)
+by_code given bytes l (Err fault) e h = absurd (no_list fault l (and_then (code_of_file bytes) (items_of_code given)) (ap (λ (x : Result (List ℕ) (FileCode × Place)). and_then x (items_of_code given)) e) h)
+
+stands_for : (given : List (List ℕ)) (bytes : List ℕ) (l : Listed) → items_of given bytes ≡ Ok l → StandsFor given l
+unfolding items_of
+stands_for given bytes l is = by_code given bytes l (code_of_file bytes) refl is
+
+-- ---- the names
+
+abbrev AreAll : Listed → Type 0
+AreAll l = (declared_by l.items ≡ range_with_len 0 (length l.names)) × (length l.names ≤ 16)
+
+all_declared : (code : List ℕ) (ts : List Token) → first_name_fault (items_from code [] ts) ≡ None → AreAll (listed [] code ts)
+unfolding first_name_fault
+all_declared code ts none = let n = names_from_declared code [] ts [] (record { all = refl; at_most = omega arith }) none in (n.all, n.at_most)
+
+-- over no given names, a program has those that its file declares
+pub names_declared : (bytes : List ℕ) (l : Listed) (p : Whole) → items_of [] bytes ≡ Ok l → IsAccepted l p → AreAll l
+names_declared bytes l p is a =
+    let s = stands_for [] bytes l is in
+    subst AreAll (sym s.is) (all_declared s.code s.tokens (subst (λ (m : Listed). first_name_fault m.items ≡ None) s.is a.names))
+
+given_stay : (code : List ℕ) (names : List (List ℕ)) (ts : List Token) → first_name_fault (items_from code names ts) ≡ None → AreAmong names (items_from code names ts) → names_from code names ts ≡ names
+unfolding first_name_fault
+given_stay code names ts none among = names_from_given code names ts [] none among
+
+-- over given names, among which are all that its file declares, a program has these
+pub names_given : (given : List (List ℕ)) (bytes : List ℕ) (l : Listed) (p : Whole) → DeclaresAmong given bytes → items_of given bytes ≡ Ok l → IsAccepted l p → l.names ≡ given
+names_given given bytes l p among is a =
+    let s = stands_for given bytes l is in
+    subst (λ (m : Listed). m.names ≡ given) (sym s.is) (given_stay s.code given s.tokens (subst (λ (m : Listed). first_name_fault m.items ≡ None) s.is a.names) (subst (λ (m : Listed). AreAmong given m.items) s.is (among l is)))
+
+-- ---- a program with at most 16 names is well formed
+
+abbrev FormedIfFew : Program → Type 0
+FormedIfFew p = length (whole p).names ≤ 16 → IsProgram (whole p)
+
+pub own_names : (bytes : List ℕ) (r : Result Program FileRefusal) → IsReadOver [] bytes r → IfOk r FormedIfFew → IfOk r (λ p. IsProgram (whole p))
+own_names bytes (Ok p) (l, is, a) formed = formed (subst (λ (ns : List (List ℕ)). length ns ≤ 16) (sym (ap (λ (w : Whole). w.names) a.spelled.spelled.is)) (names_declared bytes l (whole p) is a).1)
+own_names bytes (Err e) h formed = tt
+
+pub has_given : (given : List (List ℕ)) (bytes : List ℕ) (r : Result Program FileRefusal) → DeclaresAmong given bytes → IsReadOver given bytes r → IfOk r (λ p. (whole p).names ≡ given)
+has_given given bytes (Ok p) among (l, is, a) = ap (λ (w : Whole). w.names) a.spelled.spelled.is ∙ names_given given bytes l (whole p) among is a
+has_given given bytes (Err e) among h = tt
+
+pub given_names : (given : List (List ℕ)) (bytes : List ℕ) (r : Result Program FileRefusal) → length given ≤ 16 → IfOk r (λ p. (whole p).names ≡ given) → IfOk r FormedIfFew → IfOk r (λ p. IsProgram (whole p))
+given_names given bytes (Ok p) few same formed = formed (subst (λ (ns : List (List ℕ)). length ns ≤ 16) (sym same) few)
+given_names given bytes (Err e) few same formed = tt
