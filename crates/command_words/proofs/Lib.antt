@@ -1,0 +1,4 @@
+pub mod Choosing
+pub mod Faults
+pub mod Numbers
+pub mod Texts

@@ -1,0 +1,1 @@
+//! Words and what they say, made by hand.
