@@ -231,7 +231,7 @@ Reads-ok_or expected (Some x) e = sym e
 
 -- ---- all settings, by the five and the inputs
 
-abbrev settings_by : Option Domain → Option ℕ → Option ℕ → Option Overflow → Option ℕ → Option (List ℤ) → Option Settings
+abbrev pub settings_by : Option Domain → Option ℕ → Option ℕ → Option Overflow → Option ℕ → Option (List ℤ) → Option Settings
 settings_by domain_meant delay_meant narrow_meant overflow_meant steps_meant inputs_meant = do
   domain ← domain_meant
   delay ← delay_meant

@@ -1,4 +1,6 @@
 pub mod Choosing
 pub mod Faults
 pub mod Numbers
+pub mod Positional
+pub mod Ranges
 pub mod Texts

@@ -1,8 +1,10 @@
 -- What numbers and inputs spell.
-use Rattle.std.proofs.Common.{◌≡◌, ◌≢◌, ◌∙◌, ◌≤◌, ◌<◌, ◌^◌, ◌++◌, ℕ, ℤ, pos, negsuc, List, [], ◌∷◌, Bool, true, false, not, refl, sym, ap, subst, codes, length, get_or, drop, cond, eqb, leb, map, string_bytes, arith, rules}
+use Rattle.std.proofs.Common.{◌≡◌, ◌≢◌, ◌∙◌, ◌≤◌, ◌≤ℤ◌, ◌<◌, ◌^◌, ◌++◌, ℕ, ℤ, pos, negsuc, List, [], ◌∷◌, Bool, true, false, not, refl, sym, ap, subst, codes, length, get_or, drop, cond, eqb, leb, map, string_bytes, arith, rules}
 use Rattle.std.specs.Prelude.{Option, Some, None, Result, Ok, Err, ◌&&◌, FitsSigned, nat_le, int_le}
 use Rattle.std.specs.Result.{result_ok}
 use Rattle.std.specs.declared.string.String.{String}
+use lib.Signed.{le_z_yes}
+use lib.Dec.{T}
 use Rattle.std.specs.List.{list_all}
 use Rattle.std.specs.Int.{w32, IsInRange}
 use Rattle.std.specs.Str.{bytes_eq}
@@ -82,6 +84,9 @@ number_read G text None read only below =
     absurd (only (Err read.0) read.1 (rw (no_plus text d) (numeral_of text d, below.1)))
 
 -- ---- inputs
+
+pub in_order : (a b : ℤ) → int_le a b ≡ true → a ≤ℤ b
+in_order a b e = le_z_yes (subst T (sym e) tt)
 
 in_int : (z : ℤ) → FitsSigned w32 z → is_in_int z ≡ true
 in_int (pos n) h = le-leb n 2147483647 (omega (arith, h.sfits))

@@ -1,5 +1,6 @@
 -- What the words of a command line say.
-use Rattle.std.specs.Prelude.{ℕ, ℤ, ◌≡◌, ⊤, List, [], map, string_bytes, Option, Some, None, is_some, Result, Ok, Err}
+use Rattle.std.specs.Prelude.{ℕ, ℤ, pos, negsuc, ◌≡◌, ◌≤◌, ◌≤ℤ◌, ⊤, false, List, [], map, string_bytes, Option, Some, None, is_some, Result, Ok, Err}
+use Rattle.std.specs.List.{All}
 use Rattle.std.specs.declared.string.String.{String}
 use Rattle.command_words.specs.declared.named.OptionValues.{OptionValues}
 use Rattle.command_words.specs.declared.settings.Domain.{Domain}
@@ -86,3 +87,24 @@ abbrev pub Reads : {A : Type 0} → Option A → Result A WordsRefusal → Type 
 Reads expected (Ok found) = expected ≡ Some found
 Reads expected (Err refusal.Usage) = expected ≡ None
 Reads expected (Err refusal.NoMemory) = ⊤
+
+-- what is set is in the ranges of the options
+pub record AreInRange (settings : Settings) : Type 0 where
+  pub delay : settings.delay ≤ 16
+  pub narrow : settings.narrow ≤ 8
+  pub steps : settings.steps ≤ 1000000
+  pub inputs : All (λ z. (negsuc 2147483647 ≤ℤ z) × (z ≤ℤ pos 2147483647)) settings.inputs
+
+-- ---- words with no option
+
+-- no option
+abbrev pub nothing_given : Given
+nothing_given = record { domain = false; delay = false; narrow = false; overflow = false; steps = false; inputs = false }
+
+-- what is set where no option is given
+abbrev pub defaults : Settings
+defaults = record { domain = Interval; delay = 0; narrow = 1; overflow = Stop; steps = 1000; inputs = [] }
+
+-- all words are positional
+abbrev pub all_positional : List (List ℕ) → Arguments
+all_positional words = record { positional = words; given = nothing_given; settings = defaults }

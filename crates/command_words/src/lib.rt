@@ -2,6 +2,7 @@
 #![tactic(auto)]
 
 pub mod inputs;
+pub mod laws;
 pub mod named;
 pub mod options;
 pub mod reading;
@@ -12,6 +13,7 @@ pub mod spelling;
 pub mod word;
 
 
+pub use laws::{words_after_dashes, words_with_no_option};
 pub use reading::{Arguments, read_words};
 pub use refusal::WordsRefusal;
 pub use settings::{Domain, Given, Overflow, Settings};

@@ -1,8 +1,8 @@
 //! The words as a whole.
 #![tactic(auto)]
 
-ghost use Rattle.std.specs.Prelude.{◌≡◌};
-ghost use Rattle.command_words.specs.Arguments.{arguments_of, inputs_set, settings_of, texts_of, Reads};
+ghost use Rattle.std.specs.Prelude.{◌≡◌, IfOk};
+ghost use Rattle.command_words.specs.Arguments.{arguments_of, inputs_set, settings_of, texts_of, AreInRange, Reads};
 ghost use Rattle.command_words.specs.Options.{chosen_of, settings_from};
 
 use crate::inputs::inputs_given;
@@ -40,7 +40,8 @@ fn read_parts(alloc: Global, values: &OptionValues) -> Result<Settings, WordsRef
 
 /// What all options set.
 fn read_settings(alloc: Global, values: &OptionValues) -> Result<Settings, WordsRefusal>
-    ensures { Reads (settings_of values.now) result }
+    ensures answer { Reads (settings_of values.now) result }
+    ensures ranges { IfOk result (λ settings. AreInRange settings) }
 {
     read_parts(alloc, values)
 }
@@ -48,7 +49,8 @@ fn read_settings(alloc: Global, values: &OptionValues) -> Result<Settings, Words
 /// What the words say. They are refused where one is no option of these six, an option is given twice
 /// or without its value, or a value is not spelled as the option wants or is out of its range.
 pub fn read_words(alloc: Global, words: &[String]) -> Result<Arguments, WordsRefusal>
-    ensures { Reads (arguments_of (texts_of words.now)) result }
+    ensures answer { Reads (arguments_of (texts_of words.now)) result }
+    ensures ranges { IfOk result (λ found. AreInRange found.settings) }
 {
     let state = sort_words(alloc, words)?;
     let settings = read_settings(alloc, &state.values)?;
