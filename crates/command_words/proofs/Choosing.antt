@@ -1,9 +1,9 @@
 -- What is chosen by the words of values that are spelled right.
 use Rattle.std.proofs.Common.{◌≡◌, ◌≢◌, ◌≤◌, ◌<◌, ◌^◌, ◌∙◌, ◌⊎◌, ℕ, ℤ, List, [], Bool, true, false, refl, sym, ap, ap₂, codes, inl, inr, arith}
-use Rattle.std.specs.Prelude.{Option, Some, None, Result, Ok, Err, unwrap_or, is_some, if◌then◌else◌, ◌&&◌, ok_or}
+use Rattle.std.specs.Prelude.{Option, Some, None, Err, unwrap_or, is_some, ok_or}
 use Rattle.std.specs.Str.Parse.{digits_value}
 use Rattle.std.proofs.lemmas.Bool.{and_parts, and_cases, leb-true}
-use Rattle.clap.specs.Words.{FailsBy, Kinds, Row, Text, fault_of, kind_of, matches_of}
+use Rattle.clap.specs.Words.{FailsBy, Row, Text, fault_of, kind_of, matches_of}
 use Rattle.clap.specs.Kinds.{IsAmong, or_else}
 use Rattle.clap.specs.declared.error.Error.{Error}
 use Rattle.clap.specs.declared.error.kind.ErrorKind.{ErrorKind}
@@ -19,7 +19,7 @@ use Rattle.command_words.specs.declared.refusal.WordsRefusal.TheVariants as refu
 use Rattle.command_words.specs.Arguments.{◌>>=◌, Reads, meant, domain_of, delay_of, narrow_of, overflow_of, steps_of, inputs_set, settings_of}
 use Rattle.command_words.specs.Options.{HasTexts, IsNumberBelow, are_spelled, chosen_by, chosen_of, five_app, passes, settings_from, words_of}
 use Rattle.command_words.specs.Spelling.{domain_by, is_number, number_up_to, overflow_by}
-use Rattle.command_words.proofs.Faults.{end_fault, fault_parts, fits, or_else_none, range_faults, refused_unless, words_fault}
+use Rattle.command_words.proofs.Faults.{fault_parts, fits, or_else_none, range_faults, refused_unless, words_fault}
 use Rattle.command_words.proofs.Numbers.{accepted}
 use Rattle.command_words.proofs.Texts.{end_none, five_texts}
 
@@ -202,8 +202,8 @@ same_chosen d d' l l' n n' o o' s s' e f g h i = rw (e, f, g, h, i) refl
 pub chosen-read : (v : OptionValues) (rows : List Row) (words : List Text) (r : Option Chosen) → are_spelled v ≡ true → words ≡ words_of v
     → rows ≡ matches_of five_app words → fault_of five_app words ≡ []
     → ((domain delay narrow overflow steps : Text) → HasTexts rows domain delay narrow overflow steps
-        → IsNumberBelow 17 delay → IsNumberBelow 17 narrow → IsNumberBelow (2 ^ 64) steps
-        → r ≡ chosen_by (domain_by domain) (Some (digits_value 10 delay)) (Some (digits_value 10 narrow)) (overflow_by overflow) (Some (digits_value 10 steps)))
+    → IsNumberBelow 17 delay → IsNumberBelow 17 narrow → IsNumberBelow (2 ^ 64) steps
+    → r ≡ chosen_by (domain_by domain) (Some (digits_value 10 delay)) (Some (digits_value 10 narrow)) (overflow_by overflow) (Some (digits_value 10 steps)))
     → r ≡ chosen_of v
 unfolding chosen_of
 chosen-read v rows words r spelled e rows_are none reads =
@@ -213,16 +213,16 @@ chosen-read v rows words r spelled e rows_are none reads =
     let narrow : Text = unwrap_or v.narrow (codes "1") in
     let steps : Text = unwrap_or v.steps (codes "1000") in
     let texts : HasTexts rows (unwrap_or v.domain (codes "interval")) delay narrow (unwrap_or v.overflow (codes "stop")) steps =
-        rw (rows_are, e) (five_texts v.domain v.delay v.narrow v.overflow v.steps) in
+    rw (rows_are, e) (five_texts v.domain v.delay v.narrow v.overflow v.steps) in
     let got = reads (unwrap_or v.domain (codes "interval")) delay narrow (unwrap_or v.overflow (codes "stop")) steps texts
-        (number_below 16 17 v.delay (codes "0") (omega arith) (omega arith) (refl, omega arith) s.delay fit.delay)
-        (number_below 8 17 v.narrow (codes "1") (omega arith) (omega arith) (refl, omega arith) s.narrow fit.narrow)
-        (number_below 1000000 (2 ^ 64) v.steps (codes "1000") (omega arith) (omega arith) (refl, omega arith) s.steps fit.steps) in
+    (number_below 16 17 v.delay (codes "0") (omega arith) (omega arith) (refl, omega arith) s.delay fit.delay)
+    (number_below 8 17 v.narrow (codes "1") (omega arith) (omega arith) (refl, omega arith) s.narrow fit.narrow)
+    (number_below 1000000 (2 ^ 64) v.steps (codes "1000") (omega arith) (omega arith) (refl, omega arith) s.steps fit.steps) in
     got ∙ sym (same_chosen (domain_of v) (domain_by (unwrap_or v.domain (codes "interval"))) (delay_of v) (Some (digits_value 10 delay))
-        (narrow_of v) (Some (digits_value 10 narrow)) (overflow_of v) (overflow_by (unwrap_or v.overflow (codes "stop"))) (steps_of v) (Some (digits_value 10 steps))
-        (meant_domain v.domain) (fit_number 16 v.delay (codes "0") (omega arith) s.delay fit.delay)
-        (fit_number 8 v.narrow (codes "1") (omega arith) s.narrow fit.narrow) (meant_overflow v.overflow)
-        (fit_number 1000000 v.steps (codes "1000") (omega arith) s.steps fit.steps))
+    (narrow_of v) (Some (digits_value 10 narrow)) (overflow_of v) (overflow_by (unwrap_or v.overflow (codes "stop"))) (steps_of v) (Some (digits_value 10 steps))
+    (meant_domain v.domain) (fit_number 16 v.delay (codes "0") (omega arith) s.delay fit.delay)
+    (fit_number 8 v.narrow (codes "1") (omega arith) s.narrow fit.narrow) (meant_overflow v.overflow)
+    (fit_number 1000000 v.steps (codes "1000") (omega arith) s.steps fit.steps))
 
 -- a value, or else a refusal
 pub Reads-ok_or : {A : Type 0} (expected given : Option A) → given ≡ expected → Reads expected (ok_or given refusal.Usage)

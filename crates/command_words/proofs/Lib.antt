@@ -3,4 +3,5 @@ pub mod Faults
 pub mod Numbers
 pub mod Positional
 pub mod Ranges
+pub mod Spellings
 pub mod Texts

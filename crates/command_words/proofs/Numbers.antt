@@ -1,6 +1,6 @@
 -- What numbers and inputs spell.
-use Rattle.std.proofs.Common.{◌≡◌, ◌≢◌, ◌∙◌, ◌≤◌, ◌≤ℤ◌, ◌<◌, ◌^◌, ◌++◌, ℕ, ℤ, pos, negsuc, List, [], ◌∷◌, Bool, true, false, not, refl, sym, ap, subst, codes, length, get_or, drop, cond, eqb, leb, map, string_bytes, arith, rules}
-use Rattle.std.specs.Prelude.{Option, Some, None, Result, Ok, Err, ◌&&◌, FitsSigned, nat_le, int_le}
+use Rattle.std.proofs.Common.{◌≡◌, ◌≤◌, ◌≤ℤ◌, ◌<◌, ◌^◌, ◌++◌, ℕ, ℤ, pos, negsuc, List, [], ◌∷◌, Bool, true, false, not, refl, sym, ap, subst, codes, length, eqb, string_bytes, arith, rules}
+use Rattle.std.specs.Prelude.{Option, Some, None, Result, Ok, Err, FitsSigned, nat_le, int_le}
 use Rattle.std.specs.Result.{result_ok}
 use Rattle.std.specs.declared.string.String.{String}
 use lib.Signed.{le_z_yes}
@@ -8,8 +8,8 @@ use lib.Dec.{T}
 use Rattle.std.specs.List.{list_all}
 use Rattle.std.specs.Int.{w32, IsInRange}
 use Rattle.std.specs.Str.{bytes_eq}
-use Rattle.std.specs.Str.Parse.{AllDigits, IsNumeral, ParsesUnsigned, ParsesSigned, digits_value, without_leading_plus, without_leading_sign, signed_digits_value}
-use Rattle.std.proofs.lemmas.Bool.{and_parts, leb-true, leb-false, le-leb, lt-ltb, not-true, eqb-true, eqb-false}
+use Rattle.std.specs.Str.Parse.{IsNumeral, ParsesUnsigned, ParsesSigned, digits_value, without_leading_plus, without_leading_sign, signed_digits_value}
+use Rattle.std.proofs.lemmas.Bool.{and_parts, leb-true, leb-false, le-leb}
 use Rattle.std.proofs.lemmas.List.{map-append}
 use Rattle.std.proofs.lemmas.Slice.Eq.{bytes_eq-Decides}
 use Rattle.std.proofs.lemmas.Str.Parse.{IsNumeralModel, numerals_by_value, not_in_digits, without_leading_plus_none}

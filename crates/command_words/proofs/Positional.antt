@@ -1,6 +1,6 @@
 -- Words that are positional.
 use Rattle.std.proofs.Common.{◌≡◌, ◌∙◌, ℕ, Bool, List, [], ◌∷◌, ◌++◌, true, false, not, refl, sym, ap, codes, append_assoc}
-use Rattle.std.specs.Prelude.{Option, Some, None, ◌&&◌, option_and_then}
+use Rattle.std.specs.Prelude.{Some, option_and_then}
 use Rattle.std.specs.List.{list_all}
 use Rattle.std.proofs.lemmas.Bool.{and_parts, not-true}
 use Rattle.std.proofs.lemmas.List.{append-nil}

@@ -1,5 +1,5 @@
 -- The command that reads the options other than `--inputs`.
-use Rattle.std.specs.Prelude.{ℕ, ℤ, Bool, true, ◌≡◌, ◌&&◌, ◌<◌, ◌^◌, List, [], ◌∷◌, ◌++◌, codes, Option, Some, None, IsSome, is_some}
+use Rattle.std.specs.Prelude.{ℕ, ℤ, Bool, true, ◌≡◌, ◌&&◌, ◌<◌, List, [], ◌∷◌, ◌++◌, codes, Option, Some, None, is_some}
 use Rattle.std.specs.Str.Parse.{digits_value}
 use Rattle.clap.specs.Words.{App, Rule, Row, Text, new_app, new_rule, with_rule, one_of, first_of}
 use Rattle.clap.specs.Simple.{on_top}
@@ -10,7 +10,7 @@ use Rattle.command_words.specs.declared.options.Chosen.{Chosen}
 use Rattle.command_words.specs.declared.settings.Domain.{Domain}
 use Rattle.command_words.specs.declared.settings.Overflow.{Overflow}
 use Rattle.command_words.specs.declared.settings.Settings.{Settings}
-use Rattle.command_words.specs.Arguments.{◌>>=◌, meant, domain_of, delay_of, narrow_of, overflow_of, steps_of}
+use Rattle.command_words.specs.Arguments.{◌>>=◌, domain_of, delay_of, narrow_of, overflow_of, steps_of}
 use Rattle.command_words.specs.Spelling.{domain_by, overflow_by, is_number}
 
 -- an option with a parser and a default

@@ -23,6 +23,15 @@ name_by name =
     else (if bytes_eq name (codes "steps") then Some Steps
     else (if bytes_eq name (codes "inputs") then Some Inputs else None)))))
 
+-- the name of the option
+abbrev pub text_of : OptionName → List ℕ
+text_of Domain = codes "domain"
+text_of Delay = codes "delay"
+text_of Narrow = codes "narrow"
+text_of Overflow = codes "overflow"
+text_of Steps = codes "steps"
+text_of Inputs = codes "inputs"
+
 -- the option is given
 abbrev pub is_given : OptionValues → OptionName → Bool
 is_given values Domain = is_some values.domain

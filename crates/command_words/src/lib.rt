@@ -12,8 +12,7 @@ pub mod sorting;
 pub mod spelling;
 pub mod word;
 
-
-pub use laws::{words_after_dashes, words_with_no_option};
+pub use laws::{spellings_agree, words_after_dashes, words_with_no_option};
 pub use reading::{Arguments, read_words};
 pub use refusal::WordsRefusal;
 pub use settings::{Domain, Given, Overflow, Settings};

@@ -47,10 +47,7 @@ fn line_of(alloc: Global, found: &Arguments) -> Result<String, NoMemory> {
         steps,
         inputs,
     } = &found.settings;
-    write!(
-        text,
-        "| {domain:?} {delay} {narrow} {overflow:?} {steps} |"
-    )?;
+    write!(text, "| {domain:?} {delay} {narrow} {overflow:?} {steps} |")?;
     for input in inputs.items() {
         write!(text, " {input}")?;
     }

@@ -1,4 +1,4 @@
-use Rattle.std.proofs.Common.{◌≡◌, ℕ, List, drop, map, string_bytes, Global}
+use Rattle.std.proofs.Common.{◌≡◌, drop, map, string_bytes, Global}
 use Rattle.command_words.specs.Sorting.{sorted, sorted_from}
 use Rattle.command_words.proofs.sorting.sort_words.Given as goal
 
