@@ -1,0 +1,255 @@
+-- What is chosen by the words of values that are spelled right.
+use Rattle.std.proofs.Common.{◌≡◌, ◌≢◌, ◌≤◌, ◌<◌, ◌^◌, ◌∙◌, ◌⊎◌, ℕ, ℤ, List, [], Bool, true, false, refl, sym, ap, ap₂, codes, inl, inr, arith}
+use Rattle.std.specs.Prelude.{Option, Some, None, Err, unwrap_or, is_some, ok_or}
+use Rattle.std.specs.Str.Parse.{digits_value}
+use Rattle.std.proofs.lemmas.Bool.{and_parts, and_cases, leb-true}
+use Rattle.clap.specs.Words.{FailsBy, Row, Text, fault_of, kind_of, matches_of}
+use Rattle.clap.specs.Kinds.{IsAmong, or_else}
+use Rattle.clap.specs.declared.error.Error.{Error}
+use Rattle.clap.specs.declared.error.kind.ErrorKind.{ErrorKind}
+use Rattle.clap.specs.declared.error.kind.ErrorKind.TheVariants as kind
+use Rattle.command_words.specs.declared.named.OptionValues.{OptionValues}
+use Rattle.command_words.specs.declared.options.Chosen.{Chosen}
+use Rattle.command_words.specs.declared.settings.Domain.{Domain}
+use Rattle.command_words.specs.declared.settings.Domain.TheVariants.{Interval}
+use Rattle.command_words.specs.declared.settings.Overflow.{Overflow}
+use Rattle.command_words.specs.declared.settings.Overflow.TheVariants.{Stop}
+use Rattle.command_words.specs.declared.settings.Settings.{Settings}
+use Rattle.command_words.specs.declared.refusal.WordsRefusal.TheVariants as refusal
+use Rattle.command_words.specs.Arguments.{◌>>=◌, Reads, meant, domain_of, delay_of, narrow_of, overflow_of, steps_of, inputs_set, settings_of}
+use Rattle.command_words.specs.Options.{HasTexts, IsNumberBelow, are_spelled, chosen_by, chosen_of, five_app, passes, settings_from, words_of}
+use Rattle.command_words.specs.Spelling.{domain_by, is_number, number_up_to, overflow_by}
+use Rattle.command_words.proofs.Faults.{fault_parts, fits, or_else_none, range_faults, refused_unless, words_fault}
+use Rattle.command_words.proofs.Numbers.{accepted}
+use Rattle.command_words.proofs.Texts.{end_none, five_texts}
+
+-- ---- nothing is chosen where one option means nothing
+
+no_domain : (l n : Option ℕ) (o : Option Overflow) (s : Option ℕ) → chosen_by None l n o s ≡ None
+no_domain l n o s = refl
+
+no_delay : (d : Option Domain) (n : Option ℕ) (o : Option Overflow) (s : Option ℕ) → chosen_by d None n o s ≡ None
+no_delay None n o s = refl
+no_delay (Some d) n o s = refl
+
+no_narrow : (d : Option Domain) (l : Option ℕ) (o : Option Overflow) (s : Option ℕ) → chosen_by d l None o s ≡ None
+no_narrow None l o s = refl
+no_narrow (Some d) None o s = refl
+no_narrow (Some d) (Some l) o s = refl
+
+no_overflow : (d : Option Domain) (l n s : Option ℕ) → chosen_by d l n None s ≡ None
+no_overflow None l n s = refl
+no_overflow (Some d) None n s = refl
+no_overflow (Some d) (Some l) None s = refl
+no_overflow (Some d) (Some l) (Some n) s = refl
+
+no_steps : (d : Option Domain) (l n : Option ℕ) (o : Option Overflow) → chosen_by d l n o None ≡ None
+no_steps None l n o = refl
+no_steps (Some d) None n o = refl
+no_steps (Some d) (Some l) None o = refl
+no_steps (Some d) (Some l) (Some n) None = refl
+no_steps (Some d) (Some l) (Some n) (Some o) = refl
+
+-- an option means nothing
+pub record IsNone {A : Type 0} (o : Option A) : Type 0 where
+  pub is : o ≡ None
+
+delay_none : (v : OptionValues) → IsNone (delay_of v) → chosen_of v ≡ None
+unfolding chosen_of
+delay_none v h = ap (λ l. chosen_by (domain_of v) l (narrow_of v) (overflow_of v) (steps_of v)) h.is ∙ no_delay (domain_of v) (narrow_of v) (overflow_of v) (steps_of v)
+
+narrow_none : (v : OptionValues) → IsNone (narrow_of v) → chosen_of v ≡ None
+unfolding chosen_of
+narrow_none v h = ap (λ n. chosen_by (domain_of v) (delay_of v) n (overflow_of v) (steps_of v)) h.is ∙ no_narrow (domain_of v) (delay_of v) (overflow_of v) (steps_of v)
+
+steps_none : (v : OptionValues) → IsNone (steps_of v) → chosen_of v ≡ None
+unfolding chosen_of
+steps_none v h = ap (chosen_by (domain_of v) (delay_of v) (narrow_of v) (overflow_of v)) h.is ∙ no_steps (domain_of v) (delay_of v) (narrow_of v) (overflow_of v)
+
+domain_none : (v : OptionValues) → IsNone (domain_of v) → chosen_of v ≡ None
+unfolding chosen_of
+domain_none v h = ap (λ d. chosen_by d (delay_of v) (narrow_of v) (overflow_of v) (steps_of v)) h.is
+
+overflow_none : (v : OptionValues) → IsNone (overflow_of v) → chosen_of v ≡ None
+unfolding chosen_of
+overflow_none v h = ap (λ o. chosen_by (domain_of v) (delay_of v) (narrow_of v) o (steps_of v)) h.is ∙ no_overflow (domain_of v) (delay_of v) (narrow_of v) (steps_of v)
+
+-- ---- values that are not spelled right
+
+none_of : {A : Type 0} (o : Option A) → is_some o ≡ false → o ≡ None
+none_of None e = refl
+none_of (Some x) e = absurd cc
+
+unspelled_name : {A : Type 0} (default : A) (meaning : Text → Option A) (o : Option Text) → passes (λ text. is_some (meaning text)) o ≡ false → IsNone (meant default meaning o)
+unspelled_name default meaning None e = absurd cc
+unspelled_name default meaning (Some text) e = record { is = none_of (meaning text) e }
+
+unspelled_number : (default most : ℕ) (o : Option Text) → passes is_number o ≡ false → IsNone (meant default (number_up_to most) o)
+unspelled_number default most None e = absurd cc
+unspelled_number default most (Some text) e = record { is = rw e refl }
+
+pub chosen-unspelled : (v : OptionValues) → are_spelled v ≡ false → chosen_of v ≡ None
+chosen-unspelled v e =
+    elim (and_cases _ _ e) [
+      | inl d ↦ domain_none v (unspelled_name Interval domain_by v.domain d)
+      | inr e ↦ elim (and_cases _ _ e) [
+        | inl l ↦ delay_none v (unspelled_number 0 16 v.delay l)
+        | inr e ↦ elim (and_cases _ _ e) [
+          | inl n ↦ narrow_none v (unspelled_number 1 8 v.narrow n)
+          | inr e ↦ elim (and_cases _ _ e) [
+            | inl o ↦ overflow_none v (unspelled_name Stop overflow_by v.overflow o)
+            | inr s ↦ steps_none v (unspelled_number 1000 1000000 v.steps s)
+          ]
+        ]
+      ]
+    ]
+
+-- ---- values that are spelled right
+
+pub record NumbersAreSpelled (v : OptionValues) : Type 0 where
+  pub delay : passes is_number v.delay ≡ true
+  pub narrow : passes is_number v.narrow ≡ true
+  pub steps : passes is_number v.steps ≡ true
+
+pub numbers_spelled : (v : OptionValues) → are_spelled v ≡ true → NumbersAreSpelled v
+numbers_spelled v e =
+    let p = and_parts _ _ e in
+    let q = and_parts _ _ p.1 in
+    let r = and_parts _ _ q.1 in
+    let s = and_parts _ _ r.1 in
+    record { delay = q.0; narrow = r.0; steps = s.1 }
+
+-- a number that does not fit means nothing
+unfit_number : (default most : ℕ) (o : Option Text) → most < 2 ^ 64 → passes is_number o ≡ true → fits most o ≡ false → IsNone (meant default (number_up_to most) o)
+unfit_number default most None lt e f = absurd cc
+unfit_number default most (Some text) lt e f = record { is = rw (e, sym (accepted most text lt e) ∙ f) refl }
+
+-- a number that fits means its value
+fit_number : (most : ℕ) (o : Option Text) (text : Text) → most < 2 ^ 64 → passes is_number o ≡ true → fits most o ≡ true
+    → meant (digits_value 10 text) (number_up_to most) o ≡ Some (digits_value 10 (unwrap_or o text))
+fit_number most None text lt e f = refl
+fit_number most (Some given) text lt e f = rw (e, sym (accepted most given lt e) ∙ f) refl
+
+number_below : (most bound : ℕ) (o : Option Text) (text : Text) → most < bound → bound ≤ 2 ^ 64 → IsNumberBelow bound text
+    → passes is_number o ≡ true → fits most o ≡ true → IsNumberBelow bound (unwrap_or o text)
+number_below most bound None text lt le d e f = d
+number_below most bound (Some given) text lt le d e f =
+    let low : digits_value 10 given ≤ most = leb-true _ _ (sym (accepted most given (omega arith) e) ∙ f) in
+    (e, omega arith)
+
+meant_domain : (o : Option Text) → meant Interval domain_by o ≡ domain_by (unwrap_or o (codes "interval"))
+meant_domain None = refl
+meant_domain (Some text) = refl
+
+meant_overflow : (o : Option Text) → meant Stop overflow_by o ≡ overflow_by (unwrap_or o (codes "stop"))
+meant_overflow None = refl
+meant_overflow (Some text) = refl
+
+-- ---- what the command refuses
+
+pub words_refused : (v : OptionValues) → fault_of five_app (words_of v) ≡ range_faults v.delay v.narrow v.steps
+words_refused v =
+    fault_parts (words_of v)
+    ∙ ap₂ or_else (words_fault v.domain v.delay v.narrow v.overflow v.steps) (end_none v.domain v.delay v.narrow v.overflow v.steps)
+    ∙ or_else_none (range_faults v.delay v.narrow v.steps)
+
+pub record AllFit (v : OptionValues) : Type 0 where
+  pub delay : fits 16 v.delay ≡ true
+  pub narrow : fits 8 v.narrow ≡ true
+  pub steps : fits 1000000 v.steps ≡ true
+
+no_kinds : (x y z : Bool) → or_else (refused_unless x) (or_else (refused_unless y) (refused_unless z)) ≡ [] → (x ≡ true) × (y ≡ true) × (z ≡ true)
+no_kinds true true true e = (refl, refl, refl)
+no_kinds true true false e = absurd cc
+no_kinds true false z e = absurd cc
+no_kinds false y z e = absurd cc
+
+all_fit : (v : OptionValues) → fault_of five_app (words_of v) ≡ [] → AllFit v
+all_fit v e =
+    let p = no_kinds (fits 16 v.delay) (fits 8 v.narrow) (fits 1000000 v.steps) (sym (words_refused v) ∙ e) in
+    record { delay = p.0; narrow = p.1; steps = p.2 }
+
+some_kind : (x y z : Bool) (k : ErrorKind) → IsAmong k (or_else (refused_unless x) (or_else (refused_unless y) (refused_unless z))) → (x ≡ false) ⊎ ((y ≡ false) ⊎ (z ≡ false))
+some_kind true true true k h = absurd h
+some_kind true true false k h = inr (inr refl)
+some_kind true false z k h = inr (inl refl)
+some_kind false y z k h = inl refl
+
+-- a refusal that is no want of memory is that of a value out of its range
+pub chosen-refused : (v : OptionValues) (error : Error) → are_spelled v ≡ true → FailsBy {T = ℕ} (fault_of five_app (words_of v)) (Err error)
+    → kind_of error ≢ kind.OutOfMemory → chosen_of v ≡ None
+chosen-refused v error spelled fails other =
+    let s = numbers_spelled v spelled in
+    let h = rw (words_refused v) at fails in
+    elim h [
+      | inl oom ↦ absurd (other oom)
+      | inr among ↦ elim (some_kind (fits 16 v.delay) (fits 8 v.narrow) (fits 1000000 v.steps) (kind_of error) among) [
+        | inl l ↦ delay_none v (unfit_number 0 16 v.delay (omega arith) s.delay l)
+        | inr more ↦ elim more [
+          | inl n ↦ narrow_none v (unfit_number 1 8 v.narrow (omega arith) s.narrow n)
+          | inr t ↦ steps_none v (unfit_number 1000 1000000 v.steps (omega arith) s.steps t)
+        ]
+      ]
+    ]
+
+-- ---- what the command reads
+
+same_chosen : (d d' : Option Domain) (l l' n n' : Option ℕ) (o o' : Option Overflow) (s s' : Option ℕ)
+    → d ≡ d' → l ≡ l' → n ≡ n' → o ≡ o' → s ≡ s' → chosen_by d l n o s ≡ chosen_by d' l' n' o' s'
+same_chosen d d' l l' n n' o o' s s' e f g h i = rw (e, f, g, h, i) refl
+
+-- what is read from the rows of the words is what is chosen
+pub chosen-read : (v : OptionValues) (rows : List Row) (words : List Text) (r : Option Chosen) → are_spelled v ≡ true → words ≡ words_of v
+    → rows ≡ matches_of five_app words → fault_of five_app words ≡ []
+    → ((domain delay narrow overflow steps : Text) → HasTexts rows domain delay narrow overflow steps
+    → IsNumberBelow 17 delay → IsNumberBelow 17 narrow → IsNumberBelow (2 ^ 64) steps
+    → r ≡ chosen_by (domain_by domain) (Some (digits_value 10 delay)) (Some (digits_value 10 narrow)) (overflow_by overflow) (Some (digits_value 10 steps)))
+    → r ≡ chosen_of v
+unfolding chosen_of
+chosen-read v rows words r spelled e rows_are none reads =
+    let s = numbers_spelled v spelled in
+    let fit = all_fit v (rw e at none) in
+    let delay : Text = unwrap_or v.delay (codes "0") in
+    let narrow : Text = unwrap_or v.narrow (codes "1") in
+    let steps : Text = unwrap_or v.steps (codes "1000") in
+    let texts : HasTexts rows (unwrap_or v.domain (codes "interval")) delay narrow (unwrap_or v.overflow (codes "stop")) steps =
+    rw (rows_are, e) (five_texts v.domain v.delay v.narrow v.overflow v.steps) in
+    let got = reads (unwrap_or v.domain (codes "interval")) delay narrow (unwrap_or v.overflow (codes "stop")) steps texts
+    (number_below 16 17 v.delay (codes "0") (omega arith) (omega arith) (refl, omega arith) s.delay fit.delay)
+    (number_below 8 17 v.narrow (codes "1") (omega arith) (omega arith) (refl, omega arith) s.narrow fit.narrow)
+    (number_below 1000000 (2 ^ 64) v.steps (codes "1000") (omega arith) (omega arith) (refl, omega arith) s.steps fit.steps) in
+    got ∙ sym (same_chosen (domain_of v) (domain_by (unwrap_or v.domain (codes "interval"))) (delay_of v) (Some (digits_value 10 delay))
+    (narrow_of v) (Some (digits_value 10 narrow)) (overflow_of v) (overflow_by (unwrap_or v.overflow (codes "stop"))) (steps_of v) (Some (digits_value 10 steps))
+    (meant_domain v.domain) (fit_number 16 v.delay (codes "0") (omega arith) s.delay fit.delay)
+    (fit_number 8 v.narrow (codes "1") (omega arith) s.narrow fit.narrow) (meant_overflow v.overflow)
+    (fit_number 1000000 v.steps (codes "1000") (omega arith) s.steps fit.steps))
+
+-- a value, or else a refusal
+pub Reads-ok_or : {A : Type 0} (expected given : Option A) → given ≡ expected → Reads expected (ok_or given refusal.Usage)
+Reads-ok_or expected None e = sym e
+Reads-ok_or expected (Some x) e = sym e
+
+-- ---- all settings, by the five and the inputs
+
+abbrev pub settings_by : Option Domain → Option ℕ → Option ℕ → Option Overflow → Option ℕ → Option (List ℤ) → Option Settings
+settings_by domain_meant delay_meant narrow_meant overflow_meant steps_meant inputs_meant = do
+  domain ← domain_meant
+  delay ← delay_meant
+  narrow ← narrow_meant
+  overflow ← overflow_meant
+  steps ← steps_meant
+  inputs ← inputs_meant
+  Some (record { domain = domain; delay = delay; narrow = narrow; overflow = overflow; steps = steps; inputs = inputs })
+
+joined : (d : Option Domain) (l n : Option ℕ) (o : Option Overflow) (s : Option ℕ) (i : Option (List ℤ))
+    → settings_from (chosen_by d l n o s) i ≡ settings_by d l n o s i
+joined None l n o s i = refl
+joined (Some d) None n o s i = refl
+joined (Some d) (Some l) None o s i = refl
+joined (Some d) (Some l) (Some n) None s i = refl
+joined (Some d) (Some l) (Some n) (Some o) None i = refl
+joined (Some d) (Some l) (Some n) (Some o) (Some s) i = refl
+
+pub settings-parts : (v : OptionValues) → settings_from (chosen_of v) (inputs_set v) ≡ settings_of v
+unfolding chosen_of settings_of
+settings-parts v = joined (domain_of v) (delay_of v) (narrow_of v) (overflow_of v) (steps_of v) (inputs_set v)

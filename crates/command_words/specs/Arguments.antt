@@ -1,0 +1,110 @@
+-- What the words of a command line say.
+use Rattle.std.specs.Prelude.{ℕ, ℤ, pos, negsuc, ◌≡◌, ◌≤◌, ◌≤ℤ◌, ⊤, false, List, [], map, string_bytes, Option, Some, None, is_some, Result, Ok, Err}
+use Rattle.std.specs.List.{All}
+use Rattle.std.specs.declared.string.String.{String}
+use Rattle.command_words.specs.declared.named.OptionValues.{OptionValues}
+use Rattle.command_words.specs.declared.settings.Domain.{Domain}
+use Rattle.command_words.specs.declared.settings.Domain.TheVariants.{Interval}
+use Rattle.command_words.specs.declared.settings.Overflow.{Overflow}
+use Rattle.command_words.specs.declared.settings.Overflow.TheVariants.{Stop}
+use Rattle.command_words.specs.declared.settings.Settings.{Settings}
+use Rattle.command_words.specs.declared.settings.Given.{Given}
+use Rattle.command_words.specs.declared.reading.Arguments.{Arguments}
+use Rattle.command_words.specs.declared.refusal.WordsRefusal.{WordsRefusal}
+use Rattle.command_words.specs.declared.refusal.WordsRefusal.TheVariants as refusal
+use Rattle.command_words.specs.Sorting.{sorted}
+use Rattle.command_words.specs.Spelling.{domain_by, overflow_by, number_up_to, inputs_of}
+
+-- the words, each as its bytes
+abbrev pub texts_of : {Z : Type 0} → List (String Z) → List (List ℕ)
+texts_of words = map string_bytes words
+
+infixl 10 ◌>>=◌
+abbrev pub ◌>>=◌ : {A B : Type 0} → Option A → (A → Option B) → Option B
+(Some x) >>= next = next x
+None >>= next = None
+
+-- what the text of an option means, and the default where the option is not given
+abbrev pub meant : {A : Type 0} → A → (List ℕ → Option A) → Option (List ℕ) → Option A
+meant default meaning None = Some default
+meant default meaning (Some text) = meaning text
+
+-- what `--domain` sets
+abbrev pub domain_of : OptionValues → Option Domain
+domain_of values = meant Interval domain_by values.domain
+
+-- what `--delay` sets
+abbrev pub delay_of : OptionValues → Option ℕ
+delay_of values = meant 0 (number_up_to 16) values.delay
+
+-- what `--narrow` sets
+abbrev pub narrow_of : OptionValues → Option ℕ
+narrow_of values = meant 1 (number_up_to 8) values.narrow
+
+-- what `--overflow` sets
+abbrev pub overflow_of : OptionValues → Option Overflow
+overflow_of values = meant Stop overflow_by values.overflow
+
+-- what `--steps` sets
+abbrev pub steps_of : OptionValues → Option ℕ
+steps_of values = meant 1000 (number_up_to 1000000) values.steps
+
+-- what `--inputs` sets
+unfoldable pub inputs_set : OptionValues → Option (List ℤ)
+inputs_set values = meant [] inputs_of values.inputs
+
+-- what all options set, or nothing where the text of one means nothing
+unfoldable pub settings_of : OptionValues → Option Settings
+settings_of values = do
+  domain ← domain_of values
+  delay ← delay_of values
+  narrow ← narrow_of values
+  overflow ← overflow_of values
+  steps ← steps_of values
+  inputs ← inputs_set values
+  Some (record { domain = domain; delay = delay; narrow = narrow; overflow = overflow; steps = steps; inputs = inputs })
+
+-- which options are given
+abbrev pub given_of : OptionValues → Given
+given_of values = record {
+  domain = is_some values.domain;
+  delay = is_some values.delay;
+  narrow = is_some values.narrow;
+  overflow = is_some values.overflow;
+  steps = is_some values.steps;
+  inputs = is_some values.inputs;
+}
+
+-- what the words say, or nothing where they are refused
+abbrev pub arguments_of : List (List ℕ) → Option Arguments
+arguments_of words = do
+  state ← sorted words
+  settings ← settings_of state.values
+  Some (record { positional = state.positional; given = given_of state.values; settings = settings })
+
+-- a call that reads answers this: it refuses exactly where there is nothing, and want of memory is free
+abbrev pub Reads : {A : Type 0} → Option A → Result A WordsRefusal → Type 0
+Reads expected (Ok found) = expected ≡ Some found
+Reads expected (Err refusal.Usage) = expected ≡ None
+Reads expected (Err refusal.NoMemory) = ⊤
+
+-- what is set is in the ranges of the options
+pub record AreInRange (settings : Settings) : Type 0 where
+  pub delay : settings.delay ≤ 16
+  pub narrow : settings.narrow ≤ 8
+  pub steps : settings.steps ≤ 1000000
+  pub inputs : All (λ z. (negsuc 2147483647 ≤ℤ z) × (z ≤ℤ pos 2147483647)) settings.inputs
+
+-- ---- words with no option
+
+-- no option
+abbrev pub nothing_given : Given
+nothing_given = record { domain = false; delay = false; narrow = false; overflow = false; steps = false; inputs = false }
+
+-- what is set where no option is given
+abbrev pub defaults : Settings
+defaults = record { domain = Interval; delay = 0; narrow = 1; overflow = Stop; steps = 1000; inputs = [] }
+
+-- all words are positional
+abbrev pub all_positional : List (List ℕ) → Arguments
+all_positional words = record { positional = words; given = nothing_given; settings = defaults }

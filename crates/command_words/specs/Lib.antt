@@ -1,0 +1,4 @@
+pub mod Arguments
+pub mod Options
+pub mod Sorting
+pub mod Spelling

@@ -1,0 +1,104 @@
+-- The command that reads the options other than `--inputs`.
+use Rattle.std.specs.Prelude.{ℕ, ℤ, Bool, true, ◌≡◌, ◌&&◌, ◌<◌, List, [], ◌∷◌, ◌++◌, codes, Option, Some, None, is_some}
+use Rattle.std.specs.Str.Parse.{digits_value}
+use Rattle.clap.specs.Words.{App, Rule, Row, Text, new_app, new_rule, with_rule, one_of, first_of}
+use Rattle.clap.specs.Simple.{on_top}
+use Rattle.clap.specs.declared.builder.value_parser.ValueParser.{ValueParser}
+use Rattle.clap.specs.declared.builder.value_parser.ValueParser.TheVariants as vp
+use Rattle.command_words.specs.declared.named.OptionValues.{OptionValues}
+use Rattle.command_words.specs.declared.options.Chosen.{Chosen}
+use Rattle.command_words.specs.declared.settings.Domain.{Domain}
+use Rattle.command_words.specs.declared.settings.Overflow.{Overflow}
+use Rattle.command_words.specs.declared.settings.Settings.{Settings}
+use Rattle.command_words.specs.Arguments.{◌>>=◌, domain_of, delay_of, narrow_of, overflow_of, steps_of}
+use Rattle.command_words.specs.Spelling.{domain_by, overflow_by, is_number}
+
+-- an option with a parser and a default
+abbrev pub option_rule : Text → Text → ValueParser → Rule
+option_rule name default parser = record (new_rule name) {
+  long = Some name;
+  defaults = default ∷ [];
+  parser = Some parser;
+}
+
+-- a command with no argument and no flag of its own
+abbrev pub bare_app : App
+bare_app = on_top (λ s. record s { no_binary_name = true; disable_help_flag = true; disable_version_flag = true }) (new_app (codes "options"))
+
+-- the command of the five options
+abbrev pub five_app : App
+five_app =
+    with_rule (with_rule (with_rule (with_rule (with_rule bare_app
+    (option_rule (codes "domain") (codes "interval") vp.String))
+    (option_rule (codes "delay") (codes "0") (vp.Unsigned 0 16)))
+    (option_rule (codes "narrow") (codes "1") (vp.Unsigned 0 8)))
+    (option_rule (codes "overflow") (codes "stop") vp.String))
+    (option_rule (codes "steps") (codes "1000") (vp.Unsigned 0 1000000))
+
+-- the word for an option that is given
+abbrev pub option_word : Text → Option Text → List Text
+option_word name None = []
+option_word name (Some value) = (codes "--" ++ name ++ codes "=" ++ value) ∷ []
+
+abbrev pub five_words : Option Text → Option Text → Option Text → Option Text → Option Text → List Text
+five_words domain delay narrow overflow steps =
+    option_word (codes "domain") domain ++ (option_word (codes "delay") delay ++ (option_word (codes "narrow") narrow
+    ++ (option_word (codes "overflow") overflow ++ option_word (codes "steps") steps)))
+
+-- the words for the values that are given
+abbrev pub words_of : OptionValues → List Text
+words_of values = five_words values.domain values.delay values.narrow values.overflow values.steps
+
+-- ---- the spelling of the values
+
+-- the text, if there is one, passes the test
+abbrev pub passes : (Text → Bool) → Option Text → Bool
+passes test None = true
+passes test (Some text) = test text
+
+-- each value is spelled as its option wants
+abbrev pub are_spelled : OptionValues → Bool
+are_spelled values =
+    passes (λ text. is_some (domain_by text)) values.domain && (passes is_number values.delay && (passes is_number values.narrow
+    && (passes (λ text. is_some (overflow_by text)) values.overflow && passes is_number values.steps)))
+
+-- ---- what is chosen
+
+abbrev pub chosen_by : Option Domain → Option ℕ → Option ℕ → Option Overflow → Option ℕ → Option Chosen
+chosen_by domain_meant delay_meant narrow_meant overflow_meant steps_meant = do
+  domain ← domain_meant
+  delay ← delay_meant
+  narrow ← narrow_meant
+  overflow ← overflow_meant
+  steps ← steps_meant
+  Some (record { domain = domain; delay = delay; narrow = narrow; overflow = overflow; steps = steps })
+
+-- what the five options set
+unfoldable pub chosen_of : OptionValues → Option Chosen
+chosen_of values = chosen_by (domain_of values) (delay_of values) (narrow_of values) (overflow_of values) (steps_of values)
+
+-- what all options set, by the five and the inputs
+abbrev pub settings_from : Option Chosen → Option (List ℤ) → Option Settings
+settings_from chosen_meant inputs_meant = do
+  chosen ← chosen_meant
+  inputs ← inputs_meant
+  Some (record {
+    domain = chosen.domain;
+    delay = chosen.delay;
+    narrow = chosen.narrow;
+    overflow = chosen.overflow;
+    steps = chosen.steps;
+    inputs = inputs;
+  })
+
+-- the rows of the command have these texts
+pub record HasTexts (rows : List Row) (domain delay narrow overflow steps : Text) : Type 0 where
+  pub domain_is : first_of (codes "domain") rows ≡ Some domain
+  pub delay_is : one_of (codes "delay") rows ≡ Some delay
+  pub narrow_is : one_of (codes "narrow") rows ≡ Some narrow
+  pub overflow_is : first_of (codes "overflow") rows ≡ Some overflow
+  pub steps_is : one_of (codes "steps") rows ≡ Some steps
+
+-- the text is a number below the bound
+abbrev pub IsNumberBelow : ℕ → Text → Type 0
+IsNumberBelow bound text = (is_number text ≡ true) × (digits_value 10 text < bound)

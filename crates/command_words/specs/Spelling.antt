@@ -1,0 +1,71 @@
+-- How values are spelled, and what each spelling means.
+use Rattle.std.specs.Prelude.{ℕ, ℤ, Bool, false, not, ◌==◌, ◌&&◌, ◌||◌, List, [], ◌∷◌, ◌++◌, codes, nat_le, int_le, if◌then◌else◌, pos, negsuc}
+use Rattle.std.specs.Prelude.{Option, Some, None, option_and_then}
+use Rattle.std.specs.List.{slice_split, list_all}
+use Rattle.std.specs.Str.{bytes_eq}
+use Rattle.std.specs.Str.Parse.{digits_value, signed_digits_value}
+use Rattle.command_words.specs.declared.settings.Domain.{Domain}
+use Rattle.command_words.specs.declared.settings.Domain.TheVariants.{Interval, Octagon, Stride}
+use Rattle.command_words.specs.declared.settings.Overflow.{Overflow}
+use Rattle.command_words.specs.declared.settings.Overflow.TheVariants.{Stop, Wrap}
+
+-- the domain with the name
+abbrev pub domain_by : List ℕ → Option Domain
+domain_by name =
+    if bytes_eq name (codes "interval") then Some Interval
+    else (if bytes_eq name (codes "octagon") then Some Octagon
+    else (if bytes_eq name (codes "stride") then Some Stride else None))
+
+-- the overflow with the name
+abbrev pub overflow_by : List ℕ → Option Overflow
+overflow_by name =
+    if bytes_eq name (codes "stop") then Some Stop
+    else (if bytes_eq name (codes "wrap") then Some Wrap else None)
+
+-- ---- numbers
+
+abbrev pub is_digit : ℕ → Bool
+is_digit c = nat_le 48 c && nat_le c 57
+
+-- one digit or more, the first of them not `0`
+abbrev pub is_positive : List ℕ → Bool
+is_positive [] = false
+is_positive (first ∷ rest) = not (first == 48) && list_all is_digit (first ∷ rest)
+
+-- `0`, or digits without a leading zero
+abbrev pub is_number : List ℕ → Bool
+is_number text = bytes_eq text (codes "0") || is_positive text
+
+-- the number from 0 to `most` that the text spells
+abbrev pub number_up_to : ℕ → List ℕ → Option ℕ
+number_up_to most text =
+    if is_number text && nat_le (digits_value 10 text) most then Some (digits_value 10 text) else None
+
+-- ---- inputs
+
+-- the text without a `-` at its front
+abbrev pub without_minus : List ℕ → List ℕ
+without_minus [] = []
+without_minus (first ∷ rest) = if first == 45 then rest else first ∷ rest
+
+-- `0`, or digits that do not begin with 0, with or without a `-` before them
+abbrev pub is_input : List ℕ → Bool
+is_input text = bytes_eq text (codes "0") || is_positive (without_minus text)
+
+-- the number is one of `int`
+abbrev pub is_in_int : ℤ → Bool
+is_in_int z = int_le (negsuc 2147483647) z && int_le z (pos 2147483647)
+
+-- the number of `int` that the text spells
+abbrev pub input_of : List ℕ → Option ℤ
+input_of text =
+    if is_input text && is_in_int (signed_digits_value 10 text) then Some (signed_digits_value 10 text) else None
+
+-- the numbers so far, and after them those that the texts spell
+abbrev pub inputs_after : List ℤ → List (List ℕ) → Option (List ℤ)
+inputs_after front [] = Some front
+inputs_after front (text ∷ texts) = option_and_then (λ z. inputs_after (front ++ z ∷ []) texts) (input_of text)
+
+-- the numbers, joined by commas, that the text spells
+abbrev pub inputs_of : List ℕ → Option (List ℤ)
+inputs_of text = inputs_after [] (slice_split (λ c. c == 44) text)

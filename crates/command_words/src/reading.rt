@@ -1,0 +1,62 @@
+//! The words as a whole.
+#![tactic(auto)]
+
+ghost use Rattle.std.specs.Prelude.{◌≡◌, IfOk};
+ghost use Rattle.command_words.specs.Arguments.{arguments_of, inputs_set, settings_of, texts_of, AreInRange, Reads};
+ghost use Rattle.command_words.specs.Options.{chosen_of, settings_from};
+
+use crate::inputs::inputs_given;
+use crate::named::OptionValues;
+use crate::options::read_options;
+use crate::refusal::WordsRefusal;
+use crate::settings::{Given, Settings};
+use crate::sorting::sort_words;
+use crate::word::Words;
+use std::alloc::Global;
+
+/// What the words say.
+#[derive(Debug, Drop)]
+pub struct Arguments {
+    pub positional: Words,
+    pub given: Given,
+    pub settings: Settings,
+}
+
+/// What all options set, by the five and the inputs.
+fn read_parts(alloc: Global, values: &OptionValues) -> Result<Settings, WordsRefusal>
+    ensures { Reads (settings_from (chosen_of values.now) (inputs_set values.now)) result }
+{
+    let chosen = read_options(alloc, values)?;
+    let inputs = inputs_given(alloc, values)?;
+    Ok(Settings {
+        domain: chosen.domain,
+        delay: chosen.delay,
+        narrow: chosen.narrow,
+        overflow: chosen.overflow,
+        steps: chosen.steps,
+        inputs,
+    })
+}
+
+/// What all options set.
+fn read_settings(alloc: Global, values: &OptionValues) -> Result<Settings, WordsRefusal>
+    ensures answer { Reads (settings_of values.now) result }
+    ensures ranges { IfOk result (λ settings. AreInRange settings) }
+{
+    read_parts(alloc, values)
+}
+
+/// What the words say. They are refused where one is no option of these six, an option is given twice
+/// or without its value, or a value is not spelled as the option wants or is out of its range.
+pub fn read_words(alloc: Global, words: &[String]) -> Result<Arguments, WordsRefusal>
+    ensures answer { Reads (arguments_of (texts_of words.now)) result }
+    ensures ranges { IfOk result (λ found. AreInRange found.settings) }
+{
+    let state = sort_words(alloc, words)?;
+    let settings = read_settings(alloc, &state.values)?;
+    Ok(Arguments {
+        given: state.values.given(),
+        positional: state.positional,
+        settings,
+    })
+}

@@ -1,0 +1,71 @@
+//! What the options set.
+#![tactic(auto)]
+
+ghost use Rattle.std.specs.Prelude.{◌≡◌};
+ghost use Rattle.command_words.specs.Spelling.{domain_by, overflow_by};
+
+use fam_outer::Values;
+
+/// The domain of an analysis.
+#[derive(Clone, Copy, Debug, PartialEq, Eq)]
+pub enum Domain {
+    Interval,
+    Octagon,
+    Stride,
+}
+
+impl Domain {
+    /// The domain with the name.
+    pub fn of(name: &str) -> Option<Domain>
+        ensures { result ≡ domain_by name.now }
+    {
+        match name {
+            "interval" => Some(Domain::Interval),
+            "octagon" => Some(Domain::Octagon),
+            "stride" => Some(Domain::Stride),
+            _ => None,
+        }
+    }
+}
+
+/// What comes of an operation whose value is not in `int`.
+#[derive(Clone, Copy, Debug, PartialEq, Eq)]
+pub enum Overflow {
+    Stop,
+    Wrap,
+}
+
+impl Overflow {
+    /// The choice with the name.
+    pub fn of(name: &str) -> Option<Overflow>
+        ensures { result ≡ overflow_by name.now }
+    {
+        match name {
+            "stop" => Some(Overflow::Stop),
+            "wrap" => Some(Overflow::Wrap),
+            _ => None,
+        }
+    }
+}
+
+/// What each option sets, and its default where it is not given.
+#[derive(Debug, Drop)]
+pub struct Settings {
+    pub domain: Domain,
+    pub delay: u32,
+    pub narrow: u32,
+    pub overflow: Overflow,
+    pub steps: u64,
+    pub inputs: Values,
+}
+
+/// Which options are given.
+#[derive(Clone, Copy, Debug, PartialEq, Eq)]
+pub struct Given {
+    pub domain: bool,
+    pub delay: bool,
+    pub narrow: bool,
+    pub overflow: bool,
+    pub steps: bool,
+    pub inputs: bool,
+}
