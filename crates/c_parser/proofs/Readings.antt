@@ -1,9 +1,10 @@
 -- A file has one reading: that which the machine decides.
-use Rattle.std.proofs.Common.{◌≡◌, ℕ, ◌+◌, ◌-◌, ◌≤◌, ◌⊎◌, List, [], ◌∷◌, ◌++◌, length, Option, Some, None, Result, Ok, Err, refl, sym, ap, subst, ◌∙◌, arith, inl, inr}
+use Rattle.std.proofs.Common.{◌≡◌, ℕ, ◌+◌, ◌-◌, ◌≤◌, ◌<◌, ◌⊎◌, List, [], ◌∷◌, ◌++◌, length, Option, Some, None, Result, Ok, Err, refl, sym, ap, subst, ◌∙◌, arith, inl, inr}
+use Rattle.std.proofs.lemmas.Bool.{lt-ltb}
 use Rattle.std.proofs.lemmas.List.{length-append}
 use Rattle.fam_outer.specs.declared.faults.Place.{Place}
 use Rattle.fam_outer.specs.declared.faults.FileCode.{FileCode}
-use Rattle.fam_outer.specs.declared.faults.FileCode.TheVariants.{Syntax, TooDeep}
+use Rattle.fam_outer.specs.declared.faults.FileCode.TheVariants.{Syntax, TooDeep, TooLong}
 use Rattle.fam_outer.specs.Places.{end_place}
 use Rattle.c_tree.specs.Tree.{Whole}
 use Rattle.c_grammar.specs.declared.items.Item.{Item}
@@ -15,7 +16,7 @@ use Rattle.c_grammar.specs.Laws.{AtMostOne, Complete, DeepIsFound, FindsWrong, L
 use Rattle.item_reader.specs.Reading.{IsWrongAt, IsDeepAt, NothingDeep}
 use Rattle.c_parser.specs.Items.{Listed}
 use Rattle.c_parser.specs.Names.{first_name_fault}
-use Rattle.c_parser.specs.Reading.{IsSpelled, IsAccepted, HasWrong, HasDeep, HasNameFault, Refuses, ReadsOver, items_of, place_with, and_then}
+use Rattle.c_parser.specs.Reading.{IsSpelled, IsAccepted, HasWrong, HasDeep, HasNameFault, Refuses, ReadsOver, limit, file_place, code_of_file, items_of, place_with, and_then}
 
 -- the laws of the grammar that are used here
 pub record GrammarLaws : Type 0 where
@@ -209,3 +210,8 @@ by_items laws given bytes (Err fault) is = (Err fault, inl is)
 -- each file is read
 pub reads_any : GrammarLaws → (given : List (List ℕ)) (bytes : List ℕ) → (r : Answer) × ReadsOver given bytes r
 reads_any laws given bytes = by_items laws given bytes (items_of given bytes) refl
+
+-- a file of more bytes is refused whole
+pub reads_too_long : (given : List (List ℕ)) (bytes : List ℕ) → limit < length bytes → ReadsOver given bytes (Err (TooLong, file_place))
+unfolding items_of code_of_file
+reads_too_long given bytes h = inl (rw (lt-ltb limit (length bytes) h) refl)

@@ -3,6 +3,7 @@ use Rattle.std.proofs.Common.{◌≡◌, ◌≤◌, ℕ, List, subst, sym, arith
 use Rattle.std.specs.Prelude.{Option, Result, Ok, Err, IfOk}
 use Rattle.std.specs.Io.KnownBytes.{append_known}
 use Rattle.c_tree.specs.Tree.{Whole}
+use Rattle.c_tree.specs.declared.tree.Mode.{Mode}
 use Rattle.famlint_core.specs.declared.fault.Done.{Done}
 use Rattle.famlint_core.specs.declared.fault.Fault.{Fault}
 use Rattle.famlint_core.specs.declared.fault.Fault.TheVariants as fault
@@ -46,22 +47,22 @@ Ends-from_request words content told request came failed role status out out' er
     rw (e, ← role_is) (Ends-from_reaches came _ _ status out out' err err' outs outs' errs errs' (reaches (rw e at is_told)) ended)
 
 -- at 0 and 1 the whole output of a run that came to its end was appended
-stops_appended : (came : Result Done Stop) (p : Whole) (role : Role) (status : ℕ) (out out' err err' : Option (List ℕ)) (outs outs' errs errs' : ℕ)
-    → IfOk came (λ done. ReportsStops p done.text) → IsEnded came role status out out' err err' outs outs' errs errs' → status ≤ 1
-    → (text : List ℕ) × (out' ≡ append_known out text) × ReportsStops p text
-stops_appended (Ok done) p role status out out' err err' outs outs' errs errs' reported ended low = (done.text, ended.ends.whole low, reported)
-stops_appended (Err (stop.Refused fault.Usage)) p role status out out' err err' outs outs' errs errs' reported ended low =
+stops_appended : (came : Result Done Stop) (mode : Mode) (p : Whole) (role : Role) (status : ℕ) (out out' err err' : Option (List ℕ)) (outs outs' errs errs' : ℕ)
+    → IfOk came (λ done. ReportsStops mode p done.text) → IsEnded came role status out out' err err' outs outs' errs errs' → status ≤ 1
+    → (text : List ℕ) × (out' ≡ append_known out text) × ReportsStops mode p text
+stops_appended (Ok done) mode p role status out out' err err' outs outs' errs errs' reported ended low = (done.text, ended.ends.whole low, reported)
+stops_appended (Err (stop.Refused fault.Usage)) mode p role status out out' err err' outs outs' errs errs' reported ended low =
     let e : status ≡ 2 = ended.ends.exact (omega arith) (omega arith) (omega arith) in absurd (omega arith)
-stops_appended (Err (stop.Refused (fault.File code place))) p role status out out' err err' outs outs' errs errs' reported ended low =
+stops_appended (Err (stop.Refused (fault.File code place))) mode p role status out out' err err' outs outs' errs errs' reported ended low =
     let e : status ≡ 4 = ended.ends.exact (omega arith) (omega arith) (omega arith) in absurd (omega arith)
-stops_appended (Err stop.ReadFault) p role status out out' err err' outs outs' errs errs' reported ended low = absurd (omega (arith, ended.fixed))
-stops_appended (Err stop.NoMemory) p role status out out' err err' outs outs' errs errs' reported ended low = absurd (omega (arith, ended.fixed))
+stops_appended (Err stop.ReadFault) mode p role status out out' err err' outs outs' errs errs' reported ended low = absurd (omega (arith, ended.fixed))
+stops_appended (Err stop.NoMemory) mode p role status out out' err err' outs outs' errs errs' reported ended low = absurd (omega (arith, ended.fixed))
 
 -- the same from the words that were read
-pub stops_from_request : (words : List (List ℕ)) (content : List ℕ → Option (List ℕ)) (told : Contents) (p : Whole) (request : Request)
+pub stops_from_request : (words : List (List ℕ)) (content : List ℕ → Option (List ℕ)) (told : Contents) (mode : Mode) (p : Whole) (request : Request)
     (came : Result Done Stop) (role : Role) (status : ℕ) (out out' err err' : Option (List ℕ)) (outs outs' errs errs' : ℕ)
-    → reading words ≡ Ok request → (AreTold request content told → ReportsOn request told p → IfOk came (λ done. ReportsStops p done.text))
-    → IsEnded came role status out out' err err' outs outs' errs errs' → IsTold words content told → IsReportOn words told p → status ≤ 1
-    → (text : List ℕ) × (out' ≡ append_known out text) × ReportsStops p text
-stops_from_request words content told p request came role status out out' err err' outs outs' errs errs' e reported ended is_told is_report low =
-    stops_appended came p role status out out' err err' outs outs' errs errs' (reported (rw e at is_told) (rw e at is_report)) ended low
+    → reading words ≡ Ok request → (AreTold request content told → ReportsOn request told mode p → IfOk came (λ done. ReportsStops mode p done.text))
+    → IsEnded came role status out out' err err' outs outs' errs errs' → IsTold words content told → IsReportOn words told mode p → status ≤ 1
+    → (text : List ℕ) × (out' ≡ append_known out text) × ReportsStops mode p text
+stops_from_request words content told mode p request came role status out out' err err' outs outs' errs errs' e reported ended is_told is_report low =
+    stops_appended came mode p role status out out' err err' outs outs' errs errs' (reported (rw e at is_told) (rw e at is_report)) ended low

@@ -3,14 +3,15 @@ use Rattle.std.proofs.Common.{◌≡◌, ℕ, List, refl, subst}
 use Rattle.c_tree.specs.Tree.{Whole}
 use Rattle.interval_leaf.specs.Intervals.{intervals}
 use Rattle.interval_leaf.specs.Laws.{interval_laws}
+use Rattle.plain_analysis.specs.declared.options.Options.{Options}
 use Rattle.plain_analysis.specs.Places.{at_of}
 use Rattle.plain_analysis.specs.Promises.{IsForeseen, RunsForeseen}
 use Rattle.famlint_core.specs.Report.{variant_text, ReportsStops}
-use Rattle.famlint_core.specs.Stages.{plain_options, plain_alarms}
+use Rattle.famlint_core.specs.Stages.{plain_alarms}
 
 -- the report on a program reports the stops of its runs
-pub report_of_stops : (p : Whole) (text : List ℕ) → RunsForeseen intervals plain_options p (intervals.start p.start) → text ≡ variant_text (plain_alarms p) → ReportsStops p text
-report_of_stops p text runs e =
-    let at = at_of intervals plain_options p (intervals.start p.start) in
+pub report_of_stops : (options : Options) (p : Whole) (text : List ℕ) → RunsForeseen intervals options p (intervals.start p.start) → text ≡ variant_text (plain_alarms options p) → ReportsStops options.mode p text
+report_of_stops options p text runs e =
+    let at = at_of intervals options p (intervals.start p.start) in
     let begins = (interval_laws.start_holds p.start p.start).1 refl in
-    (plain_alarms p, e, λ inputs n place kind ints stopped. subst (IsForeseen intervals at p.end (plain_alarms p)) stopped (runs p.start inputs n begins ints))
+    (plain_alarms options p, e, λ inputs n place kind ints stopped. subst (IsForeseen intervals at p.end (plain_alarms options p)) stopped (runs p.start inputs n begins ints))

@@ -3,7 +3,7 @@ use Rattle.std.specs.Prelude.{ℕ, ℤ, Bool, ◌≡◌, List, ◌++◌, codes, 
 use Rattle.std.specs.Fmt.{decimal}
 use Rattle.c_tree.specs.declared.tree.Kind.{Kind}
 use Rattle.c_tree.specs.declared.tree.Kind.TheVariants.{Overflow, ZeroDivisor, Assertion}
-use Rattle.c_tree.specs.declared.tree.Mode.TheVariants.{Stop}
+use Rattle.c_tree.specs.declared.tree.Mode.{Mode}
 use Rattle.std.specs.List.{All}
 use Rattle.c_tree.specs.Tree.{Whole}
 use Rattle.c_tree.specs.Value.{IsInt}
@@ -29,11 +29,11 @@ variant_text alarms = flat_map alarm_line alarms ++ codes "alarms: " ++ decimal 
 abbrev pub some_alarm : List Alarm → Bool
 some_alarm alarms = nat_lt 0 (length alarms)
 
--- each stop of each run of the program, on inputs of `int`, is listed
-abbrev pub HasStops : Whole → List Alarm → Type 0
-HasStops p alarms = (inputs : List ℤ) (n : ℕ) (place : Place) (kind : Kind)
-    → All IsInt inputs → run_of p inputs n Stop ≡ StoppedEnd place kind → Contains alarms (record { place = place; kind = kind })
+-- each stop of each run of the program in this mode, on inputs of `int`, is listed
+abbrev pub HasStops : Mode → Whole → List Alarm → Type 0
+HasStops mode p alarms = (inputs : List ℤ) (n : ℕ) (place : Place) (kind : Kind)
+    → All IsInt inputs → run_of p inputs n mode ≡ StoppedEnd place kind → Contains alarms (record { place = place; kind = kind })
 
--- the text reports a list of alarms, in which each stop of each run of the program is listed
-abbrev pub ReportsStops : Whole → List ℕ → Type 0
-ReportsStops p text = (alarms : List Alarm) × (text ≡ variant_text alarms) × HasStops p alarms
+-- the text reports a list of alarms, in which each stop of each run of the program in this mode is listed
+abbrev pub ReportsStops : Mode → Whole → List ℕ → Type 0
+ReportsStops mode p text = (alarms : List Alarm) × (text ≡ variant_text alarms) × HasStops mode p alarms

@@ -5,7 +5,7 @@ use Rattle.fam_outer.specs.declared.faults.FileCode.{FileCode}
 use Rattle.fam_outer.specs.declared.faults.Place.{Place}
 use Rattle.c_tree.specs.Tree.{Whole}
 use Rattle.c_parser.specs.Reading.{Reads}
-use Rattle.c_tree.specs.declared.tree.Mode.TheVariants as modes
+use Rattle.c_tree.specs.declared.tree.Mode.{Mode}
 use Rattle.interval_leaf.specs.Intervals.{intervals}
 use Rattle.plain_analysis.specs.declared.alarm.Alarm.{Alarm}
 use Rattle.plain_analysis.specs.declared.options.Options.{Options}
@@ -32,7 +32,7 @@ pub record IsFileTold (path : List ℕ) (content : List ℕ → Option (List ℕ
 
 -- the contents of the paths of a request are told, and read as these
 abbrev pub AreTold : Request → (List ℕ → Option (List ℕ)) → Contents → Type 0
-AreTold (Plain file) content told = IsFileTold file content told.file
+AreTold (Plain file options) content told = IsFileTold file content told.file
 
 abbrev pub ToldFor : Result Request Fault → (List ℕ → Option (List ℕ)) → Contents → Type 0
 ToldFor (Ok request) content told = AreTold request content told
@@ -96,27 +96,23 @@ abbrev pub file_stage : Result Whole (FileCode × Place) → Result Whole Fault
 file_stage (Ok p) = Ok p
 file_stage (Err (code, place)) = Err (fault.File code place)
 
--- how programs are analysed
-abbrev pub plain_options : Options
-plain_options = record { delay = 0; narrow = 1; mode = modes.Stop }
-
--- the alarms of a program, by intervals and from its start values
-abbrev pub plain_alarms : Whole → List Alarm
-plain_alarms p = alarms_of intervals plain_options p (intervals.start p.start)
+-- the alarms of a program, by intervals and from its start values, with these options
+abbrev pub plain_alarms : Options → Whole → List Alarm
+plain_alarms options p = alarms_of intervals options p (intervals.start p.start)
 
 -- the report on a program
-abbrev pub plain_done : Whole → Done
-plain_done p = record { text = variant_text (plain_alarms p); has_alarms = some_alarm (plain_alarms p) }
+abbrev pub plain_done : Options → Whole → Done
+plain_done options p = record { text = variant_text (plain_alarms options p); has_alarms = some_alarm (plain_alarms options p) }
 
 -- ---- the commands
 
 -- `plain FILE`
-abbrev pub plain_answer : Contents → Result Done Fault
-plain_answer told = and_then (file_stage told.file) (λ p. Ok (plain_done p))
+abbrev pub plain_answer : Options → Contents → Result Done Fault
+plain_answer options told = and_then (file_stage told.file) (λ p. Ok (plain_done options p))
 
 -- the answer to a request
 abbrev pub answer_of : Request → Contents → Result Done Fault
-answer_of (Plain file) told = plain_answer told
+answer_of (Plain file options) told = plain_answer options told
 
 -- the answer to the words, where the paths that they name hold this
 abbrev pub answer : List (List ℕ) → Contents → Result Done Fault
@@ -124,7 +120,7 @@ answer words told = and_then (reading words) (λ request. answer_of request told
 
 -- what a request names is accepted
 abbrev pub AreAccepted : Request → Contents → Type 0
-AreAccepted (Plain file) told = IsOk told.file
+AreAccepted (Plain file options) told = IsOk told.file
 
 abbrev pub AcceptedFor : Result Request Fault → Contents → Type 0
 AcceptedFor (Ok request) told = AreAccepted request told
@@ -134,23 +130,23 @@ AcceptedFor (Err fault) told = ⊥
 abbrev pub IsAccepted : List (List ℕ) → Contents → Type 0
 IsAccepted words told = AcceptedFor (reading words) told
 
--- a request is for the report on this program
-abbrev pub ReportsOn : Request → Contents → Whole → Type 0
-ReportsOn (Plain file) told p = told.file ≡ Ok p
+-- a request is for the report on this program in this mode
+abbrev pub ReportsOn : Request → Contents → Mode → Whole → Type 0
+ReportsOn (Plain file options) told mode p = (told.file ≡ Ok p) × (options.mode ≡ mode)
 
-abbrev pub ReportFor : Result Request Fault → Contents → Whole → Type 0
-ReportFor (Ok request) told p = ReportsOn request told p
-ReportFor (Err fault) told p = ⊥
+abbrev pub ReportFor : Result Request Fault → Contents → Mode → Whole → Type 0
+ReportFor (Ok request) told mode p = ReportsOn request told mode p
+ReportFor (Err fault) told mode p = ⊥
 
--- the words ask for the report on this program, which was read
-abbrev pub IsReportOn : List (List ℕ) → Contents → Whole → Type 0
-IsReportOn words told p = ReportFor (reading words) told p
+-- the words ask for the report on this program, which was read, in this mode
+abbrev pub IsReportOn : List (List ℕ) → Contents → Mode → Whole → Type 0
+IsReportOn words told mode p = ReportFor (reading words) told mode p
 
 -- ---- the loads, in their order, as far as they go
 
 -- the paths that are loaded for a request
 abbrev pub loads_of : Request → Contents → List (List ℕ)
-loads_of (Plain file) told = file ∷ []
+loads_of (Plain file options) told = file ∷ []
 
 abbrev pub loads_for : Result Request Fault → Contents → List (List ℕ)
 loads_for (Ok request) told = loads_of request told

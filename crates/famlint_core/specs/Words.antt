@@ -1,7 +1,19 @@
 -- What the words ask for.
-use Rattle.std.specs.Prelude.{ℕ, Bool, false, ◌==◌, ◌≡◌, ⊤, List, [], ◌∷◌, codes, map, string_bytes, if◌then◌else◌, Option, Some, None, Result, Ok, Err}
+use Rattle.std.specs.Prelude.{ℕ, Bool, true, false, not, ◌&&◌, ◌≡◌, ⊤, List, [], ◌∷◌, codes, if◌then◌else◌, Option, Some, None, Result, Ok, Err}
 use Rattle.std.specs.Str.{bytes_eq}
-use Rattle.std.specs.declared.string.String.{String}
+use Rattle.c_tree.specs.declared.tree.Mode.{Mode}
+use Rattle.c_tree.specs.declared.tree.Mode.TheVariants as modes
+use Rattle.command_words.specs.Arguments.{arguments_of}
+use Rattle.command_words.specs.declared.reading.Arguments.{Arguments}
+use Rattle.command_words.specs.declared.refusal.WordsRefusal.{WordsRefusal}
+use Rattle.command_words.specs.declared.refusal.WordsRefusal.TheVariants as refusal
+use Rattle.command_words.specs.declared.settings.Domain.{Domain}
+use Rattle.command_words.specs.declared.settings.Domain.TheVariants as domains
+use Rattle.command_words.specs.declared.settings.Given.{Given}
+use Rattle.command_words.specs.declared.settings.Overflow.{Overflow}
+use Rattle.command_words.specs.declared.settings.Overflow.TheVariants as overflows
+use Rattle.command_words.specs.declared.settings.Settings.{Settings}
+use Rattle.plain_analysis.specs.declared.options.Options.{Options}
 use Rattle.famlint_core.specs.declared.fault.Fault.{Fault}
 use Rattle.famlint_core.specs.declared.fault.Fault.TheVariants.{Usage}
 use Rattle.famlint_core.specs.declared.words.Command.{Command}
@@ -10,42 +22,63 @@ use Rattle.famlint_core.specs.declared.words.Request.{Request}
 use Rattle.famlint_core.specs.declared.words.Request.TheVariants as request
 use Rattle.famlint_core.specs.declared.words.Role.{Role}
 use Rattle.famlint_core.specs.declared.words.Role.TheVariants as role
-use Rattle.famlint_core.specs.declared.words.WordsRefusal.{WordsRefusal}
-use Rattle.famlint_core.specs.declared.words.WordsRefusal.TheVariants as refusal
 
--- the words, each as its bytes
-abbrev pub texts_of : {Z : Type 0} → List (String Z) → List (List ℕ)
-texts_of words = map string_bytes words
+-- ---- options
 
--- a word that begins with '-' and is not '-' alone
-abbrev pub is_option : List ℕ → Bool
-is_option [] = false
-is_option (first ∷ []) = false
-is_option (first ∷ second ∷ rest) = first == 45
+-- the options of a run alone are not given
+abbrev pub is_analysis : Given → Bool
+is_analysis given = not given.steps && not given.inputs
+
+-- the analyses over this domain are built
+abbrev pub is_built : Domain → Bool
+is_built domains.Interval = true
+is_built domains.Octagon = false
+is_built domains.Stride = false
+
+-- the options suit an analysis
+abbrev pub suits_analysis : Arguments → Bool
+suits_analysis arguments = is_analysis arguments.given && is_built arguments.settings.domain
+
+abbrev pub mode_of : Overflow → Mode
+mode_of overflows.Stop = modes.Stop
+mode_of overflows.Wrap = modes.Wrap
+
+-- how programs are analysed
+abbrev pub options_of : Settings → Options
+options_of settings = record { delay = settings.delay; narrow = settings.narrow; mode = mode_of settings.overflow }
+
+-- ---- commands
 
 -- the command with the name
 abbrev pub command_of : List ℕ → Option Command
 command_of word = if bytes_eq word (codes "plain") then Some command.Plain else None
 
--- what `plain` asks for with this word
-abbrev pub plain_request : List ℕ → Result Request Fault
-plain_request file = if is_option file then Err Usage else Ok (request.Plain file)
-
--- what a command asks for with these words
-abbrev pub request_of : Command → List (List ℕ) → Result Request Fault
-request_of command.Plain [] = Err Usage
-request_of command.Plain (file ∷ []) = plain_request file
-request_of command.Plain (file ∷ more ∷ words) = Err Usage
+-- what `plain` asks for with these words
+abbrev pub plain_request : Arguments → List (List ℕ) → Result Request Fault
+plain_request arguments [] = Err Usage
+plain_request arguments (file ∷ []) = if suits_analysis arguments then Ok (request.Plain file (options_of arguments.settings)) else Err Usage
+plain_request arguments (file ∷ more ∷ words) = Err Usage
 
 -- what the words after the first ask for, where that is the name of this command, or of none
-abbrev pub request_by : Option Command → List (List ℕ) → Result Request Fault
-request_by (Some given) words = request_of given words
-request_by None words = Err Usage
+abbrev pub request_by : Option Command → Arguments → List (List ℕ) → Result Request Fault
+request_by (Some command.Plain) arguments words = plain_request arguments words
+request_by None arguments words = Err Usage
+
+-- what the positional words ask for
+abbrev pub request_with : Arguments → List (List ℕ) → Result Request Fault
+request_with arguments [] = Err Usage
+request_with arguments (first ∷ words) = request_by (command_of first) arguments words
+
+abbrev pub request_of : Arguments → Result Request Fault
+request_of arguments = request_with arguments arguments.positional
+
+abbrev pub request_for : Option Arguments → Result Request Fault
+request_for (Some arguments) = request_of arguments
+request_for None = Err Usage
 
 -- what the words after the program's name ask for
 abbrev pub reading : List (List ℕ) → Result Request Fault
-reading [] = Err Usage
-reading (first ∷ words) = request_by (command_of first) words
+reading words = request_for (arguments_of words)
 
 -- a call that reads words answers this; want of memory is free
 abbrev pub ReadsWords : Result Request Fault → Result Request WordsRefusal → Type 0
@@ -53,9 +86,11 @@ ReadsWords expected (Ok request) = expected ≡ Ok request
 ReadsWords expected (Err refusal.Usage) = expected ≡ Err Usage
 ReadsWords expected (Err refusal.NoMemory) = ⊤
 
+-- ---- paths
+
 -- the paths of a request
 abbrev pub paths_of : Request → List (List ℕ)
-paths_of (request.Plain file) = file ∷ []
+paths_of (request.Plain file options) = file ∷ []
 
 abbrev pub paths_for : Result Request Fault → List (List ℕ)
 paths_for (Ok request) = paths_of request
@@ -67,7 +102,7 @@ named_paths words = paths_for (reading words)
 
 -- what the path of a failed load is to a request
 abbrev pub role_of : Request → Option (List ℕ) → Role
-role_of (request.Plain file) failed = role.File
+role_of (request.Plain file options) failed = role.File
 
 abbrev pub role_for : Result Request Fault → Option (List ℕ) → Role
 role_for (Ok request) failed = role_of request failed

@@ -5,7 +5,9 @@ ghost use Rattle.std.specs.Prelude.{◌≡◌, ◌≢◌, ◌≤◌, ◌⊎◌, 
 ghost use Rattle.std.specs.Io.KnownBytes.{append_known};
 ghost use Rattle.fam_outer.specs.Causes.{Rose};
 ghost use Rattle.c_tree.specs.Tree.{Whole};
-ghost use Rattle.famlint_core.specs.Words.{texts_of, reading, named_paths, failed_role};
+ghost use Rattle.c_tree.specs.declared.tree.Mode.{Mode};
+ghost use Rattle.command_words.specs.Arguments.{texts_of};
+ghost use Rattle.famlint_core.specs.Words.{reading, named_paths, failed_role};
 ghost use Rattle.famlint_core.specs.Stages.{Contents, IsTold, IsAccepted, IsReportOn, IsOneOf, answer, loads};
 ghost use Rattle.famlint_core.specs.Report.{ReportsStops};
 ghost use Rattle.famlint_core.specs.Endings.{Ends};
@@ -13,7 +15,8 @@ ghost use Rattle.famlint_core.specs.Endings.{Ends};
 use crate::commands::run;
 use crate::ends::end;
 use crate::fault::{Fault, Stop};
-use crate::words::{Role, WordsRefusal, read_words};
+use crate::words::{Role, read_request};
+use command_words::WordsRefusal;
 use fam_outer::{Files, Sink};
 use std::alloc::Global;
 
@@ -34,10 +37,10 @@ pub fn famlint<F: Files, S: Sink, E: Sink>(
     ensures answer { (told : Contents) → IsTold (texts_of words.now) (F.content files.old) told
         → Ends (answer (texts_of words.now) told) (failed_role (texts_of words.now) (F.failed files.new)) result
         (S.written out.old) (S.written out.new) (E.written err.old) (E.written err.new) (E.faults err.old) (E.faults err.new) }
-    // Each stop of each run of an accepted program is printed.
+    // Each stop of each run of an accepted program, in the mode of the options, is printed.
     ensures stops { (told : Contents) → IsTold (texts_of words.now) (F.content files.old) told
-        → (p : Whole) → IsReportOn (texts_of words.now) told p → result ≤ 1
-        → (text : List ℕ) × (S.written out.new ≡ append_known (S.written out.old) text) × ReportsStops p text }
+        → (mode : Mode) (p : Whole) → IsReportOn (texts_of words.now) told mode p → result ≤ 1
+        → (text : List ℕ) × (S.written out.new ≡ append_known (S.written out.old) text) × ReportsStops mode p text }
     // What is accepted is answered, unless memory runs out, a load fails or a write fails.
     ensures complete { (told : Contents) → IsTold (texts_of words.now) (F.content files.old) told
         → IsAccepted (texts_of words.now) told
@@ -55,7 +58,7 @@ pub fn famlint<F: Files, S: Sink, E: Sink>(
     ensures quiet { 2 ≤ result → result ≢ 7 → S.written out.new ≡ S.written out.old }
     ensures silent { result ≤ 1 → E.written err.new ≡ E.written err.old }
 {
-    match read_words(alloc, words) {
+    match read_request(alloc, words) {
         Err(WordsRefusal::NoMemory) => end(alloc, &Err(Stop::NoMemory), Role::File, out, err),
         Err(WordsRefusal::Usage) => {
             end(

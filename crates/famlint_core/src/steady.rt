@@ -3,7 +3,7 @@
 
 ghost use Rattle.std.specs.Prelude.{◌≡◌, ◌≢◌, [], unwrap_or};
 ghost use Rattle.fam_outer.specs.Memory.{entry_of};
-ghost use Rattle.famlint_core.specs.Words.{texts_of};
+ghost use Rattle.command_words.specs.Arguments.{texts_of};
 ghost use Rattle.famlint_core.specs.Stages.{Contents, IsTold, answer};
 ghost use Rattle.famlint_core.specs.Endings.{status_at};
 

@@ -2,67 +2,23 @@
 #![tactic(auto)]
 
 ghost use Rattle.std.specs.Option.{option_copied};
-ghost use Rattle.std.specs.Prelude.{◌≡◌, IfOk};
-ghost use Rattle.famlint_core.specs.Words.{texts_of, reading, is_option as begins_with_dash, command_of as named, request_of as asked, plain_request as asked_plain, role_of, ReadsWords};
+ghost use Rattle.std.specs.Prelude.{◌≡◌};
+ghost use Rattle.command_words.specs.Arguments.{texts_of};
+ghost use Rattle.famlint_core.specs.Words as specs;
+ghost use Rattle.famlint_core.specs.Words.{reading, role_of, ReadsWords};
 
-use fam_outer::{NoMemory, Text};
+use c_tree::Mode;
+use command_words::{
+    Arguments, Domain, Given, Overflow, Settings, Word, WordsRefusal, read_words,
+};
+use fam_outer::Text;
+use plain_analysis::Options;
 use std::alloc::Global;
-use std::marker::Model;
-
-/// A word.
-#[derive(Debug, Drop)]
-pub struct Word {
-    text: String,
-}
-
-impl Model for Word {
-    ghost use Rattle.std.specs.Prelude.{List, ℕ, string_bytes};
-
-    ghost Value = { List ℕ };
-
-    ghost view = { λ word. string_bytes word.text };
-}
-
-impl Word {
-    /// A copy of the text.
-    pub fn from_str(alloc: Global, text: &str) -> Result<Word, NoMemory>
-        ensures { IfOk result (λ word. word ≡ text.now) }
-    {
-        Ok(Word {
-            text: String::from_str(alloc, text)?,
-        })
-    }
-
-    /// The text.
-    pub fn as_str(&self) -> &str
-        ensures { result.now ≡ self.now }
-    {
-        self.text.as_str()
-    }
-}
 
 /// What the words ask for.
 #[derive(Debug, Drop)]
 pub enum Request {
-    Plain { file: Word },
-}
-
-/// Why the words are not read.
-#[derive(Clone, Copy, Debug, PartialEq, Eq)]
-pub enum WordsRefusal {
-    NoMemory,
-    Usage,
-}
-
-impl From<NoMemory> for WordsRefusal {
-    ghost use Rattle.std.specs.Prelude.{◌≡◌};
-    ghost use Rattle.famlint_core.specs.declared.words.WordsRefusal.TheVariants as refusal;
-
-    ghost from_gives = { λ _ given. given ≡ refusal.NoMemory };
-
-    fn from(_error: NoMemory) -> WordsRefusal {
-        WordsRefusal::NoMemory
-    }
+    Plain { file: Word, options: Options },
 }
 
 /// What a path is to a request.
@@ -77,7 +33,10 @@ impl Request {
         ensures { result ≡ role_of self.now (option_copied _failed.entry) }
     {
         match self {
-            Request::Plain { file: _ } => Role::File,
+            Request::Plain {
+                file: _,
+                options: _,
+            } => Role::File,
         }
     }
 }
@@ -90,7 +49,7 @@ pub enum Command {
 
 /// The command with the name.
 fn command_of(word: &str) -> Option<Command>
-    ensures { result ≡ named word.now }
+    ensures { result ≡ specs.command_of word.now }
 {
     match word {
         "plain" => Some(Command::Plain),
@@ -98,47 +57,90 @@ fn command_of(word: &str) -> Option<Command>
     }
 }
 
-/// The word begins with `-` and is not `-` alone.
-fn is_option(word: &str) -> bool
-    ensures { result ≡ begins_with_dash word.now }
+/// Whether the options of a run alone are not given.
+fn is_analysis(given: Given) -> bool
+    ensures { result ≡ specs.is_analysis given }
 {
-    match word.as_bytes() {
-        [] | [_] => false,
-        [first, ..] => *first == b'-',
+    !given.steps && !given.inputs
+}
+
+/// Whether the analyses over a domain are built.
+fn is_built(domain: Domain) -> bool
+    ensures { result ≡ specs.is_built domain }
+{
+    match domain {
+        Domain::Interval => true,
+        Domain::Octagon | Domain::Stride => false,
     }
 }
 
-/// What `plain` asks for with this word.
-fn plain_request(alloc: Global, file: &str) -> Result<Request, WordsRefusal>
-    ensures { ReadsWords (asked_plain file.now) result }
+/// Whether the options suit an analysis.
+fn suits_analysis(arguments: &Arguments) -> bool
+    ensures { result ≡ specs.suits_analysis arguments.now }
 {
-    if is_option(file) {
-        return Err(WordsRefusal::Usage);
-    }
-    Ok(Request::Plain {
-        file: Word::from_str(alloc, file)?,
-    })
+    is_analysis(arguments.given) && is_built(arguments.settings.domain)
 }
 
-/// What a command asks for with these words.
-fn request_of(alloc: Global, command: Command, words: &[String]) -> Result<Request, WordsRefusal>
-    ensures { ReadsWords (asked command (texts_of words.now)) result }
+/// What becomes of an overflow.
+fn mode_of(overflow: Overflow) -> Mode
+    ensures { result ≡ specs.mode_of overflow }
 {
-    match (command, words) {
-        (Command::Plain, [file]) => plain_request(alloc, file.as_str()),
+    match overflow {
+        Overflow::Stop => Mode::Stop,
+        Overflow::Wrap => Mode::Wrap,
+    }
+}
+
+/// How programs are analysed.
+fn options_of(settings: &Settings) -> Options
+    ensures { result ≡ specs.options_of settings.now }
+{
+    Options {
+        delay: settings.delay,
+        narrow: settings.narrow,
+        mode: mode_of(settings.overflow),
+    }
+}
+
+/// What `plain` asks for with these words.
+fn plain_request(
+    alloc: Global,
+    arguments: &Arguments,
+    words: &[Word],
+) -> Result<Request, WordsRefusal>
+    ensures { ReadsWords (specs.plain_request arguments.now words.now) result }
+{
+    match words {
+        [file] => {
+            if !suits_analysis(arguments) {
+                return Err(WordsRefusal::Usage);
+            }
+            Ok(Request::Plain {
+                file: Word::from_str(alloc, file.as_str())?,
+                options: options_of(&arguments.settings),
+            })
+        }
         _ => Err(WordsRefusal::Usage),
     }
 }
 
-/// What the words ask for.
-pub fn read_words(alloc: Global, words: &[String]) -> Result<Request, WordsRefusal>
-    ensures { ReadsWords (reading (texts_of words.now)) result }
+/// What the positional words ask for.
+fn request_of(alloc: Global, arguments: &Arguments) -> Result<Request, WordsRefusal>
+    ensures { ReadsWords (specs.request_of arguments.now) result }
 {
-    match words {
+    match arguments.positional.items() {
         [] => Err(WordsRefusal::Usage),
         [first, rest @ ..] => match command_of(first.as_str()) {
-            Some(command) => request_of(alloc, command, rest),
+            Some(Command::Plain) => plain_request(alloc, arguments, rest),
             None => Err(WordsRefusal::Usage),
         },
     }
+}
+
+/// What the words ask for.
+pub fn read_request(alloc: Global, words: &[String]) -> Result<Request, WordsRefusal>
+    ensures { ReadsWords (reading (texts_of words.now)) result }
+{
+    let arguments = read_words(alloc, words)?;
+    request_of(alloc, &arguments)
 }

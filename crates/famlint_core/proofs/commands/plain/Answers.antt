@@ -7,7 +7,7 @@ use Rattle.famlint_core.proofs.commands.plain.Goals as goal
 
 pub returns-in_err-program-clause-answer : goal.returns-in_err-program-clause-answer
 returns-in_err-program-clause-answer g c = λ told is_told.
-    let h = refusal_passes whole (file_stage told.file) (λ p. Ok (plain_done p)) c.in_err-program.field-0.0 (c.in_err-program.ensures.answer told.file is_told) in
+    let h = refusal_passes whole (file_stage told.file) (λ p. Ok (plain_done c.args.options.now p)) c.in_err-program.field-0.0 (c.in_err-program.ensures.answer told.file is_told) in
     let e : c.from_residual.result ≡ Err c.in_err-program.field-0.0 = search rules in
     rw e h
 
