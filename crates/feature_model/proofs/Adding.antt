@@ -1,0 +1,64 @@
+-- Constraints and atoms behind others.
+use Rattle.std.proofs.Common.{◌≡◌, ⊤, ℕ, zero, suc, ◌+◌, ◌≤◌, ◌<◌, nat_le, Bool, true, false, cond, List, [], ◌∷◌, ◌++◌, map, length, Result, Ok, Err, refl, sym, ap, subst, ◌∙◌, arith, append_assoc, length-append}
+use Rattle.std.proofs.lemmas.List.{append-nil}
+use Rattle.fam_outer.specs.declared.faults.ConditionFault.{ConditionFault}
+use Rattle.linear_atoms.specs.declared.atoms.Atom.{Atom}
+use Rattle.linear_atoms.specs.declared.atoms.Feature.{Feature}
+use Rattle.cpp_conditions.specs.declared.conditions.Condition.{Condition}
+use Rattle.cpp_conditions.specs.Grammar.{ReadsAs}
+use Rattle.cpp_conditions.specs.Propositions.{Proposition, Const, Test, Not, And, Or, AreBounded, IsFit}
+use Rattle.cpp_conditions.specs.Validity.{AreFit}
+use Rattle.cpp_conditions.specs.View.{proposition}
+use Rattle.feature_model.specs.declared.faults.ModelFault.{ModelFault}
+use Rattle.feature_model.specs.declared.faults.ModelFault.TheVariants as faults
+use Rattle.feature_model.specs.declared.faults.ModelRefusal.{ModelRefusal}
+use Rattle.feature_model.specs.declared.faults.ModelRefusal.TheVariants as refusals
+use Rattle.feature_model.specs.Constraints.{AreRead, none, refused, first, Adds, AreAllBounded, has_atom, with_atom, with_atoms, all_atoms}
+
+pub nothing_added : (features : List Feature) (n : ℕ) (texts : List (List ℕ)) (old : List Condition) (done : ⊤) → texts ≡ [] → Adds features n texts old old (Ok done)
+nothing_added features n texts old done e = ([], sym (append-nil old), subst (λ ts. AreRead features n ts (Ok [])) (sym e) (none n))
+
+pub text_refused : (features : List Feature) (n : ℕ) (texts behind : List (List ℕ)) (text : List ℕ) (fault : ConditionFault) → texts ≡ text ∷ behind → ReadsAs features text (Err fault) → AreRead features n texts (Err (faults.Constraint n fault))
+text_refused features n texts behind text fault e h = subst (λ ts. AreRead features n ts (Err (faults.Constraint n fault))) (sym e) (refused n text behind fault h)
+
+more_added : (features : List Feature) (n : ℕ) (behind : List (List ℕ)) (text : List ℕ) (old mid new : List Condition) (c : Condition) (r : Result ⊤ ModelRefusal) → ReadsAs features text (Ok (proposition c)) → mid ≡ old ++ c ∷ []
+    → Adds features (n + 1) behind mid new r → Adds features n (text ∷ behind) old new r
+more_added features n behind text old mid new c (Ok done) h e k =
+    (c ∷ k.0, k.1 ∙ ap (λ x. x ++ k.0) e ∙ append_assoc old (c ∷ []) k.0, first n text behind (proposition c) (Ok (map proposition k.0)) h k.2)
+more_added features n behind text old mid new c (Err refusals.NoMemory) h e k = tt
+more_added features n behind text old mid new c (Err (refusals.Fault fault)) h e k = first n text behind (proposition c) (Err fault) h k
+
+pub first_added : (features : List Feature) (n : ℕ) (texts behind : List (List ℕ)) (text : List ℕ) (old mid new : List Condition) (c : Condition) (r : Result ⊤ ModelRefusal) → texts ≡ text ∷ behind → ReadsAs features text (Ok (proposition c)) → mid ≡ old ++ c ∷ []
+    → Adds features (n + 1) behind mid new r → Adds features n texts old new r
+first_added features n texts behind text old mid new c r cut h e k = subst (λ ts. Adds features n ts old new r) (sym cut) (more_added features n behind text old mid new c r h e k)
+
+fit_last : (count : ℕ) (old : List Condition) (c : Condition) → IsFit count (proposition c) → AreFit count old → AreFit count (old ++ c ∷ [])
+fit_last count [] c h k = (h, tt)
+fit_last count (x ∷ xs) c h k = (k.0, fit_last count xs c h k.1)
+
+pub fit_more : (count : ℕ) (old mid : List Condition) (c : Condition) → mid ≡ old ++ c ∷ [] → IsFit count (proposition c) → AreFit count old → AreFit count mid
+fit_more count old mid c e h k = subst (AreFit count) (sym e) (fit_last count old c h k)
+
+bounded_last : (old : List Condition) (c : Condition) → AreBounded (proposition c) → AreAllBounded old → AreAllBounded (old ++ c ∷ [])
+bounded_last [] c h k = (h, tt)
+bounded_last (x ∷ xs) c h k = (k.0, bounded_last xs c h k.1)
+
+pub bounded_more : (old mid : List Condition) (c : Condition) → mid ≡ old ++ c ∷ [] → AreBounded (proposition c) → AreAllBounded old → AreAllBounded mid
+bounded_more old mid c e h k = subst AreAllBounded (sym e) (bounded_last old c h k)
+
+-- ---- atoms
+
+grows_by : (b : Bool) (found : List Atom) (a : Atom) → length found ≤ length (cond b found (found ++ a ∷ []))
+grows_by true found a = omega arith
+grows_by false found a = omega (arith, length-append found (a ∷ []))
+
+grows_one : (p : Proposition Atom) (found : List Atom) → length found ≤ length (with_atoms found p)
+grows_one (Const b) found = omega arith
+grows_one (Test a) found = grows_by (has_atom a found) found a
+grows_one (Not p) found = grows_one p found
+grows_one (And p q) found = let h = grows_one p found in let k = grows_one q (with_atoms found p) in omega arith
+grows_one (Or p q) found = let h = grows_one p found in let k = grows_one q (with_atoms found p) in omega arith
+
+pub grows : (ps : List (Proposition Atom)) (found : List Atom) → length found ≤ length (all_atoms found ps)
+grows [] found = omega arith
+grows (p ∷ ps) found = let h = grows_one p found in let k = grows ps (with_atoms found p) in omega arith
