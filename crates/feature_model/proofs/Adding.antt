@@ -1,11 +1,16 @@
 -- Constraints and atoms behind others.
-use Rattle.std.proofs.Common.{◌≡◌, ⊤, ℕ, zero, suc, ◌+◌, ◌≤◌, ◌<◌, nat_le, Bool, true, false, cond, List, [], ◌∷◌, ◌++◌, map, length, Result, Ok, Err, refl, sym, ap, subst, ◌∙◌, arith, append_assoc, length-append}
+use Rattle.std.proofs.Common.{◌≡◌, ℕ, zero, suc, ◌+◌, ◌≤◌, ◌<◌, nat_le, Bool, true, false, cond, List, [], ◌∷◌, ◌++◌, map, length, Result, Ok, Err, refl, sym, ap, subst, ◌∙◌, arith, append_assoc, length-append}
+use Rattle.std.specs.Prelude.{⊤}
 use Rattle.std.proofs.lemmas.List.{append-nil}
+use Rattle.std.proofs.lemmas.Bool.{leb-true}
 use Rattle.fam_outer.specs.declared.faults.ConditionFault.{ConditionFault}
 use Rattle.linear_atoms.specs.declared.atoms.Atom.{Atom}
 use Rattle.linear_atoms.specs.declared.atoms.Feature.{Feature}
 use Rattle.cpp_conditions.specs.declared.conditions.Condition.{Condition}
+use Rattle.cpp_conditions.specs.declared.reading.ConditionRefusal.{ConditionRefusal}
+use Rattle.cpp_conditions.specs.declared.reading.ConditionRefusal.TheVariants as conditions
 use Rattle.cpp_conditions.specs.Grammar.{ReadsAs}
+use Rattle.cpp_conditions.specs.Reading.{Reads}
 use Rattle.cpp_conditions.specs.Propositions.{Proposition, Const, Test, Not, And, Or, AreBounded, IsFit}
 use Rattle.cpp_conditions.specs.Validity.{AreFit}
 use Rattle.cpp_conditions.specs.View.{proposition}
@@ -13,13 +18,18 @@ use Rattle.feature_model.specs.declared.faults.ModelFault.{ModelFault}
 use Rattle.feature_model.specs.declared.faults.ModelFault.TheVariants as faults
 use Rattle.feature_model.specs.declared.faults.ModelRefusal.{ModelRefusal}
 use Rattle.feature_model.specs.declared.faults.ModelRefusal.TheVariants as refusals
-use Rattle.feature_model.specs.Constraints.{AreRead, none, refused, first, Adds, AreAllBounded, has_atom, with_atom, with_atoms, all_atoms}
+use Rattle.feature_model.specs.Constraints.{AreRead, none, refused, first, numbered, Adds, AreAllBounded, has_atom, with_atom, with_atoms, all_atoms}
 
 pub nothing_added : (features : List Feature) (n : ℕ) (texts : List (List ℕ)) (old : List Condition) (done : ⊤) → texts ≡ [] → Adds features n texts old old (Ok done)
 nothing_added features n texts old done e = ([], sym (append-nil old), subst (λ ts. AreRead features n ts (Ok [])) (sym e) (none n))
 
-pub text_refused : (features : List Feature) (n : ℕ) (texts behind : List (List ℕ)) (text : List ℕ) (fault : ConditionFault) → texts ≡ text ∷ behind → ReadsAs features text (Err fault) → AreRead features n texts (Err (faults.Constraint n fault))
-text_refused features n texts behind text fault e h = subst (λ ts. AreRead features n ts (Err (faults.Constraint n fault))) (sym e) (refused n text behind fault h)
+refused_by : (features : List Feature) (n : ℕ) (behind : List (List ℕ)) (text : List ℕ) (old : List Condition) (refusal : ConditionRefusal) → Reads features text (Err refusal) → Adds features n (text ∷ behind) old old (Err (numbered n refusal))
+refused_by features n behind text old conditions.NoMemory h = tt
+refused_by features n behind text old (conditions.Fault fault) h = refused n text behind fault h
+
+pub text_refused : (features : List Feature) (n : ℕ) (texts behind : List (List ℕ)) (text : List ℕ) (old : List Condition) (refusal : ConditionRefusal) (given : ModelRefusal) → texts ≡ text ∷ behind → Reads features text (Err refusal) → given ≡ numbered n refusal
+    → Adds features n texts old old (Err given)
+text_refused features n texts behind text old refusal given cut h e = subst (λ ts. Adds features n ts old old (Err given)) (sym cut) (subst (λ g. Adds features n (text ∷ behind) old old (Err g)) (sym e) (refused_by features n behind text old refusal h))
 
 more_added : (features : List Feature) (n : ℕ) (behind : List (List ℕ)) (text : List ℕ) (old mid new : List Condition) (c : Condition) (r : Result ⊤ ModelRefusal) → ReadsAs features text (Ok (proposition c)) → mid ≡ old ++ c ∷ []
     → Adds features (n + 1) behind mid new r → Adds features n (text ∷ behind) old new r
@@ -62,3 +72,10 @@ grows_one (Or p q) found = let h = grows_one p found in let k = grows_one q (wit
 pub grows : (ps : List (Proposition Atom)) (found : List Atom) → length found ≤ length (all_atoms found ps)
 grows [] found = omega arith
 grows (p ∷ ps) found = let h = grows_one p found in let k = grows ps (with_atoms found p) in omega arith
+
+at_most : (n m : ℕ) → 64 < n → n ≤ m → (b : Bool) → nat_le m 64 ≡ b → false ≡ b
+at_most n m h k true e = let l : m ≤ 64 = leb-true m 64 e in absurd (omega arith)
+at_most n m h k false e = refl
+
+pub too_many : (found : List Atom) (ps : List (Proposition Atom)) → 64 < length found → false ≡ nat_le (length (all_atoms found ps)) 64
+too_many found ps h = at_most (length found) (length (all_atoms found ps)) h (grows ps found) _ refl

@@ -127,11 +127,17 @@ distinct earlier n (e ∷ es) h =
 
 -- ---- entries without a fault
 
-pub are_distinct : (es : List Entry) → fault_of es ≡ None → AreDistinct (map feature es)
+are_distinct : (es : List Entry) → fault_of es ≡ None → AreDistinct (map feature es)
 are_distinct es h = distinct [] 1 es (map_none _ _ (first_none _ _ (second_none _ _ h)))
 
-pub are_features : (es : List Entry) → fault_of es ≡ None → length es ≤ 32 → AreFeatures (map feature es)
+are_features : (es : List Entry) → fault_of es ≡ None → length es ≤ 32 → AreFeatures (map feature es)
 are_features es h few = record {
   few = subst (λ n. n ≤ 32) (sym (length_features es)) few;
   ranges = ranges_of 1 es (map_none _ _ (second_none _ _ (second_none _ _ h)));
 }
+
+pub features_so : (whole seen again : List Entry) (made : List Feature) → seen ≡ whole → again ≡ whole → None ≡ fault_of seen → made ≡ map feature again → length whole ≤ 32 → AreFeatures made
+features_so whole seen again made a b h e few = subst AreFeatures (sym (e ∙ ap (map feature) b)) (are_features whole (ap fault_of (sym a) ∙ sym h) few)
+
+pub distinct_so : (whole seen again : List Entry) (made : List Feature) → seen ≡ whole → again ≡ whole → None ≡ fault_of seen → made ≡ map feature again → AreDistinct made
+distinct_so whole seen again made a b h e = subst AreDistinct (sym (e ∙ ap (map feature) b)) (are_distinct whole (ap fault_of (sym a) ∙ sym h))

@@ -1,3 +1,6 @@
 pub mod Adding
+pub mod Answering
+pub mod Ending
 pub mod Judging
 pub mod Repeating
+pub mod Valued

@@ -6,6 +6,8 @@ use Rattle.linear_atoms.specs.declared.atoms.Atom.{Atom}
 use Rattle.linear_atoms.specs.declared.atoms.Feature.{Feature}
 use Rattle.linear_atoms.specs.Order.{same_terms}
 use Rattle.cpp_conditions.specs.declared.conditions.Condition.{Condition}
+use Rattle.cpp_conditions.specs.declared.reading.ConditionRefusal.{ConditionRefusal}
+use Rattle.cpp_conditions.specs.declared.reading.ConditionRefusal.TheVariants as conditions
 use Rattle.cpp_conditions.specs.Grammar.{ReadsAs}
 use Rattle.cpp_conditions.specs.Propositions.{Proposition, Const, Test, Not, And, Or, AreBounded}
 use Rattle.cpp_conditions.specs.View.{proposition}
@@ -56,6 +58,11 @@ AreAllBounded [] = Unit {0}
 AreAllBounded (c ∷ cs) = AreBounded (proposition c) × AreAllBounded cs
 
 -- ---- what the code answers
+
+-- the refusal of the constraint of number n
+abbrev pub numbered : ℕ → ConditionRefusal → ModelRefusal
+numbered n conditions.NoMemory = refusals.NoMemory
+numbered n (conditions.Fault fault) = refusals.Fault (faults.Constraint n fault)
 
 -- behind the old conditions stand those that the texts are read as; or their fault
 abbrev pub Adds : List Feature → ℕ → List (List ℕ) → List Condition → List Condition → Result ⊤ ModelRefusal → Type 0

@@ -46,16 +46,23 @@ pub record Told : Type 0 where
 abbrev pub told : Outline → Result Told ModelFault
 told outline = unless (fault_of outline.entries) (record { features = map feature outline.entries; texts = outline.texts })
 
+abbrev pub told_from : Outline → Result Told ModelFault
+told_from outline = few outline >>= told
+
 abbrev pub outlined : List ℕ → Result Outline ModelFault
 outlined bytes = short bytes >>= λ text. or_fault faults.Json (value_of text) >>= λ value. or_fault faults.Shape (outline_of value)
 
 abbrev pub told_of : List ℕ → Result Told ModelFault
-told_of bytes = outlined bytes >>= λ outline. few outline >>= told
+told_of bytes = outlined bytes >>= told_from
 
 -- ---- what the code answers
 
--- what was made, seen as this, is the expected one, unless memory runs out
+-- the fault is the expected one, unless memory runs out
+abbrev pub Fails : {Y : Type 0} → ModelRefusal → Result Y ModelFault → Type 0
+Fails refusals.NoMemory expected = ⊤
+Fails (refusals.Fault fault) expected = expected ≡ Err fault
+
+-- what was made, seen as this, is the expected one, or the fault is
 abbrev pub Gives : {X Y : Type 0} → (X → Y) → Result X ModelRefusal → Result Y ModelFault → Type 0
 Gives seen (Ok made) expected = expected ≡ Ok (seen made)
-Gives seen (Err refusals.NoMemory) expected = ⊤
-Gives seen (Err (refusals.Fault fault)) expected = expected ≡ Err fault
+Gives seen (Err refusal) expected = Fails refusal expected

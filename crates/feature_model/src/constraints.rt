@@ -26,6 +26,18 @@ fn cut_texts(texts: &[Text]) -> Option<(&Text, &[Text])>
     }
 }
 
+/// The refusal of the constraint of this number.
+fn numbered(number: u32, refusal: ConditionRefusal) -> ModelRefusal
+    ensures { result ≡ constraints.numbered number refusal }
+{
+    match refusal {
+        ConditionRefusal::NoMemory => ModelRefusal::NoMemory,
+        ConditionRefusal::Fault(fault) => {
+            ModelRefusal::Fault(ModelFault::Constraint(number, fault))
+        }
+    }
+}
+
 /// Puts the constraints that the texts spell behind others. The number is that of the first text.
 pub(crate) fn add_constraints(
     alloc: Global,
@@ -45,10 +57,7 @@ pub(crate) fn add_constraints(
     };
     match read_condition(alloc, features, text.bytes()) {
         Ok(condition) => made.push(condition)?,
-        Err(ConditionRefusal::NoMemory) => return Err(ModelRefusal::NoMemory),
-        Err(ConditionRefusal::Fault(fault)) => {
-            return Err(ModelRefusal::Fault(ModelFault::Constraint(number, fault)));
-        }
+        Err(refusal) => return Err(numbered(number, refusal)),
     }
     add_constraints(alloc, features, behind, number + 1, made)
 }

@@ -8,8 +8,8 @@ pub mod models;
 mod names;
 //pub mod settings;
 mod shapes;
-//mod slots;
-//mod values;
+mod slots;
+mod values;
 
 pub use cpp_conditions::is_valid;
 pub use faults::{ConfigFault, ConfigRefusal, ModelFault, ModelRefusal};

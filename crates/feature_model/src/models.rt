@@ -11,7 +11,7 @@ ghost use Rattle.feature_model.specs.Features.{AreDistinct};
 ghost use Rattle.feature_model.specs.Constraints.{AreAllBounded, distinct_atoms};
 ghost use Rattle.feature_model.specs.Models.{Reads, Judges, IsValid, plain};
 ghost use Rattle.feature_model.specs.Shapes.{outline};
-ghost use Rattle.feature_model.specs.Stages.{Gives, or_fault, value_of, outlined, few, told, told_of, ◌>>=◌};
+ghost use Rattle.feature_model.specs.Stages.{Gives, or_fault, value_of, outlined, told_from, told_of};
 
 use crate::constraints::{add_constraints, have_few_atoms};
 use crate::faults::{ModelFault, ModelRefusal};
@@ -65,7 +65,7 @@ fn outlined(alloc: Global, bytes: &[u8]) -> Result<Outline, ModelRefusal>
 
 /// The features of an outline.
 fn told(alloc: Global, made: &Outline) -> Result<Vec<Feature>, ModelRefusal>
-    ensures told { Gives (λ v. record { features = v.items; texts = made.now.texts.items }) result (few (outline made.now) >>= told) }
+    ensures told { Gives (λ v. record { features = v.items; texts = made.now.texts.items }) result (told_from (outline made.now)) }
     ensures features { IfOk result (λ v. AreFeatures v.items) }
     ensures distinct { IfOk result (λ v. AreDistinct v.items) }
     ensures few { IfOk result (λ _. length made.now.texts.items ≤ 256) }
@@ -99,10 +99,12 @@ fn judged(alloc: Global, model: Model) -> Result<Model, ModelRefusal>
     ensures judged { Judges model result }
     ensures same { IfOk result (λ made. made ≡ model) }
 {
-    if !have_few_atoms(alloc, model.constraints.items())? {
+    let are_few = have_few_atoms(alloc, model.constraints.items())?;
+    if !are_few {
         return Err(ModelRefusal::Fault(ModelFault::TooManyTests));
     }
-    match least(alloc, &model, &[])? {
+    let found = least(alloc, &model, &[])?;
+    match found {
         Some(_) => Ok(model),
         None => Err(ModelRefusal::Fault(ModelFault::Void)),
     }
