@@ -3,4 +3,5 @@ pub mod Answering
 pub mod Ending
 pub mod Judging
 pub mod Repeating
+pub mod Setting
 pub mod Valued

@@ -1,5 +1,5 @@
 -- Settings of features, word by word, and the configuration that they give.
-use Rattle.std.specs.Prelude.{◌≡◌, ⊤, ℕ, ◌+◌, ◌≤◌, ◌<◌, ◌==◌, nat_lt, ℤ, pos, neg_ℤ, unsigned_abs, Bool, true, false, not, ◌&&◌, if◌then◌else◌, List, [], ◌∷◌, ◌++◌, length, slice_index_or, slice_set, Option, Some, None, is_some, Result, Ok, Err}
+use Rattle.std.specs.Prelude.{◌≡◌, ⊤, ℕ, ◌+◌, ◌≤◌, ◌<◌, ◌==◌, nat_lt, ℤ, pos, neg_ℤ, unsigned_abs, Bool, true, false, not, ◌&&◌, if◌then◌else◌, List, [], ◌∷◌, ◌++◌, map, length, slice_index_or, slice_set, Option, Some, None, is_some, Result, Ok, Err}
 use Rattle.std.specs.List.{before_first, after_first, position_or_len}
 use Rattle.std.specs.Str.{bytes_eq}
 use Rattle.linear_atoms.specs.declared.atoms.Feature.{Feature}
@@ -79,8 +79,7 @@ steps features n slots (word ∷ words) = step features n slots word >>= λ next
 
 -- no feature is set
 abbrev pub unset : List Feature → List (Option ℤ)
-unset [] = []
-unset (f ∷ fs) = None ∷ unset fs
+unset features = map (λ (f : Feature). None) features
 
 -- ---- configurations
 

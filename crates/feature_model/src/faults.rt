@@ -77,6 +77,17 @@ pub enum ConfigRefusal {
     Fault(ConfigFault),
 }
 
+impl From<NoMemory> for ConfigRefusal {
+    ghost use Rattle.std.specs.Prelude.{◌≡◌};
+    ghost use Rattle.feature_model.specs.declared.faults.ConfigRefusal.TheVariants as refusals;
+
+    ghost from_gives = { λ _ given. given ≡ refusals.NoMemory };
+
+    fn from(_error: NoMemory) -> ConfigRefusal {
+        ConfigRefusal::NoMemory
+    }
+}
+
 impl From<AllocError> for ConfigRefusal {
     ghost use Rattle.std.specs.Prelude.{◌≡◌};
     ghost use Rattle.feature_model.specs.declared.faults.ConfigRefusal.TheVariants as refusals;

@@ -6,7 +6,7 @@ pub mod faults;
 mod features;
 pub mod models;
 mod names;
-//pub mod settings;
+pub mod settings;
 mod shapes;
 mod slots;
 mod values;
@@ -14,7 +14,7 @@ mod values;
 pub use cpp_conditions::is_valid;
 pub use faults::{ConfigFault, ConfigRefusal, ModelFault, ModelRefusal};
 pub use models::read_model;
-//pub use settings::read_config;
+pub use settings::read_config;
 
 //#[cfg(test)]
 //mod tests;

@@ -73,3 +73,22 @@ fn set(
     slots[place] = value;
     Ok(())
 }
+
+/// Sets what a word says; the number is that of the word.
+pub(crate) fn step(
+    features: &[Feature],
+    slots: &mut [Option<i64>],
+    number: u32,
+    word: &str,
+) -> Result<(), ConfigFault>
+    requires features { AreFeatures features.now }
+    requires slots { length slots.old ≡ length features.now }
+    ensures sets { settings.Sets slots.new result (settings.step features.now number slots.old word.now) }
+    ensures length { length slots.new ≡ length slots.old }
+    ensures count { OnOk result (settings.count slots.new ≡ settings.count slots.old + 1) }
+    ensures small { settings.AreSmall slots.old → settings.AreSmall slots.new }
+{
+    let (name, value) = parts(word);
+    let value = value_of(value);
+    set(features, slots, number, name.as_bytes(), value)
+}
