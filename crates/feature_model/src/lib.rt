@@ -16,5 +16,5 @@ pub use faults::{ConfigFault, ConfigRefusal, ModelFault, ModelRefusal};
 pub use models::read_model;
 pub use settings::read_config;
 
-//#[cfg(test)]
-//mod tests;
+#[cfg(test)]
+mod tests;
