@@ -2,6 +2,8 @@ pub mod Adding
 pub mod Answering
 pub mod Ending
 pub mod Judging
+pub mod Once
 pub mod Repeating
 pub mod Setting
+pub mod Valid
 pub mod Valued

@@ -4,6 +4,7 @@
 mod constraints;
 pub mod faults;
 mod features;
+pub mod laws;
 pub mod models;
 mod names;
 pub mod settings;

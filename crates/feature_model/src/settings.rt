@@ -3,9 +3,10 @@
 
 ghost use Rattle.std.specs.Prelude.{◌≡◌, ◌+◌, ◌≤◌, [], ◌∷◌, map, length, string_bytes, IfOk, OnOk, MatchOption};
 ghost use Rattle.std.specs.declared.alloc.Global.{Global};
-ghost use Rattle.linear_atoms.specs.Atoms.{AreValues, IsWithin};
+ghost use Rattle.linear_atoms.specs.Atoms.{AreValues};
 ghost use Rattle.cpp_conditions.specs.Naming.{AreFeatures};
-ghost use Rattle.cpp_conditions.specs.Validity.{AreFit, all_true};
+ghost use Rattle.cpp_conditions.specs.Validity.{AreFit};
+ghost use Rattle.atom_solver.specs.Solutions.{IsValid};
 ghost use Rattle.feature_model.specs.Settings as given;
 
 use crate::faults::{ConfigFault, ConfigRefusal};
@@ -118,6 +119,7 @@ fn checked(model: &Model, config: Config) -> Result<Config, ConfigRefusal>
     requires values { AreValues config.values }
     ensures checked { given.Gives (λ c. c.values) result (given.checked model.now config.values) }
     ensures same { IfOk result (λ made. made.values ≡ config.values) }
+    ensures valid { IfOk result (λ made. IsValid model.now made.values) }
 {
     if is_valid(model, &config) {
         Ok(config)
@@ -150,6 +152,7 @@ pub fn read_config(
     requires fit { AreFit (length model.now.features) model.now.constraints }
     ensures read { given.Gives (λ c. c.values) result (given.config_of model.now (map string_bytes settings.now)) }
     ensures values { IfOk result (λ made. AreValues made.values) }
+    ensures valid { IfOk result (λ made. IsValid model.now made.values) }
 {
     let slots = all_set(alloc, model.features.items(), settings)?;
     let values = settled(alloc, model.features.items(), &slots)?;

@@ -1,6 +1,6 @@
 //! Models and settings, with ample memory.
 
-ghost use Rattle.std.specs.Prelude.{length, IfOk};
+ghost use Rattle.std.specs.Prelude.{◌<◌, length, IfOk};
 ghost use Rattle.cpp_conditions.specs.Naming.{AreFeatures};
 ghost use Rattle.cpp_conditions.specs.Validity.{AreFit};
 
@@ -148,7 +148,8 @@ fn long_and_deep_models_are_refused(rt: HostRuntime) -> Result<(), Fail> {
 /// A model with the features `F1`, `F2` and so on.
 fn switches(alloc: Global, count: u32) -> Result<String, Fail> {
     let mut text = String::from_str(alloc, "{\"features\":[{\"name\":\"F1\"}")?;
-    for number in 2..count + 1 {
+    for before in 1..count {
+        let number = before + 1;
         let feature = format!(in alloc; ",{{\"name\":\"F{number}\"}}")?;
         text.push_str(feature.as_str())?;
     }
@@ -157,7 +158,9 @@ fn switches(alloc: Global, count: u32) -> Result<String, Fail> {
 }
 
 /// A model of `N` from 0 to 100 with so many constraints, of so many distinct tests.
-fn tests(alloc: Global, count: u32, distinct: u32) -> Result<String, Fail> {
+fn tests(alloc: Global, count: u32, distinct: u32) -> Result<String, Fail>
+    requires { 0 < distinct }
+{
     let mut text = String::from_str(
         alloc,
         "{\"features\":[{\"name\":\"N\",\"min\":0,\"max\":100}],\"constraints\":[\"1\"",
