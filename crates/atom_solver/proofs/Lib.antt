@@ -1,6 +1,7 @@
 pub mod Below
 pub mod Cutting
 pub mod Known
+pub mod Narrowed
 pub mod Ordered
 pub mod Pointing
 pub mod Splitting

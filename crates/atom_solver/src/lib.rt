@@ -3,6 +3,7 @@
 
 mod bounds;
 mod deciding;
+mod narrowing;
 pub mod plausibility;
 mod points;
 mod searching;
