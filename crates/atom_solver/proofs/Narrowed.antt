@@ -5,7 +5,8 @@ use Rattle.linear_atoms.specs.declared.atoms.Config.{Config}
 use Rattle.linear_atoms.specs.declared.atoms.Atom.{Atom}
 use Rattle.linear_atoms.specs.Atoms.{IsWithin, AreRanges}
 use Rattle.cpp_conditions.specs.declared.conditions.Condition.{Condition}
-use Rattle.cpp_conditions.specs.Propositions.{Proposition}
+use Rattle.cpp_conditions.specs.Propositions.{Proposition, IsFit}
+use Rattle.cpp_conditions.specs.Validity.{AreFit}
 use Rattle.atom_solver.specs.declared.spans.Span.{Span}
 use Rattle.atom_solver.specs.Narrowing.{Narrows}
 use Rattle.atom_solver.specs.Spans.{ranges, width, meets, FindsIn}
@@ -165,3 +166,17 @@ narrowed_finds cs p old new (Some k) n f = record {
   met = f.met;
   first = λ vs h m b. f.first vs (n.kept vs h m) m b;
 }
+
+-- ---- the calls of the search
+
+pub ready_at : (old whole : List Span) (cs : List Condition) (w : Proposition Atom) → Narrows cs w old whole → AreFit (length old) cs → IsFit (length old) w → AreFit (length whole) cs × (IsFit (length whole) w × AreRanges (ranges whole))
+ready_at old whole cs w n f g = (subst (λ x. AreFit x cs) (sym n.long) f, (subst (λ x. IsFit x w) (sym n.long) g, n.some))
+
+pub ready_inside : (old whole half d : List Span) (cs : List Condition) (w : Proposition Atom) (t : ℕ) → Narrows cs w old whole → IsHalf whole half → d ≡ half → width old ≡ t
+    → AreFit (length old) cs → IsFit (length old) w → (width d < t) × (AreFit (length d) cs × (IsFit (length d) w × AreRanges (ranges d)))
+ready_inside old whole half d cs w t n h e m f g =
+    let k : width half < width whole = h.narrower in
+    let o : width whole ≤ width old = n.no_wider in
+    let q : width d ≡ width half = ap width e in
+    let l : length d ≡ length old = ap length e ∙ h.long ∙ n.long in
+    (omega arith, (subst (λ x. AreFit x cs) (sym l) f, (subst (λ x. IsFit x w) (sym l) g, subst (λ x. AreRanges (ranges x)) (sym e) h.are_ranges)))
