@@ -71,39 +71,59 @@ fn halve(
     false
 }
 
-/// Halves the range at a place as often as bounds rule out a half.
+/// Halves the range at a place as often as bounds rule out a half. It answers whether they did.
 fn narrow_at(
     spans: &mut [Span],
     place: usize,
     constraints: &[Condition],
     wanted: &Condition,
-)
+) -> bool
     requires place { place < length spans.old }
     requires constraints { AreFit (length spans.old) constraints.now }
     requires wanted { IsFit (length spans.old) (proposition wanted.now) }
     requires ranges { AreRanges (ranges spans.old) }
-    ensures { Narrows constraints.now (proposition wanted.now) spans.old spans.new }
+    ensures narrows { Narrows constraints.now (proposition wanted.now) spans.old spans.new }
+    ensures smaller { result ≡ true → width spans.new < width spans.old }
 {
     if halve(spans, place, constraints, wanted) {
-        narrow_at(spans, place, constraints, wanted);
+        let _more = narrow_at(spans, place, constraints, wanted);
+        true
+    } else {
+        false
     }
 }
 
-/// Narrows each range from a place on.
+/// Narrows each range from a place on. It answers whether one became smaller.
 fn narrow_from(
     spans: &mut [Span],
     place: usize,
     constraints: &[Condition],
     wanted: &Condition,
-)
+) -> bool
+    requires constraints { AreFit (length spans.old) constraints.now }
+    requires wanted { IsFit (length spans.old) (proposition wanted.now) }
+    requires ranges { AreRanges (ranges spans.old) }
+    ensures narrows { Narrows constraints.now (proposition wanted.now) spans.old spans.new }
+    ensures smaller { result ≡ true → width spans.new < width spans.old }
+{
+    if place >= spans.len() {
+        return false;
+    }
+    let here = narrow_at(spans, place, constraints, wanted);
+    let later = narrow_from(spans, place + 1, constraints, wanted);
+    here || later
+}
+
+/// Narrows all ranges, until none becomes smaller.
+fn narrow(spans: &mut [Span], constraints: &[Condition], wanted: &Condition)
     requires constraints { AreFit (length spans.old) constraints.now }
     requires wanted { IsFit (length spans.old) (proposition wanted.now) }
     requires ranges { AreRanges (ranges spans.old) }
     ensures { Narrows constraints.now (proposition wanted.now) spans.old spans.new }
 {
-    if place < spans.len() {
-        narrow_at(spans, place, constraints, wanted);
-        narrow_from(spans, place + 1, constraints, wanted);
+    let mut is_smaller = true;
+    'rounds: while is_smaller {
+        is_smaller = narrow_from(spans, 0, constraints, wanted);
     }
 }
 
@@ -120,6 +140,6 @@ pub(crate) fn narrowed(
     ensures { IfOk result (λ made. Narrows constraints.now (proposition wanted.now) spans.now made.items) }
 {
     let mut inner = Vec::from_slice(alloc, spans)?;
-    narrow_from(&mut inner, 0, constraints, wanted);
+    narrow(&mut inner, constraints, wanted);
     Ok(inner)
 }
