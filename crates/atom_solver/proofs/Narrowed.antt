@@ -8,7 +8,7 @@ use Rattle.cpp_conditions.specs.declared.conditions.Condition.{Condition}
 use Rattle.cpp_conditions.specs.Propositions.{Proposition, IsFit}
 use Rattle.cpp_conditions.specs.Validity.{AreFit}
 use Rattle.atom_solver.specs.declared.spans.Span.{Span}
-use Rattle.atom_solver.specs.Narrowing.{Narrows}
+use Rattle.atom_solver.specs.Narrowing.{IsOut, Narrows}
 use Rattle.atom_solver.specs.Spans.{ranges, width, meets, FindsIn}
 use Rattle.atom_solver.proofs.Cutting.{AreSmall}
 use Rattle.atom_solver.proofs.Splitting.{side, IsHalf, half_at, nowhere}
@@ -50,9 +50,6 @@ pub record AreParts (w l r : Span) : Type 0 where
   pub right : r.low ≤ℤ r.high
   pub high : r.high ≡ w.high
 
-IsOut : List Condition → Proposition Atom → List Span → Type 0
-IsOut cs p ss = (vs : List ℤ) → IsWithin (ranges ss) vs → meets cs p vs ≡ false
-
 record AreHalves (ss lower upper : List Span) : Type 0 where
   is_lower : IsHalf ss lower
   is_upper : IsHalf ss upper
@@ -92,7 +89,7 @@ pub record Halved (cs : List Condition) (p : Proposition Atom) (old new : List S
   pub narrows : Narrows cs p old new
   pub smaller : width new < width old
 
-upper_left : (cs : List Condition) (p : Proposition Atom) (ss : List Span) (i : ℕ) (w l r : Span) → i < length ss → w ≡ get_or ss i w → AreParts w l r → AreRanges (ranges ss) → ((vs : List ℤ) → IsWithin (ranges (set ss i l)) vs → meets cs p vs ≡ false)
+upper_left : (cs : List Condition) (p : Proposition Atom) (ss : List Span) (i : ℕ) (w l r : Span) → i < length ss → w ≡ get_or ss i w → AreParts w l r → AreRanges (ranges ss) → IsOut cs p (set ss i l)
     → Halved cs p ss (set ss i r)
 upper_left cs p ss i w l r h e q k out =
     let m = halves ss i w l r h e q k in
@@ -101,7 +98,7 @@ upper_left cs p ss i w l r h e q k out =
       smaller = m.is_upper.narrower;
     }
 
-lower_left : (cs : List Condition) (p : Proposition Atom) (ss : List Span) (i : ℕ) (w l r : Span) → i < length ss → w ≡ get_or ss i w → AreParts w l r → AreRanges (ranges ss) → ((vs : List ℤ) → IsWithin (ranges (set ss i r)) vs → meets cs p vs ≡ false)
+lower_left : (cs : List Condition) (p : Proposition Atom) (ss : List Span) (i : ℕ) (w l r : Span) → i < length ss → w ≡ get_or ss i w → AreParts w l r → AreRanges (ranges ss) → IsOut cs p (set ss i r)
     → Halved cs p ss (set ss i l)
 lower_left cs p ss i w l r h e q k out =
     let m = halves ss i w l r h e q k in
@@ -110,34 +107,24 @@ lower_left cs p ss i w l r h e q k out =
       smaller = m.is_lower.narrower;
     }
 
-pub upper_kept : (cs : List Condition) (p : Proposition Atom) (ss again : List Span) (i : ℕ) (w l r : Span) → again ≡ ss → i < length ss → w ≡ get_or ss i w → AreParts w l r → AreRanges (ranges ss) → ((vs : List ℤ) → IsWithin (ranges (set ss i l)) vs → meets cs p vs ≡ false)
-    → Halved cs p ss (set again i r)
-upper_kept cs p ss again i w l r same h e q k out = subst (λ x. Halved cs p ss (set x i r)) (sym same) (upper_left cs p ss i w l r h e q k out)
+-- the range at a place without its first part, which is out
+pub raised : (cs : List Condition) (p : Proposition Atom) (ss again new : List Span) (i : ℕ) (w l r : Span) → again ≡ ss → new ≡ again → i < length ss → w ≡ get_or ss i w → AreRanges (ranges ss)
+    → l.low ≡ w.low → l.low ≤ℤ l.high → l.high <ℤ w.high → r.low ≡ l.high +ℤ pos 1 → r.high ≡ w.high → IsOut cs p (set again i l) → Halved cs p ss (set new i r)
+raised cs p ss again new i w l r same more h e k a b c d f out =
+    let g : r.low ≤ℤ r.high = omega (arith, ints) in
+    let q : AreParts w l r = record { low = a; left = b; met = d; right = g; high = f } in
+    subst (λ x. Halved cs p ss (set x i r)) (sym (more ∙ same)) (upper_left cs p ss i w l r h e q k (subst (λ x. IsOut cs p (set x i l)) same out))
 
-pub lower_kept : (cs : List Condition) (p : Proposition Atom) (ss again last : List Span) (i : ℕ) (w l r : Span) → again ≡ ss → last ≡ again → i < length ss → w ≡ get_or ss i w → AreParts w l r → AreRanges (ranges ss)
-    → ((vs : List ℤ) → IsWithin (ranges (set again i r)) vs → meets cs p vs ≡ false) → Halved cs p ss (set last i l)
-lower_kept cs p ss again last i w l r same more h e q k out =
-    subst (λ x. Halved cs p ss (set x i l)) (sym (more ∙ same)) (lower_left cs p ss i w l r h e q k (subst (λ x. (vs : List ℤ) → IsWithin (ranges (set x i r)) vs → meets cs p vs ≡ false) same out))
+-- the range at a place without its last part, which is out
+pub lowered : (cs : List Condition) (p : Proposition Atom) (ss again new : List Span) (i : ℕ) (w l r : Span) → again ≡ ss → new ≡ again → i < length ss → w ≡ get_or ss i w → AreRanges (ranges ss)
+    → r.high ≡ w.high → r.low ≤ℤ r.high → w.low <ℤ r.low → l.low ≡ w.low → r.low ≡ l.high +ℤ pos 1 → IsOut cs p (set again i r) → Halved cs p ss (set new i l)
+lowered cs p ss again new i w l r same more h e k a b c d f out =
+    let g : l.low ≤ℤ l.high = omega (arith, ints) in
+    let q : AreParts w l r = record { low = d; left = g; met = f; right = b; high = a } in
+    subst (λ x. Halved cs p ss (set x i l)) (sym (more ∙ same)) (lower_left cs p ss i w l r h e q k (subst (λ x. IsOut cs p (set x i r)) same out))
 
-pub lower_small : (w l r : Span) → AreParts w l r → AreSmall w → AreSmall l
-lower_small w l r p h =
-    let a : l.low ≡ w.low = p.low in
-    let b : l.low ≤ℤ l.high = p.left in
-    let c : r.low ≡ l.high +ℤ pos 1 = p.met in
-    let d : r.low ≤ℤ r.high = p.right in
-    let e : r.high ≡ w.high = p.high in
-    let m = h.low in let n = h.high in
-    record { low = omega (arith, ints); high = omega (arith, ints) }
-
-pub upper_small : (w l r : Span) → AreParts w l r → AreSmall w → AreSmall r
-upper_small w l r p h =
-    let a : l.low ≡ w.low = p.low in
-    let b : l.low ≤ℤ l.high = p.left in
-    let c : r.low ≡ l.high +ℤ pos 1 = p.met in
-    let d : r.low ≤ℤ r.high = p.right in
-    let e : r.high ≡ w.high = p.high in
-    let m = h.low in let n = h.high in
-    record { low = omega (arith, ints); high = omega (arith, ints) }
+pub small_between : (a m z : ℤ) → a ≤ℤ m → m ≤ℤ z → unsigned_abs a ≤ 1048576 → unsigned_abs z ≤ 1048576 → unsigned_abs m ≤ 1048576
+small_between a m z h k p q = omega (arith, ints)
 
 -- ---- one after another
 
