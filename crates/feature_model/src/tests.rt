@@ -190,6 +190,45 @@ fn models_have_limits(rt: HostRuntime) -> Result<(), Fail> {
     Ok(())
 }
 
+/// A model of 32 features from -2^20 to 2^20, with these constraints.
+fn wide(alloc: Global, constraints: &str) -> Result<String, Fail> {
+    let mut text = String::from_str(
+        alloc,
+        "{\"features\":[{\"name\":\"N1\",\"min\":-1048576,\"max\":1048576}",
+    )?;
+    for before in 1..32u32 {
+        let number = before + 1;
+        let feature = format!(in alloc; ",{{\"name\":\"N{number}\",\"min\":-1048576,\"max\":1048576}}")?;
+        text.push_str(feature.as_str())?;
+    }
+    text.push_str("],\"constraints\":")?;
+    text.push_str(constraints)?;
+    text.push_str("}")?;
+    Ok(text)
+}
+
+#[test]
+fn wide_models_are_judged_by_bounds(rt: HostRuntime) -> Result<(), Fail> {
+    let alloc = rt.alloc();
+    let cases = [
+        ("[\"N31 >= 5\",\"N31 <= 3\"]", Some(ModelFault::Void)),
+        ("[\"N1 + N2 + N32 >= 3145728\"]", None),
+        (
+            "[\"N1 >= N2 + 600000\",\"N2 >= N3 + 600000\",\"N3 >= N4 + 600000\"]",
+            None,
+        ),
+        (
+            "[\"N1 >= N2 + 600000\",\"N2 >= N3 + 600000\",\"N3 >= N4 + 600000\",\"N4 >= N5 + 600000\"]",
+            Some(ModelFault::Void),
+        ),
+    ];
+    for (constraints, expected) in cases {
+        let text = wide(alloc, constraints)?;
+        assert_eq!(rt; fault(alloc, text.as_bytes())?, expected);
+    }
+    Ok(())
+}
+
 /// The values that words give `A` and `N`, or the fault.
 fn configured(
     alloc: Global,
