@@ -8,7 +8,8 @@ use Rattle.cpp_conditions.specs.Naming.{AreFeatures}
 use Rattle.feature_model.specs.declared.faults.ModelFault.{ModelFault}
 use Rattle.feature_model.specs.declared.faults.ModelFault.TheVariants as faults
 use Rattle.feature_model.specs.declared.shapes.Entry.{Entry}
-use Rattle.feature_model.specs.Features.{feature, feature_by, is_bad_range, first_where, has_name, first_repeated, or_else, fault_of, AreDistinct}
+use Rattle.feature_model.specs.Features.{feature, feature_by, is_bad_range, first_where, has_name, first_repeated, or_else, fault_of, AreDistinct, AreNamed, HaveSwitches}
+use Rattle.feature_model.specs.Names.{is_misnamed}
 
 pub length_features : (es : List Entry) → length (map feature es) ≡ length es
 length_features [] = refl
@@ -135,6 +136,24 @@ are_features es h few = record {
   few = subst (λ n. n ≤ 32) (sym (length_features es)) few;
   ranges = ranges_of 1 es (map_none _ _ (second_none _ _ (second_none _ _ h)));
 }
+
+named_of : (n : ℕ) (es : List Entry) → first_where (λ (e : Entry). is_misnamed e.name) n es ≡ None → AreNamed (map feature es)
+named_of n [] h = tt
+named_of n (e ∷ es) h = (ap is_misnamed (name_of e.name e.range) ∙ here _ _ _ h, named_of (n + 1) es (later _ _ _ h))
+
+switch_of : (name : List ℕ) (range : Option (ℤ × ℤ)) → (feature_by name range).boolean ≡ true → ((feature_by name range).low ≡ pos 0) × ((feature_by name range).high ≡ pos 1)
+switch_of name None h = (refl, refl)
+switch_of name (Some r) h = cc
+
+switches_of : (es : List Entry) → HaveSwitches (map feature es)
+switches_of [] = tt
+switches_of (e ∷ es) = (switch_of e.name e.range, switches_of es)
+
+pub named_so : (whole seen again : List Entry) (made : List Feature) → seen ≡ whole → again ≡ whole → None ≡ fault_of seen → made ≡ map feature again → AreNamed made
+named_so whole seen again made a b h e = subst AreNamed (sym (e ∙ ap (map feature) b)) (named_of 1 whole (map_none _ _ (first_none _ _ (ap fault_of (sym a) ∙ sym h))))
+
+pub switches_so : (again : List Entry) (made : List Feature) → made ≡ map feature again → HaveSwitches made
+switches_so again made e = subst HaveSwitches (sym e) (switches_of again)
 
 pub features_so : (whole seen again : List Entry) (made : List Feature) → seen ≡ whole → again ≡ whole → None ≡ fault_of seen → made ≡ map feature again → length whole ≤ 32 → AreFeatures made
 features_so whole seen again made a b h e few = subst AreFeatures (sym (e ∙ ap (map feature) b)) (are_features whole (ap fault_of (sym a) ∙ sym h) few)

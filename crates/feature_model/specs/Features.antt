@@ -53,3 +53,13 @@ fault_of entries =
 abbrev pub AreDistinct : List Feature → Type 0
 AreDistinct [] = Unit {0}
 AreDistinct (f ∷ fs) = (found f.name fs ≡ None) × AreDistinct fs
+
+-- each name is an identifier that begins with at most one underscore and has no meaning of its own
+abbrev pub AreNamed : List Feature → Type 0
+AreNamed [] = Unit {0}
+AreNamed (f ∷ fs) = (is_misnamed f.name ≡ false) × AreNamed fs
+
+-- a Boolean feature has the values 0 and 1
+abbrev pub HaveSwitches : List Feature → Type 0
+HaveSwitches [] = Unit {0}
+HaveSwitches (f ∷ fs) = (f.boolean ≡ true → (f.low ≡ pos 0) × (f.high ≡ pos 1)) × HaveSwitches fs

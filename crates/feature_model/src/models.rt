@@ -7,7 +7,7 @@ ghost use Rattle.cpp_conditions.specs.Validity.{AreFit};
 ghost use Rattle.cpp_conditions.specs.View.{proposition};
 ghost use Rattle.serde_json.specs.View.{view};
 ghost use Rattle.feature_model.specs.declared.faults.ModelFault.TheVariants as faults;
-ghost use Rattle.feature_model.specs.Features.{AreDistinct};
+ghost use Rattle.feature_model.specs.Features.{AreDistinct, AreNamed, HaveSwitches};
 ghost use Rattle.feature_model.specs.Constraints.{AreAllBounded, distinct_atoms};
 ghost use Rattle.feature_model.specs.Models.{Reads, Judges, IsValid, plain};
 ghost use Rattle.feature_model.specs.Shapes.{outline};
@@ -68,6 +68,8 @@ fn told(alloc: Global, made: &Outline) -> Result<Vec<Feature>, ModelRefusal>
     ensures told { Gives (λ v. record { features = v.items; texts = made.now.texts.items }) result (told_from (outline made.now)) }
     ensures features { IfOk result (λ v. AreFeatures v.items) }
     ensures distinct { IfOk result (λ v. AreDistinct v.items) }
+    ensures named { IfOk result (λ v. AreNamed v.items) }
+    ensures switches { IfOk result (λ v. HaveSwitches v.items) }
     ensures few { IfOk result (λ _. length made.now.texts.items ≤ 256) }
 {
     if made.entries.len() > MOST_FEATURES || made.texts.len() > MOST_CONSTRAINTS {
@@ -84,6 +86,8 @@ fn told_of(alloc: Global, bytes: &[u8]) -> Result<(Vec<Feature>, Vec<Text>), Mod
     ensures told { Gives (λ x. record { features = x.0.items; texts = x.1.items }) result (told_of bytes.now) }
     ensures features { IfOk result (λ x. AreFeatures x.0.items) }
     ensures distinct { IfOk result (λ x. AreDistinct x.0.items) }
+    ensures named { IfOk result (λ x. AreNamed x.0.items) }
+    ensures switches { IfOk result (λ x. HaveSwitches x.0.items) }
     ensures few { IfOk result (λ x. length x.1.items ≤ 256) }
 {
     let outline = outlined(alloc, bytes)?;
@@ -134,6 +138,8 @@ pub fn read_model(alloc: Global, bytes: &[u8]) -> Result<Model, ModelRefusal>
     ensures read { Reads bytes.now result }
     ensures features { IfOk result (λ made. AreFeatures made.features) }
     ensures distinct { IfOk result (λ made. AreDistinct made.features) }
+    ensures named { IfOk result (λ made. AreNamed made.features) }
+    ensures switches { IfOk result (λ made. HaveSwitches made.features) }
     ensures fit { IfOk result (λ made. AreFit (length made.features) made.constraints) }
     ensures bounded { IfOk result (λ made. AreAllBounded made.constraints) }
     ensures atoms { IfOk result (λ made. length (distinct_atoms (map proposition made.constraints)) ≤ 64) }
