@@ -1,9 +1,8 @@
 -- Constraints and atoms behind others.
-use Rattle.std.proofs.Common.{◌≡◌, ℕ, zero, suc, ◌+◌, ◌≤◌, ◌<◌, nat_le, Bool, true, false, cond, List, [], ◌∷◌, ◌++◌, map, length, Result, Ok, Err, refl, sym, ap, subst, ◌∙◌, arith, append_assoc, length-append}
+use Rattle.std.proofs.Common.{◌≡◌, ℕ, ◌+◌, ◌≤◌, ◌<◌, nat_le, Bool, true, false, cond, List, [], ◌∷◌, ◌++◌, map, length, Result, Ok, Err, refl, sym, ap, subst, ◌∙◌, arith, append_assoc, length-append}
 use Rattle.std.specs.Prelude.{⊤}
 use Rattle.std.proofs.lemmas.List.{append-nil}
 use Rattle.std.proofs.lemmas.Bool.{leb-true}
-use Rattle.fam_outer.specs.declared.faults.ConditionFault.{ConditionFault}
 use Rattle.linear_atoms.specs.declared.atoms.Atom.{Atom}
 use Rattle.linear_atoms.specs.declared.atoms.Feature.{Feature}
 use Rattle.cpp_conditions.specs.declared.conditions.Condition.{Condition}
@@ -14,11 +13,9 @@ use Rattle.cpp_conditions.specs.Reading.{Reads}
 use Rattle.cpp_conditions.specs.Propositions.{Proposition, Const, Test, Not, And, Or, AreBounded, IsFit}
 use Rattle.cpp_conditions.specs.Validity.{AreFit}
 use Rattle.cpp_conditions.specs.View.{proposition}
-use Rattle.feature_model.specs.declared.faults.ModelFault.{ModelFault}
-use Rattle.feature_model.specs.declared.faults.ModelFault.TheVariants as faults
 use Rattle.feature_model.specs.declared.faults.ModelRefusal.{ModelRefusal}
 use Rattle.feature_model.specs.declared.faults.ModelRefusal.TheVariants as refusals
-use Rattle.feature_model.specs.Constraints.{AreRead, none, refused, first, numbered, Adds, AreAllBounded, has_atom, with_atom, with_atoms, all_atoms}
+use Rattle.feature_model.specs.Constraints.{AreRead, none, refused, first, numbered, Adds, AreAllBounded, has_atom, with_atoms, all_atoms}
 
 pub nothing_added : (features : List Feature) (n : ℕ) (texts : List (List ℕ)) (old : List Condition) (done : ⊤) → texts ≡ [] → Adds features n texts old old (Ok done)
 nothing_added features n texts old done e = ([], sym (append-nil old), subst (λ ts. AreRead features n ts (Ok [])) (sym e) (none n))

@@ -1,5 +1,5 @@
 -- What is answered of bytes, from what is answered of their parts.
-use Rattle.std.proofs.Common.{◌≡◌, ℕ, ℤ, List, [], ◌∷◌, ◌++◌, map, Result, Ok, Err, refl, sym, ap, subst, ◌∙◌}
+use Rattle.std.proofs.Common.{◌≡◌, ℕ, ℤ, List, [], map, Result, Ok, Err, refl, sym, ap, subst, ◌∙◌}
 use Rattle.std.specs.Prelude.{IfOk, ⊤}
 use Rattle.linear_atoms.specs.declared.atoms.Feature.{Feature}
 use Rattle.cpp_conditions.specs.declared.conditions.Condition.{Condition}
@@ -9,8 +9,8 @@ use Rattle.feature_model.specs.declared.faults.ModelFault.{ModelFault}
 use Rattle.feature_model.specs.declared.faults.ModelRefusal.{ModelRefusal}
 use Rattle.feature_model.specs.declared.faults.ModelRefusal.TheVariants as refusals
 use Rattle.feature_model.specs.Constraints.{AreRead, Adds}
-use Rattle.feature_model.specs.Models.{Plain, plain, IsValid, Says, Ends, too_many_tests, void, accepted, IsReadAs, untold, refused, said, Judges, Reads}
-use Rattle.feature_model.specs.Stages.{Told, told_of, Fails}
+use Rattle.feature_model.specs.Models.{Plain, plain, IsValid, Says, Ends, too_many_tests, void, accepted, untold, refused, said, Judges, Reads}
+use Rattle.feature_model.specs.Stages.{told_of, Fails}
 
 pub untold_so : (bytes : List ℕ) (e : ModelRefusal) → Fails e (told_of bytes) → Reads bytes (Err e)
 untold_so bytes refusals.NoMemory h = tt

@@ -1,12 +1,11 @@
 -- What entries without a fault are as features.
-use Rattle.std.proofs.Common.{◌≡◌, ℕ, zero, suc, ◌+◌, ◌≤◌, ◌≤ℤ◌, ℤ, pos, neg_ℤ, int_lt, unsigned_abs, Bool, true, false, ◌||◌, cond, List, [], ◌∷◌, ◌++◌, map, length, Option, Some, None, option_map, refl, sym, ap, subst, ◌∙◌, arith, bytes_eq}
+use Rattle.std.proofs.Common.{◌≡◌, ℕ, suc, ◌+◌, ◌≤◌, ◌≤ℤ◌, ℤ, pos, neg_ℤ, int_lt, unsigned_abs, Bool, true, false, ◌||◌, cond, List, [], ◌∷◌, ◌++◌, map, length, Option, Some, None, option_map, refl, sym, ap, subst, ◌∙◌, arith, bytes_eq}
 use Rattle.std.proofs.lemmas.Int.{ints}
 use Rattle.linear_atoms.specs.declared.atoms.Feature.{Feature}
 use Rattle.linear_atoms.specs.Atoms.{AreRanges}
 use Rattle.cpp_conditions.specs.Expressions.{found}
 use Rattle.cpp_conditions.specs.Naming.{AreFeatures}
 use Rattle.feature_model.specs.declared.faults.ModelFault.{ModelFault}
-use Rattle.feature_model.specs.declared.faults.ModelFault.TheVariants as faults
 use Rattle.feature_model.specs.declared.shapes.Entry.{Entry}
 use Rattle.feature_model.specs.Features.{feature, feature_by, is_bad_range, first_where, has_name, first_repeated, or_else, fault_of, AreDistinct, AreNamed, HaveSwitches}
 use Rattle.feature_model.specs.Names.{is_misnamed}

@@ -1,12 +1,12 @@
 -- Bytes are read in one way.
-use Rattle.std.proofs.Common.{◌≡◌, ℕ, ◌+◌, ◌≤◌, ◌<◌, ℤ, List, [], ◌∷◌, length, Result, Ok, Err, refl, sym, ap, subst, ◌∙◌, arith}
+use Rattle.std.proofs.Common.{◌≡◌, ℕ, ◌+◌, List, ◌∷◌, Result, Ok, Err, refl, sym, ap, subst, ◌∙◌, arith}
 use Rattle.fam_outer.specs.declared.faults.ConditionFault.{ConditionFault}
 use Rattle.linear_atoms.specs.declared.atoms.Atom.{Atom}
 use Rattle.linear_atoms.specs.declared.atoms.Feature.{Feature}
 use Rattle.cpp_conditions.specs.Grammar.{ReadsAs}
 use Rattle.cpp_conditions.specs.Propositions.{Proposition}
 use Rattle.feature_model.specs.declared.faults.ModelFault.{ModelFault}
-use Rattle.feature_model.specs.Constraints.{AreRead, none, refused, first, distinct_atoms}
+use Rattle.feature_model.specs.Constraints.{AreRead, none, refused, first}
 use Rattle.feature_model.specs.Models as models
 use Rattle.feature_model.specs.Models.{Plain, IsValid, Says, Ends, IsReadAs, untold, said}
 use Rattle.feature_model.specs.Stages.{Told, told_of, ◌>>=◌}

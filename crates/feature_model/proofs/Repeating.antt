@@ -1,5 +1,5 @@
 -- The first entry whose name an earlier one has.
-use Rattle.std.proofs.Common.{◌≡◌, ℕ, zero, suc, ◌+◌, false, cond, List, [], ◌∷◌, ◌++◌, take, drop, Option, Some, refl, sym, ap, subst, ◌∙◌, add-one}
+use Rattle.std.proofs.Common.{◌≡◌, ℕ, zero, suc, ◌+◌, false, cond, List, [], ◌∷◌, ◌++◌, take, drop, Option, Some, sym, ap, subst, ◌∙◌, add-one}
 use Rattle.feature_model.specs.declared.shapes.Entry.{Entry}
 use Rattle.feature_model.specs.Features.{has_name, first_repeated}
 

@@ -1,9 +1,9 @@
 -- Values that are set, and how many.
-use Rattle.std.proofs.Common.{◌≡◌, ℕ, zero, suc, ◌+◌, ◌*◌, ◌-◌, ◌≤◌, ◌<◌, ℤ, pos, ◌≤ℤ◌, int_le, unsigned_abs, FitsSigned, to_z, of_z, w64, Bool, true, false, ◌&&◌, List, [], ◌∷◌, ◌++◌, length, get_or, set, Option, Some, None, refl, sym, ap, subst, ◌∙◌, arith, is_some}
+use Rattle.std.proofs.Common.{◌≡◌, ℕ, zero, suc, ◌+◌, ◌*◌, ◌-◌, ◌≤◌, ◌<◌, ℤ, pos, ◌≤ℤ◌, int_le, unsigned_abs, FitsSigned, to_z, of_z, w64, Bool, true, false, ◌&&◌, List, [], ◌∷◌, ◌++◌, length, set, Option, Some, None, refl, sym, ap, subst, ◌∙◌, arith}
 use Rattle.std.proofs.lemmas.Int.{ints, to_z-of_z}
 use Rattle.linear_atoms.specs.declared.atoms.Feature.{Feature}
 use Rattle.cpp_conditions.specs.Tokens.{number_from}
-use Rattle.std.specs.Prelude.{IfSome, map, Result, Ok, Err, cond, ⊤}
+use Rattle.std.specs.Prelude.{IfSome, Result, Ok, Err, cond, ⊤}
 use Rattle.std.specs.Str.{bytes_eq}
 use Rattle.linear_atoms.specs.Atoms.{AreRanges, AreValues}
 use Rattle.feature_model.specs.declared.faults.ConfigFault.{ConfigFault}

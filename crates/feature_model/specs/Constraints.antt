@@ -22,7 +22,7 @@ pub data AreRead (features : List Feature) : ℕ → List (List ℕ) → Result 
   none : (n : ℕ) → AreRead features n [] (Ok [])
   refused : (n : ℕ) (text : List ℕ) (texts : List (List ℕ)) (fault : ConditionFault) → ReadsAs features text (Err fault) → AreRead features n (text ∷ texts) (Err (faults.Constraint n fault))
   first : (n : ℕ) (text : List ℕ) (texts : List (List ℕ)) (p : Proposition Atom) (others : Result (List (Proposition Atom)) ModelFault) → ReadsAs features text (Ok p) → AreRead features (n + 1) texts others
-    → AreRead features n (text ∷ texts) (others >>= λ ps. Ok (p ∷ ps))
+      → AreRead features n (text ∷ texts) (others >>= λ ps. Ok (p ∷ ps))
 
 -- ---- atoms
 

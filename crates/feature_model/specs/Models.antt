@@ -1,10 +1,9 @@
 -- Which model bytes are read as, and which refusal the others have.
-use Rattle.std.specs.Prelude.{◌≡◌, ⊤, ℕ, ◌<◌, ◌≤◌, ℤ, Bool, true, false, ◌&&◌, List, [], ◌∷◌, map, length, Result, Ok, Err}
+use Rattle.std.specs.Prelude.{◌≡◌, ⊤, ℕ, ◌<◌, ◌≤◌, ℤ, Bool, true, ◌&&◌, List, [], ◌∷◌, map, length, Result, Ok, Err}
 use Rattle.linear_atoms.specs.declared.atoms.Atom.{Atom}
 use Rattle.linear_atoms.specs.declared.atoms.Feature.{Feature}
 use Rattle.linear_atoms.specs.Atoms.{IsWithin}
 use Rattle.cpp_conditions.specs.declared.models.Model.{Model}
-use Rattle.cpp_conditions.specs.Naming.{AreFeatures}
 use Rattle.cpp_conditions.specs.Propositions.{Proposition, true_at}
 use Rattle.cpp_conditions.specs.View.{proposition}
 use Rattle.feature_model.specs.declared.faults.ModelFault.{ModelFault}

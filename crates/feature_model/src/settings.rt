@@ -87,7 +87,8 @@ fn settle(
     ensures adds { given.Adds values.old.items values.new.items result (given.settled number features.now slots.now) }
     ensures small { AreValues values.old.items → AreValues values.new.items }
 {
-    let (Some((feature, features)), Some((slot, slots))) = (cut_features(features), cut(slots)) else {
+    let (Some((feature, features)), Some((slot, slots))) = (cut_features(features), cut(slots))
+    else {
         return Ok(());
     };
     match value_by(number, feature, slot) {

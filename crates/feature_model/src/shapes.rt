@@ -129,10 +129,7 @@ fn each_text(alloc: Global, list: &[Value]) -> Result<Option<Vec<Text>>, NoMemor
 }
 
 /// The features of an array.
-fn features_of(
-    alloc: Global,
-    value: Option<&Value>,
-) -> Result<Option<Vec<Entry>>, NoMemory>
+fn features_of(alloc: Global, value: Option<&Value>) -> Result<Option<Vec<Entry>>, NoMemory>
     ensures { IfOk result (λ made. option_map (λ v. v.items) made ≡ shapes.entries_of (option_map (λ v. view v.now) value.entry)) }
 {
     let Some(value) = value else {

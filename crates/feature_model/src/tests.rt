@@ -37,39 +37,75 @@ fn models_are_refused(rt: HostRuntime) -> Result<(), Fail> {
         (b"{", ModelFault::Json),
         (b"", ModelFault::Json),
         (b"{\"features\":[{\"name\":\"\xff\"}]}", ModelFault::Json),
-        (b"{\"features\":[{\"name\":\"N\",\"min\":0,\"max\":1e400}]}", ModelFault::Json),
+        (
+            b"{\"features\":[{\"name\":\"N\",\"min\":0,\"max\":1e400}]}",
+            ModelFault::Json,
+        ),
         (b"[]", ModelFault::Shape),
         (b"{}", ModelFault::Shape),
         (b"{\"features\":{}}", ModelFault::Shape),
-        (b"{\"features\":[],\"constraints\":\"1\"}", ModelFault::Shape),
+        (
+            b"{\"features\":[],\"constraints\":\"1\"}",
+            ModelFault::Shape,
+        ),
         (b"{\"features\":[],\"constraints\":[1]}", ModelFault::Shape),
         (b"{\"features\":[],\"name\":\"A\"}", ModelFault::Shape),
         (b"{\"features\":[\"A\"]}", ModelFault::Shape),
         (b"{\"features\":[{}]}", ModelFault::Shape),
         (b"{\"features\":[{\"name\":1}]}", ModelFault::Shape),
-        (b"{\"features\":[{\"name\":\"A\",\"type\":\"B\"}]}", ModelFault::Shape),
-        (b"{\"features\":[{\"name\":\"N\",\"min\":2}]}", ModelFault::Shape),
-        (b"{\"features\":[{\"name\":\"N\",\"max\":2}]}", ModelFault::Shape),
-        (b"{\"features\":[{\"name\":\"N\",\"min\":0,\"max\":1.0}]}", ModelFault::Shape),
-        (b"{\"features\":[{\"name\":\"N\",\"min\":0,\"max\":1e2}]}", ModelFault::Shape),
-        (b"{\"features\":[{\"name\":\"N\",\"min\":-0,\"max\":1}]}", ModelFault::Shape),
+        (
+            b"{\"features\":[{\"name\":\"A\",\"type\":\"B\"}]}",
+            ModelFault::Shape,
+        ),
+        (
+            b"{\"features\":[{\"name\":\"N\",\"min\":2}]}",
+            ModelFault::Shape,
+        ),
+        (
+            b"{\"features\":[{\"name\":\"N\",\"max\":2}]}",
+            ModelFault::Shape,
+        ),
+        (
+            b"{\"features\":[{\"name\":\"N\",\"min\":0,\"max\":1.0}]}",
+            ModelFault::Shape,
+        ),
+        (
+            b"{\"features\":[{\"name\":\"N\",\"min\":0,\"max\":1e2}]}",
+            ModelFault::Shape,
+        ),
+        (
+            b"{\"features\":[{\"name\":\"N\",\"min\":-0,\"max\":1}]}",
+            ModelFault::Shape,
+        ),
         (
             b"{\"features\":[{\"name\":\"N\",\"min\":0,\"max\":9223372036854775808}]}",
             ModelFault::Shape,
         ),
         (b"{\"features\":[{\"name\":\"int\"}]}", ModelFault::Name(1)),
-        (b"{\"features\":[{\"name\":\"A\"},{\"name\":\"_Imaginary\"}]}", ModelFault::Name(2)),
-        (b"{\"features\":[{\"name\":\"NDEBUG\"}]}", ModelFault::Name(1)),
+        (
+            b"{\"features\":[{\"name\":\"A\"},{\"name\":\"_Imaginary\"}]}",
+            ModelFault::Name(2),
+        ),
+        (
+            b"{\"features\":[{\"name\":\"NDEBUG\"}]}",
+            ModelFault::Name(1),
+        ),
         (b"{\"features\":[{\"name\":\"\"}]}", ModelFault::Name(1)),
         (b"{\"features\":[{\"name\":\"1A\"}]}", ModelFault::Name(1)),
         (b"{\"features\":[{\"name\":\"A-B\"}]}", ModelFault::Name(1)),
         (b"{\"features\":[{\"name\":\"__A\"}]}", ModelFault::Name(1)),
-        (b"{\"features\":[{\"name\":\"A\"},{\"name\":\"A\"}]}", ModelFault::Twice(2)),
+        (
+            b"{\"features\":[{\"name\":\"A\"},{\"name\":\"A\"}]}",
+            ModelFault::Twice(2),
+        ),
         (
             b"{\"features\":[{\"name\":\"A\"},{\"name\":\"B\"},{\"name\":\"A\",\"min\":2,\"max\":1}]}",
             ModelFault::Twice(3),
         ),
-        (b"{\"features\":[{\"name\":\"N\",\"min\":2,\"max\":1}]}", ModelFault::Range(1)),
+        (
+            b"{\"features\":[{\"name\":\"N\",\"min\":2,\"max\":1}]}",
+            ModelFault::Range(1),
+        ),
         (
             b"{\"features\":[{\"name\":\"N\",\"min\":-1048577,\"max\":1}]}",
             ModelFault::Range(1),
@@ -86,7 +122,10 @@ fn models_are_refused(rt: HostRuntime) -> Result<(), Fail> {
             b"{\"features\":[{\"name\":\"A\"}],\"constraints\":[\"A\",\"A * A\",\"__A\"]}",
             ModelFault::Constraint(2, ConditionFault::NonLinear),
         ),
-        (b"{\"features\":[],\"constraints\":[\"0\"]}", ModelFault::Void),
+        (
+            b"{\"features\":[],\"constraints\":[\"0\"]}",
+            ModelFault::Void,
+        ),
         (
             b"{\"features\":[{\"name\":\"A\"}],\"constraints\":[\"A\",\"!A\"]}",
             ModelFault::Void,
@@ -101,7 +140,8 @@ fn models_are_refused(rt: HostRuntime) -> Result<(), Fail> {
 #[test]
 fn models_are_read(rt: HostRuntime) -> Result<(), Fail> {
     let alloc = rt.alloc();
-    let bytes = b"\n{\"constraints\":[\"A || N >= 3\"],\"features\":[{\"name\":\"B\",\"name\":\"A\"},{\"max\":7,\"name\":\"N\",\"min\":-1048576}]}";
+    let bytes =
+        b"\n{\"constraints\":[\"A || N >= 3\"],\"features\":[{\"name\":\"B\",\"name\":\"A\"},{\"max\":7,\"name\":\"N\",\"min\":-1048576}]}";
     let model = model(alloc, bytes)?;
     match model.features.items() {
         [switch, number] => {
@@ -198,7 +238,9 @@ fn wide(alloc: Global, constraints: &str) -> Result<String, Fail> {
     )?;
     for before in 1..32u32 {
         let number = before + 1;
-        let feature = format!(in alloc; ",{{\"name\":\"N{number}\",\"min\":-1048576,\"max\":1048576}}")?;
+        let feature = format!(in alloc;
+            ",{{\"name\":\"N{number}\",\"min\":-1048576,\"max\":1048576}}"
+        )?;
         text.push_str(feature.as_str())?;
     }
     text.push_str("],\"constraints\":")?;

@@ -1,4 +1,3 @@
-use Rattle.std.proofs.Common.{refl}
 use Rattle.std.proofs.lemmas.Result.{err_from_is_err_and}
 use Rattle.feature_model.proofs.Answering.{untold_so, refused_so, read_so, valid_so}
 use Rattle.feature_model.proofs.models.read_model.Goals as goal

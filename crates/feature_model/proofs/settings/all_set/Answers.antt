@@ -1,4 +1,4 @@
-use Rattle.std.proofs.Common.{◌≡◌, ◌+◌, map, length, string_bytes, Global, sym, ap, subst, ◌∙◌, arith, rules}
+use Rattle.std.proofs.Common.{◌+◌, map, length, string_bytes, Global, sym, ap, subst, ◌∙◌, arith}
 use Rattle.feature_model.specs.Settings.{steps, count, AreSmall}
 use Rattle.feature_model.proofs.Setting.{count_most, count_unset, small_unset, length_unset}
 use Rattle.feature_model.proofs.settings.all_set.Goals as goal
