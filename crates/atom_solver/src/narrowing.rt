@@ -228,12 +228,7 @@ fn first_out(
 }
 
 /// Leaves out the values that bounds rule out at the low end of the range at a place. It answers whether there were any.
-fn raise(
-    spans: &mut [Span],
-    place: usize,
-    constraints: &[Condition],
-    wanted: &Condition,
-) -> bool
+fn raise(spans: &mut [Span], place: usize, constraints: &[Condition], wanted: &Condition) -> bool
     requires place { place < length spans.old }
     requires constraints { AreFit (length spans.old) constraints.now }
     requires wanted { IsFit (length spans.old) (proposition wanted.now) }
@@ -255,12 +250,7 @@ fn raise(
 
 /// Leaves out the values that bounds rule out at the high end of the range at a place. It answers whether there were
 /// any.
-fn lower(
-    spans: &mut [Span],
-    place: usize,
-    constraints: &[Condition],
-    wanted: &Condition,
-) -> bool
+fn lower(spans: &mut [Span], place: usize, constraints: &[Condition], wanted: &Condition) -> bool
     requires place { place < length spans.old }
     requires constraints { AreFit (length spans.old) constraints.now }
     requires wanted { IsFit (length spans.old) (proposition wanted.now) }

@@ -4,7 +4,7 @@ use Rattle.linear_atoms.specs.declared.atoms.Config.{Config}
 use Rattle.cpp_conditions.specs.View.{proposition}
 use Rattle.atom_solver.specs.Narrowing.{Narrows}
 use Rattle.atom_solver.specs.Spans.{ranges, meets, FindsIn, IsSplit}
-use Rattle.atom_solver.proofs.Narrowed.{ready_at, ready_inside, narrowed_finds}
+use Rattle.atom_solver.proofs.Narrowed.{ready_inside, narrowed_finds}
 use Rattle.atom_solver.proofs.Splitting.{lower_half, upper_half, lower_found, upper_found}
 use Rattle.atom_solver.proofs.searching.+search.Goals as goal
 
