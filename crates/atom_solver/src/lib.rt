@@ -2,6 +2,7 @@
 #![tactic(auto)]
 
 mod bounds;
+mod clashing;
 mod deciding;
 mod narrowing;
 pub mod plausibility;

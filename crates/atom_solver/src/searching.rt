@@ -9,6 +9,7 @@ ghost use Rattle.cpp_conditions.specs.View.{proposition};
 ghost use Rattle.atom_solver.specs.Solutions.{Finds};
 ghost use Rattle.atom_solver.specs.Spans.{ranges, meets, FindsIn};
 
+use crate::clashing::are_contrary;
 use crate::deciding::is_ruled_out;
 use crate::narrowing::narrowed;
 use crate::points::at_point;
@@ -55,6 +56,10 @@ pub(crate) fn first_valid(
     requires ranges { AreRanges model.now.features }
     ensures { IfOk result (λ found. Finds model.now (λ (values : List ℤ). true_at values (proposition wanted.now)) found) }
 {
+    let constraints = model.constraints.items();
+    if are_contrary(constraints, wanted) {
+        return Ok(None);
+    }
     let spans = spans_of(alloc, model.features.items())?;
-    search(alloc, &spans, model.constraints.items(), wanted)
+    search(alloc, &spans, constraints, wanted)
 }
