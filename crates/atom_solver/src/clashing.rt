@@ -43,7 +43,7 @@ fn denies(condition: &Condition, truth: bool, atom: &Atom, positive: bool) -> bo
     ensures { result ≡ true → (values : List ℤ) → true_at values (proposition condition.now) ≡ truth → holds atom.now values ≡ not positive }
 {
     match condition {
-        Condition::Const(_) => false,
+        Condition::Const(value) => *value != truth,
         Condition::Test(test) => test_denies(test, truth, atom, positive),
         Condition::Not(inner) => denies(inner, !truth, atom, positive),
         Condition::And(left, right) => {
@@ -81,7 +81,7 @@ fn clashes(
     ensures { result ≡ true → (values : List ℤ) → meets constraints.now (proposition wanted.now) values ≡ true → true_at values (proposition condition.now) ≡ not truth }
 {
     match condition {
-        Condition::Const(_) => false,
+        Condition::Const(value) => *value != truth,
         Condition::Test(atom) => is_denied(constraints, wanted, atom, truth),
         Condition::Not(inner) => clashes(inner, !truth, constraints, wanted),
         Condition::And(left, right) => {

@@ -254,6 +254,14 @@ fn wide_models_are_judged_by_bounds(rt: HostRuntime) -> Result<(), Fail> {
     let alloc = rt.alloc();
     let cases = [
         ("[\"N31 >= 5\",\"N31 <= 3\"]", Some(ModelFault::Void)),
+        (
+            "[\"N31 + N32 >= 5\",\"N31 + N32 <= 3\"]",
+            Some(ModelFault::Void),
+        ),
+        (
+            "[\"B || N1 < N2\",\"N2 < N1 && 1\"]",
+            Some(ModelFault::Void),
+        ),
         ("[\"N1 + N2 + N32 >= 3145728\"]", None),
         (
             "[\"N1 >= N2 + 600000\",\"N2 >= N3 + 600000\",\"N3 >= N4 + 600000\"]",
