@@ -4,6 +4,7 @@
 mod bounds;
 mod clashing;
 mod deciding;
+mod ends;
 mod narrowing;
 pub mod plausibility;
 mod points;
