@@ -1,5 +1,8 @@
+pub mod Below
 pub mod Cutting
+pub mod EqualTerms
 pub mod Known
+pub mod Narrowed
 pub mod Ordered
 pub mod Pointing
 pub mod Splitting

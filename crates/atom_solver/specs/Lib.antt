@@ -1,4 +1,5 @@
 pub mod Fit
+pub mod Narrowing
 pub mod Plausible
 pub mod Solutions
 pub mod Spans

@@ -44,7 +44,7 @@ fn extreme_value(span: &Span, coefficient: i64, is_greatest: bool) -> i64
 }
 
 /// The range at a place.
-fn span_at(spans: &[Span], place: usize) -> &Span
+pub(crate) fn span_at(spans: &[Span], place: usize) -> &Span
     requires { place < length spans.now }
     ensures { result.now ≡ slice_index_or spans.now place result.now }
 {

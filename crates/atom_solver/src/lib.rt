@@ -2,7 +2,10 @@
 #![tactic(auto)]
 
 mod bounds;
+mod clashing;
 mod deciding;
+mod ends;
+mod narrowing;
 pub mod plausibility;
 mod points;
 mod searching;

@@ -1,4 +1,4 @@
-//! The search: a box is ruled out by bounds, or cut in two, the lower half first.
+//! The search: a box is ruled out by bounds, or narrowed by them and cut in two, the lower half first.
 #![tactic(auto)]
 
 ghost use Rattle.std.specs.Prelude.{◌≡◌, ℤ, List, IfOk, length};
@@ -9,7 +9,9 @@ ghost use Rattle.cpp_conditions.specs.View.{proposition};
 ghost use Rattle.atom_solver.specs.Solutions.{Finds};
 ghost use Rattle.atom_solver.specs.Spans.{ranges, meets, FindsIn};
 
+use crate::clashing::are_contrary;
 use crate::deciding::is_ruled_out;
+use crate::narrowing::narrowed;
 use crate::points::at_point;
 use crate::spans::{Span, cut_box, spans_of};
 use cpp_conditions::{Condition, Model};
@@ -32,8 +34,10 @@ fn search(
     if is_ruled_out(spans, constraints, wanted) {
         return Ok(None);
     }
-    match cut_box(alloc, spans)? {
-        None => at_point(alloc, spans, constraints, wanted),
+    let narrower = narrowed(alloc, spans, constraints, wanted)?;
+    let inner = narrower.as_slice();
+    match cut_box(alloc, inner)? {
+        None => at_point(alloc, inner, constraints, wanted),
         Some(halves) => match search(alloc, &halves.lower, constraints, wanted)? {
             Some(config) => Ok(Some(config)),
             None => search(alloc, &halves.upper, constraints, wanted),
@@ -52,6 +56,10 @@ pub(crate) fn first_valid(
     requires ranges { AreRanges model.now.features }
     ensures { IfOk result (λ found. Finds model.now (λ (values : List ℤ). true_at values (proposition wanted.now)) found) }
 {
+    let constraints = model.constraints.items();
+    if are_contrary(constraints, wanted) {
+        return Ok(None);
+    }
     let spans = spans_of(alloc, model.features.items())?;
-    search(alloc, &spans, model.constraints.items(), wanted)
+    search(alloc, &spans, constraints, wanted)
 }

@@ -6,6 +6,7 @@ use Rattle.cpp_conditions.specs.View.{proposition}
 use Rattle.atom_solver.specs.Solutions.{Finds}
 use Rattle.atom_solver.specs.Spans.{ranges, meets, FindsIn, span_of}
 use Rattle.atom_solver.proofs.Pointing.{box_is, found_model}
+use Rattle.atom_solver.proofs.EqualTerms.{none_meets}
 use Rattle.atom_solver.proofs.searching.first_valid.Goals as goal
 
 pub search-requires-clause-ranges : goal.search-requires-clause-ranges
@@ -15,6 +16,9 @@ search-requires-clause-ranges c =
 pub returns : goal.returns
 returns c =
     let p = proposition c.args.wanted.now in
-    IfOk-weaker c.search.result (λ (found : Option Config). FindsIn (ranges c.deref.result.now) (meets c.items-2.result.now p) found) (λ (found : Option Config). Finds c.args.model.now (λ (values : List ℤ). true_at values p) found)
-    (λ found f. found_model c.args.model.now p c.deref.result.now c.items-2.result.now found (c.deref.ensures.value ∙ c.in_ok-spans.ensures ∙ ap (map span_of) c.items.ensures) c.items-2.ensures f)
+    IfOk-weaker c.search.result (λ (found : Option Config). FindsIn (ranges c.deref.result.now) (meets c.items-constraints.result.now p) found) (λ (found : Option Config). Finds c.args.model.now (λ (values : List ℤ). true_at values p) found)
+    (λ found f. found_model c.args.model.now p c.deref.result.now c.items-constraints.result.now found (c.deref.ensures.value ∙ c.in_ok-spans.ensures ∙ ap (map span_of) c.items.ensures) c.items-constraints.ensures f)
     c.search.ensures
+
+pub returns-then-are_contrary : goal.returns-then-are_contrary
+returns-then-are_contrary c = none_meets c.args.model.now (proposition c.args.wanted.now) c.items-constraints.result.now c.items-constraints.ensures (c.are_contrary.ensures c.if-are_contrary.true)

@@ -1,0 +1,78 @@
+-- Constraints and atoms behind others.
+use Rattle.std.proofs.Common.{◌≡◌, ℕ, ◌+◌, ◌≤◌, ◌<◌, nat_le, Bool, true, false, cond, List, [], ◌∷◌, ◌++◌, map, length, Result, Ok, Err, refl, sym, ap, subst, ◌∙◌, arith, append_assoc, length-append}
+use Rattle.std.specs.Prelude.{⊤}
+use Rattle.std.proofs.lemmas.List.{append-nil}
+use Rattle.std.proofs.lemmas.Bool.{leb-true}
+use Rattle.linear_atoms.specs.declared.atoms.Atom.{Atom}
+use Rattle.linear_atoms.specs.declared.atoms.Feature.{Feature}
+use Rattle.cpp_conditions.specs.declared.conditions.Condition.{Condition}
+use Rattle.cpp_conditions.specs.declared.reading.ConditionRefusal.{ConditionRefusal}
+use Rattle.cpp_conditions.specs.declared.reading.ConditionRefusal.TheVariants as conditions
+use Rattle.cpp_conditions.specs.Grammar.{ReadsAs}
+use Rattle.cpp_conditions.specs.Reading.{Reads}
+use Rattle.cpp_conditions.specs.Propositions.{Proposition, Const, Test, Not, And, Or, AreBounded, IsFit}
+use Rattle.cpp_conditions.specs.Validity.{AreFit}
+use Rattle.cpp_conditions.specs.View.{proposition}
+use Rattle.feature_model.specs.declared.faults.ModelRefusal.{ModelRefusal}
+use Rattle.feature_model.specs.declared.faults.ModelRefusal.TheVariants as refusals
+use Rattle.feature_model.specs.Constraints.{AreRead, none, refused, first, numbered, Adds, AreAllBounded, has_atom, with_atoms, all_atoms}
+
+pub nothing_added : (features : List Feature) (n : ℕ) (texts : List (List ℕ)) (old : List Condition) (done : ⊤) → texts ≡ [] → Adds features n texts old old (Ok done)
+nothing_added features n texts old done e = ([], sym (append-nil old), subst (λ ts. AreRead features n ts (Ok [])) (sym e) (none n))
+
+refused_by : (features : List Feature) (n : ℕ) (behind : List (List ℕ)) (text : List ℕ) (old : List Condition) (refusal : ConditionRefusal) → Reads features text (Err refusal) → Adds features n (text ∷ behind) old old (Err (numbered n refusal))
+refused_by features n behind text old conditions.NoMemory h = tt
+refused_by features n behind text old (conditions.Fault fault) h = refused n text behind fault h
+
+pub text_refused : (features : List Feature) (n : ℕ) (texts behind : List (List ℕ)) (text : List ℕ) (old : List Condition) (refusal : ConditionRefusal) (given : ModelRefusal) → texts ≡ text ∷ behind → Reads features text (Err refusal) → given ≡ numbered n refusal
+    → Adds features n texts old old (Err given)
+text_refused features n texts behind text old refusal given cut h e = subst (λ ts. Adds features n ts old old (Err given)) (sym cut) (subst (λ g. Adds features n (text ∷ behind) old old (Err g)) (sym e) (refused_by features n behind text old refusal h))
+
+more_added : (features : List Feature) (n : ℕ) (behind : List (List ℕ)) (text : List ℕ) (old mid new : List Condition) (c : Condition) (r : Result ⊤ ModelRefusal) → ReadsAs features text (Ok (proposition c)) → mid ≡ old ++ c ∷ []
+    → Adds features (n + 1) behind mid new r → Adds features n (text ∷ behind) old new r
+more_added features n behind text old mid new c (Ok done) h e k =
+    (c ∷ k.0, k.1 ∙ ap (λ x. x ++ k.0) e ∙ append_assoc old (c ∷ []) k.0, first n text behind (proposition c) (Ok (map proposition k.0)) h k.2)
+more_added features n behind text old mid new c (Err refusals.NoMemory) h e k = tt
+more_added features n behind text old mid new c (Err (refusals.Fault fault)) h e k = first n text behind (proposition c) (Err fault) h k
+
+pub first_added : (features : List Feature) (n : ℕ) (texts behind : List (List ℕ)) (text : List ℕ) (old mid new : List Condition) (c : Condition) (r : Result ⊤ ModelRefusal) → texts ≡ text ∷ behind → ReadsAs features text (Ok (proposition c)) → mid ≡ old ++ c ∷ []
+    → Adds features (n + 1) behind mid new r → Adds features n texts old new r
+first_added features n texts behind text old mid new c r cut h e k = subst (λ ts. Adds features n ts old new r) (sym cut) (more_added features n behind text old mid new c r h e k)
+
+fit_last : (count : ℕ) (old : List Condition) (c : Condition) → IsFit count (proposition c) → AreFit count old → AreFit count (old ++ c ∷ [])
+fit_last count [] c h k = (h, tt)
+fit_last count (x ∷ xs) c h k = (k.0, fit_last count xs c h k.1)
+
+pub fit_more : (count : ℕ) (old mid : List Condition) (c : Condition) → mid ≡ old ++ c ∷ [] → IsFit count (proposition c) → AreFit count old → AreFit count mid
+fit_more count old mid c e h k = subst (AreFit count) (sym e) (fit_last count old c h k)
+
+bounded_last : (old : List Condition) (c : Condition) → AreBounded (proposition c) → AreAllBounded old → AreAllBounded (old ++ c ∷ [])
+bounded_last [] c h k = (h, tt)
+bounded_last (x ∷ xs) c h k = (k.0, bounded_last xs c h k.1)
+
+pub bounded_more : (old mid : List Condition) (c : Condition) → mid ≡ old ++ c ∷ [] → AreBounded (proposition c) → AreAllBounded old → AreAllBounded mid
+bounded_more old mid c e h k = subst AreAllBounded (sym e) (bounded_last old c h k)
+
+-- ---- atoms
+
+grows_by : (b : Bool) (found : List Atom) (a : Atom) → length found ≤ length (cond b found (found ++ a ∷ []))
+grows_by true found a = omega arith
+grows_by false found a = omega (arith, length-append found (a ∷ []))
+
+grows_one : (p : Proposition Atom) (found : List Atom) → length found ≤ length (with_atoms found p)
+grows_one (Const b) found = omega arith
+grows_one (Test a) found = grows_by (has_atom a found) found a
+grows_one (Not p) found = grows_one p found
+grows_one (And p q) found = let h = grows_one p found in let k = grows_one q (with_atoms found p) in omega arith
+grows_one (Or p q) found = let h = grows_one p found in let k = grows_one q (with_atoms found p) in omega arith
+
+pub grows : (ps : List (Proposition Atom)) (found : List Atom) → length found ≤ length (all_atoms found ps)
+grows [] found = omega arith
+grows (p ∷ ps) found = let h = grows_one p found in let k = grows ps (with_atoms found p) in omega arith
+
+at_most : (n m : ℕ) → 64 < n → n ≤ m → (b : Bool) → nat_le m 64 ≡ b → false ≡ b
+at_most n m h k true e = let l : m ≤ 64 = leb-true m 64 e in absurd (omega arith)
+at_most n m h k false e = refl
+
+pub too_many : (found : List Atom) (ps : List (Proposition Atom)) → 64 < length found → false ≡ nat_le (length (all_atoms found ps)) 64
+too_many found ps h = at_most (length found) (length (all_atoms found ps)) h (grows ps found) _ refl

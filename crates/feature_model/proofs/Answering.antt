@@ -1,0 +1,52 @@
+-- What is answered of bytes, from what is answered of their parts.
+use Rattle.std.proofs.Common.{◌≡◌, ℕ, ℤ, List, [], map, Result, Ok, Err, refl, sym, ap, subst, ◌∙◌}
+use Rattle.std.specs.Prelude.{IfOk, ⊤}
+use Rattle.linear_atoms.specs.declared.atoms.Feature.{Feature}
+use Rattle.cpp_conditions.specs.declared.conditions.Condition.{Condition}
+use Rattle.cpp_conditions.specs.declared.models.Model.{Model}
+use Rattle.cpp_conditions.specs.View.{proposition}
+use Rattle.feature_model.specs.declared.faults.ModelFault.{ModelFault}
+use Rattle.feature_model.specs.declared.faults.ModelRefusal.{ModelRefusal}
+use Rattle.feature_model.specs.declared.faults.ModelRefusal.TheVariants as refusals
+use Rattle.feature_model.specs.Constraints.{AreRead, Adds}
+use Rattle.feature_model.specs.Models.{Plain, plain, IsValid, Says, Ends, too_many_tests, void, accepted, untold, refused, said, Judges, Reads}
+use Rattle.feature_model.specs.Stages.{told_of, Fails}
+
+pub untold_so : (bytes : List ℕ) (e : ModelRefusal) → Fails e (told_of bytes) → Reads bytes (Err e)
+untold_so bytes refusals.NoMemory h = tt
+untold_so bytes (refusals.Fault fault) h = untold fault h
+
+refused_by : (bytes : List ℕ) (features : List Feature) (texts : List (List ℕ)) (old new : List Condition) (e : ModelRefusal) → told_of bytes ≡ Ok (record { features = features; texts = texts }) → Adds features 1 texts old new (Err e) → Reads bytes (Err e)
+refused_by bytes features texts old new refusals.NoMemory t h = tt
+refused_by bytes features texts old new (refusals.Fault fault) t h = refused (record { features = features; texts = texts }) fault t h
+
+pub refused_so : (bytes : List ℕ) (features fs : List Feature) (texts ts : List (List ℕ)) (old new : List Condition) (e : ModelRefusal) → told_of bytes ≡ Ok (record { features = features; texts = texts }) → fs ≡ features → ts ≡ texts
+    → Adds fs 1 ts old new (Err e) → Reads bytes (Err e)
+refused_so bytes features fs texts ts old new e t a b h = refused_by bytes features texts old new e t (subst (λ f. Adds f 1 texts old new (Err e)) a (subst (λ x. Adds fs 1 x old new (Err e)) b h))
+
+says : (bytes : List ℕ) (features : List Feature) (texts : List (List ℕ)) (model : Model) (new : List Condition) (done : ⊤) → told_of bytes ≡ Ok (record { features = features; texts = texts }) → Adds features 1 texts [] new (Ok done)
+    → model.features ≡ features → model.constraints ≡ new → Says bytes (plain model)
+says bytes features texts model new done t h e f = record {
+  texts = texts;
+  told = t ∙ ap (λ fs. Ok (record { features = fs; texts = texts })) (sym e);
+  read = subst (λ fs. AreRead fs 1 texts (Ok (map proposition model.constraints))) (sym e) (subst (λ cs. AreRead features 1 texts (Ok (map proposition cs))) (sym (f ∙ h.1)) h.2);
+}
+
+judged_so : (bytes : List ℕ) (model : Model) (r : Result Model ModelRefusal) → Says bytes (plain model) → Judges model r → Reads bytes r
+judged_so bytes model (Ok made) s h = said (plain model) (Ok (plain made)) s h
+judged_so bytes model (Err refusals.NoMemory) s h = tt
+judged_so bytes model (Err (refusals.Fault fault)) s h = said (plain model) (Err fault) s h
+
+pub read_so : (bytes : List ℕ) (features fs : List Feature) (texts ts : List (List ℕ)) (model : Model) (old new : List Condition) (done : ⊤) (r : Result Model ModelRefusal) → told_of bytes ≡ Ok (record { features = features; texts = texts })
+    → fs ≡ features → ts ≡ texts → old ≡ [] → Adds fs 1 ts old new (Ok done) → model.features ≡ features → model.constraints ≡ new → Judges model r → Reads bytes r
+read_so bytes features fs texts ts model old new done r t a b none h e f j =
+    judged_so bytes model r (says bytes features texts model new done t (subst (λ o. Adds features 1 texts o new (Ok done)) none (subst (λ f. Adds f 1 texts old new (Ok done)) a (subst (λ x. Adds fs 1 x old new (Ok done)) b h))) e f) j
+
+valid_at : (m k : Plain) (r : Result Plain ModelFault) → Ends m r → r ≡ Ok k → (values : List ℤ) × IsValid k values
+valid_at m k _ (too_many_tests h) e = cc
+valid_at m k _ (void h i) e = cc
+valid_at m k _ (accepted h vs v) e = let same : m ≡ k = cc in (vs, subst (λ x. IsValid x vs) same v)
+
+pub valid_so : (model : Model) (r : Result Model ModelRefusal) → Judges model r → IfOk r (λ made. (values : List ℤ) × IsValid (plain made) values)
+valid_so model (Ok made) h = valid_at (plain model) (plain made) _ h refl
+valid_so model (Err e) h = tt
