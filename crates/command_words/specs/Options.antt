@@ -6,7 +6,7 @@ use Rattle.clap.specs.Simple.{on_top}
 use Rattle.clap.specs.declared.builder.value_parser.ValueParser.{ValueParser}
 use Rattle.clap.specs.declared.builder.value_parser.ValueParser.TheVariants as vp
 use Rattle.command_words.specs.declared.named.OptionValues.{OptionValues}
-use Rattle.command_words.specs.declared.options.Chosen.{Chosen}
+use Rattle.command_words.specs.declared.command.Chosen.{Chosen}
 use Rattle.command_words.specs.declared.settings.Domain.{Domain}
 use Rattle.command_words.specs.declared.settings.Overflow.{Overflow}
 use Rattle.command_words.specs.declared.settings.Settings.{Settings}

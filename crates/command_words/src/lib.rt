@@ -1,6 +1,7 @@
 //! The words of a command line: options with their values, and positional words.
 #![tactic(auto)]
 
+pub mod command;
 pub mod inputs;
 pub mod laws;
 pub mod named;

@@ -2,7 +2,7 @@ use Rattle.std.proofs.Common.{rules, map, string_bytes, Global}
 use Rattle.clap.specs.Words.{found_of, rows_of}
 use Rattle.command_words.specs.Options.{chosen_of}
 use Rattle.command_words.proofs.Choosing.{chosen-read, chosen-refused, Reads-ok_or}
-use Rattle.command_words.proofs.options.read_spelled.Goals as goal
+use Rattle.command_words.proofs.command.read_spelled.Goals as goal
 
 pub returns-in-Err-2 : goal.returns-in-Err-2
 returns-in-Err-2 c = λ values e spelled.

@@ -3,7 +3,7 @@ use Rattle.std.specs.Str.Parse.{ParsesUnsigned, ExplainsUnsignedError, HasUnsign
 use Rattle.clap.specs.Words.{found_of}
 use Rattle.clap.proofs.WalkLemmas.{one_text-rows}
 use Rattle.command_words.proofs.Numbers.{number_read}
-use Rattle.command_words.proofs.options.number_in.Goals as goal
+use Rattle.command_words.proofs.command.number_in.Goals as goal
 
 pub returns : goal.returns
 returns c = λ text e below.
