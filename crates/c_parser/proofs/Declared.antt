@@ -1,10 +1,9 @@
 -- The names of a file whose names have no fault: they are those that it declares.
-use Rattle.std.proofs.Common.{◌≡◌, ℕ, zero, suc, ◌+◌, ◌≤◌, ◌<◌, ◌⊎◌, Bool, true, false, List, [], ◌∷◌, ◌++◌, length, Option, Some, None, Result, Ok, Err, refl, sym, ap, subst, ◌∙◌, append_assoc, append-nil, arith, inl, inr}
+use Rattle.std.proofs.Common.{◌≡◌, ℕ, zero, suc, ◌+◌, ◌≤◌, ◌<◌, Bool, true, false, List, [], ◌∷◌, ◌++◌, length, Option, Some, None, refl, sym, ap, subst, ◌∙◌, append_assoc, append-nil, arith, inl, inr}
 use Rattle.std.specs.Prelude.{IfSome, option_map, nat_eq, nat_le, if◌then◌else◌, ◌||◌}
 use Rattle.std.specs.List.{list_any, range_with_len}
-use Rattle.std.specs.Str.{bytes_eq}
 use Rattle.std.proofs.lemmas.List.{length-append}
-use Rattle.std.proofs.lemmas.Bool.{eq-eqb, eqb-true, eqb-false, lt-ltb, leb-false, or_right, both_ways}
+use Rattle.std.proofs.lemmas.Bool.{eq-eqb, eqb-true, eqb-false, leb-false, or_right, both_ways}
 use Rattle.fam_outer.specs.declared.faults.Place.{Place}
 use Rattle.fam_outer.specs.declared.faults.FileCode.{FileCode}
 use Rattle.fam_outer.specs.declared.faults.FileCode.TheVariants.{Undeclared, Twice, TooManyVariables}
@@ -22,7 +21,7 @@ use Rattle.c_parser.specs.Items.{number_in, with_name, word_sign, sign_of, names
 use Rattle.std.proofs.lemmas.List.Folds.{list_any-append}
 use Rattle.std.proofs.lemmas.List.FromFn.{length-range_with_len}
 use Rattle.c_parser.specs.Reading.{AreAmong}
-use Rattle.c_parser.specs.Names.{is_main, has_main, name_of, declared_by, declaration_fault, use_fault, name_fault, name_fault_from}
+use Rattle.c_parser.specs.Names.{has_main, name_of, declared_by, declaration_fault, use_fault, name_fault, name_fault_from}
 use Rattle.c_parser.proofs.Judging.{declared_still, declared_behind, declared_on}
 use Rattle.c_parser.proofs.Lexical.{IsConstant, new_or_old, keyword_constant, unwrapped_constant, table_constant, marks_constant}
 
@@ -99,9 +98,9 @@ declared_step names w before p h main none =
     let grown : suc (length names) ≡ length (names ++ w ∷ []) = omega (arith, length-append names (w ∷ [])) in
     elim (new_or_old names w) [
       | inl new ↦ rw new.0 (record {
-          all = declared_on before (at p (signs.Name (number_in names w)) ∷ []) main ∙ ap (λ (ds : List ℕ). ds ++ number_in names w ∷ []) h.all ∙ ap (λ (n : ℕ). range_with_len 0 (length names) ++ n ∷ []) new.1 ∙ one_more 0 (length names) (length names) (omega arith) ∙ ap (range_with_len 0) grown;
-          at_most = omega (arith, few, length-append names (w ∷ []));
-        })
+        all = declared_on before (at p (signs.Name (number_in names w)) ∷ []) main ∙ ap (λ (ds : List ℕ). ds ++ number_in names w ∷ []) h.all ∙ ap (λ (n : ℕ). range_with_len 0 (length names) ++ n ∷ []) new.1 ∙ one_more 0 (length names) (length names) (omega arith) ∙ ap (range_with_len 0) grown;
+        at_most = omega (arith, few, length-append names (w ∷ []));
+      })
       | inr old ↦ absurd (both_ways (list_any (nat_eq (number_in names w)) (declared_by before)) d.0 (subst (λ (ds : List ℕ). list_any (nat_eq (number_in names w)) ds ≡ true) (sym h.all) (in_range (number_in names w) 0 (length names) (omega arith) (omega (arith, old.1)))))
     ]
 

@@ -1,6 +1,6 @@
 -- Facts of the tokens of a text, and of their items: they lie in the text, their places rise, their numbers are literals,
 -- their names are below the count of names, and there are no groups.
-use Rattle.std.proofs.Common.{◌≡◌, ℕ, suc, ◌+◌, ◌≤◌, ◌<◌, ◌⊎◌, cond, Bool, true, false, List, [], ◌∷◌, ◌++◌, length, Option, Some, None, Ok, refl, sym, subst, arith, inl, inr, eq-eqb}
+use Rattle.std.proofs.Common.{◌≡◌, ℕ, suc, ◌+◌, ◌≤◌, ◌<◌, ◌⊎◌, cond, Bool, true, false, List, [], ◌∷◌, length, Option, Some, None, Ok, refl, sym, subst, arith, inl, inr, eq-eqb}
 use Rattle.std.specs.List.{list_any}
 use Rattle.std.proofs.lemmas.List.{length-append}
 use Rattle.std.specs.Prelude.{ℤ, pos, not, IfSome, IsTrue, ◌||◌, ◌&&◌, if◌then◌else◌, unwrap_or, nat_lt, nat_eq}
@@ -26,7 +26,6 @@ use Rattle.c_parser.specs.declared.numbering.Numbered.{Numbered}
 use Rattle.c_parser.specs.Items.{listed}
 use Rattle.c_parser.specs.Signing.{AreWithin, IsListed}
 use Rattle.c_parser.specs.Stages.{AreProper}
-use Rattle.c_grammar.specs.declared.items.Item.{Item}
 use Rattle.c_grammar.specs.Facts.{IsFit, AreFit, IsBeforeItems, AreRising}
 use Rattle.c_grammar.specs.Grammar.{is_group, has_groups}
 use Rattle.c_parser.proofs.Growing.{grows}

@@ -1,5 +1,5 @@
 -- What reading a file over given names answers, by what its phases answered.
-use Rattle.std.proofs.Common.{◌≡◌, ℕ, ◌≤◌, false, true, List, [], ◌∷◌, length, Option, Some, None, Result, Ok, Err, refl, sym, ap, subst, ◌∙◌, arith, inl, inr}
+use Rattle.std.proofs.Common.{◌≡◌, ℕ, ◌≤◌, List, [], length, Some, None, Result, Ok, Err, refl, sym, ap, subst, ◌∙◌, arith, inl, inr}
 use Rattle.std.specs.Prelude.{IfOk}
 use Rattle.fam_outer.specs.declared.faults.Place.{Place}
 use Rattle.fam_outer.specs.declared.faults.FileCode.{FileCode}
@@ -16,11 +16,11 @@ use Rattle.c_grammar.specs.declared.items.Item.{Item}
 use Rattle.c_parser.specs.declared.numbering.Numbered.{Numbered}
 use Rattle.c_tree.specs.Whole.{IsProgram}
 use Rattle.c_parser.specs.Items.{Listed, listed, items_from, names_from}
-use Rattle.c_parser.specs.Names.{declared_by, first_name_fault, name_fault_from}
+use Rattle.c_parser.specs.Names.{declared_by, first_name_fault}
 use Rattle.c_parser.specs.Signing.{IsListed}
 use Rattle.c_parser.specs.Stages.{Lists, IsSpelledAs}
-use Rattle.c_parser.specs.Reading.{IsSpelled, IsAccepted, HasWrong, HasDeep, IsReadOver, ReadsOver, DeclaresAmong, AreAmong, items_of, items_of_code, code_of_file, and_then}
-use Rattle.c_parser.proofs.Declared.{AreNumbers, names_from_declared, names_from_given}
+use Rattle.c_parser.specs.Reading.{IsSpelled, IsAccepted, HasWrong, HasDeep, IsReadOver, DeclaresAmong, AreAmong, items_of, items_of_code, code_of_file, and_then}
+use Rattle.c_parser.proofs.Declared.{names_from_declared, names_from_given}
 
 abbrev list : List (List ℕ) → List Item → Listed
 list names items = record { names = names; items = items }

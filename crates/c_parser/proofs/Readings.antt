@@ -1,5 +1,5 @@
 -- A file has one reading: that which the machine decides.
-use Rattle.std.proofs.Common.{◌≡◌, ℕ, ◌+◌, ◌-◌, ◌≤◌, ◌<◌, ◌⊎◌, List, [], ◌∷◌, ◌++◌, length, Option, Some, None, Result, Ok, Err, refl, sym, ap, subst, ◌∙◌, arith, inl, inr}
+use Rattle.std.proofs.Common.{◌≡◌, ℕ, ◌+◌, ◌-◌, ◌<◌, List, [], ◌∷◌, length, Option, Some, None, Result, Ok, Err, refl, sym, ap, subst, ◌∙◌, arith, inl, inr}
 use Rattle.std.proofs.lemmas.Bool.{lt-ltb}
 use Rattle.std.proofs.lemmas.List.{length-append}
 use Rattle.fam_outer.specs.declared.faults.Place.{Place}
@@ -12,8 +12,8 @@ use Rattle.c_grammar.specs.Grammar.{File, whole_of}
 use Rattle.c_grammar.specs.Machine.{run, start}
 use Rattle.c_grammar.specs.Deep as limits
 use Rattle.c_grammar.specs.Deep.{Answers, Fault, guarded}
-use Rattle.c_grammar.specs.Laws.{AtMostOne, Complete, DeepIsFound, FindsWrong, Limited, Sound, WrongIsFound, program_in}
-use Rattle.item_reader.specs.Reading.{IsWrongAt, IsDeepAt, NothingDeep}
+use Rattle.c_grammar.specs.Laws.{Complete, DeepIsFound, FindsWrong, Limited, Sound, WrongIsFound, program_in}
+use Rattle.item_reader.specs.Reading.{IsWrongAt, IsDeepAt}
 use Rattle.c_parser.specs.Items.{Listed}
 use Rattle.c_parser.specs.Names.{first_name_fault}
 use Rattle.c_parser.specs.Reading.{IsSpelled, IsAccepted, HasWrong, HasDeep, HasNameFault, Refuses, ReadsOver, limit, file_place, code_of_file, items_of, place_with, and_then}
@@ -181,23 +181,27 @@ by_machine laws l end (Ok f) e a =
       shallow = λ k d. ok_or_deep f k (guarded start 0 l.items) e (laws.deep_is_found l.items k d);
     }) (first_name_fault l.items) refl
 by_machine laws l end (Err (limits.Wrong k)) e a =
-    let w = laws.finds_wrong [] l.items k (ap (program_in [] l.items) a) in
-    (Err (Syntax, place_with l.items (length w.before) end), inl (record {
-      position = length w.before;
-      wrong = record {
-        left = k;
-        position = omega (arith, ap length w.cut, length-append w.before w.rest, w.left);
-        wrong = w;
-        shallow = λ j d. wrong_or_deep k j (guarded start 0 l.items) e (laws.deep_is_found l.items j d);
-      };
-      is = refl;
-    }))
-by_machine laws l end (Err (limits.Deep k)) e a =
-    (Err (TooDeep, place_with l.items (length a.before) end), inr (inl (record {
-      position = length a.before;
-      deep = record { left = k; position = omega (arith, ap length a.cut, length-append a.before (a.item ∷ a.rest), a.left); deep = a };
-      is = refl;
-    })))
+    let w = laws.finds_wrong [] l.items k (ap (program_in [] l.items) a) in (
+      Err (Syntax, place_with l.items (length w.before) end),
+      inl (record {
+        position = length w.before;
+        wrong = record {
+          left = k;
+          position = omega (arith, ap length w.cut, length-append w.before w.rest, w.left);
+          wrong = w;
+          shallow = λ j d. wrong_or_deep k j (guarded start 0 l.items) e (laws.deep_is_found l.items j d);
+        };
+        is = refl;
+      }),
+    )
+by_machine laws l end (Err (limits.Deep k)) e a = (
+  Err (TooDeep, place_with l.items (length a.before) end),
+  inr (inl (record {
+    position = length a.before;
+    deep = record { left = k; position = omega (arith, ap length a.cut, length-append a.before (a.item ∷ a.rest), a.left); deep = a };
+    is = refl;
+  })),
+)
 
 judged_reads : (given : List (List ℕ)) (bytes : List ℕ) (l : Listed) → items_of given bytes ≡ Ok l → (r : Answer) → IsJudged l (end_place bytes) r → ReadsOver given bytes r
 judged_reads given bytes l is (Ok p) j = (l, is, j)

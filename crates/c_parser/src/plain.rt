@@ -43,10 +43,7 @@ fn file_code(alloc: Global, bytes: &[u8]) -> Result<Text, FileRefusal>
 {
     places_stay();
     if bytes.len() > LIMIT {
-        return Err(refused(
-            FileCode::TooLong,
-            Place { line: 1, column: 1 },
-        ));
+        return Err(refused(FileCode::TooLong, Place { line: 1, column: 1 }));
     }
     let blanked = blank_comments(alloc, bytes)?;
     let lines = plain_lines(alloc, blanked.bytes())?;
@@ -98,16 +95,10 @@ fn spelled(
         Ok(program) => Ok(program),
         Err(Unread::NoMemory) => Err(FileRefusal::NoMemory),
         Err(Unread::Wrong(position)) => {
-            Err(refused(
-                FileCode::Syntax,
-                place_with(items, position, bytes),
-            ))
+            Err(refused(FileCode::Syntax, place_with(items, position, bytes)))
         }
         Err(Unread::Deep(position)) => {
-            Err(refused(
-                FileCode::TooDeep,
-                place_with(items, position, bytes),
-            ))
+            Err(refused(FileCode::TooDeep, place_with(items, position, bytes)))
         }
     }
 }

@@ -96,17 +96,32 @@ fn refusals(rt: HostRuntime) -> Result<(), Fail> {
         (b"int main(void) { } /* x", "OpenComment", 1, 20),
         (b"int main(void) { }\\\n", "Splice", 1, 19),
         (b"int main(void) { }\\\r\n", "Splice", 1, 19),
-        (b"/* a\n*/ #include <assert.h>\nint main(void) { }", "CommentAtDirective", 1, 1),
+        (
+            b"/* a\n*/ #include <assert.h>\nint main(void) { }",
+            "CommentAtDirective",
+            1,
+            1,
+        ),
         (b"#define X\nint main(void) { }", "Directive", 1, 1),
         (b"int main(void) { }\n #else x", "Directive", 2, 2),
-        (b"int x;\nint main(void) {\n#if A\n#endif\n}", "GroupHere", 3, 1),
+        (
+            b"int x;\nint main(void) {\n#if A\n#endif\n}",
+            "GroupHere",
+            3,
+            1,
+        ),
         (b"#if A\n#define X\n", "GroupHere", 1, 1),
         (b"int main(void) { @ }", "StrayByte", 1, 18),
         (b"\xffint main(void) { }", "StrayByte", 1, 1),
         (b"int x;\nint main(void) { x = 08; }", "Literal", 2, 22),
         (b"", "Syntax", 1, 1),
         (b"int main(void) {\n", "Syntax", 2, 1),
-        (b"int x;\nint main(void) { if (x) x = 1; else x = 2; else x = 3; }", "Syntax", 2, 44),
+        (
+            b"int x;\nint main(void) { if (x) x = 1; else x = 2; else x = 3; }",
+            "Syntax",
+            2,
+            44,
+        ),
         (b"int goto;\nint main(void) { }", "Syntax", 1, 5),
         (b"int main(void) { int y; }", "Syntax", 1, 18),
         (b"int main(void) { } int x;", "Syntax", 1, 20),
@@ -114,14 +129,34 @@ fn refusals(rt: HostRuntime) -> Result<(), Fail> {
         (b"int x;\nint main(void) { x = 1 }", "Syntax", 2, 24),
         (b"int x;\nint main(void) { x += ; }", "Syntax", 2, 23),
         (b"int main(void) { x = 1; }", "Undeclared(None)", 1, 18),
-        (b"int x;\nint main(void) { x = y; }", "Undeclared(None)", 2, 22),
-        (b"int x;\nint main(void) { if (z > 0) x = 1; }", "Undeclared(None)", 2, 22),
+        (
+            b"int x;\nint main(void) { x = y; }",
+            "Undeclared(None)",
+            2,
+            22,
+        ),
+        (
+            b"int x;\nint main(void) { if (z > 0) x = 1; }",
+            "Undeclared(None)",
+            2,
+            22,
+        ),
         (b"int x;\nint x;\nint main(void) { }", "Twice(None)", 2, 5),
         (b"int x, y, x;\nint main(void) { }", "Twice(None)", 1, 11),
         (b"int x, x; int main(void) { y = 1; }", "Twice(None)", 1, 8),
         (b"int x, x; int main(void) { y = }", "Syntax", 1, 32),
-        (b"int a, b, c, d, e, f, g, h, i, j, k, l, m, n, o, p, q;\nint main(void) { }", "TooManyVariables", 1, 53),
-        (b"int a, b, c, d, e, f, g, h, i, j, k, l, m, n, o, p, a, q;\nint main(void) { }", "Twice(None)", 1, 53),
+        (
+            b"int a, b, c, d, e, f, g, h, i, j, k, l, m, n, o, p, q;\nint main(void) { }",
+            "TooManyVariables",
+            1,
+            53,
+        ),
+        (
+            b"int a, b, c, d, e, f, g, h, i, j, k, l, m, n, o, p, a, q;\nint main(void) { }",
+            "Twice(None)",
+            1,
+            53,
+        ),
     ];
     for (file, wanted, line, column) in cases {
         refuses(&rt, rt.alloc(), file, wanted, line, column)?;
@@ -154,8 +189,7 @@ fn limits(rt: HostRuntime) -> Result<(), Fail> {
     let blocks = repeated(alloc, "int main(void) {", "{", 65, "")?;
     let whole = repeated(alloc, blocks.as_str(), "}", 66, "")?;
     refuses(&rt, alloc, whole.as_bytes(), "TooDeep", 1, 81)?;
-    let names =
-        "int a, b, c, d, e, f, g, h, i, j, k, l, m, n, o, p;\nint main(void) { p = a; }";
+    let names = "int a, b, c, d, e, f, g, h, i, j, k, l, m, n, o, p;\nint main(void) { p = a; }";
     assert!(rt; read_plain(alloc, names.as_bytes()).is_ok());
     let long = repeated(alloc, "int main(void) { }", " ", 1_048_558, "")?;
     assert_eq!(rt; long.len(), 1_048_576);

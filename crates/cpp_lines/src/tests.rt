@@ -150,3 +150,17 @@ fn directives_are_refused(rt: HostRuntime) {
         assert_eq!(rt; found.map(|_| 0), Err(wanted));
     }
 }
+
+#[test]
+fn texts_end(rt: HostRuntime) {
+    let cases: [(&[u8], (u32, u32)); 5] = [
+        (b"", (1, 1)),
+        (b"ab", (1, 3)),
+        (b"ab\n", (2, 1)),
+        (b"a\n\r\nbcd", (3, 4)),
+        (b"\n\n", (3, 1)),
+    ];
+    for (text, (line, column)) in cases {
+        assert_eq!(rt; end_place(text), Place { line, column });
+    }
+}

@@ -14,7 +14,7 @@ use Rattle.famlint_core.specs.declared.words.Role.{Role}
 use Rattle.famlint_core.specs.Endings.{IsEnded, Ends}
 use Rattle.famlint_core.specs.Report.{ReportsStops}
 use Rattle.famlint_core.specs.Stages.{Contents, AreTold, IsTold, ReportsOn, IsReportOn, Reaches, answer, answer_of}
-use Rattle.famlint_core.specs.Words.{reading, role_of, failed_role}
+use Rattle.famlint_core.specs.Words.{mode_asked, mode_in, reading, role_of, failed_role}
 
 pub Ends-from_reaches : (came : Result Done Stop) (expected : Result Done Fault) (role : Role) (status : ℕ)
     (out out' err err' : Option (List ℕ)) (outs outs' errs errs' : ℕ)
@@ -59,10 +59,10 @@ stops_appended (Err stop.ReadFault) mode p role status out out' err err' outs ou
 stops_appended (Err stop.NoMemory) mode p role status out out' err err' outs outs' errs errs' reported ended low = absurd (omega (arith, ended.fixed))
 
 -- the same from the words that were read
-pub stops_from_request : (words : List (List ℕ)) (content : List ℕ → Option (List ℕ)) (told : Contents) (mode : Mode) (p : Whole) (request : Request)
+pub stops_from_request : (words : List (List ℕ)) (content : List ℕ → Option (List ℕ)) (told : Contents) (p : Whole) (request : Request)
     (came : Result Done Stop) (role : Role) (status : ℕ) (out out' err err' : Option (List ℕ)) (outs outs' errs errs' : ℕ)
-    → reading words ≡ Ok request → (AreTold request content told → ReportsOn request told mode p → IfOk came (λ done. ReportsStops mode p done.text))
-    → IsEnded came role status out out' err err' outs outs' errs errs' → IsTold words content told → IsReportOn words told mode p → status ≤ 1
-    → (text : List ℕ) × (out' ≡ append_known out text) × ReportsStops mode p text
-stops_from_request words content told mode p request came role status out out' err err' outs outs' errs errs' e reported ended is_told is_report low =
-    stops_appended came mode p role status out out' err err' outs outs' errs errs' (reported (rw e at is_told) (rw e at is_report)) ended low
+    → reading words ≡ Ok request → (AreTold request content told → ReportsOn request told p → IfOk came (λ done. ReportsStops (mode_in request) p done.text))
+    → IsEnded came role status out out' err err' outs outs' errs errs' → IsTold words content told → IsReportOn words told p → status ≤ 1
+    → (text : List ℕ) × (out' ≡ append_known out text) × ReportsStops (mode_asked words) p text
+stops_from_request words content told p request came role status out out' err err' outs outs' errs errs' e reported ended is_told is_report low =
+    rw e (stops_appended came (mode_in request) p role status out out' err err' outs outs' errs errs' (reported (rw e at is_told) (rw e at is_report)) ended low)

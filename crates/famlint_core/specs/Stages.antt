@@ -5,7 +5,6 @@ use Rattle.fam_outer.specs.declared.faults.FileCode.{FileCode}
 use Rattle.fam_outer.specs.declared.faults.Place.{Place}
 use Rattle.c_tree.specs.Tree.{Whole}
 use Rattle.c_parser.specs.Reading.{Reads}
-use Rattle.c_tree.specs.declared.tree.Mode.{Mode}
 use Rattle.interval_leaf.specs.Intervals.{intervals}
 use Rattle.plain_analysis.specs.declared.alarm.Alarm.{Alarm}
 use Rattle.plain_analysis.specs.declared.options.Options.{Options}
@@ -130,17 +129,17 @@ AcceptedFor (Err fault) told = ⊥
 abbrev pub IsAccepted : List (List ℕ) → Contents → Type 0
 IsAccepted words told = AcceptedFor (reading words) told
 
--- a request is for the report on this program in this mode
-abbrev pub ReportsOn : Request → Contents → Mode → Whole → Type 0
-ReportsOn (Plain file options) told mode p = (told.file ≡ Ok p) × (options.mode ≡ mode)
+-- a request is for the report on this program
+abbrev pub ReportsOn : Request → Contents → Whole → Type 0
+ReportsOn (Plain file options) told p = told.file ≡ Ok p
 
-abbrev pub ReportFor : Result Request Fault → Contents → Mode → Whole → Type 0
-ReportFor (Ok request) told mode p = ReportsOn request told mode p
-ReportFor (Err fault) told mode p = ⊥
+abbrev pub ReportFor : Result Request Fault → Contents → Whole → Type 0
+ReportFor (Ok request) told p = ReportsOn request told p
+ReportFor (Err fault) told p = ⊥
 
--- the words ask for the report on this program, which was read, in this mode
-abbrev pub IsReportOn : List (List ℕ) → Contents → Mode → Whole → Type 0
-IsReportOn words told mode p = ReportFor (reading words) told mode p
+-- the words ask for the report on this program, which was read
+abbrev pub IsReportOn : List (List ℕ) → Contents → Whole → Type 0
+IsReportOn words told p = ReportFor (reading words) told p
 
 -- ---- the loads, in their order, as far as they go
 

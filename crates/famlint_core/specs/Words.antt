@@ -111,3 +111,17 @@ role_for (Err fault) failed = role.File
 -- what the path of a failed load is to the words
 abbrev pub failed_role : List (List ℕ) → Option (List ℕ) → Role
 failed_role words failed = role_for (reading words) failed
+
+-- ---- modes
+
+-- the mode of the runs that a request is about
+abbrev pub mode_in : Request → Mode
+mode_in (request.Plain file options) = options.mode
+
+abbrev pub mode_for : Result Request Fault → Mode
+mode_for (Ok request) = mode_in request
+mode_for (Err fault) = modes.Stop
+
+-- the mode of the runs that the words ask about
+abbrev pub mode_asked : List (List ℕ) → Mode
+mode_asked words = mode_for (reading words)

@@ -3,10 +3,9 @@
 
 ghost use Rattle.std.specs.Prelude.{◌≡◌, List, ℕ, [], ◌∷◌, IfOk, Ok};
 ghost use Rattle.c_tree.specs.Tree.{Whole};
-ghost use Rattle.c_tree.specs.declared.tree.Mode.{Mode};
 ghost use Rattle.famlint_core.specs.Report.{ReportsStops};
 ghost use Rattle.famlint_core.specs.Stages.{Contents, AreTold, IsFileTold, Reaches, IsReadFault, IsReadOf, IsOneOf, ReportsOn, loads_of, answer_of, plain_answer, plain_done};
-ghost use Rattle.famlint_core.specs.Words.{paths_of};
+ghost use Rattle.famlint_core.specs.Words.{mode_in, paths_of};
 ghost use Rattle.c_tree.specs.View.{whole};
 ghost use Rattle.c_tree.specs.Whole.{IsProgram, IsPlainProgram};
 
@@ -22,11 +21,7 @@ use plain_analysis::{Options, analyse_one};
 use std::alloc::Global;
 
 /// The report on a program.
-fn plain_report(
-    alloc: Global,
-    program: &Program,
-    options: &Options,
-) -> Result<Done, NoMemory>
+fn plain_report(alloc: Global, program: &Program, options: &Options) -> Result<Done, NoMemory>
     requires program { IsProgram (whole program.now) }
     requires plain { IsPlainProgram (whole program.now) }
     ensures answer { IfOk result (λ done. done ≡ plain_done options.now (whole program.now)) }
@@ -60,8 +55,8 @@ fn plain<F: Files>(
 /// Does what the words ask for.
 pub fn run<F: Files>(alloc: Global, request: &Request, files: &mut F) -> Result<Done, Stop>
     ensures answer { (told : Contents) → AreTold request.now (F.content files.old) told → Reaches (λ done. done) (answer_of request.now told) result }
-    ensures stops { (told : Contents) → AreTold request.now (F.content files.old) told → (mode : Mode) (p : Whole) → ReportsOn request.now told mode p
-        → IfOk result (λ done. ReportsStops mode p done.text) }
+    ensures stops { (told : Contents) → AreTold request.now (F.content files.old) told → (p : Whole) → ReportsOn request.now told p
+        → IfOk result (λ done. ReportsStops (mode_in request.now) p done.text) }
     ensures order { (told : Contents) → AreTold request.now (F.content files.old) told
         → IsReadFault result → IsOneOf (F.failed files.new) (loads_of request.now told) }
     ensures read { IsReadOf (paths_of request.now) (F.faults files.old) (F.faults files.new) (F.failed files.new) result }

@@ -13,3 +13,7 @@ mod words;
 pub use program::famlint;
 pub use steady::famlint_over_steady;
 
+#[cfg(test)]
+mod analysis_tests;
+#[cfg(test)]
+mod tests;

@@ -5,9 +5,8 @@ ghost use Rattle.std.specs.Prelude.{◌≡◌, ◌≢◌, ◌≤◌, ◌⊎◌, 
 ghost use Rattle.std.specs.Io.KnownBytes.{append_known};
 ghost use Rattle.fam_outer.specs.Causes.{Rose};
 ghost use Rattle.c_tree.specs.Tree.{Whole};
-ghost use Rattle.c_tree.specs.declared.tree.Mode.{Mode};
 ghost use Rattle.command_words.specs.Arguments.{texts_of};
-ghost use Rattle.famlint_core.specs.Words.{reading, named_paths, failed_role};
+ghost use Rattle.famlint_core.specs.Words.{mode_asked, reading, named_paths, failed_role};
 ghost use Rattle.famlint_core.specs.Stages.{Contents, IsTold, IsAccepted, IsReportOn, IsOneOf, answer, loads};
 ghost use Rattle.famlint_core.specs.Report.{ReportsStops};
 ghost use Rattle.famlint_core.specs.Endings.{Ends};
@@ -39,8 +38,8 @@ pub fn famlint<F: Files, S: Sink, E: Sink>(
         (S.written out.old) (S.written out.new) (E.written err.old) (E.written err.new) (E.faults err.old) (E.faults err.new) }
     // Each stop of each run of an accepted program, in the mode of the options, is printed.
     ensures stops { (told : Contents) → IsTold (texts_of words.now) (F.content files.old) told
-        → (mode : Mode) (p : Whole) → IsReportOn (texts_of words.now) told mode p → result ≤ 1
-        → (text : List ℕ) × (S.written out.new ≡ append_known (S.written out.old) text) × ReportsStops mode p text }
+        → (p : Whole) → IsReportOn (texts_of words.now) told p → result ≤ 1
+        → (text : List ℕ) × (S.written out.new ≡ append_known (S.written out.old) text) × ReportsStops (mode_asked (texts_of words.now)) p text }
     // What is accepted is answered, unless memory runs out, a load fails or a write fails.
     ensures complete { (told : Contents) → IsTold (texts_of words.now) (F.content files.old) told
         → IsAccepted (texts_of words.now) told

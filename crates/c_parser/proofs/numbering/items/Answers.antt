@@ -1,7 +1,5 @@
-use Rattle.std.proofs.Common.{◌≡◌, ℕ, List, ◌++◌, ◌∷◌, ◌∙◌, ap, sym, subst, length}
-use Rattle.c_tokens.specs.declared.token.Token.{Token}
-use Rattle.c_grammar.specs.declared.items.Item.{Item}
-use Rattle.c_parser.specs.Items.{lexeme_in, names_from, items_from}
+use Rattle.std.proofs.Common.{◌∙◌, subst, length}
+use Rattle.c_parser.specs.Items.{lexeme_in}
 use Rattle.c_parser.specs.Signing.{AreWithin}
 use Rattle.c_parser.proofs.Growing.{room_left, names_next, items_next}
 use Rattle.c_parser.proofs.numbering.items.Goals as goal
