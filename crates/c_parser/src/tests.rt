@@ -1,8 +1,11 @@
 //! Files and what they are read as.
 #![tactic(auto)]
 
-use crate::read_plain;
-use fam_outer::{FileRefusal, Place};
+ghost use Rattle.std.specs.Prelude.{◌≡◌, IfOk, [], ◌∷◌};
+
+use crate::{read_plain, read_plain_with};
+use c_tree::Names;
+use fam_outer::{FileRefusal, NoMemory, Place, Text};
 use std::alloc::{AllocError, Global};
 use std::process::Abort;
 use std::test::Fail;
@@ -196,4 +199,27 @@ fn limits(rt: HostRuntime) -> Result<(), Fail> {
     assert!(rt; read_plain(alloc, long.as_bytes()).is_ok());
     let longer = repeated(alloc, "int main(void) { }", " ", 1_048_559, "")?;
     refuses(&rt, alloc, longer.as_bytes(), "TooLong", 1, 1)
+}
+
+/// The names `y` and `x`.
+fn given(alloc: Global) -> Result<Names, NoMemory>
+    ensures { IfOk result (λ made. made ≡ (121 ∷ []) ∷ (120 ∷ []) ∷ []) }
+{
+    let mut list = Vec::new(alloc);
+    list.push(Text::from_bytes(alloc, b"y")?)?;
+    list.push(Text::from_bytes(alloc, b"x")?)?;
+    Ok(Names::from_vec(list))
+}
+
+#[test]
+fn given_names(rt: HostRuntime) -> Result<(), Fail> {
+    let names = given(rt.alloc())?;
+    match read_plain_with(rt.alloc(), names.items(), b"int x;int main(){x=1;}") {
+        Ok(program) => {
+            let shown = format!(in rt.alloc(); "{program:?}")?;
+            assert_eq!(rt; shown.as_str(), "Program { names: Names { list: [Text { bytes: [121] }, Text { bytes: [120] }] }, start: Values { list: [0, 0] }, declared: Declarations { list: [] }, body: [Assign { place: Place { line: 1, column: 18 }, target: 1, value: Number(1) }], end: Place { line: 1, column: 22 } }");
+        }
+        Err(_) => panic!(rt; "refused"),
+    }
+    Ok(())
 }
