@@ -217,7 +217,10 @@ fn given_names(rt: HostRuntime) -> Result<(), Fail> {
     match read_plain_with(rt.alloc(), names.items(), b"int x;int main(){x=1;}") {
         Ok(program) => {
             let shown = format!(in rt.alloc(); "{program:?}")?;
-            assert_eq!(rt; shown.as_str(), "Program { names: Names { list: [Text { bytes: [121] }, Text { bytes: [120] }] }, start: Values { list: [0, 0] }, declared: Declarations { list: [] }, body: [Assign { place: Place { line: 1, column: 18 }, target: 1, value: Number(1) }], end: Place { line: 1, column: 22 } }");
+            assert_eq!(rt;
+                shown.as_str(),
+                "Program { names: Names { list: [Text { bytes: [121] }, Text { bytes: [120] }] }, start: Values { list: [0, 0] }, declared: Declarations { list: [] }, body: [Assign { place: Place { line: 1, column: 18 }, target: 1, value: Number(1) }], end: Place { line: 1, column: 22 } }"
+            );
         }
         Err(_) => panic!(rt; "refused"),
     }
