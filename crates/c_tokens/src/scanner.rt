@@ -9,7 +9,7 @@ ghost use Rattle.fam_outer.specs.Refusals.{Gives};
 use crate::bytes::is_space;
 use crate::lexemes::front;
 use crate::token::{Token, Tokens};
-use fam_outer::{FileRefusal, Place};
+use fam_outer::{FILE_BYTES, FileRefusal, Place, place_after};
 use std::alloc::Global;
 
 /// The first byte and those behind it.
@@ -19,27 +19,6 @@ fn cut(bytes: &[u8]) -> Option<(u8, &[u8])>
     match bytes {
         [] => None,
         [b, behind @ ..] => Some((*b, behind)),
-    }
-}
-
-/// The place behind a byte.
-fn after(b: u8, place: Place) -> Place
-    requires line { place.line < 2 ^ 31 }
-    requires column { place.column < 2 ^ 31 }
-    ensures value { (front : List ℕ) → place ≡ end_place front → result ≡ end_place (front ++ b ∷ []) }
-    ensures line { result.line ≤ place.line + 1 }
-    ensures column { result.column ≤ place.column + 1 }
-{
-    if b == b'\n' {
-        Place {
-            line: place.line + 1,
-            column: 1,
-        }
-    } else {
-        Place {
-            line: place.line,
-            column: place.column + 1,
-        }
     }
 }
 
@@ -54,7 +33,7 @@ fn after(b: u8, place: Place) -> Place
 /// underscores that begins with a digit and is neither `0` nor a decimal number without a leading zero up to
 /// 2147483647; the first place decides. It answers `NoMemory` for want of memory.
 pub fn tokens(alloc: Global, text: &[u8]) -> Result<Tokens, FileRefusal>
-    requires { length text.now ≤ 1048576 }
+    requires { length text.now ≤ FILE_BYTES }
     ensures { Gives (λ tokens. tokens) result (tokens_of text.now) }
 {
     let mut list = Vec::new(alloc);
@@ -63,7 +42,7 @@ pub fn tokens(alloc: Global, text: &[u8]) -> Result<Tokens, FileRefusal>
     let mut rest = text;
     'scan: while let Some((b, behind)) = cut(rest) {
         if is_space(b) {
-            place = after(b, place);
+            place = place_after(b, place);
             at += 1;
             rest = behind;
             continue;

@@ -3,10 +3,7 @@
 
 ghost use Rattle.std.specs.Prelude.{◌≡◌, ℕ, ◌<◌, ◌≤◌, ◌+◌, ◌^◌, List, [], ◌∷◌, ◌++◌, length, take, drop, MatchOption};
 ghost use Rattle.std.specs.List.{prefix_len};
-ghost use Rattle.fam_outer.specs.Places.{end_place};
 ghost use Rattle.cpp_lines.specs.Bytes as kinds;
-
-use fam_outer::Place;
 
 /// The first byte and those behind it.
 pub(crate) fn cut(bytes: &[u8]) -> Option<(u8, &[u8])>
@@ -90,26 +87,4 @@ pub(crate) fn split_word(bytes: &[u8]) -> (&[u8], &[u8])
     ensures behind { result.1.now ≡ drop (prefix_len kinds.is_word_byte bytes.now) bytes.now }
 {
     bytes.split_at(word_len(bytes))
-}
-
-/// The place behind a byte.
-pub(crate) fn after(b: u8, place: Place) -> Place
-    requires line { place.line < 2 ^ 31 }
-    requires column { place.column < 2 ^ 31 }
-    ensures value { (front : List ℕ) → place ≡ end_place front → result ≡ end_place (front ++ b ∷ []) }
-    ensures line { result.line ≤ place.line + 1 }
-    ensures column { result.column ≤ place.column + 1 }
-    ensures positive { 1 ≤ place.column → 1 ≤ result.column }
-{
-    if b == b'\n' {
-        Place {
-            line: place.line + 1,
-            column: 1,
-        }
-    } else {
-        Place {
-            line: place.line,
-            column: place.column + 1,
-        }
-    }
 }

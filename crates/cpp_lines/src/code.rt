@@ -6,7 +6,7 @@ ghost use Rattle.cpp_lines.specs.Code as specs;
 ghost use Rattle.cpp_lines.specs.Lines as lists;
 
 use crate::line::{Line, LineKind};
-use fam_outer::{NoMemory, Text};
+use fam_outer::{FILE_BYTES, NoMemory, Text};
 use std::alloc::Global;
 
 /// The first line and those behind it.
@@ -49,7 +49,7 @@ fn add_bytes(code: &mut Vec<u8>, directive: bool, bytes: &[u8]) -> Result<(), No
 /// The code of a blanked text: each byte of a directive line becomes a space, the newlines stay, and so do all places.
 /// The lines are those of the text. It answers `NoMemory` for want of memory.
 pub fn code_text(alloc: Global, blanked: &[u8], lines: &[Line]) -> Result<Text, NoMemory>
-    requires short { length blanked.now ≤ 1048576 }
+    requires short { length blanked.now ≤ FILE_BYTES }
     requires lines { lists.AreLinesOf blanked.now lines.now }
     ensures { IfOk result (λ text. text ≡ specs.code_of blanked.now) }
 {

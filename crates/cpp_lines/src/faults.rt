@@ -9,10 +9,10 @@ ghost use Rattle.cpp_lines.specs.Comments as comments;
 ghost use Rattle.cpp_lines.specs.Directives as directives;
 ghost use Rattle.cpp_lines.specs.Faults as specs;
 
-use crate::bytes::{after, begins_with, cut, has_first};
+use crate::bytes::{begins_with, cut, has_first};
 use crate::comments::{blank, block_len, comment_left, comment_len};
 use crate::directives::begins_directive;
-use fam_outer::{FileCode, FileRefusal, Place, Text};
+use fam_outer::{FILE_BYTES, FileCode, FileRefusal, Place, Text, place_after};
 use std::alloc::Global;
 
 /// Whether a comment opens at the front with `/*` and does not end.
@@ -104,7 +104,7 @@ fn fault_at(
 
 /// The first fault of a text at its comments and line ends.
 fn first_fault(bytes: &[u8], blanked: &[u8]) -> Option<(FileCode, Place)>
-    requires short { length bytes.now ≤ 1048576 }
+    requires short { length bytes.now ≤ FILE_BYTES }
     requires blanked { blanked.now ≡ comments.blank bytes.now }
     ensures { result ≡ specs.first_fault bytes.now }
 {
@@ -118,7 +118,7 @@ fn first_fault(bytes: &[u8], blanked: &[u8]) -> Option<(FileCode, Place)>
             return Some((code, place));
         }
         left = comment_left(left, rest).saturating_sub(1);
-        place = after(b, place);
+        place = place_after(b, place);
         at += 1;
         rest = behind;
     }
@@ -132,7 +132,7 @@ fn first_fault(bytes: &[u8], blanked: &[u8]) -> Option<(FileCode, Place)>
 /// and `CommentAtDirective` at a comment with a newline whose first or last line is a directive line of the blanked text.
 /// The first place decides, and at one place the lowest code. It answers `NoMemory` for want of memory.
 pub fn blank_comments(alloc: Global, bytes: &[u8]) -> Result<Text, FileRefusal>
-    requires { length bytes.now ≤ 1048576 }
+    requires { length bytes.now ≤ FILE_BYTES }
     ensures { Gives (λ text. text) result (specs.without_comments bytes.now) }
 {
     let blanked = blank(alloc, bytes)?;

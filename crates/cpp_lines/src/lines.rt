@@ -10,7 +10,7 @@ ghost use Rattle.cpp_lines.specs.Lines as specs;
 use crate::bytes::{cut, gap_len, line_len};
 use crate::directives::{begins_directive, plain_kind};
 use crate::line::{Line, Lines};
-use fam_outer::{FileRefusal, Place};
+use fam_outer::{FILE_BYTES, FileRefusal, Place};
 use std::alloc::Global;
 
 /// The first line, and what stands behind its newline; none where no newline comes.
@@ -27,7 +27,7 @@ fn cut_line(bytes: &[u8]) -> Option<(&[u8], &[u8])>
 
 /// The place of `#` in a directive line, and of the first byte of another line.
 fn line_place(first: Place, line: &[u8]) -> Place
-    requires short { length line.now ≤ 1048576 }
+    requires short { length line.now ≤ FILE_BYTES }
     requires column { first.column ≤ 1 }
     ensures { result ≡ specs.line_place first line.now }
 {
@@ -42,7 +42,7 @@ fn line_place(first: Place, line: &[u8]) -> Place
 
 /// A line whose first byte stands at this offset and place, or its fault.
 fn plain_line(start: u32, first: Place, line: &[u8]) -> Result<Line, FileRefusal>
-    requires short { start + length line.now ≤ 1048576 }
+    requires short { start + length line.now ≤ FILE_BYTES }
     requires column { first.column ≤ 1 }
     ensures { Gives (λ line. line) result (specs.plain_line start first line.now) }
 {
@@ -66,7 +66,7 @@ fn plain_line(start: u32, first: Place, line: &[u8]) -> Result<Line, FileRefusal
 /// it; and `GroupHere` at the `#` of any other group directive. The first place decides. It answers `NoMemory` for want of
 /// memory.
 pub fn plain_lines(alloc: Global, blanked: &[u8]) -> Result<Lines, FileRefusal>
-    requires { length blanked.now ≤ 1048576 }
+    requires { length blanked.now ≤ FILE_BYTES }
     ensures value { Gives (λ lines. lines) result (specs.plain_lines_of blanked.now) }
     ensures lines { IfOk result (λ lines. specs.AreLinesOf blanked.now lines) }
 {

@@ -21,7 +21,7 @@ scan-preserved-then-is_space c =
       read = spaced_on c.scan.list.items text at c.in-Some.b bs rest (read_from text 0 0 text) cut (sym c.is_space.ensures ∙ c.if-is_space.true) c.scan.invariant.read;
       rest = ap (drop 1) (sym cut) ∙ behind text at 1 rest c.scan.invariant.rest;
       len = omega (arith, ap length cut);
-      place = c.after-place.ensures.value (take at text) c.scan.invariant.place ∙ ap end_place (ap (λ (xs : List ℕ). take at text ++ take 1 xs) (sym cut) ∙ sym (front_more text at 1 rest c.scan.invariant.rest));
+      place = c.place_after-place.ensures.value (take at text) c.scan.invariant.place ∙ ap end_place (ap (λ (xs : List ℕ). take at text ++ take 1 xs) (sym cut) ∙ sym (front_more text at 1 rest c.scan.invariant.rest));
       line = omega arith;
       column = omega arith;
     }

@@ -39,8 +39,8 @@ scan-preserved c =
       read = rw left (passed_fault text at c.scan.left c.in-Some.b c.in-Some.behind.now rest (first_fault_from text 0 0 text) cut (c.in_default-fault_at.ensures text c.requires.blanked c.scan.invariant.rest here) c.scan.invariant.read);
       rest = ap (drop 1) (sym cut) ∙ behind text at 1 rest c.scan.invariant.rest;
       len = omega (arith, ap length cut);
-      place = c.after-place.ensures.value (take at text) c.scan.invariant.place ∙ ap end_place (ap (λ (xs : List ℕ). take at text ++ take 1 xs) (sym cut) ∙ sym (front_more text at 1 rest c.scan.invariant.rest));
+      place = c.place_after-place.ensures.value (take at text) c.scan.invariant.place ∙ ap end_place (ap (λ (xs : List ℕ). take at text ++ take 1 xs) (sym cut) ∙ sym (front_more text at 1 rest c.scan.invariant.rest));
       line = omega arith;
       column = omega arith;
-      positive = c.after-place.ensures.positive c.scan.invariant.positive;
+      positive = c.place_after-place.ensures.positive c.scan.invariant.positive;
     }
