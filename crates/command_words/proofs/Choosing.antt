@@ -15,7 +15,8 @@ use Rattle.command_words.specs.declared.settings.Domain.TheVariants.{Interval}
 use Rattle.command_words.specs.declared.settings.Overflow.{Overflow}
 use Rattle.command_words.specs.declared.settings.Overflow.TheVariants.{Stop}
 use Rattle.command_words.specs.declared.settings.Settings.{Settings}
-use Rattle.command_words.specs.declared.refusal.WordsRefusal.TheVariants as refusal
+use Rattle.fam_outer.specs.declared.refusal.Refusal.TheVariants as refusal
+use Rattle.command_words.specs.declared.refusal.Usage.{Usage}
 use Rattle.command_words.specs.Arguments.{◌>>=◌, Reads, meant, domain_of, delay_of, narrow_of, overflow_of, steps_of, inputs_set, settings_of}
 use Rattle.command_words.specs.Options.{HasTexts, IsNumberBelow, are_spelled, chosen_by, chosen_of, five_app, passes, settings_from, words_of}
 use Rattle.command_words.specs.Spelling.{domain_by, is_number, number_up_to, overflow_by}
@@ -225,9 +226,9 @@ chosen-read v rows words r spelled e rows_are none reads =
     (fit_number 1000000 v.steps (codes "1000") (omega arith) s.steps fit.steps))
 
 -- a value, or else a refusal
-pub Reads-ok_or : {A : Type 0} (expected given : Option A) → given ≡ expected → Reads expected (ok_or given refusal.Usage)
-Reads-ok_or expected None e = sym e
-Reads-ok_or expected (Some x) e = sym e
+pub Reads-ok_or : {A : Type 0} (usage : Usage) (expected given : Option A) → given ≡ expected → Reads expected (ok_or given (refusal.Fault usage))
+Reads-ok_or usage expected None e = sym e
+Reads-ok_or usage expected (Some x) e = sym e
 
 -- ---- all settings, by the five and the inputs
 

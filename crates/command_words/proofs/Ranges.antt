@@ -6,7 +6,8 @@ use Rattle.std.specs.Str.Parse.{digits_value, signed_digits_value}
 use Rattle.std.proofs.lemmas.Bool.{and_parts, leb-true}
 use Rattle.std.proofs.lemmas.List.Elements.{All-nil, All-push}
 use Rattle.command_words.specs.declared.named.OptionValues.{OptionValues}
-use Rattle.command_words.specs.declared.refusal.WordsRefusal.{WordsRefusal}
+use Rattle.command_words.specs.declared.refusal.Usage.{Usage}
+use Rattle.fam_outer.specs.declared.refusal.Refusal.{Refusal}
 use Rattle.command_words.specs.declared.settings.Domain.{Domain}
 use Rattle.command_words.specs.declared.settings.Overflow.{Overflow}
 use Rattle.command_words.specs.declared.settings.Settings.{Settings}
@@ -86,6 +87,6 @@ settings_ranged v s e =
     (λ x h. number_low 0 16 v.delay x (omega arith) h) (λ x h. number_low 1 8 v.narrow x (omega arith) h)
     (λ x h. number_low 1000 1000000 v.steps x (omega arith) h) (λ zs h. set_near v.inputs zs h)
 
-pub answer_ranged : (v : OptionValues) (r : Result Settings WordsRefusal) → Reads (settings_of v) r → IfOk r (λ settings. AreInRange settings)
+pub answer_ranged : (v : OptionValues) (r : Result Settings (Refusal Usage)) → Reads (settings_of v) r → IfOk r (λ settings. AreInRange settings)
 answer_ranged v (Ok s) h = settings_ranged v s h
 answer_ranged v (Err e) h = tt

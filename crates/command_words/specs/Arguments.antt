@@ -10,8 +10,9 @@ use Rattle.command_words.specs.declared.settings.Overflow.TheVariants.{Stop}
 use Rattle.command_words.specs.declared.settings.Settings.{Settings}
 use Rattle.command_words.specs.declared.settings.Given.{Given}
 use Rattle.command_words.specs.declared.reading.Arguments.{Arguments}
-use Rattle.command_words.specs.declared.refusal.WordsRefusal.{WordsRefusal}
-use Rattle.command_words.specs.declared.refusal.WordsRefusal.TheVariants as refusal
+use Rattle.command_words.specs.declared.refusal.Usage.{Usage}
+use Rattle.fam_outer.specs.declared.refusal.Refusal.{Refusal}
+use Rattle.fam_outer.specs.declared.refusal.Refusal.TheVariants as refusal
 use Rattle.command_words.specs.Sorting.{sorted}
 use Rattle.command_words.specs.Spelling.{domain_by, overflow_by, number_up_to, inputs_of}
 
@@ -83,9 +84,9 @@ arguments_of words = do
   Some (record { positional = state.positional; given = given_of state.values; settings = settings })
 
 -- a call that reads answers this: it refuses exactly where there is nothing, and want of memory is free
-abbrev pub Reads : {A : Type 0} → Option A → Result A WordsRefusal → Type 0
+abbrev pub Reads : {A : Type 0} → Option A → Result A (Refusal Usage) → Type 0
 Reads expected (Ok found) = expected ≡ Some found
-Reads expected (Err refusal.Usage) = expected ≡ None
+Reads expected (Err (refusal.Fault usage)) = expected ≡ None
 Reads expected (Err refusal.NoMemory) = ⊤
 
 -- what is set is in the ranges of the options

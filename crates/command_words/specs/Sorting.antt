@@ -8,8 +8,9 @@ use Rattle.command_words.specs.declared.named.OptionName.{OptionName}
 use Rattle.command_words.specs.declared.named.OptionName.TheVariants.{Domain, Delay, Narrow, Overflow, Steps, Inputs}
 use Rattle.command_words.specs.declared.named.OptionValues.{OptionValues}
 use Rattle.command_words.specs.declared.sorting.State.{State}
-use Rattle.command_words.specs.declared.refusal.WordsRefusal.{WordsRefusal}
-use Rattle.command_words.specs.declared.refusal.WordsRefusal.TheVariants as refusal
+use Rattle.command_words.specs.declared.refusal.Usage.{Usage}
+use Rattle.fam_outer.specs.declared.refusal.Refusal.{Refusal}
+use Rattle.fam_outer.specs.declared.refusal.Refusal.TheVariants as refusal
 
 -- ---- options
 
@@ -140,10 +141,10 @@ sorted words = sorted_from start words
 -- ---- what the code answers
 
 -- a step of the code answers this: it refuses exactly where there is no next state, and want of memory is free
-abbrev pub StepsTo : {X : Type 0} → Option State → State → Result X WordsRefusal → Type 0
+abbrev pub StepsTo : {X : Type 0} → Option State → State → Result X (Refusal Usage) → Type 0
 StepsTo expected new (Ok done) = expected ≡ Some new
 StepsTo expected new (Err refusal.NoMemory) = ⊤
-StepsTo expected new (Err refusal.Usage) = expected ≡ None
+StepsTo expected new (Err (refusal.Fault usage)) = expected ≡ None
 
 -- the parts behind references
 abbrev pub plain_value : Option (Bor (List ℕ)) → Option (List ℕ)

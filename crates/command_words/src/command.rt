@@ -10,7 +10,7 @@ ghost use Rattle.command_words.specs.Options.{bare_app, five_app, option_rule, w
 ghost use Rattle.command_words.specs.Spelling.{domain_by, overflow_by};
 ghost use Rattle.command_words.specs.declared.named.OptionValues.{OptionValues};
 
-use crate::refusal::WordsRefusal;
+use crate::refusal::{Usage, WordsRefusal};
 use crate::settings::{Domain, Overflow};
 use clap::builder::ValueParser;
 use clap::error::ErrorKind;
@@ -171,7 +171,7 @@ pub fn read_spelled(alloc: Global, words: &[String]) -> Result<Chosen, WordsRefu
     let matches = match parse_options(alloc, words) {
         Ok(matches) => matches,
         Err(error) if error.kind() == ErrorKind::OutOfMemory => return Err(WordsRefusal::NoMemory),
-        Err(_) => return Err(WordsRefusal::Usage),
+        Err(_) => return Err(WordsRefusal::Fault(Usage)),
     };
-    chosen_in(&matches).ok_or(WordsRefusal::Usage)
+    chosen_in(&matches).ok_or(WordsRefusal::Fault(Usage))
 }

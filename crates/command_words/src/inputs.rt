@@ -7,7 +7,7 @@ ghost use Rattle.command_words.specs.Arguments.{inputs_set, Reads};
 ghost use Rattle.command_words.specs.Spelling.{input_of as read_input, inputs_after, inputs_of as read_inputs};
 
 use crate::named::OptionValues;
-use crate::refusal::WordsRefusal;
+use crate::refusal::{Usage, WordsRefusal};
 use crate::spelling::is_input;
 use fam_outer::{NoMemory, Values};
 use std::alloc::Global;
@@ -40,7 +40,7 @@ fn inputs_in(alloc: Global, texts: &[&str]) -> Result<Values, WordsRefusal>
     for text in texts {
         match input_of(text) {
             Some(number) => numbers.push(number)?,
-            None => return Err(WordsRefusal::Usage),
+            None => return Err(WordsRefusal::Fault(Usage)),
         }
     }
     Ok(Values::from_vec(numbers))

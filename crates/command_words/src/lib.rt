@@ -15,7 +15,7 @@ pub mod word;
 
 pub use laws::{spellings_agree, words_after_dashes, words_with_no_option};
 pub use reading::{Arguments, read_words};
-pub use refusal::WordsRefusal;
+pub use refusal::{Usage, WordsRefusal};
 pub use settings::{Domain, Given, Overflow, Settings};
 pub use word::{Word, Words};
 

@@ -8,7 +8,7 @@ ghost use Rattle.command_words.specs.Spelling.{is_number as number_spelled, doma
 
 use crate::command::{Chosen, read_spelled};
 use crate::named::OptionValues;
-use crate::refusal::WordsRefusal;
+use crate::refusal::{Usage, WordsRefusal};
 use crate::settings::{Domain, Overflow};
 use crate::spelling::is_number;
 use crate::word::Word;
@@ -100,7 +100,7 @@ pub fn read_options(alloc: Global, values: &OptionValues) -> Result<Chosen, Word
     ensures { Reads (chosen_of values.now) result }
 {
     if !are_spelled(values) {
-        return Err(WordsRefusal::Usage);
+        return Err(WordsRefusal::Fault(Usage));
     }
     let words = option_words(alloc, values)?;
     read_spelled(alloc, words.as_slice())

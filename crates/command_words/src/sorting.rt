@@ -6,7 +6,7 @@ ghost use Rattle.command_words.specs.Sorting.{start, keep, StepsTo, give, option
 ghost use Rattle.command_words.specs.Arguments.{texts_of, Reads};
 
 use crate::named::{OptionName, OptionValues};
-use crate::refusal::WordsRefusal;
+use crate::refusal::{Usage, WordsRefusal};
 use crate::word::{Word, Words};
 use std::alloc::Global;
 
@@ -73,7 +73,7 @@ impl State {
         ensures { StepsTo (give self.old name value.now) self.new result }
     {
         if self.values.has(name) {
-            return Err(WordsRefusal::Usage);
+            return Err(WordsRefusal::Fault(Usage));
         }
         self.values.set(name, Word::from_str(alloc, value)?);
         self.waiting = None;
@@ -85,9 +85,9 @@ impl State {
         ensures { StepsTo (option_step self.old word.now) self.new result }
     {
         match name_and_value(word) {
-            None => Err(WordsRefusal::Usage),
+            None => Err(WordsRefusal::Fault(Usage)),
             Some((name, value)) => match OptionName::of(name) {
-                None => Err(WordsRefusal::Usage),
+                None => Err(WordsRefusal::Fault(Usage)),
                 Some(name) => match value {
                     Some(value) => self.give(alloc, name, value),
                     None => {
@@ -122,7 +122,7 @@ impl State {
             return self.keep(alloc, word);
         }
         match self.waiting {
-            Some(_) if has_dash(word) => Err(WordsRefusal::Usage),
+            Some(_) if has_dash(word) => Err(WordsRefusal::Fault(Usage)),
             Some(name) => self.give(alloc, name, word),
             None => self.take_free(alloc, word),
         }
@@ -138,7 +138,7 @@ pub fn sort_words(alloc: Global, words: &[String]) -> Result<State, WordsRefusal
         state.take(alloc, word.as_str())?;
     }
     match state.waiting {
-        Some(_) => Err(WordsRefusal::Usage),
+        Some(_) => Err(WordsRefusal::Fault(Usage)),
         None => Ok(state),
     }
 }

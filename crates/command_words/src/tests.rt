@@ -61,7 +61,7 @@ fn told(alloc: Global, line: &str) -> Result<String, NoMemory> {
     let words = words_of(alloc, line)?;
     match read_words(alloc, words.as_slice()) {
         Ok(found) => line_of(alloc, &found),
-        Err(WordsRefusal::Usage) => Ok(String::from_str(alloc, "refused")?),
+        Err(WordsRefusal::Fault(_)) => Ok(String::from_str(alloc, "refused")?),
         Err(WordsRefusal::NoMemory) => Err(NoMemory),
     }
 }

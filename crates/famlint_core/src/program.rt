@@ -59,7 +59,7 @@ pub fn famlint<F: Files, S: Sink, E: Sink>(
 {
     match read_request(alloc, words) {
         Err(WordsRefusal::NoMemory) => end(alloc, &Err(Stop::NoMemory), Role::File, out, err),
-        Err(WordsRefusal::Usage) => {
+        Err(WordsRefusal::Fault(_)) => {
             end(
                 alloc,
                 &Err(Stop::Refused(Fault::Usage)),

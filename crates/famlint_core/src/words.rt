@@ -8,7 +8,7 @@ ghost use Rattle.famlint_core.specs.Words as specs;
 ghost use Rattle.famlint_core.specs.Words.{reading, role_of, ReadsWords};
 
 use c_tree::Mode;
-use command_words::{Arguments, Domain, Given, Overflow, Settings, Word, WordsRefusal, read_words};
+use command_words::{Arguments, Domain, Given, Overflow, Settings, Usage, Word, WordsRefusal, read_words};
 use fam_outer::Text;
 use plain_analysis::Options;
 use std::alloc::Global;
@@ -111,14 +111,14 @@ fn plain_request(
     match words {
         [file] => {
             if !suits_analysis(arguments) {
-                return Err(WordsRefusal::Usage);
+                return Err(WordsRefusal::Fault(Usage));
             }
             Ok(Request::Plain {
                 file: Word::from_str(alloc, file.as_str())?,
                 options: options_of(&arguments.settings),
             })
         }
-        _ => Err(WordsRefusal::Usage),
+        _ => Err(WordsRefusal::Fault(Usage)),
     }
 }
 
@@ -127,10 +127,10 @@ fn request_of(alloc: Global, arguments: &Arguments) -> Result<Request, WordsRefu
     ensures { ReadsWords (specs.request_of arguments.now) result }
 {
     match arguments.positional.items() {
-        [] => Err(WordsRefusal::Usage),
+        [] => Err(WordsRefusal::Fault(Usage)),
         [first, rest @ ..] => match command_of(first.as_str()) {
             Some(Command::Plain) => plain_request(alloc, arguments, rest),
-            None => Err(WordsRefusal::Usage),
+            None => Err(WordsRefusal::Fault(Usage)),
         },
     }
 }

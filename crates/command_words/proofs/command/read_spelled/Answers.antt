@@ -10,6 +10,6 @@ returns-in-Err-2 c = λ values e spelled.
 
 pub returns : goal.returns
 returns c = λ values e spelled. rw c.ok_or.ensures.value
-    (Reads-ok_or (chosen_of values) c.chosen_in.result
+    (Reads-ok_or _ (chosen_of values) c.chosen_in.result
     (chosen-read values (rows_of (found_of c.in-Ok.matches)) (map (string_bytes {Z = Global}) c.args.words.now) c.chosen_in.result
     spelled e c.in-Ok.ensures.ok c.in-Ok.ensures.fails c.chosen_in.ensures))
