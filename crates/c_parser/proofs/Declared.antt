@@ -17,7 +17,8 @@ use Rattle.c_grammar.specs.declared.items.Sign.TheVariants as signs
 use Rattle.c_grammar.specs.Facts.{IsFit}
 use Rattle.c_grammar.specs.Grammar.{at}
 use Rattle.c_parser.specs.Signs.{keyword_of, mark_of, sign_in, marks}
-use Rattle.c_parser.specs.Items.{number_in, with_name, word_sign, sign_of, names_with_word, names_with, lexeme_in, items_from, names_from}
+use Rattle.c_parser.specs.Items.{number_in, with_name, word_sign, sign_of, names_with_word, names_with, lexeme_in, names_from}
+use Rattle.c_parser.specs.Signing.{items_from}
 use Rattle.std.proofs.lemmas.List.Folds.{list_any-append}
 use Rattle.std.proofs.lemmas.List.FromFn.{length-range_with_len}
 use Rattle.c_parser.specs.Reading.{AreAmong}

@@ -11,7 +11,8 @@ use Rattle.c_grammar.specs.declared.items.Item.{Item}
 use Rattle.c_grammar.specs.declared.items.Sign.{Sign}
 use Rattle.c_grammar.specs.Grammar.{at}
 use Rattle.c_parser.specs.Signs.{keyword_of}
-use Rattle.c_parser.specs.Items.{with_name, names_with_word, names_with, lexeme_in, names_from, items_from}
+use Rattle.c_parser.specs.Items.{with_name, names_with_word, names_with, lexeme_in, names_from}
+use Rattle.c_parser.specs.Signing.{items_from}
 use Rattle.c_parser.specs.Signing.{HasSign}
 
 with_one : (names : List (List ℕ)) (w : List ℕ) → (length names ≤ length (with_name names w)) × (length (with_name names w) ≤ length names + 1)

@@ -20,12 +20,10 @@ use Rattle.c_tree.specs.Whole.{is_before}
 use Rattle.c_grammar.specs.declared.items.Sign.{Sign}
 use Rattle.c_grammar.specs.declared.items.Sign.TheVariants as signs
 use Rattle.c_parser.specs.Signs.{is_among, sign_in, other_keywords, used_words, keyword_of, marks}
-use Rattle.c_parser.specs.Items.{sign_of, word_sign, names_with, lexeme_in, items_from}
+use Rattle.c_parser.specs.Items.{sign_of, word_sign, names_with, lexeme_in}
+use Rattle.c_parser.specs.Signing.{items_from}
 use Rattle.c_parser.specs.Items.{with_name, names_with_word, names_from, number_in}
-use Rattle.c_parser.specs.declared.numbering.Numbered.{Numbered}
-use Rattle.c_parser.specs.Items.{listed}
-use Rattle.c_parser.specs.Signing.{AreWithin, IsListed}
-use Rattle.c_parser.specs.Stages.{AreProper}
+use Rattle.c_parser.specs.Signing.{AreWithin}
 use Rattle.c_grammar.specs.Facts.{IsFit, AreFit, IsBeforeItems, AreRising}
 use Rattle.c_grammar.specs.Grammar.{is_group, has_groups}
 use Rattle.c_parser.proofs.Growing.{grows}
@@ -169,7 +167,3 @@ items_fit laws text given ts is = (fit_from laws text 0 given ts (length text) (
 
 pub items_plain : TokenLaws → (text : List ℕ) (given : List (List ℕ)) (ts : List Token) → tokens_of text ≡ Ok ts → has_groups (items_from text given ts) ≡ false
 items_plain laws text given ts is = (fit_from laws text 0 given ts (length text) (stand laws text ts is) (length (names_from text given ts)) (omega arith)).1
-
--- what was numbered may be given to a reader
-pub proper_items : TokenLaws → (given : List (List ℕ)) (text : List ℕ) (ts : List Token) (made : Numbered) → tokens_of text ≡ Ok ts → IsListed (listed given text ts) made → AreProper made.names made.items.items
-proper_items laws given text ts made is h = rw (h.names_are, h.items_are) (record { fit = items_fit laws text given ts is; rising = items_rise laws text given ts is; plain = items_plain laws text given ts is })

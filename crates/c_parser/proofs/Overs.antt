@@ -6,6 +6,7 @@ use Rattle.fam_outer.specs.declared.faults.FileCode.{FileCode}
 use Rattle.fam_outer.specs.declared.faults.FileRefusal.{FileRefusal}
 use Rattle.fam_outer.specs.declared.faults.FileRefusal.TheVariants as refusals
 use Rattle.fam_outer.specs.Places.{end_place}
+use Rattle.fam_outer.specs.Results.{and_then}
 use Rattle.std.specs.List.{range_with_len}
 use Rattle.c_tokens.specs.declared.token.Token.{Token}
 use Rattle.c_tokens.specs.Reading.{tokens_of}
@@ -15,11 +16,12 @@ use Rattle.c_tree.specs.declared.tree.Program.{Program}
 use Rattle.c_grammar.specs.declared.items.Item.{Item}
 use Rattle.c_parser.specs.declared.numbering.Numbered.{Numbered}
 use Rattle.c_tree.specs.Whole.{IsProgram}
-use Rattle.c_parser.specs.Items.{Listed, listed, items_from, names_from}
-use Rattle.c_parser.specs.Names.{declared_by, first_name_fault}
+use Rattle.c_parser.specs.Items.{Listed, listed, names_from}
+use Rattle.c_parser.specs.Names.{declared_by, first_name_fault, name_fault_from}
 use Rattle.c_parser.specs.Signing.{IsListed}
 use Rattle.c_parser.specs.Stages.{Lists, IsSpelledAs}
-use Rattle.c_parser.specs.Reading.{IsSpelled, IsAccepted, HasWrong, HasDeep, IsReadOver, DeclaresAmong, AreAmong, items_of, items_of_code, code_of_file, and_then}
+use Rattle.c_parser.specs.Reading.{IsSpelled, IsAccepted, HasWrong, HasDeep, IsReadOver, DeclaresAmong, AreAmong, items_of, items_of_code, code_of_file}
+use Rattle.c_parser.proofs.Stepwise.{all_over}
 use Rattle.c_parser.proofs.Declared.{names_from_declared, names_from_given}
 
 abbrev list : List (List ℕ) → List Item → Listed
@@ -75,9 +77,11 @@ stands_for given bytes l is = by_code given bytes l (code_of_file bytes) refl is
 abbrev AreAll : Listed → Type 0
 AreAll l = (declared_by l.items ≡ range_with_len 0 (length l.names)) × (length l.names ≤ 16)
 
-all_declared : (code : List ℕ) (ts : List Token) → first_name_fault (items_from code [] ts) ≡ None → AreAll (listed [] code ts)
+all_declared : (code : List ℕ) (ts : List Token) → first_name_fault (listed [] code ts).items ≡ None → AreAll (listed [] code ts)
 unfolding first_name_fault
-all_declared code ts none = let n = names_from_declared code [] ts [] (record { all = refl; at_most = omega arith }) none in (n.all, n.at_most)
+all_declared code ts none =
+    let n = names_from_declared code [] ts [] (record { all = refl; at_most = omega arith }) (subst (λ (xs : List Item). name_fault_from [] xs ≡ None) (sym (all_over code [] ts)) none) in
+    (ap declared_by (sym (all_over code [] ts)) ∙ n.all, n.at_most)
 
 -- over no given names, a program has those that its file declares
 pub names_declared : (bytes : List ℕ) (l : Listed) (p : Whole) → items_of [] bytes ≡ Ok l → IsAccepted l p → AreAll l
@@ -85,9 +89,11 @@ names_declared bytes l p is a =
     let s = stands_for [] bytes l is in
     subst AreAll (sym s.is) (all_declared s.code s.tokens (subst (λ (m : Listed). first_name_fault m.items ≡ None) s.is a.names))
 
-given_stay : (code : List ℕ) (names : List (List ℕ)) (ts : List Token) → first_name_fault (items_from code names ts) ≡ None → AreAmong names (items_from code names ts) → names_from code names ts ≡ names
+given_stay : (code : List ℕ) (names : List (List ℕ)) (ts : List Token) → first_name_fault (listed names code ts).items ≡ None → AreAmong names (listed names code ts).items → names_from code names ts ≡ names
 unfolding first_name_fault
-given_stay code names ts none among = names_from_given code names ts [] none among
+given_stay code names ts none among =
+    names_from_given code names ts [] (subst (λ (xs : List Item). name_fault_from [] xs ≡ None) (sym (all_over code names ts)) none)
+    (subst (AreAmong names) (sym (all_over code names ts)) among)
 
 -- over given names, among which are all that its file declares, a program has these
 pub names_given : (given : List (List ℕ)) (bytes : List ℕ) (l : Listed) (p : Whole) → DeclaresAmong given bytes → items_of given bytes ≡ Ok l → IsAccepted l p → l.names ≡ given

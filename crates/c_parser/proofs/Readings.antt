@@ -6,6 +6,7 @@ use Rattle.fam_outer.specs.declared.faults.Place.{Place}
 use Rattle.fam_outer.specs.declared.faults.FileCode.{FileCode}
 use Rattle.fam_outer.specs.declared.faults.FileCode.TheVariants.{Syntax, TooDeep, TooLong}
 use Rattle.fam_outer.specs.Places.{end_place}
+use Rattle.fam_outer.specs.Results.{and_then}
 use Rattle.c_tree.specs.Tree.{Whole}
 use Rattle.c_grammar.specs.declared.items.Item.{Item}
 use Rattle.c_grammar.specs.Grammar.{File, whole_of}
@@ -16,7 +17,7 @@ use Rattle.c_grammar.specs.Laws.{Complete, DeepIsFound, FindsWrong, Limited, Sou
 use Rattle.item_reader.specs.Reading.{IsWrongAt, IsDeepAt}
 use Rattle.c_parser.specs.Items.{Listed}
 use Rattle.c_parser.specs.Names.{first_name_fault}
-use Rattle.c_parser.specs.Reading.{IsSpelled, IsAccepted, HasWrong, HasDeep, HasNameFault, Refuses, ReadsOver, limit, file_place, code_of_file, items_of, place_with, and_then}
+use Rattle.c_parser.specs.Reading.{IsSpelled, IsAccepted, HasWrong, HasDeep, HasNameFault, Refuses, ReadsOver, limit, file_place, code_of_file, items_of, place_with}
 
 -- the laws of the grammar that are used here
 pub record GrammarLaws : Type 0 where

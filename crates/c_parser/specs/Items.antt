@@ -1,5 +1,5 @@
--- The items of tokens: their signs and places, with the identifiers numbered by their first occurrence.
-use Rattle.std.specs.Prelude.{◌≡◌, ℕ, false, List, [], ◌∷◌, ◌++◌, Option, Some, None, if◌then◌else◌}
+-- The items of tokens: their signs and places, with the identifiers numbered in the list of all names of the text.
+use Rattle.std.specs.Prelude.{◌≡◌, ℕ, false, List, [], ◌∷◌, ◌++◌, map, Option, Some, None, if◌then◌else◌}
 use Rattle.std.specs.List.{list_any, position_or_len}
 use Rattle.std.specs.Str.{bytes_eq}
 use Rattle.c_tokens.specs.declared.token.Token.{Token}
@@ -20,12 +20,12 @@ number_in names name = position_or_len (bytes_eq name) names
 abbrev pub with_name : List (List ℕ) → List ℕ → List (List ℕ)
 with_name names name = if list_any (bytes_eq name) names then names else names ++ name ∷ []
 
--- the sign of a word, where these are the names before it
+-- the sign of a word over these names
 abbrev pub word_sign : List (List ℕ) → List ℕ → Option Sign → Sign
 word_sign names word (Some keyword) = keyword
 word_sign names word None = signs.Name (number_in names word)
 
--- the sign of a token
+-- the sign of a token over these names
 abbrev pub sign_of : List (List ℕ) → TokenKind → List ℕ → Sign
 sign_of names (kinds.Number n) lexeme = signs.Number n
 sign_of names kinds.Word lexeme = word_sign names lexeme (keyword_of lexeme)
@@ -45,12 +45,6 @@ names_with names kinds.Mark lexeme = names
 abbrev pub lexeme_in : List ℕ → Token → List ℕ
 lexeme_in bytes t = slice bytes t.start t.end
 
--- the items of tokens that stand behind these names
-abbrev pub items_from : List ℕ → List (List ℕ) → List Token → List Item
-items_from bytes names [] = []
-items_from bytes names (t ∷ ts) =
-    at t.place (sign_of names t.kind (lexeme_in bytes t)) ∷ items_from bytes (names_with names t.kind (lexeme_in bytes t)) ts
-
 -- these names and those of the tokens, in the order of their first occurrence
 abbrev pub names_from : List ℕ → List (List ℕ) → List Token → List (List ℕ)
 names_from bytes names [] = names
@@ -61,9 +55,16 @@ pub record Listed : Type 0 where
   pub names : List (List ℕ)
   pub items : List Item
 
--- the items of the tokens of a text, where these names are given before its own
+-- the item of a token over the names of its text, and those of tokens
+abbrev pub item_over : List (List ℕ) → List ℕ → Token → Item
+item_over names bytes t = at t.place (sign_of names t.kind (lexeme_in bytes t))
+
+abbrev pub items_over : List (List ℕ) → List ℕ → List Token → List Item
+items_over names bytes ts = map (item_over names bytes) ts
+
+-- the names and the items of the tokens of a text, where these names are given before its own
 abbrev pub listed : List (List ℕ) → List ℕ → List Token → Listed
-listed given bytes ts = record { names = names_from bytes given ts; items = items_from bytes given ts }
+listed given bytes ts = record { names = names_from bytes given ts; items = items_over (names_from bytes given ts) bytes ts }
 
 -- each of these names is new behind those before it
 abbrev pub AreNewBehind : List (List ℕ) → List (List ℕ) → Type 0

@@ -5,7 +5,9 @@ use Rattle.fam_outer.specs.declared.faults.FileCode.{FileCode}
 use Rattle.fam_outer.specs.declared.faults.FileCode.TheVariants.{Syntax, TooDeep, TooLong}
 use Rattle.fam_outer.specs.declared.faults.FileRefusal.{FileRefusal}
 use Rattle.fam_outer.specs.declared.faults.FileRefusal.TheVariants as refusals
+use Rattle.fam_outer.specs.declared.TheConstants.{FILE_BYTES}
 use Rattle.fam_outer.specs.Places.{end_place}
+use Rattle.fam_outer.specs.Results.{and_then}
 use Rattle.cpp_lines.specs.Faults.{without_comments}
 use Rattle.cpp_lines.specs.Lines.{plain_lines_of}
 use Rattle.cpp_lines.specs.Code.{code_of}
@@ -20,23 +22,14 @@ use Rattle.c_parser.specs.Items.{Listed, listed}
 use Rattle.std.specs.List.{list_any}
 use Rattle.c_parser.specs.Names.{declared_by, first_name_fault}
 
--- the greatest number of bytes
-abbrev pub limit : ℕ
-limit = 1048576
-
 -- where a file is refused whole
 abbrev pub file_place : Place
 file_place = record { line = 1; column = 1 }
 
--- one phase after another; the first fault decides
-abbrev pub and_then : {X Y : Type 0} → Result X (FileCode × Place) → (X → Result Y (FileCode × Place)) → Result Y (FileCode × Place)
-and_then (Ok x) next = next x
-and_then (Err fault) next = Err fault
-
 -- ---- the phases before the grammar: the length, the comments, the lines, and the tokens of the code
 
 abbrev pub within_limit : List ℕ → Result (List ℕ) (FileCode × Place)
-within_limit bytes = if nat_lt limit (length bytes) then Err (TooLong, file_place) else Ok bytes
+within_limit bytes = if nat_lt FILE_BYTES (length bytes) then Err (TooLong, file_place) else Ok bytes
 
 abbrev pub code_of_blanked : List ℕ → Result (List ℕ) (FileCode × Place)
 code_of_blanked blanked = and_then (plain_lines_of blanked) (λ lines. Ok (code_of blanked))

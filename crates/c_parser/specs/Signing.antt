@@ -6,7 +6,8 @@ use Rattle.c_grammar.specs.declared.items.Item.{Item}
 use Rattle.c_grammar.specs.declared.items.Sign.{Sign}
 use Rattle.c_grammar.specs.declared.items.Sign.TheVariants as signs
 use Rattle.c_parser.specs.declared.numbering.Numbered.{Numbered}
-use Rattle.c_parser.specs.Items.{Listed, number_in, with_name, sign_of, names_with, items_from, names_from}
+use Rattle.c_grammar.specs.Grammar.{at}
+use Rattle.c_parser.specs.Items.{Listed, number_in, with_name, sign_of, names_with, names_from, lexeme_in}
 
 -- a token lies within so many bytes
 abbrev pub IsWithin : ℕ → Token → Type 0
@@ -25,6 +26,12 @@ pub record HasName (old : List (List ℕ)) (name : List ℕ) (new : List (List �
 pub record HasSign (old : List (List ℕ)) (kind : TokenKind) (lexeme : List ℕ) (new : List (List ℕ)) (sign : Sign) : Type 0 where
   pub sign_is : sign ≡ sign_of old kind lexeme
   pub names_are : new ≡ names_with old kind lexeme
+
+-- the items of tokens, each numbered in the names that stand before it
+abbrev pub items_from : List ℕ → List (List ℕ) → List Token → List Item
+items_from bytes names [] = []
+items_from bytes names (t ∷ ts) =
+    at t.place (sign_of names t.kind (lexeme_in bytes t)) ∷ items_from bytes (names_with names t.kind (lexeme_in bytes t)) ts
 
 -- the items of tokens, and the names that there are then
 pub record AreListed (old : List (List ℕ)) (bytes : List ℕ) (ts : List Token) (new : List (List ℕ)) (items : List Item) : Type 0 where

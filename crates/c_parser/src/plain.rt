@@ -20,12 +20,9 @@ use c_tokens::tokens;
 use c_tree::{Names, Program};
 use cpp_lines::laws::places_stay;
 use cpp_lines::{blank_comments, code_text, end_place, plain_lines};
-use fam_outer::{FileCode, FileRefusal, Place, Text, places_rise};
-use item_reader::{Unread, read_items};
+use fam_outer::{FILE_BYTES, FileCode, FileRefusal, Place, Text, places_rise};
+use item_reader::{Unread, UnreadRefusal, read_items};
 use std::alloc::Global;
-
-/// The greatest number of bytes of a file.
-const LIMIT: usize = 1_048_576;
 
 /// A fault at a place.
 fn refused(code: FileCode, place: Place) -> FileRefusal
@@ -38,11 +35,11 @@ fn refused(code: FileCode, place: Place) -> FileRefusal
 #[tactic(auto, unfolding(crate::specs::Reading::code_of_file))]
 fn file_code(alloc: Global, bytes: &[u8]) -> Result<Text, FileRefusal>
     ensures code { Gives (λ text. text) result (specs.code_of_file bytes.now) }
-    ensures short { IfOk result (λ text. length text ≤ 1048576) }
-    ensures limited { IfOk result (λ _. length bytes.now ≤ 1048576) }
+    ensures short { IfOk result (λ text. length text ≤ FILE_BYTES) }
+    ensures limited { IfOk result (λ _. length bytes.now ≤ FILE_BYTES) }
 {
     places_stay();
-    if bytes.len() > LIMIT {
+    if bytes.len() > FILE_BYTES {
         return Err(refused(FileCode::TooLong, Place { line: 1, column: 1 }));
     }
     let blanked = blank_comments(alloc, bytes)?;
@@ -57,7 +54,7 @@ fn list_items(alloc: Global, given: &[Text], bytes: &[u8]) -> Result<Numbered, F
     requires distinct { AreDistinct given.now }
     ensures listed { Lists result (specs.items_of given.now bytes.now) }
     ensures proper { IfOk result (λ made. ProperIn made) }
-    ensures limited { IfOk result (λ _. length bytes.now ≤ 1048576) }
+    ensures limited { IfOk result (λ _. length bytes.now ≤ FILE_BYTES) }
 {
     reads_longest_lexemes();
     literals_are_decimal();
@@ -69,7 +66,7 @@ fn list_items(alloc: Global, given: &[Text], bytes: &[u8]) -> Result<Numbered, F
 
 /// The place of the item at a position, or the end of the text.
 fn place_with(items: &[Item], position: usize, bytes: &[u8]) -> Place
-    requires { length bytes.now ≤ 1048576 }
+    requires { length bytes.now ≤ FILE_BYTES }
     ensures { result ≡ specs.place_with items.now position (outer.end_place bytes.now) }
 {
     match items.get(position) {
@@ -85,7 +82,7 @@ fn spelled(
     items: &[Item],
     bytes: &[u8],
 ) -> Result<Program, FileRefusal>
-    requires short { length bytes.now ≤ 1048576 }
+    requires short { length bytes.now ≤ FILE_BYTES }
     requires proper { AreProper names items.now }
     ensures spelled { IsSpelledAs names items.now (outer.end_place bytes.now) result }
     ensures program { length names ≤ 16 → IfOk result (λ p. IsProgram (whole p)) }
@@ -93,11 +90,11 @@ fn spelled(
 {
     match read_items(alloc, names, items) {
         Ok(program) => Ok(program),
-        Err(Unread::NoMemory) => Err(FileRefusal::NoMemory),
-        Err(Unread::Wrong(position)) => {
+        Err(UnreadRefusal::NoMemory) => Err(FileRefusal::NoMemory),
+        Err(UnreadRefusal::Fault(Unread::Wrong(position))) => {
             Err(refused(FileCode::Syntax, place_with(items, position, bytes)))
         }
-        Err(Unread::Deep(position)) => {
+        Err(UnreadRefusal::Fault(Unread::Deep(position))) => {
             Err(refused(FileCode::TooDeep, place_with(items, position, bytes)))
         }
     }

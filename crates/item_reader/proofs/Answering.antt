@@ -14,6 +14,8 @@ use Rattle.c_grammar.specs.Deep.{Answers, Fault, guarded}
 use Rattle.c_tree.specs.declared.tree.Program.{Program}
 use Rattle.item_reader.specs.declared.unread.Unread.{Unread}
 use Rattle.item_reader.specs.declared.unread.Unread.TheVariants as unread
+use Rattle.fam_outer.specs.declared.refusal.Refusal.{Refusal}
+use Rattle.fam_outer.specs.declared.refusal.Refusal.TheVariants as refusal
 use Rattle.item_reader.specs.Reading.{IsDeepAt, IsRead, IsWrongAt, NothingDeep, OnWrong, StopsAt}
 use Rattle.item_reader.specs.Signs.{IsUnsigned}
 use Rattle.item_reader.specs.Taking.{AreUnsigned, Reads}
@@ -78,7 +80,7 @@ deep_there limited items n s = record {
 }
 
 -- what is refused as wrong
-pub refused : Limited → DeepIsFound → FindsWrong → (e : Unread) (items : List Item) → Reads items (Err e) → OnWrong {X = Program} (Err e) (IsWrongAt items)
-refused limited found finds unread.NoMemory items r = tt
-refused limited found finds (unread.Wrong n) items r = wrong_there limited found finds items n r
-refused limited found finds (unread.Deep n) items r = tt
+pub refused : Limited → DeepIsFound → FindsWrong → (e : Refusal Unread) (items : List Item) → Reads items (Err e) → OnWrong {X = Program} (Err e) (IsWrongAt items)
+refused limited found finds refusal.NoMemory items r = tt
+refused limited found finds (refusal.Fault (unread.Wrong n)) items r = wrong_there limited found finds items n r
+refused limited found finds (refusal.Fault (unread.Deep n)) items r = tt

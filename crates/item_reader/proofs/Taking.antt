@@ -13,6 +13,8 @@ use Rattle.c_grammar.specs.Deep.{Fault, counted, is_deep, is_long, is_nested, we
 use Rattle.item_reader.specs.Reading.{StopsAt}
 use Rattle.item_reader.specs.declared.unread.Unread.{Unread}
 use Rattle.item_reader.specs.declared.unread.Unread.TheVariants as unread
+use Rattle.fam_outer.specs.declared.refusal.Refusal.{Refusal}
+use Rattle.fam_outer.specs.declared.refusal.Refusal.TheVariants as refusal
 use Rattle.item_reader.specs.Taking.{AreUnsigned, IsTaken, IsTooMuch, Takes, Reads}
 
 or_right : (a b : Bool) → (a || b) ≡ false → b ≡ false
@@ -88,7 +90,7 @@ stops_at_end items n state count h s e = record {
 }
 
 -- the first item that stops the reading
-pub stopped : (e : Unread) (items : List Item) (n : ℕ) (x d : Item) (state : State) (count : ℕ) → n < length items → x ≡ get_or items n d → Stands items n state count → Takes state count x n (Err e) → Reads items (Err e)
-stopped unread.NoMemory items n x d state count h e s t = tt
-stopped (unread.Wrong m) items n x d state count h e s t = subst (λ k. StopsAt items k limits.Wrong) (sym t.0) (stops_wrong items n x d state count h e s t.1)
-stopped (unread.Deep m) items n x d state count h e s t = subst (λ k. StopsAt items k limits.Deep) (sym t.0) (stops_deep items n x d state count h e s t.1)
+pub stopped : (e : Refusal Unread) (items : List Item) (n : ℕ) (x d : Item) (state : State) (count : ℕ) → n < length items → x ≡ get_or items n d → Stands items n state count → Takes state count x n (Err e) → Reads items (Err e)
+stopped refusal.NoMemory items n x d state count h e s t = tt
+stopped (refusal.Fault (unread.Wrong m)) items n x d state count h e s t = subst (λ k. StopsAt items k limits.Wrong) (sym t.0) (stops_wrong items n x d state count h e s t.1)
+stopped (refusal.Fault (unread.Deep m)) items n x d state count h e s t = subst (λ k. StopsAt items k limits.Deep) (sym t.0) (stops_deep items n x d state count h e s t.1)

@@ -9,6 +9,8 @@ use Rattle.c_grammar.specs.Deep.{Fault, IsDeep, guarded}
 use Rattle.c_grammar.specs.Laws.{IsWrong}
 use Rattle.item_reader.specs.declared.unread.Unread.{Unread}
 use Rattle.item_reader.specs.declared.unread.Unread.TheVariants as unread
+use Rattle.fam_outer.specs.declared.refusal.Refusal.{Refusal}
+use Rattle.fam_outer.specs.declared.refusal.Refusal.TheVariants as refusal
 
 -- the program of the file that the machine reads within its limits
 pub record IsRead (names : List (List ℕ)) (items : List Item) (p : Whole) : Type 0 where
@@ -34,18 +36,18 @@ pub record IsDeepAt (items : List Item) (n : ℕ) : Type 0 where
   pub deep : IsDeep start 0 items left
 
 -- where the items are refused as wrong at a position
-abbrev pub OnWrong : {X : Type 0} → Result X Unread → (ℕ → Type 0) → Type 0
+abbrev pub OnWrong : {X : Type 0} → Result X (Refusal Unread) → (ℕ → Type 0) → Type 0
 OnWrong (Ok x) P = Unit {0}
-OnWrong (Err unread.NoMemory) P = Unit {0}
-OnWrong (Err (unread.Wrong n)) P = P n
-OnWrong (Err (unread.Deep n)) P = Unit {0}
+OnWrong (Err refusal.NoMemory) P = Unit {0}
+OnWrong (Err (refusal.Fault (unread.Wrong n))) P = P n
+OnWrong (Err (refusal.Fault (unread.Deep n))) P = Unit {0}
 
 -- where the items are refused as too deep at a position
-abbrev pub OnDeep : {X : Type 0} → Result X Unread → (ℕ → Type 0) → Type 0
+abbrev pub OnDeep : {X : Type 0} → Result X (Refusal Unread) → (ℕ → Type 0) → Type 0
 OnDeep (Ok x) P = Unit {0}
-OnDeep (Err unread.NoMemory) P = Unit {0}
-OnDeep (Err (unread.Wrong n)) P = Unit {0}
-OnDeep (Err (unread.Deep n)) P = P n
+OnDeep (Err refusal.NoMemory) P = Unit {0}
+OnDeep (Err (refusal.Fault (unread.Wrong n))) P = Unit {0}
+OnDeep (Err (refusal.Fault (unread.Deep n))) P = P n
 
 -- the machine stops, with so many items left from a position on
 pub record StopsAt (items : List Item) (n : ℕ) (fault : ℕ → Fault) : Type 0 where

@@ -9,6 +9,8 @@ use Rattle.item_reader.specs.declared.states.State.{State}
 use Rattle.item_reader.specs.declared.states.File.{File}
 use Rattle.item_reader.specs.declared.unread.Unread.{Unread}
 use Rattle.item_reader.specs.declared.unread.Unread.TheVariants as unread
+use Rattle.fam_outer.specs.declared.refusal.Refusal.{Refusal}
+use Rattle.fam_outer.specs.declared.refusal.Refusal.TheVariants as refusal
 use Rattle.item_reader.specs.Reading.{StopsAt}
 use Rattle.item_reader.specs.Signs.{IsUnsigned}
 use Rattle.item_reader.specs.Views.{as_file, as_state}
@@ -27,18 +29,18 @@ pub record IsTooMuch (state : machine.State) (count : ℕ) (x : Item) : Type 0 w
   pub deep : is_deep state x.sign count ≡ true
 
 -- what one item at a position leads to
-abbrev pub Takes : machine.State → ℕ → Item → ℕ → Result (State × ℕ) Unread → Type 0
+abbrev pub Takes : machine.State → ℕ → Item → ℕ → Result (State × ℕ) (Refusal Unread) → Type 0
 Takes state count x n (Ok made) = IsTaken state count x (as_state made.0) made.1
-Takes state count x n (Err unread.NoMemory) = Unit {0}
-Takes state count x n (Err (unread.Wrong m)) = (m ≡ n) × (step state x.place x.sign ≡ None)
-Takes state count x n (Err (unread.Deep m)) = (m ≡ n) × IsTooMuch state count x
+Takes state count x n (Err refusal.NoMemory) = Unit {0}
+Takes state count x n (Err (refusal.Fault (unread.Wrong m))) = (m ≡ n) × (step state x.place x.sign ≡ None)
+Takes state count x n (Err (refusal.Fault (unread.Deep m))) = (m ≡ n) × IsTooMuch state count x
 
 -- what the items lead to
-abbrev pub Reads : List Item → Result File Unread → Type 0
+abbrev pub Reads : List Item → Result File (Refusal Unread) → Type 0
 Reads items (Ok file) = guarded start 0 items ≡ Ok (as_file file)
-Reads items (Err unread.NoMemory) = Unit {0}
-Reads items (Err (unread.Wrong n)) = StopsAt items n limits.Wrong
-Reads items (Err (unread.Deep n)) = StopsAt items n limits.Deep
+Reads items (Err refusal.NoMemory) = Unit {0}
+Reads items (Err (refusal.Fault (unread.Wrong n))) = StopsAt items n limits.Wrong
+Reads items (Err (refusal.Fault (unread.Deep n))) = StopsAt items n limits.Deep
 
 -- the numbers of the items are not negative
 abbrev pub AreUnsigned : List Item → Type 0

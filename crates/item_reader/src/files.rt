@@ -10,7 +10,7 @@ use crate::endings::finish;
 use crate::limits::{counted, is_deep};
 use crate::states::{File, Sections, State};
 use crate::steps::step;
-use crate::unread::Unread;
+use crate::unread::{Unread, UnreadRefusal};
 use c_grammar::Item;
 use std::alloc::Global;
 
@@ -22,7 +22,7 @@ fn take(
     count: u32,
     item: Item,
     position: usize,
-) -> Result<(State, u32), Unread>
+) -> Result<(State, u32), UnreadRefusal>
     requires unsigned { IsUnsigned item.sign }
     requires few { count ≤ 64 }
     ensures { Takes (as_state state) count item position result }
@@ -30,14 +30,14 @@ fn take(
     let deep = is_deep(&state, item.sign, count);
     let operators = counted(&state, item.sign, count);
     match step(alloc, state, item.place, item.sign)? {
-        None => Err(Unread::Wrong(position)),
-        Some(_next) if deep => Err(Unread::Deep(position)),
+        None => Err(UnreadRefusal::Fault(Unread::Wrong(position))),
+        Some(_next) if deep => Err(UnreadRefusal::Fault(Unread::Deep(position))),
         Some(next) => Ok((next, operators)),
     }
 }
 
 /// The file that the items spell.
-pub(crate) fn read_file(alloc: Global, items: &[Item]) -> Result<File, Unread>
+pub(crate) fn read_file(alloc: Global, items: &[Item]) -> Result<File, UnreadRefusal>
     requires { AreUnsigned items.now }
     ensures { Reads items.now result }
 {
@@ -53,6 +53,6 @@ pub(crate) fn read_file(alloc: Global, items: &[Item]) -> Result<File, Unread>
     }
     match finish(state) {
         Some(file) => Ok(file),
-        None => Err(Unread::Wrong(items.len())),
+        None => Err(UnreadRefusal::Fault(Unread::Wrong(items.len()))),
     }
 }

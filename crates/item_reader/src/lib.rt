@@ -21,7 +21,7 @@ mod steps;
 pub mod unread;
 
 pub use reading::read_items;
-pub use unread::Unread;
+pub use unread::{Unread, UnreadRefusal};
 
 #[cfg(test)]
 mod tests;

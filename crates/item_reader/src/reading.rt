@@ -10,7 +10,7 @@ ghost use Rattle.item_reader.specs.Reading.{IsDeepAt, IsRead, IsWrongAt, Nothing
 
 use crate::files::read_file;
 use crate::programs::program_of;
-use crate::unread::Unread;
+use crate::unread::UnreadRefusal;
 use c_grammar::Item;
 use c_grammar::laws::{
     files_are_programs, limits_stop_only_what_is_deep, spells_what_is_read,
@@ -38,7 +38,7 @@ use std::alloc::Global;
 ///   group or the next part of a group inside 64 of these, or it is the 65th operator or opening parenthesis of an
 ///   expression. The brace of `main` is no block, and each `#elif` counts as one more around what follows in its section.
 /// - `NoMemory`: want of memory, and nothing else.
-pub fn read_items(alloc: Global, names: Names, items: &[Item]) -> Result<Program, Unread>
+pub fn read_items(alloc: Global, names: Names, items: &[Item]) -> Result<Program, UnreadRefusal>
     requires fit { AreFit (length names) items.now }
     requires rising { AreRising items.now }
     ensures spells { IfOk result (λ p. Spells names (whole p) items.now) }

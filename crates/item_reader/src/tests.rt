@@ -5,7 +5,7 @@ ghost use Rattle.std.specs.Prelude.{◌≡◌, ◌<◌, [], ◌∷◌, IsTrue, I
 ghost use Rattle.c_tree.specs.Whole.{is_before};
 ghost use Rattle.c_grammar.specs.Facts.{AreFit, AreRising, IsBeforeItems, IsFit};
 
-use crate::{Unread, read_items};
+use crate::{Unread, UnreadRefusal, read_items};
 use c_grammar::{Item, Sign};
 use c_tree::{Names, Op, Program};
 use fam_outer::{NoMemory, Place, Text};
@@ -79,7 +79,7 @@ fn two_names(alloc: Global) -> Result<Names, NoMemory>
 }
 
 /// Reads these signs, each in a line of its own.
-fn read(rt: &impl Abort, alloc: Global, signs: &[Sign]) -> Result<Program, Unread> {
+fn read(rt: &impl Abort, alloc: Global, signs: &[Sign]) -> Result<Program, UnreadRefusal> {
     let mut items = Vec::new(alloc);
     let mut line = 0u32;
     for sign in signs {
@@ -260,7 +260,7 @@ fn the_first_wrong_item_is_found(rt: HostRuntime) -> Result<(), Fail> {
     for (signs, position) in outside {
         assert_eq!(rt;
             read(&rt, alloc, signs).err(),
-            Some(Unread::Wrong(position))
+            Some(UnreadRefusal::Fault(Unread::Wrong(position)))
         );
     }
     // behind `int main() {`
@@ -295,7 +295,7 @@ fn the_first_wrong_item_is_found(rt: HostRuntime) -> Result<(), Fail> {
         let signs = nested(alloc, signs, Sign::Semicolon, 0, &[])?;
         assert_eq!(rt;
             read(&rt, alloc, &signs).err(),
-            Some(Unread::Wrong(position))
+            Some(UnreadRefusal::Fault(Unread::Wrong(position)))
         );
     }
     Ok(())
@@ -310,12 +310,12 @@ fn limits(rt: HostRuntime) -> Result<(), Fail> {
     }
     assert!(rt; read(&rt, alloc, &blocks).is_ok());
     let blocks = nested(alloc, &[], Sign::LeftBrace, 65, &[])?;
-    assert_eq!(rt; read(&rt, alloc, &blocks).err(), Some(Unread::Deep(69)));
+    assert_eq!(rt; read(&rt, alloc, &blocks).err(), Some(UnreadRefusal::Fault(Unread::Deep(69))));
     let front = [Sign::Name(0), Sign::Equals];
     let back = [Sign::Number(1), Sign::Semicolon, Sign::RightBrace];
     let sum = nested(alloc, &front, Sign::Oper(Op::Sub), 64, &back)?;
     assert!(rt; read(&rt, alloc, &sum).is_ok());
     let sum = nested(alloc, &front, Sign::Oper(Op::Sub), 65, &back)?;
-    assert_eq!(rt; read(&rt, alloc, &sum).err(), Some(Unread::Deep(71)));
+    assert_eq!(rt; read(&rt, alloc, &sum).err(), Some(UnreadRefusal::Fault(Unread::Deep(71))));
     Ok(())
 }

@@ -1,14 +1,11 @@
 //! Why no program is made.
 #![tactic(auto)]
 
-use fam_outer::NoMemory;
-use std::alloc::{AllocError, AllocFailed};
+use fam_outer::Refusal;
 
-/// Why no program is made.
+/// Where a list of items spells no program, or too deep a one.
 #[derive(Clone, Copy, Debug, PartialEq, Eq)]
 pub enum Unread {
-    /// Want of memory.
-    NoMemory,
     /// No file goes on with the item at this position of the list, or ends behind its last item where the position is
     /// the length of the list.
     Wrong(usize),
@@ -16,35 +13,5 @@ pub enum Unread {
     Deep(usize),
 }
 
-impl From<NoMemory> for Unread {
-    ghost use Rattle.std.specs.Prelude.{◌≡◌};
-    ghost use Rattle.item_reader.specs.declared.unread.Unread.TheVariants as unread;
-
-    ghost from_gives = { λ _ given. given ≡ unread.NoMemory };
-
-    fn from(_error: NoMemory) -> Unread {
-        Unread::NoMemory
-    }
-}
-
-impl From<AllocError> for Unread {
-    ghost use Rattle.std.specs.Prelude.{◌≡◌};
-    ghost use Rattle.item_reader.specs.declared.unread.Unread.TheVariants as unread;
-
-    ghost from_gives = { λ _ given. given ≡ unread.NoMemory };
-
-    fn from(_error: AllocError) -> Unread {
-        Unread::NoMemory
-    }
-}
-
-impl<T: Drop> From<AllocFailed<T>> for Unread {
-    ghost use Rattle.std.specs.Prelude.{◌≡◌};
-    ghost use Rattle.item_reader.specs.declared.unread.Unread.TheVariants as unread;
-
-    ghost from_gives = { λ _ given. given ≡ unread.NoMemory };
-
-    fn from(_error: AllocFailed<T>) -> Unread {
-        Unread::NoMemory
-    }
-}
+/// Why no program is made: want of memory, or items that spell none within the limits.
+pub type UnreadRefusal = Refusal<Unread>;

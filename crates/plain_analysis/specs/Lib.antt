@@ -3,3 +3,4 @@ pub mod Statements
 pub mod Places
 pub mod Promises
 pub mod Entered
+pub mod Heads

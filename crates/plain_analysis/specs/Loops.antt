@@ -1,5 +1,5 @@
 -- What a loop does to a leaf: rounds of joining and widening, and then of checked narrowing.
-use Rattle.std.specs.Prelude.{ℕ, zero, suc, ◌+◌, true, if◌then◌else◌, nat_lt}
+use Rattle.std.specs.Prelude.{ℕ, Bool, zero, suc, ◌+◌, true, if◌then◌else◌, nat_lt}
 use Rattle.c_tree.specs.declared.tree.Mode.{Mode}
 use Rattle.c_tree.specs.Tree.{Term}
 use Rattle.leaf_domain.specs.Leaves.{LeafValue, LeafMeaning}
@@ -11,9 +11,17 @@ use Rattle.plain_analysis.specs.declared.options.Options.{Options}
 abbrev pub turn_of : LeafMeaning → Mode → Term → (LeafValue → LeafValue) → LeafValue → LeafValue → LeafValue
 turn_of M mode test body d x = M.join d (body (assumed M mode test true x))
 
--- round number k: where what comes in is below x, x stays; else both are joined in the first rounds, and widened later
+-- the head of a loop with x, where g comes in: both joined in an early round, and widened in a later one
+abbrev pub moved_by : LeafMeaning → Bool → LeafValue → LeafValue → LeafValue
+moved_by M is_early x g = if is_early then M.join x g else M.widen x g
+
+-- one round: where what comes in is below x, x stays
+abbrev pub round_by : LeafMeaning → Bool → LeafValue → LeafValue → LeafValue
+round_by M is_early x g = if M.leq g x then x else moved_by M is_early x g
+
+-- round number k
 abbrev pub round_of : LeafMeaning → ℕ → (LeafValue → LeafValue) → ℕ → LeafValue → LeafValue
-round_of M delay G k x = if M.leq (G x) x then x else (if nat_lt k delay then M.join x (G x) else M.widen x (G x))
+round_of M delay G k x = round_by M (nat_lt k delay) x (G x)
 
 -- n rounds from number k on
 abbrev pub rounds_of : LeafMeaning → ℕ → (LeafValue → LeafValue) → ℕ → ℕ → LeafValue → LeafValue
@@ -24,9 +32,13 @@ rounds_of M delay G (suc n) k x = rounds_of M delay G n (k + 1) (round_of M dela
 abbrev pub widened_leaf : LeafMeaning → ℕ → (LeafValue → LeafValue) → LeafValue → LeafValue
 widened_leaf M delay G d = rounds_of M delay G (delay + M.bound_count d.variables + 1) 0 d
 
--- one round of narrowing: the candidate is taken only where what comes in with it is below it
+-- a candidate in place of x: it is taken only where g, which comes in with it, is below it
+abbrev pub taken_by : LeafMeaning → LeafValue → LeafValue → LeafValue → LeafValue
+taken_by M x candidate g = if M.leq g candidate then candidate else x
+
+-- one round of narrowing
 abbrev pub narrowing_of : LeafMeaning → (LeafValue → LeafValue) → LeafValue → LeafValue
-narrowing_of M G x = if M.leq (G (M.narrow x (G x))) (M.narrow x (G x)) then M.narrow x (G x) else x
+narrowing_of M G x = taken_by M x (M.narrow x (G x)) (G (M.narrow x (G x)))
 
 abbrev pub narrowings_of : LeafMeaning → (LeafValue → LeafValue) → ℕ → LeafValue → LeafValue
 narrowings_of M G zero x = x

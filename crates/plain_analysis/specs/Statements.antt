@@ -1,11 +1,11 @@
 -- What statements do to a leaf, and the leaves with which they are entered.
 use Rattle.std.specs.Prelude.{true, false, List, [], ◌∷◌, ◌++◌}
-use Rattle.c_tree.specs.Tree.{Code, Done, Assign, Input, Assert, If, While, Block, Skip, Cond}
+use Rattle.c_tree.specs.Tree.{Term, Code, Done, Assign, Input, Assert, If, While, Block, Skip, Cond}
 use Rattle.fam_outer.specs.declared.faults.Place.{Place}
 use Rattle.leaf_domain.specs.Leaves.{LeafValue, LeafMeaning}
 use Rattle.leaf_domain.specs.Transfer.{assumed, assigned, forgotten}
 use Rattle.plain_analysis.specs.declared.options.Options.{Options}
-use Rattle.plain_analysis.specs.Loops.{final_leaf}
+use Rattle.plain_analysis.specs.Loops.{turn_of, final_leaf}
 
 -- the leaf after a list of statements that is entered with v; a plain program has no `Cond`
 abbrev pub after_of : LeafMeaning → Options → Code → LeafValue → LeafValue
@@ -19,6 +19,10 @@ after_of M o (While place e body rest) v = after_of M o rest (assumed M o.mode e
 after_of M o (Block place body rest) v = after_of M o rest (after_of M o body v)
 after_of M o (Skip place rest) v = after_of M o rest v
 after_of M o (Cond number p q rest) v = after_of M o rest v
+
+-- what comes in at the head of a loop with this test and body that is entered with d, where the head has x
+abbrev pub loop_turn : LeafMeaning → Options → Term → Code → LeafValue → LeafValue → LeafValue
+loop_turn M o test body d x = turn_of M o.mode test (after_of M o body) d x
 
 -- a statement, alone, and the leaf at its place
 pub record Entry : Type 0 where

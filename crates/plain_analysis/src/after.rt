@@ -1,22 +1,24 @@
 //! The leaf after statements.
 #![tactic(auto)]
 
-ghost use Rattle.std.specs.Prelude.{◌≡◌, IfOk, IfSome, IfNone, true, false, if◌then◌else◌};
+ghost use Rattle.std.specs.Prelude.{◌≡◌, IfOk, IfSome, IfNone};
 ghost use Rattle.c_tree.specs.Tree.{Done};
 ghost use Rattle.c_tree.specs.View.{term, front, code};
 ghost use Rattle.c_tree.specs.Fit.{IsTermOf, IsCodeOf};
 ghost use Rattle.leaf_domain.specs.Transfer.{assumed};
+ghost use Rattle.plain_analysis.specs.Heads.{IsHead};
 ghost use Rattle.plain_analysis.specs.Loops as loops;
-ghost use Rattle.plain_analysis.specs.Loops.{turn_of, widened_leaf, narrowing_of};
-ghost use Rattle.plain_analysis.specs.Statements.{after_of};
+ghost use Rattle.plain_analysis.specs.Loops.{widened_leaf, narrowing_of};
+ghost use Rattle.plain_analysis.specs.Statements.{after_of, loop_turn};
 
 use crate::options::Options;
+use crate::steps::{joined, moved, narrowed_by};
 use c_tree::{Expr, Stmt};
 use fam_outer::NoMemory;
-use leaf_domain::{Leaf, assign, assume, forget};
+use leaf_domain::{Leaf, assign, assume, equality_is_exact, forget, transfer_is_sound};
 use std::alloc::Global;
 
-/// The leaf after a list of statements that is entered with `leaf`.
+/// The leaf after a list of statements that is entered with `leaf`. Nothing stays Nothing.
 #[cycle(after)]
 #[tactic(auto, using(crate::proofs::Listed::entered_lists))]
 pub(crate) fn after_list<L: Leaf>(
@@ -29,6 +31,10 @@ pub(crate) fn after_list<L: Leaf>(
     ensures value { IfOk result (λ made. L.value made ≡ after_of L.meaning options (code list.now) (L.value leaf.now)) }
     ensures same { IfOk result (λ made. (L.value made).variables ≡ (L.value leaf.now).variables) }
 {
+    transfer_is_sound::<L>();
+    if leaf.is_nothing() {
+        return leaf.copy(alloc);
+    }
     let mut made = leaf.copy(alloc)?;
     for s in list {
         made = after_stmt(alloc, s, &made, options)?;
@@ -80,6 +86,13 @@ fn after_side<L: Leaf>(
     after_list(alloc, list, &inside, options)
 }
 
+/// The leaf at the head of a loop, and what comes in there with it.
+#[derive(Drop)]
+pub(crate) struct Head<L> {
+    at: L,
+    next: L,
+}
+
 /// What comes in at the head of a loop that is entered with `leaf`, where the head has `at`.
 #[cycle(after)]
 fn turn<L: Leaf>(
@@ -93,15 +106,35 @@ fn turn<L: Leaf>(
     requires count { (L.value at.now).variables ≡ (L.value leaf.now).variables }
     requires test { IsTermOf (L.value leaf.now).variables (term test.now) }
     requires body { IsCodeOf (L.value leaf.now).variables (code body.now) }
-    ensures value { IfOk result (λ made. L.value made ≡ turn_of L.meaning options.mode (term test.now) (after_of L.meaning options (code body.now)) (L.value leaf.now) (L.value at.now)) }
+    ensures value { IfOk result (λ made. L.value made ≡ loop_turn L.meaning options (term test.now) (code body.now) (L.value leaf.now) (L.value at.now)) }
     ensures same { IfOk result (λ made. (L.value made).variables ≡ (L.value leaf.now).variables) }
 {
     let end = after_side(alloc, body, test, true, at, options)?;
     joined(alloc, leaf, &end)
 }
 
-/// The leaf at the head of a loop after all rounds of joining and widening. It ends with the first
-/// round that changes nothing, since the later ones change nothing either.
+/// The head of a loop that has `at`.
+#[cycle(after)]
+fn head_at<L: Leaf>(
+    alloc: Global,
+    body: &[Stmt],
+    test: &Expr,
+    leaf: &L,
+    at: L,
+    options: Options,
+) -> Result<Head<L>, NoMemory>
+    requires count { (L.value at).variables ≡ (L.value leaf.now).variables }
+    requires test { IsTermOf (L.value leaf.now).variables (term test.now) }
+    requires body { IsCodeOf (L.value leaf.now).variables (code body.now) }
+    ensures at { IfOk result (λ head. L.value head.at ≡ L.value at) }
+    ensures head { IfOk result (λ head. IsHead L.value (loop_turn L.meaning options (term test.now) (code body.now) (L.value leaf.now)) (L.value leaf.now).variables head) }
+{
+    let next = turn(alloc, body, test, leaf, &at, options)?;
+    Ok(Head { at, next })
+}
+
+/// The head of a loop after all rounds of joining and widening. It ends with the first round that changes nothing, since
+/// the later ones change nothing either.
 #[cycle(after)]
 fn widened<L: Leaf>(
     alloc: Global,
@@ -109,47 +142,50 @@ fn widened<L: Leaf>(
     test: &Expr,
     leaf: &L,
     options: Options,
-) -> Result<L, NoMemory>
+) -> Result<Head<L>, NoMemory>
     requires test { IsTermOf (L.value leaf.now).variables (term test.now) }
     requires body { IsCodeOf (L.value leaf.now).variables (code body.now) }
-    ensures value { IfOk result (λ made. L.value made ≡ widened_leaf L.meaning options.delay (turn_of L.meaning options.mode (term test.now) (after_of L.meaning options (code body.now)) (L.value leaf.now)) (L.value leaf.now)) }
-    ensures same { IfOk result (λ made. (L.value made).variables ≡ (L.value leaf.now).variables) }
+    ensures value { IfOk result (λ head. L.value head.at ≡ widened_leaf L.meaning options.delay (loop_turn L.meaning options (term test.now) (code body.now) (L.value leaf.now)) (L.value leaf.now)) }
+    ensures head { IfOk result (λ head. IsHead L.value (loop_turn L.meaning options (term test.now) (code body.now) (L.value leaf.now)) (L.value leaf.now).variables head) }
 {
     let delay = u64::from(options.delay);
     let rounds = delay + u64::from(L::bound_count(leaf.variables())) + 1;
-    let mut at = leaf.copy(alloc)?;
+    let start = leaf.copy(alloc)?;
+    let mut head = head_at(alloc, body, test, leaf, start, options)?;
     for k in 0..rounds {
-        let next = turn(alloc, body, test, leaf, &at, options)?;
-        match moved(alloc, &at, &next, k < delay)? {
-            None => return Ok(at),
-            Some(made) => at = made,
+        match moved(alloc, &head.at, &head.next, k < delay)? {
+            None => return Ok(head),
+            Some(made) => head = head_at(alloc, body, test, leaf, made, options)?,
         }
     }
-    Ok(at)
+    Ok(head)
 }
 
-/// The leaf after one round of narrowing from `at`, or None where the candidate is not taken.
+/// The head of a loop after one round of narrowing, or None where the candidate is not taken, or is what stands there.
 #[cycle(after)]
 fn narrowed<L: Leaf>(
     alloc: Global,
     body: &[Stmt],
     test: &Expr,
     leaf: &L,
-    at: &L,
+    head: &Head<L>,
     options: Options,
-) -> Result<Option<L>, NoMemory>
-    requires count { (L.value at.now).variables ≡ (L.value leaf.now).variables }
+) -> Result<Option<Head<L>>, NoMemory>
+    requires head { IsHead L.value (loop_turn L.meaning options (term test.now) (code body.now) (L.value leaf.now)) (L.value leaf.now).variables head.now }
     requires test { IsTermOf (L.value leaf.now).variables (term test.now) }
     requires body { IsCodeOf (L.value leaf.now).variables (code body.now) }
-    ensures kept { IfOk result (λ made. IfNone made (narrowing_of L.meaning (turn_of L.meaning options.mode (term test.now) (after_of L.meaning options (code body.now)) (L.value leaf.now)) (L.value at.now) ≡ L.value at.now)) }
-    ensures taken { IfOk result (λ made. IfSome made (λ candidate. narrowing_of L.meaning (turn_of L.meaning options.mode (term test.now) (after_of L.meaning options (code body.now)) (L.value leaf.now)) (L.value at.now) ≡ L.value candidate)) }
-    ensures same { IfOk result (λ made. IfSome made (λ candidate. (L.value candidate).variables ≡ (L.value leaf.now).variables)) }
+    ensures kept { IfOk result (λ made. IfNone made (narrowing_of L.meaning (loop_turn L.meaning options (term test.now) (code body.now) (L.value leaf.now)) (L.value head.now.at) ≡ L.value head.now.at)) }
+    ensures taken { IfOk result (λ made. IfSome made (λ next. narrowing_of L.meaning (loop_turn L.meaning options (term test.now) (code body.now) (L.value leaf.now)) (L.value head.now.at) ≡ L.value next.at)) }
+    ensures head { IfOk result (λ made. IfSome made (λ next. IsHead L.value (loop_turn L.meaning options (term test.now) (code body.now) (L.value leaf.now)) (L.value leaf.now).variables next)) }
 {
-    let next = turn(alloc, body, test, leaf, at, options)?;
-    let candidate = narrow_by(alloc, at, &next)?;
-    let again = turn(alloc, body, test, leaf, &candidate, options)?;
-    if again.leq(&candidate) {
-        Ok(Some(candidate))
+    equality_is_exact::<L>();
+    let candidate = narrowed_by(alloc, &head.at, &head.next)?;
+    if candidate == head.at {
+        return Ok(None);
+    }
+    let made = head_at(alloc, body, test, leaf, candidate, options)?;
+    if made.next.leq(&made.at) {
+        Ok(Some(made))
     } else {
         Ok(None)
     }
@@ -170,54 +206,12 @@ pub(crate) fn final_leaf<L: Leaf>(
     ensures value { IfOk result (λ made. L.value made ≡ loops.final_leaf L.meaning options (term test.now) (after_of L.meaning options (code body.now)) (L.value leaf.now)) }
     ensures same { IfOk result (λ made. (L.value made).variables ≡ (L.value leaf.now).variables) }
 {
-    let mut at = widened(alloc, body, test, leaf, options)?;
+    let mut head = widened(alloc, body, test, leaf, options)?;
     for _k in 0..options.narrow {
-        match narrowed(alloc, body, test, leaf, &at, options)? {
-            None => return Ok(at),
-            Some(candidate) => at = candidate,
+        match narrowed(alloc, body, test, leaf, &head, options)? {
+            None => return Ok(head.at),
+            Some(next) => head = next,
         }
     }
-    Ok(at)
-}
-
-/// The join of two leaves.
-pub(crate) fn joined<L: Leaf>(alloc: Global, a: &L, b: &L) -> Result<L, NoMemory>
-    requires { (L.value a.now).variables ≡ (L.value b.now).variables }
-    ensures value { IfOk result (λ made. L.value made ≡ L.meaning.join (L.value a.now) (L.value b.now)) }
-    ensures same { IfOk result (λ made. (L.value made).variables ≡ (L.value a.now).variables) }
-{
-    let _known = a.variables();
-    let _known = b.variables();
-    a.join(alloc, b)
-}
-
-/// The leaf with each bound that is the type's put as the other's.
-fn narrow_by<L: Leaf>(alloc: Global, a: &L, b: &L) -> Result<L, NoMemory>
-    requires { (L.value a.now).variables ≡ (L.value b.now).variables }
-    ensures value { IfOk result (λ made. L.value made ≡ L.meaning.narrow (L.value a.now) (L.value b.now)) }
-    ensures same { IfOk result (λ made. (L.value made).variables ≡ (L.value a.now).variables) }
-{
-    let _known = a.variables();
-    let _known = b.variables();
-    a.narrow(alloc, b)
-}
-
-/// The leaf at the head of a loop after one round, or None where what comes in is below it.
-fn moved<L: Leaf>(alloc: Global, at: &L, next: &L, is_early: bool) -> Result<Option<L>, NoMemory>
-    requires { (L.value at.now).variables ≡ (L.value next.now).variables }
-    ensures stable { IfOk result (λ made. IfNone made (L.meaning.leq (L.value next.now) (L.value at.now) ≡ true)) }
-    ensures moved { IfOk result (λ made. IfSome made (λ leaf. L.meaning.leq (L.value next.now) (L.value at.now) ≡ false)) }
-    ensures value { IfOk result (λ made. IfSome made (λ leaf. L.value leaf ≡ (if is_early then L.meaning.join (L.value at.now) (L.value next.now) else L.meaning.widen (L.value at.now) (L.value next.now)))) }
-    ensures same { IfOk result (λ made. IfSome made (λ leaf. (L.value leaf).variables ≡ (L.value at.now).variables)) }
-{
-    let _known = at.variables();
-    let _known = next.variables();
-    if next.leq(at) {
-        return Ok(None);
-    }
-    if is_early {
-        Ok(Some(at.join(alloc, next)?))
-    } else {
-        Ok(Some(at.widen(alloc, next)?))
-    }
+    Ok(head.at)
 }

@@ -11,10 +11,11 @@ ghost use Rattle.plain_analysis.specs.Statements.{after_of, entries_of};
 ghost use Rattle.plain_analysis.specs.Places.{alarm_where};
 ghost use Rattle.plain_analysis.specs.Entered.{place_and_leaf, HasEntered};
 
-use crate::after::{final_leaf, joined};
+use crate::after::final_leaf;
 use crate::alarm::Alarm;
 use crate::findings::PlaceLeaf;
 use crate::options::Options;
+use crate::steps::joined;
 use c_tree::{Expr, Kind, Stmt};
 use fam_outer::{NoMemory, Place};
 use leaf_domain::{Leaf, assign, assume, forget, may};

@@ -8,8 +8,10 @@ pub mod analysis;
 mod entries;
 pub mod findings;
 pub mod options;
+pub mod steps;
 
 pub use alarm::{Alarm, Alarms};
 pub use analysis::analyse_one;
 pub use findings::{Findings, PlaceLeaf, PlaceLeaves};
 pub use options::Options;
+pub use steps::{joined, moved, narrowed_by, round};

@@ -1,5 +1,6 @@
 use Rattle.std.proofs.Common.{◌≡◌, ◌+◌, ◌<◌, ◌++◌, length}
-use Rattle.c_parser.specs.Items.{items_from, names_from}
+use Rattle.c_parser.specs.Items.{names_from}
+use Rattle.c_parser.specs.Signing.{items_from}
 use Rattle.c_parser.specs.Signing.{AreWithin}
 use Rattle.c_parser.proofs.numbering.items.Given as goal
 

@@ -1,7 +1,8 @@
 use Rattle.std.proofs.Common.{length, List, Ok, sym, ap, ◌∙◌, arith}
 use Rattle.c_tokens.specs.declared.token.Token.{Token}
 use Rattle.c_tokens.specs.Reading.{tokens_of}
-use Rattle.c_parser.proofs.Lexical.{tokens_within, tokens_few, proper_items}
+use Rattle.c_parser.proofs.Lexical.{tokens_within, tokens_few}
+use Rattle.c_parser.proofs.Stepwise.{proper_items}
 use Rattle.c_parser.proofs.plain.list_items.Goals as goal
 
 pub number-requires-clause-within : goal.number-requires-clause-within

@@ -1,0 +1,83 @@
+-- Nothing goes through statements as Nothing.
+use Rattle.std.proofs.Common.{◌≡◌, ℕ, ◌≤◌, ◌+◌, true, List, Option, Some, None, refl, ap, sym, ◌∙◌, subst, ℤ}
+use Rattle.std.specs.Prelude.{is_none, if◌then◌else◌, Bool, false}
+use Rattle.c_tree.specs.declared.tree.Mode.{Mode}
+use Rattle.c_tree.specs.Tree.{Term, Code, Done, Assign, Input, Assert, If, While, Block, Skip, Cond}
+use Rattle.leaf_domain.specs.declared.form.Form.{Form}
+use Rattle.leaf_domain.specs.declared.range.Range.{Range}
+use Rattle.leaf_domain.specs.Forms.{form_of_term}
+use Rattle.leaf_domain.specs.Ranges.{is_empty_range, whole_int}
+use Rattle.leaf_domain.specs.Leaves.{LeafValue, LeafMeaning, LeafLaws, Alike, nothing_of, is_nothing_of}
+use Rattle.leaf_domain.specs.Soundness.{TransferAnswers}
+use Rattle.leaf_domain.specs.Transfer.{assumed, assigned, forgotten, form_set, form_where, fits_term, range_of_term}
+use Rattle.plain_analysis.specs.declared.options.Options.{Options}
+use Rattle.plain_analysis.specs.Loops.{turn_of, widened_leaf, narrowing_of, narrowings_of, final_leaf}
+use Rattle.plain_analysis.specs.Statements.{after_of}
+use Rattle.plain_analysis.proofs.Rounds.{rounds_stay, narrowings_stay}
+
+same_content : (m : ℕ) (c : Option (List ℤ)) → is_none c ≡ true → (let v : LeafValue = record { variables = m; content = c } in v) ≡ nothing_of m
+same_content m None e = refl
+same_content m (Some ns) e = cc
+
+-- a leaf that is Nothing, over so many variables
+pub nothing_value : (v : LeafValue) (n : ℕ) → is_nothing_of v ≡ true → v.variables ≡ n → v ≡ nothing_of n
+nothing_value v n e f = same_content v.variables v.content e ∙ ap (λ m. nothing_of m) f
+
+module _ (M : LeafMeaning) (laws : LeafLaws M) (o : Options) (answers : TransferAnswers M o.mode) (n : ℕ) (few : n ≤ 16) where
+  alike : Alike M (nothing_of n) (nothing_of n)
+  alike = record { first = laws.nothing_valid n few; second = laws.nothing_valid n few; same = refl }
+
+  set_nothing : (f : Option Form) (x : ℕ) (r : Range) → form_set M x f r (nothing_of n) ≡ nothing_of n
+  set_nothing None x r = laws.set_nothing n x r
+  set_nothing (Some f) x r = laws.set_form_nothing n x f r
+
+  assigned_nothing : (x : ℕ) (e : Term) → assigned M o.mode x e (nothing_of n) ≡ nothing_of n
+  assigned_nothing x e = either (is_empty_range (range_of_term M o.mode e (nothing_of n)))
+    where
+      set : LeafValue
+      set = form_set M x (form_where (fits_term M o.mode e (nothing_of n)) (form_of_term e)) (range_of_term M o.mode e (nothing_of n)) (nothing_of n)
+
+      either : (b : Bool) → (if b then nothing_of n else set) ≡ nothing_of n
+      unfolding set
+      either true = refl
+      either false = set_nothing (form_where (fits_term M o.mode e (nothing_of n)) (form_of_term e)) x (range_of_term M o.mode e (nothing_of n))
+
+  assumed_nothing : (e : Term) (want : Bool) → assumed M o.mode e want (nothing_of n) ≡ nothing_of n
+  assumed_nothing e want = answers.assumed_of_nothing e want (nothing_of n) refl
+
+  joined_nothing : (a b : LeafValue) → a ≡ nothing_of n → b ≡ nothing_of n → M.join a b ≡ nothing_of n
+  joined_nothing a b e f = ap (λ v. M.join v b) e ∙ (ap (M.join (nothing_of n)) f ∙ laws.join_nothing (nothing_of n))
+
+  narrowed_nothing : (g : LeafValue) → g ≡ nothing_of n → M.narrow (nothing_of n) g ≡ nothing_of n
+  narrowed_nothing g e =
+      ap (M.narrow (nothing_of n)) e
+      ∙ nothing_value (M.narrow (nothing_of n) (nothing_of n)) n (laws.narrow_nothing n (nothing_of n)) (laws.narrow_answers (nothing_of n) (nothing_of n) alike).same
+
+  either_way : (b : Bool) (c : LeafValue) → c ≡ nothing_of n → (if b then c else nothing_of n) ≡ nothing_of n
+  either_way true c e = e
+  either_way false c e = refl
+
+  loop_nothing : (test : Term) (body : LeafValue → LeafValue) → body (nothing_of n) ≡ nothing_of n → final_leaf M o test body (nothing_of n) ≡ nothing_of n
+  loop_nothing test body same =
+      let G : LeafValue → LeafValue = turn_of M o.mode test body (nothing_of n) in
+      let turned : G (nothing_of n) ≡ nothing_of n = joined_nothing (nothing_of n) (body (assumed M o.mode test true (nothing_of n))) refl (ap body (assumed_nothing test true) ∙ same) in
+      let below : M.leq (G (nothing_of n)) (nothing_of n) ≡ true = ap (λ v. M.leq v (nothing_of n)) turned ∙ laws.nothing_leq n (nothing_of n) in
+      let wide : widened_leaf M o.delay G (nothing_of n) ≡ nothing_of n = rounds_stay M o.delay G (o.delay + M.bound_count n + 1) 0 (nothing_of n) below in
+      let stays : narrowing_of M G (nothing_of n) ≡ nothing_of n = either_way (M.leq (G (M.narrow (nothing_of n) (G (nothing_of n)))) (M.narrow (nothing_of n) (G (nothing_of n)))) (M.narrow (nothing_of n) (G (nothing_of n))) (narrowed_nothing (G (nothing_of n)) turned) in
+      ap (narrowings_of M G o.narrow) wide ∙ narrowings_stay M G o.narrow (nothing_of n) stays
+
+  pub after_nothing : (c : Code) → after_of M o c (nothing_of n) ≡ nothing_of n
+  after_nothing Done = refl
+  after_nothing (Assign place x e rest) = ap (after_of M o rest) (assigned_nothing x e) ∙ after_nothing rest
+  after_nothing (Input place x rest) = ap (after_of M o rest) (set_nothing None x whole_int) ∙ after_nothing rest
+  after_nothing (Assert place e rest) = ap (after_of M o rest) (assumed_nothing e true) ∙ after_nothing rest
+  after_nothing (If place e p q rest) =
+      ap (after_of M o rest) (joined_nothing (after_of M o p (assumed M o.mode e true (nothing_of n))) (after_of M o q (assumed M o.mode e false (nothing_of n)))
+        (ap (after_of M o p) (assumed_nothing e true) ∙ after_nothing p) (ap (after_of M o q) (assumed_nothing e false) ∙ after_nothing q))
+      ∙ after_nothing rest
+  after_nothing (While place e body rest) =
+      ap (λ v. after_of M o rest (assumed M o.mode e false v)) (loop_nothing e (after_of M o body) (after_nothing body))
+      ∙ (ap (after_of M o rest) (assumed_nothing e false) ∙ after_nothing rest)
+  after_nothing (Block place body rest) = ap (after_of M o rest) (after_nothing body) ∙ after_nothing rest
+  after_nothing (Skip place rest) = after_nothing rest
+  after_nothing (Cond number p q rest) = after_nothing rest

@@ -1,0 +1,70 @@
+//! The steps of a loop on two leaves: the leaf at its head, and what comes in there with it.
+#![tactic(auto)]
+
+ghost use Rattle.std.specs.Prelude.{◌≡◌, IfOk, IfSome, IfNone, true, false};
+ghost use Rattle.plain_analysis.specs.Loops.{moved_by, round_by};
+
+use fam_outer::NoMemory;
+use leaf_domain::Leaf;
+use std::alloc::Global;
+
+/// The join of two leaves.
+pub fn joined<L: Leaf>(alloc: Global, a: &L, b: &L) -> Result<L, NoMemory>
+    requires { (L.value a.now).variables ≡ (L.value b.now).variables }
+    ensures value { IfOk result (λ made. L.value made ≡ L.meaning.join (L.value a.now) (L.value b.now)) }
+    ensures same { IfOk result (λ made. (L.value made).variables ≡ (L.value a.now).variables) }
+{
+    let _known = a.variables();
+    let _known = b.variables();
+    a.join(alloc, b)
+}
+
+/// The candidate of a round of narrowing: the leaf at the head, with each bound that is the type's put as that of what
+/// comes in.
+pub fn narrowed_by<L: Leaf>(alloc: Global, at: &L, next: &L) -> Result<L, NoMemory>
+    requires { (L.value at.now).variables ≡ (L.value next.now).variables }
+    ensures value { IfOk result (λ made. L.value made ≡ L.meaning.narrow (L.value at.now) (L.value next.now)) }
+    ensures same { IfOk result (λ made. (L.value made).variables ≡ (L.value at.now).variables) }
+{
+    let _known = at.variables();
+    let _known = next.variables();
+    at.narrow(alloc, next)
+}
+
+/// The leaf at the head of a loop after one round, or None where what comes in is below it. The two are joined in an early
+/// round, and widened in a later one.
+pub fn moved<L: Leaf>(
+    alloc: Global,
+    at: &L,
+    next: &L,
+    is_early: bool,
+) -> Result<Option<L>, NoMemory>
+    requires { (L.value at.now).variables ≡ (L.value next.now).variables }
+    ensures stable { IfOk result (λ made. IfNone made (L.meaning.leq (L.value next.now) (L.value at.now) ≡ true)) }
+    ensures moved { IfOk result (λ made. IfSome made (λ leaf. L.meaning.leq (L.value next.now) (L.value at.now) ≡ false)) }
+    ensures value { IfOk result (λ made. IfSome made (λ leaf. L.value leaf ≡ moved_by L.meaning is_early (L.value at.now) (L.value next.now))) }
+    ensures same { IfOk result (λ made. IfSome made (λ leaf. (L.value leaf).variables ≡ (L.value at.now).variables)) }
+{
+    let _known = at.variables();
+    let _known = next.variables();
+    if next.leq(at) {
+        return Ok(None);
+    }
+    if is_early {
+        Ok(Some(at.join(alloc, next)?))
+    } else {
+        Ok(Some(at.widen(alloc, next)?))
+    }
+}
+
+/// The leaf at the head of a loop after one round, where it may stay.
+pub fn round<L: Leaf>(alloc: Global, at: &L, next: &L, is_early: bool) -> Result<L, NoMemory>
+    requires { (L.value at.now).variables ≡ (L.value next.now).variables }
+    ensures value { IfOk result (λ made. L.value made ≡ round_by L.meaning is_early (L.value at.now) (L.value next.now)) }
+    ensures same { IfOk result (λ made. (L.value made).variables ≡ (L.value at.now).variables) }
+{
+    match moved(alloc, at, next, is_early)? {
+        Some(made) => Ok(made),
+        None => at.copy(alloc),
+    }
+}
