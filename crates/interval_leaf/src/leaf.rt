@@ -6,10 +6,11 @@ ghost use Rattle.leaf_domain.specs.Ranges.{IsInInt};
 ghost use Rattle.c_tree.specs.Value.{IsInt};
 ghost use Rattle.leaf_domain.specs.Leaves.{LeafValue, nothing_of, is_nothing_of};
 ghost use Rattle.interval_leaf.specs.Intervals.{interval_of, ranges_of, AllOwn, IsInterval, AllEnds, HasEnds, settled, interval_with, intervals};
-ghost use Rattle.interval_leaf.specs.Laws.{interval_laws};
+ghost use Rattle.interval_leaf.specs.Laws.{interval_laws, leaf_alike};
 ghost use Rattle.std.specs.Prelude.{refl};
 ghost use Rattle.leaf_domain.specs.Leaves.{same_leaf};
-ghost use Rattle.interval_leaf.specs.Equality.{leaf_partial, leaf_equiv, fed_leaf, leaf_alike};
+ghost use Rattle.leaf_domain.proofs.LeafEquality.{leaf_decides, leaf_partial, leaf_equiv};
+ghost use Rattle.interval_leaf.specs.Hashing.{fed_leaf};
 
 use crate::ranges::{
     are_inside, are_same, covered, has_empty, narrowed_ranges, points, replaced, widened_ranges,
@@ -166,6 +167,8 @@ impl Leaf for IntervalLeaf {
     ghost meaning = { intervals };
 
     ghost equal = { λ a b. refl };
+
+    ghost exact = { λ a b e. (leaf_decides a b).0 e };
 
     ghost laws = { interval_laws };
 

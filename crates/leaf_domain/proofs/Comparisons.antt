@@ -1,5 +1,5 @@
 -- A leaf that is met with a comparison keeps each store at which it holds.
-use Rattle.std.proofs.Common.{◌≡◌, ℕ, ℤ, pos, ◌-ℤ◌, Bool, true, false, not, ◌||◌, if◌then◌else◌, List, Option, Some, None, Ok, refl, sym, ◌∙◌, subst, arith}
+use Rattle.std.proofs.Common.{◌≡◌, ℕ, ℤ, pos, ◌-ℤ◌, Bool, true, false, not, ◌||◌, if◌then◌else◌, List, Option, Some, None, Ok, refl, ap, sym, ◌∙◌, subst, arith}
 use Rattle.std.specs.Ordering.{int_eq}
 use Rattle.std.proofs.lemmas.Int.{ints}
 use Rattle.c_tree.specs.declared.tree.Mode.{Mode}
@@ -48,6 +48,9 @@ between_difference compares.Ne n m e = by_test (int_eq (n -ℤ m) (pos 0)) refl
         contrary true p q = cc
         contrary false p q = cc
     by_test false g = refl
+
+none_true : (a b c : Bool) → a ≡ false → b ≡ false → c ≡ false → (a || b || c) ≡ false
+none_true a b c e f g = rw (e, f, g)
 
 module _ (M : LeafMeaning) (laws : LeafLaws M) where
   -- a leaf that holds a store is not Nothing
@@ -128,10 +131,15 @@ module _ (M : LeafMeaning) (laws : LeafLaws M) where
       by_test true g = nothing_answers v h
       by_test false g = g
 
+  compared_some : (op : Compare) (a b : Term) (p q : Range) (f : Option Form) (v : LeafValue) → is_empty_range p ≡ false → is_empty_range q ≡ false → is_empty_range (cut_of op p q) ≡ false
+      → compared M op (variable_of a) (variable_of b) p q f v ≡ form_met M f op (narrowed op a b p q v)
+  compared_some op a b p q f v i j k = ap (λ t. if t then nothing_of v.variables else form_met M f op (narrowed op a b p q v)) (none_true _ _ _ i j k)
+
   pub compared_holds : (mode : Mode) (op : Compare) (a b : Term) (p q : Range) (f : Option Form) (v : LeafValue) (s : List ℤ) (n m : ℤ) → M.valid v → IsTermOf v.variables a → IsTermOf v.variables b → IsInInt p → IsInInt q → AreForms v.variables f
       → M.holds v s → value_of a s mode ≡ Ok n → value_of b s mode ≡ Ok m → Within n p → Within m q → Comes s f (n -ℤ m) → holds_between op n m ≡ true → M.holds (compared M op (variable_of a) (variable_of b) p q f v) s
   compared_holds mode op a b p q f v s n m h oa ob i j fs k ga gb wp wq c e =
-      rw (not_empty n p wp, not_empty m q wq, not_empty n (cut_of op p q) cut) (form_met_holds f op (narrowed op a b p q v) s (n -ℤ m) last.valid (forms_over f v _ last fs) (second_holds (first_holds (laws.best_holds v s h).1)) c (between_difference op n m e))
+      subst (λ (w : LeafValue). M.holds w s) (sym (compared_some op a b p q f v (not_empty n p wp) (not_empty m q wq) (not_empty n (cut_of op p q) cut)))
+      (form_met_holds f op (narrowed op a b p q v) s (n -ℤ m) last.valid (forms_over f v _ last fs) (second_holds (first_holds (laws.best_holds v s h).1)) c (between_difference op n m e))
     where
       cut : Within n (cut_of op p q)
       cut = cut_holds op p q n m wp wq e

@@ -2,6 +2,8 @@ pub mod Signed
 pub mod ArithmeticLemmas
 pub mod CutLemmas
 pub mod Wrapping
+pub mod FoldLemmas
+pub mod LeafEquality
 pub mod FormLemmas
 pub mod Merges
 pub mod Nodes

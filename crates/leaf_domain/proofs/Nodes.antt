@@ -20,22 +20,6 @@ use Rattle.leaf_domain.specs.Leaves.{LeafValue, LeafMeaning, is_nothing_of}
 use Rattle.leaf_domain.specs.Transfer.{transfer, where_some, range_where_some, variable_of, form_where, form_less_zero, zero_range, compared, negated_range, raw_of_sum, results_in, fits_in, is_inside}
 use Rattle.leaf_domain.specs.Evaluations.{evaluation_of, is_truth_term, truth_at, arithmetic_at, compare_of_op, compared_terms, compared_zero}
 
--- ---- ranges within `int`
-
-upward_in_int : (l width : ℤ) → IsInt l → pos 0 ≤ℤ width → IsInInt (upward_of l width)
-upward_in_int l width h k = by_test (int_le width (greatest -ℤ l)) refl
-  where
-    by_test : (t : Bool) → int_le width (greatest -ℤ l) ≡ t → IsInInt (if t then range_at l (l +ℤ width) else whole_int)
-    by_test true e = let i : width ≤ℤ (greatest -ℤ l) = grind (arith, ints) in record { low = h; high = record { low = omega (arith, ints, h.low); high = omega (arith, ints) } }
-    by_test false e = grind (arith, ints)
-
-pub fold_in_int : (a : Range) → IsInInt (fold_of a)
-fold_in_int a = by_test (int_lt a.high a.low) refl
-  where
-    by_test : (t : Bool) → int_lt a.high a.low ≡ t → IsInInt (if t then empty_range else shifted_of a.low a.high)
-    by_test true e = grind (arith, ints)
-    by_test false e = let i : a.low ≤ℤ a.high = grind (arith, ints) in upward_in_int (wrapped a.low) (a.high -ℤ a.low) (IsInt-wrapped a.low) (omega (arith, ints))
-
 -- ---- Nothing, and any other leaf
 
 where_nothing : (v w : LeafValue) → is_nothing_of v ≡ true → where_some v w ≡ v

@@ -17,6 +17,7 @@ use Rattle.leaf_domain.specs.Ranges.{Within, IsInInt, exact, empty_range, is_emp
 use Rattle.leaf_domain.specs.Transfer.{truth_range, zero_range, negated_range, results_in, is_inside, is_within_int}
 use Rattle.leaf_domain.proofs.CutLemmas.{ends_in_int, ends_hold}
 use Rattle.leaf_domain.proofs.ArithmeticLemmas.{not_empty, rem_is_left}
+use Rattle.leaf_domain.proofs.FoldLemmas.{fold_in_int, fold_holds}
 
 -- ---- results
 
@@ -172,43 +173,7 @@ pub truth_has_zero : (t : Bool) → Within (pos 0) (truth_range t true)
 truth_has_zero true = grind (arith, ints)
 truth_has_zero false = grind (arith, ints)
 
--- ---- folded ranges
-
-upward_in_int : (l width : ℤ) → IsInt l → pos 0 ≤ℤ width → IsInInt (upward_of l width)
-upward_in_int l width h k = by_test (int_le width (greatest -ℤ l)) refl
-  where
-    by_test : (t : Bool) → int_le width (greatest -ℤ l) ≡ t → IsInInt (if t then range_at l (l +ℤ width) else whole_int)
-    by_test true e = let g : width ≤ℤ (greatest -ℤ l) = grind (arith, ints) in record { low = h; high = record { low = omega (arith, ints, h.low, h.high); high = omega (arith, ints, h.low, h.high) } }
-    by_test false e = whole_in_int
-
-pub fold_in_int : (a : Range) → IsInInt (fold_of a)
-fold_in_int a = by_test (is_empty_range a) refl
-  where
-    by_test : (t : Bool) → is_empty_range a ≡ t → IsInInt (if t then empty_range else shifted_of a.low a.high)
-    by_test true e = empty_in_int
-    by_test false e = upward_in_int (wrapped a.low) (a.high -ℤ a.low) (IsInt-wrapped a.low) (let g : a.low ≤ℤ a.high = grind (arith, ints) in omega (arith, ints))
-
-upward_holds : (n l h : ℤ) → l ≤ℤ n → n ≤ℤ h → Within (wrapped n) (upward_of (wrapped l) (h -ℤ l))
-upward_holds n l h p q = by_test (int_le (h -ℤ l) (greatest -ℤ wrapped l)) refl
-  where
-    w : IsInt (wrapped n)
-    w = IsInt-wrapped n
-
-    u : IsInt (wrapped l)
-    u = IsInt-wrapped l
-
-    moved : (h -ℤ l) ≤ℤ (greatest -ℤ wrapped l) → wrapped n ≡ wrapped l +ℤ (n -ℤ l)
-    moved g = let d = wrapped_differs n in let e = wrapped_differs l in omega (arith, ints, d.1, e.1, w.low, w.high, u.low, u.high)
-
-    by_test : (t : Bool) → int_le (h -ℤ l) (greatest -ℤ wrapped l) ≡ t → Within (wrapped n) (if t then range_at (wrapped l) (wrapped l +ℤ (h -ℤ l)) else whole_int)
-    by_test true e =
-        let g : (h -ℤ l) ≤ℤ (greatest -ℤ wrapped l) = grind (arith, ints) in
-        let m : wrapped n ≡ wrapped l +ℤ (n -ℤ l) = moved g in
-        record { low = omega (arith, ints); high = omega (arith, ints) }
-    by_test false e = record { low = w.low; high = w.high }
-
-pub fold_holds : (n : ℤ) (a : Range) → Within n a → Within (wrapped n) (fold_of a)
-fold_holds n a h = rw (not_empty n a h) (upward_holds n a.low a.high h.low h.high)
+-- ---- the results of both modes
 
 pub results_in_int : (mode : Mode) (a : Range) → IsInInt (results_in mode a)
 results_in_int Stop a = clip_in_int a

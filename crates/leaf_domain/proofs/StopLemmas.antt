@@ -1,29 +1,49 @@
 -- Whether an expression may stop, by the kind of its node.
-use Rattle.std.proofs.Common.{◌≡◌, Bool, true, false, if◌then◌else◌, refl, ap, sym, ◌∙◌}
+use Rattle.std.proofs.Common.{◌≡◌, Bool, true, false, if◌then◌else◌, ◌&&◌, refl, ap, sym, ◌∙◌}
 use Rattle.c_tree.specs.declared.tree.Kind.{Kind}
+use Rattle.c_tree.specs.declared.tree.Kind.TheVariants.{Overflow, ZeroDivisor, Assertion}
 use Rattle.c_tree.specs.declared.tree.Mode.{Mode}
 use Rattle.c_tree.specs.declared.tree.Op.{Op}
 use Rattle.c_tree.specs.declared.tree.Op.TheVariants.{Add, And, Or}
-use Rattle.c_tree.specs.Tree.{Term, Number, Var, Neg, Not, Binary}
+use Rattle.c_tree.specs.Tree.{Term, Number, Var, Neg, Not, Binary, Code, Done, Assign, Input, Assert, If, While, Block, Skip, Cond}
 use Rattle.leaf_domain.specs.declared.evaluation.Evaluation.{Evaluation}
 use Rattle.leaf_domain.specs.Leaves.{LeafValue, LeafMeaning, is_nothing_of}
 use Rattle.leaf_domain.specs.Transfer.{transfer}
-use Rattle.leaf_domain.specs.Stops.{stops_at, either_stops, unless_nothing, may_term}
+use Rattle.leaf_domain.specs.Stops.{stops_at, either_stops, unless_nothing, may_term, is_of_value}
 use Rattle.leaf_domain.specs.Evaluations.{evaluation_of}
+use Rattle.leaf_domain.specs.Soundness.{NothingStops}
 
-at_nothing : (v : LeafValue) (b : Bool) → is_nothing_of v ≡ true → false ≡ unless_nothing v b
-at_nothing v b h = sym (ap (λ t. if t then false else b) h)
+at_nothing : (v : LeafValue) (b : Bool) → is_nothing_of v ≡ true → unless_nothing v b ≡ false
+at_nothing v b h = ap (λ t. if t then false else b) h
 
 elsewhere : (v : LeafValue) (b : Bool) → is_nothing_of v ≡ false → b ≡ unless_nothing v b
 elsewhere v b h = sym (ap (λ t. if t then false else b) h)
 
-pub nothing_stops : (M : LeafMeaning) (mode : Mode) (kind : Kind) (e : Term) (v : LeafValue) → is_nothing_of v ≡ true → false ≡ may_term M mode kind e v
-nothing_stops M mode kind (Number n) v h = refl
-nothing_stops M mode kind (Var x) v h = refl
-nothing_stops M mode kind (Neg a) v h = at_nothing v _ h
-nothing_stops M mode kind (Not a) v h = at_nothing v _ h
-nothing_stops M mode kind (Binary Add a b) v h = at_nothing v _ h
-nothing_stops M mode kind (Binary op a b) v h = at_nothing v _ h
+pub no_stop_at_nothing : (M : LeafMeaning) (mode : Mode) (kind : Kind) (e : Term) (v : LeafValue) → is_nothing_of v ≡ true → may_term M mode kind e v ≡ false
+no_stop_at_nothing M mode kind (Number n) v h = refl
+no_stop_at_nothing M mode kind (Var x) v h = refl
+no_stop_at_nothing M mode kind (Neg a) v h = at_nothing v _ h
+no_stop_at_nothing M mode kind (Not a) v h = at_nothing v _ h
+no_stop_at_nothing M mode kind (Binary Add a b) v h = at_nothing v _ h
+no_stop_at_nothing M mode kind (Binary op a b) v h = at_nothing v _ h
+
+no_value_stop : (M : LeafMeaning) (mode : Mode) (kind : Kind) (e : Term) (v : LeafValue) → is_nothing_of v ≡ true → (is_of_value kind && may_term M mode kind e v) ≡ false
+no_value_stop M mode Overflow e v h = no_stop_at_nothing M mode Overflow e v h
+no_value_stop M mode ZeroDivisor e v h = no_stop_at_nothing M mode ZeroDivisor e v h
+no_value_stop M mode Assertion e v h = refl
+
+pub nothing_stops : (M : LeafMeaning) (mode : Mode) → NothingStops M mode
+nothing_stops M mode kind Done v h = refl
+nothing_stops M mode kind (Assign place x e rest) v h = no_value_stop M mode kind e v h
+nothing_stops M mode kind (Input place x rest) v h = refl
+nothing_stops M mode Overflow (Assert place e rest) v h = no_stop_at_nothing M mode Overflow e v h
+nothing_stops M mode ZeroDivisor (Assert place e rest) v h = no_stop_at_nothing M mode ZeroDivisor e v h
+nothing_stops M mode Assertion (Assert place e rest) v h = at_nothing v _ h
+nothing_stops M mode kind (If place e p q rest) v h = no_value_stop M mode kind e v h
+nothing_stops M mode kind (While place e body rest) v h = no_value_stop M mode kind e v h
+nothing_stops M mode kind (Block place body rest) v h = refl
+nothing_stops M mode kind (Skip place rest) v h = refl
+nothing_stops M mode kind (Cond number p q rest) v h = refl
 
 -- an operator by what is found of its operands and of the whole
 abbrev pub operator_stops : Mode → Kind → Op → Bool → Bool → Evaluation → Evaluation → Evaluation → Bool

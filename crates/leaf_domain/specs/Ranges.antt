@@ -60,6 +60,24 @@ shifted_of l h = upward_of (wrapped l) (h -ℤ l)
 abbrev pub fold_of : Range → Range
 fold_of a = if is_empty_range a then empty_range else shifted_of a.low a.high
 
+-- the range with so much added to each number
+abbrev pub shifted_by : ℤ → Range → Range
+shifted_by d a = range_at (a.low +ℤ d) (a.high +ℤ d)
+
+-- so many times 2^32
+abbrev pub turns : ℤ → ℤ
+turns k = pos 4294967296 *ℤ k
+
+-- The folded range is the range shifted by a multiple of 2^32 that brings it within `int`, or it is all of `int` and no
+-- multiple does so. It has each wrapped number of the range.
+pub record FoldHolds (a : Range) : Type 0 where
+  pub empty : is_empty_range a ≡ true → fold_of a ≡ empty_range
+  pub shifts :
+      is_empty_range a ≡ false
+      → ((k : ℤ) × IsInInt (shifted_by (turns k) a) × (fold_of a ≡ shifted_by (turns k) a))
+      ⊎ (((k : ℤ) → IsInInt (shifted_by (turns k) a) → ⊥) × (fold_of a ≡ whole_int))
+  pub holds : (n : ℤ) → Within n a → Within (wrapped n) (fold_of a)
+
 -- from the lesser to the greater of two numbers
 abbrev pub between_of : ℤ → ℤ → Range
 between_of p q = record { low = int_min p q; high = int_max p q }

@@ -40,6 +40,10 @@ pub record TransferAnswers (M : LeafMeaning) (mode : Mode) : Type 0 where
   pub assigned_of_nothing : (x : ℕ) (e : Term) (v : LeafValue) → is_nothing_of v ≡ true → is_nothing_of (assigned M mode x e v) ≡ true
   pub forgotten_of_nothing : (x : ℕ) (v : LeafValue) → is_nothing_of v ≡ true → is_nothing_of (forgotten M x v) ≡ true
 
+-- no statement may stop at Nothing
+abbrev pub NothingStops : LeafMeaning → Mode → Type 0
+NothingStops M mode = (kind : Kind) (c : Code) (v : LeafValue) → is_nothing_of v ≡ true → may_at M mode kind c v ≡ false
+
 -- each value of an expression is in its range; each store at which it is as wanted is kept; the leaf after an assignment and
 -- after an input holds each store that these leave; where a store stops, the statement may stop; and where an expression
 -- fits in wrapping mode, no store makes a sum or a product in it leave `int`: it has the value that it has where overflows stop

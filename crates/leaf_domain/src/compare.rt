@@ -5,7 +5,7 @@ ghost use Rattle.std.specs.Prelude.{◌≡◌, pos, ◌+ℤ◌, ◌-ℤ◌};
 ghost use Rattle.std.specs.Int.{int_min, int_max};
 ghost use Rattle.c_tree.specs.Value.{IsInt};
 ghost use Rattle.leaf_domain.specs.Ranges.{range_of_ends, IsInInt};
-ghost use Rattle.leaf_domain.specs.Compares.{cut_of, mirror_of, negation_of, without_number, raised_past, lowered_past};
+ghost use Rattle.leaf_domain.specs.Compares.{cut_of, cut_of_some, mirror_of, negation_of, without_number, raised_past, lowered_past, CutHolds};
 
 use crate::range::Range;
 
@@ -58,11 +58,24 @@ fn above(a: Range, l: i64) -> Range
     Range::new(a.low.max(l + 1), a.high)
 }
 
-/// What may remain of `a` where `a op b` holds for some values.
+/// What may remain of `a` where `a op b` holds for some values. An empty range has none.
 pub fn cut(op: Compare, a: Range, b: Range) -> Range
     requires a { IsInInt a }
     requires b { IsInInt b }
     ensures { result ≡ cut_of op a b }
+{
+    if a.is_empty() || b.is_empty() {
+        Range::EMPTY
+    } else {
+        cut_some(op, a, b)
+    }
+}
+
+/// What may remain of `a` where `a op b` holds for some values, where neither is empty.
+fn cut_some(op: Compare, a: Range, b: Range) -> Range
+    requires a { IsInInt a }
+    requires b { IsInInt b }
+    ensures { result ≡ cut_of_some op a b }
 {
     match op {
         Compare::Lt => below(a, b.high),
@@ -79,6 +92,11 @@ pub fn cut(op: Compare, a: Range, b: Range) -> Range
         }
     }
 }
+
+/// The law of `cut`: each number of `a` for which the comparison holds with a number of `b` remains.
+pub fn cut_is_sound()
+    ensures { CutHolds }
+{}
 
 /// The comparison of the operands the other way round.
 pub fn mirror(op: Compare) -> Compare

@@ -2,7 +2,8 @@
 #![tactic(auto)]
 
 ghost use Rattle.c_tree.specs.declared.tree.Mode as mode;
-ghost use Rattle.leaf_domain.specs.Soundness.{FormsAreForms, TransferAnswers, TransferHolds};
+ghost use Rattle.std.specs.Prelude.{◌≡◌, ◌↔◌, true};
+ghost use Rattle.leaf_domain.specs.Soundness.{FormsAreForms, TransferAnswers, TransferHolds, NothingStops};
 
 use crate::leaf::Leaf;
 
@@ -11,9 +12,18 @@ use crate::leaf::Leaf;
 /// Nothing on Nothing. A range has each value of its expression; an assumed leaf keeps each store
 /// at which the expression is as wanted; the leaves after an assignment and after an input hold each
 /// store that these leave; a statement at which a store of the leaf stops may stop with that kind;
-/// and an expression that fits, where overflows wrap, has the value that it has where they stop.
+/// and an expression that fits, where overflows wrap, has the value that it has where they stop. At
+/// Nothing no statement may stop.
 pub fn transfer_is_sound<L: Leaf>()
     ensures forms { FormsAreForms }
     ensures answers { (m : mode.Mode) → TransferAnswers L.meaning m }
     ensures holds { (m : mode.Mode) → TransferHolds L.meaning m }
+    ensures nothing { (m : mode.Mode) → NothingStops L.meaning m }
+{}
+
+/// The laws of equality of a kind of leaf: `==` answers true exactly where the leaves are the same,
+/// and leaves of the same value are the same.
+pub fn equality_is_exact<L: Leaf>()
+    ensures decides { (a b : L) → (L.eq a b ≡ true) ↔ (a ≡ b) }
+    ensures value { (a b : L) → L.value a ≡ L.value b → a ≡ b }
 {}

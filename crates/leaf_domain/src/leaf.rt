@@ -1,7 +1,7 @@
 //! The trait of leaves.
 #![tactic(auto)]
 
-ghost use Rattle.std.specs.Prelude.{◌≡◌, ℕ, ◌<◌, ◌≤◌, IfOk, length, All};
+ghost use Rattle.std.specs.Prelude.{◌≡◌, ℕ, ◌<◌, ◌≤◌, true, IfOk, length, All};
 ghost use Rattle.leaf_domain.specs.Ranges.{IsInInt};
 ghost use Rattle.c_tree.specs.Value.{IsInt};
 ghost use Rattle.leaf_domain.specs.Forms.{IsForm};
@@ -115,6 +115,9 @@ pub trait Leaf: Eq + Hash + Drop {
 
     /// Leaves are equal where their values are, number for number.
     ghost equal: { (a b : Self) → Self.eq a b ≡ same_leaf (value a) (value b) };
+
+    /// Where `==` answers true, the leaves are the same.
+    ghost exact: { (a b : Self) → Self.eq a b ≡ true → a ≡ b };
 
     /// What the meanings keep.
     ghost laws: { LeafLaws meaning };

@@ -14,12 +14,12 @@ pub mod stops;
 mod terms;
 pub mod transfer;
 
-pub use compare::{Compare, cut, mirror};
+pub use compare::{Compare, cut, cut_is_sound, mirror};
 pub use form::{Form, Terms};
-pub use laws::transfer_is_sound;
+pub use laws::{equality_is_exact, transfer_is_sound};
 pub use leaf::Leaf;
 pub use linear::form_of;
-pub use range::{Range, arithmetic, arithmetic_is_sound};
+pub use range::{Range, arithmetic, arithmetic_is_sound, fold_is_sound};
 pub use stops::may;
 pub use transfer::{assign, assume, fits, forget, range_of, raw_of};
 

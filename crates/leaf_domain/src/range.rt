@@ -2,7 +2,8 @@
 #![tactic(auto)]
 
 ghost use Rattle.std.specs.Prelude.{◌≡◌, ◌≢◌, ◌&&◌, pos, negsuc, ◌≤ℤ◌, IsTrue, ◌↔◌, ◌<ℤ◌};
-ghost use Rattle.leaf_domain.specs.Ranges.{meet_of, clip_of, fold_of, shifted_of, upward_of, is_empty_range, hull_of, cover_of, between_of, range_of_ends, spread_of, quotients_of, remainders_of, greatest_size_of, least_divisor_of, is_zero_range, is_single, remainder_of_singles, is_smaller_of, low_left_of, high_left_of, bounded_remainders, ArithmeticHolds, sums_of, differences_of, products_of, all_quotients_of, arithmetic_range, is_arithmetic, IsInInt, HasOneSign};
+ghost use Rattle.leaf_domain.specs.Ranges.{meet_of, clip_of, fold_of, shifted_of, upward_of, is_empty_range, hull_of, cover_of, between_of, range_of_ends, spread_of, quotients_of, remainders_of, greatest_size_of, least_divisor_of, is_zero_range, is_single, remainder_of_singles, is_smaller_of, low_left_of, high_left_of, bounded_remainders, ArithmeticHolds, FoldHolds, sums_of, differences_of, products_of, all_quotients_of, arithmetic_range, is_arithmetic, IsInInt, HasOneSign};
+ghost use Rattle.leaf_domain.specs.declared.range.Range as range;
 ghost use Rattle.c_tree.specs.Value.{IsInt, wrapped};
 ghost use Rattle.std.specs.Int.{int_min, int_max};
 
@@ -335,4 +336,10 @@ pub fn arithmetic(op: Op, a: Range, b: Range) -> Range
 /// The law of `arithmetic`: each result of two numbers is in the range of their ranges.
 pub fn arithmetic_is_sound()
     ensures { ArithmeticHolds }
+{}
+
+/// The law of `fold`: the folded range is the range shifted by the multiple of 2^32 that brings it
+/// within `int`, or all of `int` where no multiple does, and it has each wrapped number of the range.
+pub fn fold_is_sound()
+    ensures { (a : range.Range) → FoldHolds a }
 {}

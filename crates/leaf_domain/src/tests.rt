@@ -69,6 +69,9 @@ fn cuts_of_ranges(rt: HostRuntime) {
         (Compare::Ne, range(0, 9), range(5, 5), range(0, 9)),
         (Compare::Ne, range(4, 4), range(4, 4), Range::EMPTY),
         (Compare::Lt, range(4, 9), range(0, 4), Range::EMPTY),
+        (Compare::Lt, range(-5, 5), Range::EMPTY, Range::EMPTY),
+        (Compare::Ge, range(-5, 5), Range::EMPTY, Range::EMPTY),
+        (Compare::Ne, Range::EMPTY, range(0, 0), Range::EMPTY),
     ];
     for (op, a, b, want) in cases {
         assert!(rt; is_int(a));

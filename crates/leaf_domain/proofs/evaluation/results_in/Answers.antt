@@ -1,4 +1,4 @@
-use Rattle.leaf_domain.proofs.Nodes.{fold_in_int}
+use Rattle.leaf_domain.proofs.FoldLemmas.{fold_in_int}
 use Rattle.leaf_domain.proofs.evaluation.results_in.Goals as goal
 
 pub returns-in-Wrap-clause-int : goal.returns-in-Wrap-clause-int

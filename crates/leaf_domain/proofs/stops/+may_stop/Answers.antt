@@ -1,10 +1,10 @@
 use Rattle.std.proofs.Common.{sym, ap, ◌∙◌}
 use Rattle.c_tree.specs.View.{term}
-use Rattle.leaf_domain.proofs.StopLemmas.{nothing_stops, operator_is}
+use Rattle.leaf_domain.proofs.StopLemmas.{no_stop_at_nothing, operator_is}
 use Rattle.leaf_domain.proofs.stops.+may_stop.Goals as goal
 
 pub returns-then-is_nothing : goal.returns-then-is_nothing
-returns-then-is_nothing g t c = nothing_stops g.L.Leaf.meaning c.args.mode c.args.kind (term c.args.e.now) (g.L.Leaf.value c.args.leaf.now) (sym c.is_nothing.ensures ∙ c.if-is_nothing.true)
+returns-then-is_nothing g t c = sym (no_stop_at_nothing g.L.Leaf.meaning c.args.mode c.args.kind (term c.args.e.now) (g.L.Leaf.value c.args.leaf.now) (sym c.is_nothing.ensures ∙ c.if-is_nothing.true))
 
 pub returns-in_ok-whole-in_default : goal.returns-in_ok-whole-in_default
 returns-in_ok-whole-in_default g t c =
