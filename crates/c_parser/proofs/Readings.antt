@@ -5,6 +5,7 @@ use Rattle.std.proofs.lemmas.List.{length-append}
 use Rattle.fam_outer.specs.declared.faults.Place.{Place}
 use Rattle.fam_outer.specs.declared.faults.FileCode.{FileCode}
 use Rattle.fam_outer.specs.declared.faults.FileCode.TheVariants.{Syntax, TooDeep, TooLong}
+use Rattle.fam_outer.specs.Limits.{file_bytes}
 use Rattle.fam_outer.specs.Places.{end_place}
 use Rattle.fam_outer.specs.Results.{and_then}
 use Rattle.c_tree.specs.Tree.{Whole}
@@ -17,7 +18,7 @@ use Rattle.c_grammar.specs.Laws.{Complete, DeepIsFound, FindsWrong, Limited, Sou
 use Rattle.item_reader.specs.Reading.{IsWrongAt, IsDeepAt}
 use Rattle.c_parser.specs.Items.{Listed}
 use Rattle.c_parser.specs.Names.{first_name_fault}
-use Rattle.c_parser.specs.Reading.{IsSpelled, IsAccepted, HasWrong, HasDeep, HasNameFault, Refuses, ReadsOver, limit, file_place, code_of_file, items_of, place_with}
+use Rattle.c_parser.specs.Reading.{IsSpelled, IsAccepted, HasWrong, HasDeep, HasNameFault, Refuses, ReadsOver, file_place, code_of_file, items_of, place_with}
 
 -- the laws of the grammar that are used here
 pub record GrammarLaws : Type 0 where
@@ -217,6 +218,6 @@ pub reads_any : GrammarLaws → (given : List (List ℕ)) (bytes : List ℕ) →
 reads_any laws given bytes = by_items laws given bytes (items_of given bytes) refl
 
 -- a file of more bytes is refused whole
-pub reads_too_long : (given : List (List ℕ)) (bytes : List ℕ) → limit < length bytes → ReadsOver given bytes (Err (TooLong, file_place))
+pub reads_too_long : (given : List (List ℕ)) (bytes : List ℕ) → file_bytes < length bytes → ReadsOver given bytes (Err (TooLong, file_place))
 unfolding items_of code_of_file
-reads_too_long given bytes h = inl (rw (lt-ltb limit (length bytes) h) refl)
+reads_too_long given bytes h = inl (rw (lt-ltb file_bytes (length bytes) h) refl)

@@ -101,8 +101,12 @@ all_over text names (t ∷ ts) =
     ap (λ (s : Sign). at t.place s ∷ items_from text (names_with names t.kind (lexeme_in text t)) ts) (signed names (names_from text (names_with names t.kind (lexeme_in text t)) ts) t.kind (lexeme_in text t) (names_extend text (names_with names t.kind (lexeme_in text t)) ts))
     ∙ ap (λ (xs : List Item). at t.place (sign_of (names_from text (names_with names t.kind (lexeme_in text t)) ts) t.kind (lexeme_in text t)) ∷ xs) (all_over text (names_with names t.kind (lexeme_in text t)) ts)
 
-pub listed_whole : (given : List (List ℕ)) (text : List ℕ) (ts : List Token) (made : Numbered) → AreListed given text ts made.names made.items.items → IsListed (listed given text ts) made
-listed_whole given text ts made h = record { names_are = h.names_are; items_are = h.items_are ∙ all_over text given ts }
+-- the names and items of tokens that were numbered one by one behind given names
+pub listed_whole : (given old new : List (List ℕ)) (text : List ℕ) (ts : List Token) (made : Numbered) → old ≡ given → AreListed old text ts new made.items.items → made.names ≡ new → IsListed (listed given text ts) made
+listed_whole given old new text ts made e h f = record {
+  names_are = f ∙ h.names_are ∙ ap (λ (ns : List (List ℕ)). names_from text ns ts) e;
+  items_are = h.items_are ∙ ap (λ (ns : List (List ℕ)). items_from text ns ts) e ∙ all_over text given ts;
+}
 
 -- what was numbered may be given to a reader
 pub proper_items : TokenLaws → (given : List (List ℕ)) (text : List ℕ) (ts : List Token) (made : Numbered) → tokens_of text ≡ Ok ts → IsListed (listed given text ts) made → AreProper made.names made.items.items

@@ -5,7 +5,7 @@ use Rattle.fam_outer.specs.declared.faults.FileCode.{FileCode}
 use Rattle.fam_outer.specs.declared.faults.FileCode.TheVariants.{Syntax, TooDeep, TooLong}
 use Rattle.fam_outer.specs.declared.faults.FileRefusal.{FileRefusal}
 use Rattle.fam_outer.specs.declared.faults.FileRefusal.TheVariants as refusals
-use Rattle.fam_outer.specs.declared.TheConstants.{FILE_BYTES}
+use Rattle.fam_outer.specs.Limits.{file_bytes}
 use Rattle.fam_outer.specs.Places.{end_place}
 use Rattle.fam_outer.specs.Results.{and_then}
 use Rattle.cpp_lines.specs.Faults.{without_comments}
@@ -29,7 +29,7 @@ file_place = record { line = 1; column = 1 }
 -- ---- the phases before the grammar: the length, the comments, the lines, and the tokens of the code
 
 abbrev pub within_limit : List ℕ → Result (List ℕ) (FileCode × Place)
-within_limit bytes = if nat_lt FILE_BYTES (length bytes) then Err (TooLong, file_place) else Ok bytes
+within_limit bytes = if nat_lt file_bytes (length bytes) then Err (TooLong, file_place) else Ok bytes
 
 abbrev pub code_of_blanked : List ℕ → Result (List ℕ) (FileCode × Place)
 code_of_blanked blanked = and_then (plain_lines_of blanked) (λ lines. Ok (code_of blanked))

@@ -108,7 +108,6 @@ fn names_of(alloc: Global, set: &IndexSet<Text>) -> Result<Names, NoMemory>
 }
 
 /// The names and the items of the tokens of a text, behind given names.
-#[tactic(auto, using(crate::proofs::Stepwise::listed_whole))]
 pub(crate) fn number(
     alloc: Global,
     given: &[Text],
