@@ -68,7 +68,7 @@ by_code : (given : List (List ℕ)) (bytes : List ℕ) (l : Listed) (x : Result 
 by_code given bytes l (Ok code) e h = by_tokens given code l (tokens_of code) refl (sym (ap (λ (x : Result (List ℕ) (FileCode × Place)). and_then x (items_of_code given)) e) ∙ h)
 by_code given bytes l (Err fault) e h = absurd (no_list fault l (and_then (code_of_file bytes) (items_of_code given)) (ap (λ (x : Result (List ℕ) (FileCode × Place)). and_then x (items_of_code given)) e) h)
 
-stands_for : (given : List (List ℕ)) (bytes : List ℕ) (l : Listed) → items_of given bytes ≡ Ok l → StandsFor given l
+pub stands_for : (given : List (List ℕ)) (bytes : List ℕ) (l : Listed) → items_of given bytes ≡ Ok l → StandsFor given l
 unfolding items_of
 stands_for given bytes l is = by_code given bytes l (code_of_file bytes) refl is
 

@@ -1,6 +1,6 @@
 -- The names that the items of a file without groups declare, and the first fault of a name (ISO/IEC 9899:2011, 6.5.1 and 6.7).
 -- Before `main` each name is that of a declaration, and behind it each name is used.
-use Rattle.std.specs.Prelude.{ℕ, nat_eq, nat_le, Bool, true, false, List, [], ◌∷◌, ◌++◌, length, Option, Some, None, option_map, if◌then◌else◌}
+use Rattle.std.specs.Prelude.{ℕ, nat_eq, nat_le, Bool, true, false, List, [], ◌∷◌, ◌++◌, length, map, get_or, Option, Some, None, option_map, if◌then◌else◌}
 use Rattle.std.specs.List.{list_any}
 use Rattle.fam_outer.specs.declared.faults.Place.{Place}
 use Rattle.fam_outer.specs.declared.faults.FileCode.{FileCode}
@@ -9,6 +9,8 @@ use Rattle.c_grammar.specs.declared.items.Item.{Item}
 use Rattle.c_grammar.specs.declared.items.Sign.{Sign}
 use Rattle.c_grammar.specs.declared.items.Sign.TheVariants as signs
 use Rattle.cpp_lines.specs.Faults.{or_later}
+use Rattle.c_tree.specs.declared.tree.Declared.{Declared}
+use Rattle.c_parser.specs.Items.{with_name}
 
 abbrev pub is_main : Sign → Bool
 is_main signs.Main = true
@@ -27,6 +29,19 @@ name_of _ = []
 abbrev pub declared_by : List Item → List ℕ
 declared_by [] = []
 declared_by (x ∷ xs) = if is_main x.sign then [] else name_of x.sign ++ declared_by xs
+
+-- the names that declarators declare, by their numbers
+abbrev pub targets : List Declared → List ℕ
+targets ds = map (λ d. d.target) ds
+
+-- the names with these numbers
+abbrev pub names_at : List (List ℕ) → List ℕ → List (List ℕ)
+names_at names numbers = map (λ x. get_or names x []) numbers
+
+-- these names and others behind them, each once
+abbrev pub each_once : List (List ℕ) → List (List ℕ) → List (List ℕ)
+each_once seen [] = seen
+each_once seen (name ∷ names) = each_once (with_name seen name) names
 
 -- a name is declared a second time, or is the 17th, where these are declared before it
 abbrev pub declaration_fault : List ℕ → ℕ → Option FileCode

@@ -16,11 +16,11 @@ use Rattle.c_tree.specs.Tree.{Whole}
 use Rattle.c_tree.specs.View.{whole}
 use Rattle.c_tree.specs.declared.tree.Program.{Program}
 use Rattle.c_grammar.specs.declared.items.Item.{Item}
-use Rattle.c_grammar.specs.Grammar.{Spells}
+use Rattle.c_grammar.specs.Grammar.{File, Forms, Spells}
 use Rattle.item_reader.specs.Reading.{IsWrongAt, IsDeepAt, NothingDeep}
 use Rattle.c_parser.specs.Items.{Listed, listed}
 use Rattle.std.specs.List.{list_any}
-use Rattle.c_parser.specs.Names.{declared_by, first_name_fault}
+use Rattle.c_parser.specs.Names.{declared_by, first_name_fault, targets, names_at, each_once}
 
 -- where a file is refused whole
 abbrev pub file_place : Place
@@ -94,6 +94,14 @@ ReadsOver given bytes (Err fault) = (items_of given bytes ≡ Err fault) ⊎ ((l
 -- the same, where none is given
 abbrev pub Reads : List ℕ → Result Whole (FileCode × Place) → Type 0
 Reads bytes answer = ReadsOver [] bytes answer
+
+-- the names that the spelled file declares, each once, in the order of their first declaration, where these names are given
+pub record AreDeclaredNames (given : List (List ℕ)) (bytes : List ℕ) (names : List (List ℕ)) : Type 0 where
+  pub listed : Listed
+  pub items : items_of given bytes ≡ Ok listed
+  pub file : File
+  pub forms : Forms listed.items file
+  pub are : names ≡ each_once [] (names_at listed.names (targets file.declared))
 
 abbrev pub AreAmong : List (List ℕ) → List Item → Type 0
 AreAmong given items = (x : ℕ) → list_any (nat_eq x) (declared_by items) ≡ true → x < length given

@@ -2,13 +2,14 @@
 #![tactic(auto)]
 
 ghost use Rattle.std.specs.Prelude.{◌≡◌, ◌≤◌, ℕ, List, [], length, Result, Ok};
-ghost use Rattle.std.specs.List.{range_with_len};
 ghost use Rattle.fam_outer.specs.declared.faults.FileCode.{FileCode};
 ghost use Rattle.fam_outer.specs.declared.faults.Place.{Place};
 ghost use Rattle.c_tree.specs.Tree.{Whole};
 ghost use Rattle.c_parser.specs.Items.{Listed};
-ghost use Rattle.c_parser.specs.Names.{declared_by};
-ghost use Rattle.c_parser.specs.Reading.{ReadsOver, items_of, IsAccepted};
+ghost use Rattle.c_grammar.specs.declared.items.Item.{Item};
+ghost use Rattle.c_grammar.specs.Grammar.{File, Forms};
+ghost use Rattle.c_parser.specs.Names.{declared_by, targets};
+ghost use Rattle.c_parser.specs.Reading.{ReadsOver, items_of, IsAccepted, AreDeclaredNames};
 
 use c_grammar::laws::{
     limits_stop_only_what_is_deep, reads_what_is_spelled, spells_what_is_read,
@@ -38,5 +39,12 @@ pub fn reads_something()
 /// The names of a program that is read over no given names are those that its file declares, in the order of their
 /// declarations; there are at most 16.
 pub fn names_are_declared()
-    ensures { (bytes : List ℕ) (l : Listed) (p : Whole) → items_of [] bytes ≡ Ok l → IsAccepted l p → (declared_by l.items ≡ range_with_len 0 (length l.names)) × (length l.names ≤ 16) }
+    ensures names { (bytes : List ℕ) (l : Listed) (p : Whole) → items_of [] bytes ≡ Ok l → IsAccepted l p → AreDeclaredNames [] bytes p.names }
+    ensures few { (bytes : List ℕ) (l : Listed) (p : Whole) → items_of [] bytes ≡ Ok l → IsAccepted l p → length l.names ≤ 16 }
+{}
+
+/// What stands as declared in phase 6, each name before `main`, is what the grammar declares: the targets of the
+/// declarators of the file that the items form, in the order of the text.
+pub fn declarations_are_those_of_the_grammar()
+    ensures { (items : List Item) (f : File) → Forms items f → declared_by items ≡ targets f.declared }
 {}

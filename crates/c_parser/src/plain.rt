@@ -1,10 +1,11 @@
 //! The program of a file without groups.
 #![tactic(auto)]
 
-ghost use Rattle.std.specs.Prelude.{◌≡◌, ◌≤◌, false, length, IfOk};
+ghost use Rattle.std.specs.Prelude.{◌≡◌, ◌≤◌, false, [], length, IfOk};
 ghost use Rattle.c_tree.specs.View.{whole};
 ghost use Rattle.c_tree.specs.Whole.{IsProgram, IsPlainProgram};
 ghost use Rattle.c_grammar.specs.Grammar.{has_groups};
+ghost use Rattle.c_grammar.specs.Laws.{AtMostOne};
 ghost use Rattle.fam_outer.specs.Places as outer;
 ghost use Rattle.fam_outer.specs.Refusals.{Gives};
 ghost use Rattle.c_parser.specs.Items.{AreDistinct};
@@ -15,6 +16,7 @@ ghost use Rattle.c_parser.specs.Stages.{Lists, AreProper, ProperIn, IsSpelledAs}
 use crate::names::first_name_fault;
 use crate::numbering::{Numbered, number};
 use c_grammar::Item;
+use c_grammar::laws::spells_at_most_one;
 use c_tokens::laws::{literals_are_decimal, reads_longest_lexemes};
 use c_tokens::tokens;
 use c_tree::{Names, Program};
@@ -116,7 +118,7 @@ fn read_over(alloc: Global, given: &[Text], bytes: &[u8]) -> Result<Program, Fil
     }
 }
 
-/// The program that a file spells.
+/// The program that a file spells. Over one list of names, a list of items spells at most one.
 ///
 /// A file is a list of declarations and then `main`, of the grammar of `c_grammar`, without groups: assignments, `x++`
 /// and `x += e` and the like, `input()`, `assert`, `if`, `while`, blocks and empty statements, with the operators
@@ -133,9 +135,12 @@ fn read_over(alloc: Global, given: &[Text], bytes: &[u8]) -> Result<Program, Fil
 /// `NoMemory` is want of memory.
 pub fn read_plain(alloc: Global, bytes: &[u8]) -> Result<Program, FileRefusal>
     ensures reads { specs.IsRead bytes.now result }
+    ensures names { IfOk result (λ p. specs.AreDeclaredNames [] bytes.now (whole p).names) }
+    ensures once { AtMostOne }
     ensures program { IfOk result (λ p. IsProgram (whole p)) }
     ensures plain { IfOk result (λ p. IsPlainProgram (whole p)) }
 {
+    spells_at_most_one();
     read_over(alloc, &[], bytes)
 }
 
@@ -147,8 +152,10 @@ pub fn read_plain_with(alloc: Global, names: &[Text], bytes: &[u8]) -> Result<Pr
     requires declared { specs.DeclaresAmong names.now bytes.now }
     ensures reads { specs.IsReadOver names.now bytes.now result }
     ensures names { IfOk result (λ p. (whole p).names ≡ names.now) }
+    ensures once { AtMostOne }
     ensures program { IfOk result (λ p. IsProgram (whole p)) }
     ensures plain { IfOk result (λ p. IsPlainProgram (whole p)) }
 {
+    spells_at_most_one();
     read_over(alloc, names, bytes)
 }

@@ -1,5 +1,9 @@
 use Rattle.c_parser.proofs.Overs.{names_declared}
+use Rattle.c_parser.proofs.OwnNames.{own_declared}
 use Rattle.c_parser.proofs.laws.names_are_declared.Goals as goal
 
-pub returns : goal.returns
-returns c = names_declared
+pub returns-clause-names : goal.returns-clause-names
+returns-clause-names c = own_declared
+
+pub returns-clause-few : goal.returns-clause-few
+returns-clause-few c = λ bytes l p is a. (names_declared bytes l p is a).1

@@ -1,0 +1,66 @@
+-- The names that items declare before `main` are the targets of the declarators that the grammar finds.
+use Rattle.std.proofs.Common.{◌≡◌, ℕ, List, [], ◌∷◌, ◌++◌, refl, ap, sym, ◌∙◌, append_assoc, append-nil}
+use Rattle.std.specs.Prelude.{ℤ}
+use Rattle.c_tree.specs.declared.tree.Guard.{Guard}
+use Rattle.c_tree.specs.declared.tree.Declared.{Declared}
+use Rattle.c_tree.specs.Tree.{Code}
+use Rattle.fam_outer.specs.declared.faults.Place.{Place}
+use Rattle.c_grammar.specs.declared.items.Item.{Item}
+use Rattle.c_grammar.specs.declared.items.Sign.{Sign}
+use Rattle.c_grammar.specs.declared.items.Sign.TheVariants as signs
+use Rattle.c_grammar.specs.Grammar.{at, Optional, absent, present, Declarator, bare, positive, negative, Part, Outer, Vars, Later, Declares, nothing, variables, prototype, section, last_var, next_var, end_part, else_part, elif_part, Main, main, File, Forms, file}
+use Rattle.c_parser.specs.Names.{declared_by, targets}
+
+targets-append : (ds es : List Declared) → targets (ds ++ es) ≡ targets ds ++ targets es
+targets-append [] es = refl
+targets-append (d ∷ ds) es = ap (λ (xs : List ℕ). d.target ∷ xs) (targets-append ds es)
+
+-- an optional keyword declares nothing
+static_skipped : {us : List Item} (rest : List Item) → Optional signs.Static us → declared_by (us ++ rest) ≡ declared_by rest
+static_skipped rest (absent _) = refl
+static_skipped rest (present p _) = refl
+
+extern_skipped : {us : List Item} (rest : List Item) → Optional signs.Extern us → declared_by (us ++ rest) ≡ declared_by rest
+extern_skipped rest (absent _) = refl
+extern_skipped rest (present p _) = refl
+
+void_skipped : {us : List Item} (rest : List Item) → Optional signs.Void us → declared_by (us ++ rest) ≡ declared_by rest
+void_skipped rest (absent _) = refl
+void_skipped rest (present p _) = refl
+
+one_declared : {us : List Item} {x : ℕ} {n : ℤ} (rest : List Item) → Declarator us x n → declared_by (us ++ rest) ≡ x ∷ declared_by rest
+one_declared rest (bare p x) = refl
+one_declared rest (positive p q r x n) = refl
+one_declared rest (negative p q r s x n) = refl
+
+-- two parts one after another
+two_parts : (us ws rest : List Item) (ds es : List Declared) → declared_by (us ++ (ws ++ rest)) ≡ targets ds ++ declared_by (ws ++ rest) → declared_by (ws ++ rest) ≡ targets es ++ declared_by rest
+    → declared_by ((us ++ ws) ++ rest) ≡ targets (ds ++ es) ++ declared_by rest
+two_parts us ws rest ds es first second =
+    ap declared_by (append_assoc us ws rest) ∙ first ∙ ap (λ (xs : List ℕ). targets ds ++ xs) second
+    ∙ sym (append_assoc (targets ds) (targets es) (declared_by rest)) ∙ ap (λ (xs : List ℕ). xs ++ declared_by rest) (sym (targets-append ds es))
+
+declared_in : {part : Part} {us : List Item} {ds : List Declared} → Declares part us ds → (rest : List Item) → declared_by (us ++ rest) ≡ targets ds ++ declared_by rest
+declared_in (nothing gs) rest = refl
+declared_in (variables p gs {us} {vs} {ws} {ds} {es} o v d) rest =
+    ap declared_by (append_assoc us (at p signs.Int ∷ (vs ++ ws)) rest) ∙ static_skipped (at p signs.Int ∷ ((vs ++ ws) ++ rest)) o
+    ∙ two_parts vs ws rest ds es (declared_in v (ws ++ rest)) (declared_in d rest)
+declared_in (prototype p q r s t gs {us} {vs} {ws} {es} o v d) rest =
+    ap declared_by (append_assoc us (at p signs.Int ∷ at q signs.Input ∷ at r signs.Open ∷ (vs ++ at s signs.Close ∷ at t signs.Semicolon ∷ ws)) rest)
+    ∙ extern_skipped (at p signs.Int ∷ at q signs.Input ∷ at r signs.Open ∷ ((vs ++ at s signs.Close ∷ at t signs.Semicolon ∷ ws) ++ rest)) o
+    ∙ ap declared_by (append_assoc vs (at s signs.Close ∷ at t signs.Semicolon ∷ ws) rest)
+    ∙ void_skipped (at s signs.Close ∷ at t signs.Semicolon ∷ (ws ++ rest)) v ∙ declared_in d rest
+declared_in (section p n gs {us} {vs} {ws} {cs} {ds} {es} a b d) rest =
+    two_parts us (vs ++ ws) rest cs (ds ++ es) (declared_in a ((vs ++ ws) ++ rest)) (two_parts vs ws rest ds es (declared_in b (ws ++ rest)) (declared_in d rest))
+declared_in (last_var p gs {us} {x} {n} d) rest = ap declared_by (append_assoc us (at p signs.Semicolon ∷ []) rest) ∙ one_declared (at p signs.Semicolon ∷ rest) d
+declared_in (next_var p gs {us} {vs} {x} {n} {ds} d v) rest =
+    ap declared_by (append_assoc us (at p signs.Comma ∷ vs) rest) ∙ one_declared (at p signs.Comma ∷ (vs ++ rest)) d ∙ ap (λ (xs : List ℕ). x ∷ xs) (declared_in v rest)
+declared_in (end_part p gs) rest = refl
+declared_in (else_part p q gs {us} {ds} d) rest = ap declared_by (append_assoc us (at q signs.GroupEnd ∷ []) rest) ∙ declared_in d (at q signs.GroupEnd ∷ rest)
+declared_in (elif_part p n gs {us} {vs} {cs} {ds} a b) rest = two_parts us vs rest cs ds (declared_in a (vs ++ rest)) (declared_in b rest)
+
+none_in_main : {us : List Item} {c : Code} {p : Place} → Main us c p → declared_by us ≡ []
+none_in_main (main p q r s t u o b) = refl
+
+pub declared_forms : {items : List Item} {f : File} → Forms items f → declared_by items ≡ targets f.declared
+declared_forms (file {us} {vs} {ds} d m) = declared_in d vs ∙ ap (λ (xs : List ℕ). targets ds ++ xs) (none_in_main m) ∙ append-nil (targets ds)
