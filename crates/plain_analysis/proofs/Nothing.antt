@@ -32,15 +32,10 @@ module _ (M : LeafMeaning) (laws : LeafLaws M) (o : Options) (answers : Transfer
   set_nothing (Some f) x r = laws.set_form_nothing n x f r
 
   assigned_nothing : (x : ℕ) (e : Term) → assigned M o.mode x e (nothing_of n) ≡ nothing_of n
-  assigned_nothing x e = either (is_empty_range (range_of_term M o.mode e (nothing_of n)))
-    where
-      set : LeafValue
-      set = form_set M x (form_where (fits_term M o.mode e (nothing_of n)) (form_of_term e)) (range_of_term M o.mode e (nothing_of n)) (nothing_of n)
-
-      either : (b : Bool) → (if b then nothing_of n else set) ≡ nothing_of n
-      unfolding set
-      either true = refl
-      either false = set_nothing (form_where (fits_term M o.mode e (nothing_of n)) (form_of_term e)) x (range_of_term M o.mode e (nothing_of n))
+  assigned_nothing x e =
+      let f : Option Form = form_where (fits_term M o.mode e (nothing_of n)) (form_of_term e) in
+      let r : Range = range_of_term M o.mode e (nothing_of n) in
+      elim (is_empty_range r) as (λ b. (if b then nothing_of n else form_set M x f r (nothing_of n)) ≡ nothing_of n) [ true ↦ refl | false ↦ set_nothing f x r ]
 
   assumed_nothing : (e : Term) (want : Bool) → assumed M o.mode e want (nothing_of n) ≡ nothing_of n
   assumed_nothing e want = answers.assumed_of_nothing e want (nothing_of n) refl
@@ -81,3 +76,9 @@ module _ (M : LeafMeaning) (laws : LeafLaws M) (o : Options) (answers : Transfer
   after_nothing (Block place body rest) = ap (after_of M o rest) (after_nothing body) ∙ after_nothing rest
   after_nothing (Skip place rest) = after_nothing rest
   after_nothing (Cond number p q rest) = after_nothing rest
+
+-- a leaf that is Nothing stays as it is
+pub after_stays : (M : LeafMeaning) → LeafLaws M → (o : Options) → TransferAnswers M o.mode → (v : LeafValue) → v.variables ≤ 16 → is_nothing_of v ≡ true → (c : Code) → after_of M o c v ≡ v
+after_stays M laws o answers v few is c =
+    let e : v ≡ nothing_of v.variables = nothing_value v v.variables is refl in
+    ap (after_of M o c) e ∙ (after_nothing M laws o answers v.variables few c ∙ sym e)

@@ -32,6 +32,7 @@ pub(crate) fn after_list<L: Leaf>(
     ensures same { IfOk result (λ made. (L.value made).variables ≡ (L.value leaf.now).variables) }
 {
     transfer_is_sound::<L>();
+    let _known = leaf.variables();
     if leaf.is_nothing() {
         return leaf.copy(alloc);
     }

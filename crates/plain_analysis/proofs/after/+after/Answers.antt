@@ -1,10 +1,11 @@
-use Rattle.std.proofs.Common.{rules, arith, ◌≡◌, ◌-◌, ◌+◌, sym, subst, ap, ◌∙◌, IfOk, if◌then◌else◌, nat_lt, false}
+use Rattle.std.proofs.Common.{rules, arith, ◌≡◌, ◌-◌, ◌+◌, ◌≤◌, sym, subst, ap, ◌∙◌, IfOk, if◌then◌else◌, nat_lt, false}
 use Rattle.c_tree.specs.Tree.{Done}
 use Rattle.c_tree.specs.View.{term, front, code}
 use Rattle.c_tree.specs.Fit.{IsTermOf, IsCodeOf}
 use Rattle.leaf_domain.specs.Transfer.{assumed}
-use Rattle.plain_analysis.specs.Loops.{turn_of, final_leaf}
-use Rattle.plain_analysis.specs.Statements.{after_of}
+use Rattle.plain_analysis.specs.Loops.{final_leaf}
+use Rattle.plain_analysis.specs.Statements.{after_of, loop_turn}
+use Rattle.plain_analysis.proofs.Nothing.{after_stays}
 use Rattle.plain_analysis.proofs.Listed.{IsCodeOf-at, front-While, fit_If, fit_While, fit_same}
 use Rattle.plain_analysis.proofs.Sizes.{size-at, yes_smaller, no_smaller, body_smaller}
 use Rattle.plain_analysis.proofs.Rounds.{rounds_stay, rounds_move, narrowings_stay, narrowings_move}
@@ -58,26 +59,26 @@ pub final_leaf-returns-in-None-clause-value : goal.final_leaf-returns-in-None-cl
 final_leaf-returns-in-None-clause-value g t c =
     let M = g.L.Leaf.meaning in
     let o = c.args.options in
-    let G = turn_of M o.mode (term c.args.test.now) (after_of M o (code c.args.body.now)) (g.L.Leaf.value c.args.leaf.now) in
-    sym (narrowings_stay M G (o.narrow - c.loop-k._k) (g.L.Leaf.value c.loop-k.at) (rw c.in-None.is at c.in_ok-narrowed.ensures.kept)) ∙ c.loop-k.invariant.rest
+    let G = loop_turn M o (term c.args.test.now) (code c.args.body.now) (g.L.Leaf.value c.args.leaf.now) in
+    sym (narrowings_stay M G (o.narrow - c.loop-k._k) (g.L.Leaf.value c.loop-k.head.at) (rw c.in-None.is at c.in_ok-narrowed.ensures.kept)) ∙ c.loop-k.invariant.rest
 
 pub final_leaf-loop-k-preserved : goal.final_leaf-loop-k-preserved
 final_leaf-loop-k-preserved g t c =
     let M = g.L.Leaf.meaning in
     let o = c.args.options in
-    let G = turn_of M o.mode (term c.args.test.now) (after_of M o (code c.args.body.now)) (g.L.Leaf.value c.args.leaf.now) in
+    let G = loop_turn M o (term c.args.test.now) (code c.args.body.now) (g.L.Leaf.value c.args.leaf.now) in
     record {
-      rest = narrowings_move M G o.narrow c.loop-k._k (g.L.Leaf.value c.loop-k.at) (g.L.Leaf.value c.in-Some.candidate) _ c.loop-k-test.true (rw c.in-Some.is at c.in_ok-narrowed.ensures.taken) c.loop-k.invariant.rest;
-      same = rw c.in-Some.is at c.in_ok-narrowed.ensures.same;
+      rest = narrowings_move M G o.narrow c.loop-k._k (g.L.Leaf.value c.loop-k.head.at) (g.L.Leaf.value c.in-Some.next.at) _ c.loop-k-test.true (rw c.in-Some.is at c.in_ok-narrowed.ensures.taken) c.loop-k.invariant.rest;
+      head = rw c.in-Some.is at c.in_ok-narrowed.ensures.head;
     }
 
 pub widened-returns-in-None-clause-value : goal.widened-returns-in-None-clause-value
 widened-returns-in-None-clause-value g t c =
     let M = g.L.Leaf.meaning in
     let o = c.args.options in
-    let G = turn_of M o.mode (term c.args.test.now) (after_of M o (code c.args.body.now)) (g.L.Leaf.value c.args.leaf.now) in
-    let at = g.L.Leaf.value c.loop-k.at in
-    let stable = ap (λ v. M.leq v at) (sym c.in_ok-next.ensures.value) ∙ (rw c.in-None.is at c.in_ok-moved.ensures.stable) in
+    let G = loop_turn M o (term c.args.test.now) (code c.args.body.now) (g.L.Leaf.value c.args.leaf.now) in
+    let at = g.L.Leaf.value c.loop-k.head.at in
+    let stable = ap (λ v. M.leq v at) (sym c.loop-k.invariant.head.next) ∙ (rw c.in-None.is at c.in_ok-moved.ensures.stable) in
     sym (rounds_stay M o.delay G (c.from-delay.result + c.from.result + 1 - c.loop-k.k) c.loop-k.k at stable) ∙ c.loop-k.invariant.rest
 
 pub widened-loop-k-preserved : goal.widened-loop-k-preserved
@@ -85,11 +86,29 @@ widened-loop-k-preserved g t c =
     let M = g.L.Leaf.meaning in
     let o = c.args.options in
     let value = g.L.Leaf.value in
-    let G = turn_of M o.mode (term c.args.test.now) (after_of M o (code c.args.body.now)) (value c.args.leaf.now) in
-    let x = value c.loop-k.at in
-    let w = value c.in_ok-next.next in
+    let G = loop_turn M o (term c.args.test.now) (code c.args.body.now) (value c.args.leaf.now) in
+    let x = value c.loop-k.head.at in
+    let w = value c.loop-k.head.next in
+    let next = c.in_ok-head-in-Some.ensures in
     let moved = subst (λ d. value c.in-Some.made ≡ (if nat_lt c.loop-k.k d then M.join x w else M.widen x w)) c.from-delay.ensures (rw c.in-Some.is at c.in_ok-moved.ensures.value) in
     record {
-      rest = rounds_move M o.delay G (c.from-delay.result + c.from.result + 1) c.loop-k.k x w (value c.in-Some.made) _ c.loop-k-test.true c.in_ok-next.ensures.value (rw c.in-Some.is at c.in_ok-moved.ensures.moved) moved c.loop-k.invariant.rest;
-      same = (rw c.in-Some.is at c.in_ok-moved.ensures.same) ∙ c.loop-k.invariant.same;
+      rest = rounds_move M o.delay G (c.from-delay.result + c.from.result + 1) c.loop-k.k x w (value c.in_ok-head-in-Some.head.at) _ c.loop-k-test.true c.loop-k.invariant.head.next (rw c.in-Some.is at c.in_ok-moved.ensures.moved) (next.at ∙ moved) c.loop-k.invariant.rest;
+      head = next.head;
     }
+
+pub after_list-returns-then-is_nothing-clause-value : goal.after_list-returns-then-is_nothing-clause-value
+after_list-returns-then-is_nothing-clause-value g t c =
+    let value = g.L.Leaf.value in
+    let v = value c.args.leaf.now in
+    let few : v.variables ≤ 16 = subst (λ n. n ≤ 16) c.variables-known.ensures.value c.variables-known.ensures.few in
+    let stays = after_stays g.L.Leaf.meaning g.met.L.Leaf.laws c.args.options (c.transfer_is_sound.ensures.answers c.args.options.mode) v few (sym c.is_nothing.ensures ∙ c.if-is_nothing.true) (code c.args.list.now) in
+    subst (λ u. IfOk c.copy.result (λ made. value made ≡ u)) (sym stays) c.copy.ensures
+
+pub head_at-turn-requires : goal.head_at-turn-requires
+head_at-turn-requires g t c κs within = (omega arith, search rules)
+
+pub narrowed-head_at-requires : goal.narrowed-head_at-requires
+narrowed-head_at-requires g t c κs within =
+    let value = g.L.Leaf.value in
+    let count : (value c.in_ok-candidate.candidate).variables ≡ (value c.args.leaf.now).variables = c.in_ok-candidate.ensures.same ∙ c.requires.head.at_count in
+    (omega arith, search rules)

@@ -1,8 +1,9 @@
 use Rattle.std.proofs.Common.{◌≡◌, ◌+◌, ◌*◌, ◌-◌, take}
 use Rattle.c_tree.specs.Tree.{Done}
 use Rattle.c_tree.specs.View.{term, front, code}
-use Rattle.plain_analysis.specs.Loops.{turn_of, rounds_of, widened_leaf, narrowings_of, final_leaf}
-use Rattle.plain_analysis.specs.Statements.{after_of}
+use Rattle.plain_analysis.specs.Heads.{IsHead}
+use Rattle.plain_analysis.specs.Loops.{rounds_of, widened_leaf, narrowings_of, final_leaf}
+use Rattle.plain_analysis.specs.Statements.{after_of, loop_turn}
 use Rattle.plain_analysis.proofs.Sizes.{size_of}
 use Rattle.plain_analysis.proofs.after.+after.Given as goal
 
@@ -21,10 +22,10 @@ invariant-widened-loop-k g l =
     let value = g.L.Leaf.value in
     let M = g.L.Leaf.meaning in
     let o = l.fn.options in
-    let G = turn_of M o.mode (term l.test) (after_of M o (code l.body)) (value l.leaf) in
+    let G = loop_turn M o (term l.test) (code l.body) (value l.leaf) in
     record {
-      rest : rounds_of M o.delay G (l.rounds - l.k) l.k (value l.at) ≡ widened_leaf M o.delay G (value l.leaf);
-      same : (value l.at).variables ≡ (value l.leaf).variables;
+      rest : rounds_of M o.delay G (l.rounds - l.k) l.k (value l.head.at) ≡ widened_leaf M o.delay G (value l.leaf);
+      head : IsHead value G (value l.leaf).variables l.head;
     }
 
 abbrev pub invariant-final_leaf-loop-k : goal.invariant-final_leaf-loop-k
@@ -32,30 +33,33 @@ invariant-final_leaf-loop-k g l =
     let value = g.L.Leaf.value in
     let M = g.L.Leaf.meaning in
     let o = l.fn.options in
-    let after = after_of M o (code l.body) in
+    let G = loop_turn M o (term l.test) (code l.body) (value l.leaf) in
     record {
-      rest : narrowings_of M (turn_of M o.mode (term l.test) after (value l.leaf)) (o.narrow - l._k) (value l.at) ≡ final_leaf M o (term l.test) after (value l.leaf);
-      same : (value l.at).variables ≡ (value l.leaf).variables;
+      rest : narrowings_of M G (o.narrow - l._k) (value l.head.at) ≡ final_leaf M o (term l.test) (after_of M o (code l.body)) (value l.leaf);
+      head : IsHead value G (value l.leaf).variables l.head;
     }
 
 -- the size of the statements, and then the order of the calls
 abbrev pub decreases-after_stmt : goal.decreases-after_stmt
-decreases-after_stmt g l = 6 * size_of (front l.s.now Done)
+decreases-after_stmt g l = 7 * size_of (front l.s.now Done)
 
 abbrev pub decreases-after_list : goal.decreases-after_list
-decreases-after_list g l = 6 * size_of (code l.list.now) + 1
+decreases-after_list g l = 7 * size_of (code l.list.now) + 1
 
 abbrev pub decreases-after_side : goal.decreases-after_side
-decreases-after_side g l = 6 * size_of (code l.list.now) + 2
+decreases-after_side g l = 7 * size_of (code l.list.now) + 2
 
 abbrev pub decreases-turn : goal.decreases-turn
-decreases-turn g l = 6 * size_of (code l.body.now) + 3
+decreases-turn g l = 7 * size_of (code l.body.now) + 3
+
+abbrev pub decreases-head_at : goal.decreases-head_at
+decreases-head_at g l = 7 * size_of (code l.body.now) + 4
 
 abbrev pub decreases-widened : goal.decreases-widened
-decreases-widened g l = 6 * size_of (code l.body.now) + 4
+decreases-widened g l = 7 * size_of (code l.body.now) + 5
 
 abbrev pub decreases-narrowed : goal.decreases-narrowed
-decreases-narrowed g l = 6 * size_of (code l.body.now) + 4
+decreases-narrowed g l = 7 * size_of (code l.body.now) + 5
 
 abbrev pub decreases-final_leaf : goal.decreases-final_leaf
-decreases-final_leaf g l = 6 * size_of (code l.body.now) + 5
+decreases-final_leaf g l = 7 * size_of (code l.body.now) + 6
