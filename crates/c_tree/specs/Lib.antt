@@ -6,4 +6,3 @@ pub mod Fit
 pub mod Whole
 pub mod Project
 pub mod Run
-pub mod Straight

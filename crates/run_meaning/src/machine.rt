@@ -25,6 +25,22 @@ pub struct State {
     taken: u64,
 }
 
+impl State {
+    /// The values of the variables.
+    pub fn store(&self) -> &[i64]
+        ensures { result.now ≡ (standing self.now).store }
+    {
+        self.store.as_slice()
+    }
+
+    /// How many inputs are taken.
+    pub fn taken(&self) -> u64
+        ensures { result ≡ (standing self.now).taken }
+    {
+        self.taken
+    }
+}
+
 /// What a step came to.
 #[derive(Clone, Copy, Debug, PartialEq, Eq)]
 pub enum Progress {
