@@ -19,7 +19,8 @@ use Rattle.c_tokens.specs.Reading.{StandBetween, IsReading, tokens_of}
 use Rattle.c_tree.specs.Whole.{is_before}
 use Rattle.c_grammar.specs.declared.items.Sign.{Sign}
 use Rattle.c_grammar.specs.declared.items.Sign.TheVariants as signs
-use Rattle.c_parser.specs.Signs.{is_among, sign_in, other_keywords, used_words, keyword_of, marks}
+use Rattle.c_words.specs.Keywords.{is_keyword}
+use Rattle.c_parser.specs.Signs.{sign_in, used_words, keyword_or, keyword_of, marks}
 use Rattle.c_parser.specs.Items.{sign_of, word_sign, names_with, lexeme_in}
 use Rattle.c_parser.specs.Signing.{items_from}
 use Rattle.c_parser.specs.Items.{with_name, names_with_word, names_from, number_in}
@@ -113,11 +114,12 @@ used_constant = ((λ _. tt, refl), ((λ _. tt, refl), ((λ _. tt, refl), ((λ _.
 pub marks_constant : AreConstant marks
 marks_constant = ((λ _. tt, refl), ((λ _. tt, refl), ((λ _. tt, refl), ((λ _. tt, refl), ((λ _. tt, refl), ((λ _. tt, refl), ((λ _. tt, refl), ((λ _. tt, refl), ((λ _. tt, refl), ((λ _. tt, refl), ((λ _. tt, refl), ((λ _. tt, refl), ((λ _. tt, refl), ((λ _. tt, refl), ((λ _. tt, refl), ((λ _. tt, refl), ((λ _. tt, refl), ((λ _. tt, refl), ((λ _. tt, refl), ((λ _. tt, refl), ((λ _. tt, refl), ((λ _. tt, refl), ((λ _. tt, refl), ((λ _. tt, refl), ((λ _. tt, refl), tt)))))))))))))))))))))))))
 
+keyword_or_constant : (o : Option Sign) (w : List ℕ) → IfSome o IsConstant → IfSome (keyword_or o w) IsConstant
+keyword_or_constant (Some s) w h = h
+keyword_or_constant None w h = elim (is_keyword w) as (λ b. IfSome (if b then Some signs.Reserved else None) IsConstant) [ true ↦ (λ _. tt, refl) | false ↦ tt ]
+
 pub keyword_constant : (w : List ℕ) → IfSome (keyword_of w) IsConstant
-keyword_constant w = elim (is_among other_keywords w) as (λ b. IfSome (if b then Some signs.Reserved else sign_in used_words w) IsConstant) [
-  | true ↦ (λ _. tt, refl)
-  | false ↦ table_constant used_words used_constant w
-]
+keyword_constant w = keyword_or_constant (sign_in used_words w) w (table_constant used_words used_constant w)
 
 pub unwrapped_constant : (o : Option Sign) → IfSome o IsConstant → IsConstant (unwrap_or o signs.Reserved)
 unwrapped_constant (Some s) h = h

@@ -1,14 +1,10 @@
 -- The signs of words and marks.
 use Rattle.std.specs.Prelude.{ℕ, Bool, false, ◌||◌, List, [], ◌∷◌, codes, Option, Some, None, unwrap_or, if◌then◌else◌}
 use Rattle.std.specs.Str.{bytes_eq}
+use Rattle.c_words.specs.Keywords.{is_keyword}
 use Rattle.c_tree.specs.declared.tree.Op.TheVariants.{Add, Sub, Mul, Div, Rem, Lt, Le, Gt, Ge, Eq, Ne, And, Or}
 use Rattle.c_grammar.specs.declared.items.Sign.{Sign}
 use Rattle.c_grammar.specs.declared.items.Sign.TheVariants as signs
-
--- the word is one of the list
-abbrev pub is_among : List (List ℕ) → List ℕ → Bool
-is_among [] word = false
-is_among (w ∷ ws) word = bytes_eq word w || is_among ws word
 
 -- the sign that a table gives the word
 abbrev pub sign_in : List (List ℕ × Sign) → List ℕ → Option Sign
@@ -22,18 +18,14 @@ used_words =
     ∷ (codes "void", signs.Void) ∷ (codes "main", signs.Main) ∷ (codes "return", signs.Return) ∷ (codes "assert", signs.Assert)
     ∷ (codes "if", signs.If) ∷ (codes "else", signs.Else) ∷ (codes "while", signs.While) ∷ []
 
--- the other keywords of C (ISO/IEC 9899:2011, 6.4.1), and `_Imaginary`
-abbrev pub other_keywords : List (List ℕ)
-other_keywords =
-    codes "auto" ∷ codes "break" ∷ codes "case" ∷ codes "char" ∷ codes "const" ∷ codes "continue" ∷ codes "default" ∷ codes "do" ∷ codes "double"
-    ∷ codes "enum" ∷ codes "float" ∷ codes "for" ∷ codes "goto" ∷ codes "inline" ∷ codes "long" ∷ codes "register" ∷ codes "restrict" ∷ codes "short"
-    ∷ codes "signed" ∷ codes "sizeof" ∷ codes "struct" ∷ codes "switch" ∷ codes "typedef" ∷ codes "union" ∷ codes "unsigned" ∷ codes "volatile"
-    ∷ codes "_Alignas" ∷ codes "_Alignof" ∷ codes "_Atomic" ∷ codes "_Bool" ∷ codes "_Complex" ∷ codes "_Generic" ∷ codes "_Imaginary"
-    ∷ codes "_Noreturn" ∷ codes "_Static_assert" ∷ codes "_Thread_local" ∷ []
+-- the sign that the subset gives a word; the other keywords of C have one sign
+abbrev pub keyword_or : Option Sign → List ℕ → Option Sign
+keyword_or (Some sign) word = Some sign
+keyword_or None word = if is_keyword word then Some signs.Reserved else None
 
 -- the sign of a reserved word; any other word is an identifier
 abbrev pub keyword_of : List ℕ → Option Sign
-keyword_of word = if is_among other_keywords word then Some signs.Reserved else sign_in used_words word
+keyword_of word = keyword_or (sign_in used_words word) word
 
 abbrev pub marks : List (List ℕ × Sign)
 marks =

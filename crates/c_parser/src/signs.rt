@@ -7,46 +7,7 @@ ghost use Rattle.c_parser.specs.Signs as tables;
 
 use c_grammar::Sign;
 use c_tree::Op;
-
-/// The keywords of C that the subset does not use (ISO/IEC 9899:2011, 6.4.1), and `_Imaginary`.
-const OTHER_KEYWORDS: [&str; 36] = [
-    "auto",
-    "break",
-    "case",
-    "char",
-    "const",
-    "continue",
-    "default",
-    "do",
-    "double",
-    "enum",
-    "float",
-    "for",
-    "goto",
-    "inline",
-    "long",
-    "register",
-    "restrict",
-    "short",
-    "signed",
-    "sizeof",
-    "struct",
-    "switch",
-    "typedef",
-    "union",
-    "unsigned",
-    "volatile",
-    "_Alignas",
-    "_Alignof",
-    "_Atomic",
-    "_Bool",
-    "_Complex",
-    "_Generic",
-    "_Imaginary",
-    "_Noreturn",
-    "_Static_assert",
-    "_Thread_local",
-];
+use c_words::is_keyword;
 
 /// The keywords that the subset uses, and the words that it reserves besides.
 const USED_WORDS: [(&str, Sign); 11] = [
@@ -99,18 +60,6 @@ fn is(lexeme: &[u8], text: &str) -> bool
     lexeme == text.as_bytes()
 }
 
-/// Whether a word is one of these.
-fn is_among(words: &[&str], word: &[u8]) -> bool
-    ensures { result ≡ tables.is_among (map (λ w. w.now) words.now) word.now }
-{
-    for other in words {
-        if is(word, *other) {
-            return true;
-        }
-    }
-    false
-}
-
 /// The sign that a table gives a lexeme.
 fn sign_in(table: &[(&str, Sign)], lexeme: &[u8]) -> Option<Sign>
     ensures { result ≡ tables.sign_in (map (λ entry. (entry.0.now, entry.1)) table.now) lexeme.now }
@@ -127,10 +76,10 @@ fn sign_in(table: &[(&str, Sign)], lexeme: &[u8]) -> Option<Sign>
 pub(crate) fn keyword(word: &[u8]) -> Option<Sign>
     ensures { result ≡ tables.keyword_of word.now }
 {
-    if is_among(&OTHER_KEYWORDS, word) {
-        return Some(Sign::Reserved);
+    match sign_in(&USED_WORDS, word) {
+        Some(sign) => Some(sign),
+        None => is_keyword(word).then_some(Sign::Reserved),
     }
-    sign_in(&USED_WORDS, word)
 }
 
 /// The sign of a mark; `Reserved` where it is none.

@@ -9,7 +9,7 @@ use Rattle.std.proofs.lemmas.Str.Parse.{IsNumeralModel, numerals_by_weight}
 use Rattle.std.proofs.lemmas.Fmt.{digits_decimal, digits_value-decimal, decimal-digits_value, decimal_nonempty, first_decimal, decimal_digit}
 use Rattle.c_tokens.specs.declared.token.TokenKind.{TokenKind}
 use Rattle.c_tokens.specs.declared.token.TokenKind.TheVariants.{Word, Number, Mark}
-use Rattle.c_tokens.specs.Bytes.{is_digit, is_word_byte}
+use Rattle.c_words.specs.Bytes.{is_digit, is_word_byte}
 use Rattle.c_tokens.specs.Lexemes.{value_of, is_decimal, literal_of, kind_of}
 use Rattle.c_tokens.proofs.Literals.{literal_is}
 

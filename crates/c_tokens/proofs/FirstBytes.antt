@@ -3,7 +3,8 @@ use Rattle.std.proofs.Common.{◌≡◌, ℕ, zero, suc, ◌<◌, ◌≤◌, inl
 use Rattle.std.specs.Prelude.{◌||◌, ◌&&◌, codes}
 use Rattle.std.specs.List.{list_all}
 use Rattle.std.proofs.lemmas.Bool.{and_parts, or_cases, eqb-true, leb-true, false_from_ne_true}
-use Rattle.c_tokens.specs.Bytes.{is_space, is_digit, is_nondigit, is_word_byte, is_one_of}
+use Rattle.c_words.specs.Bytes.{is_space, is_digit, is_nondigit, is_word_byte}
+use Rattle.c_tokens.specs.Lexemes.{is_one_of}
 use Rattle.c_tokens.specs.Lexemes.{is_lexeme, is_run, is_mark, is_pair}
 
 space_below : (b : ℕ) → is_space b ≡ true → b ≤ 32

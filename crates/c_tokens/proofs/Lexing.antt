@@ -4,7 +4,8 @@ use Rattle.std.specs.Prelude.{◌&&◌, codes}
 use Rattle.std.specs.List.{list_all, prefix_len}
 use Rattle.std.proofs.lemmas.Bool.{and_parts, and_left, or_from, or_left, or_right, eqb-true, both_ways}
 use Rattle.std.proofs.Math.Numerals.{one-add}
-use Rattle.c_tokens.specs.Bytes.{is_word_byte, is_one_of}
+use Rattle.c_words.specs.Bytes.{is_word_byte}
+use Rattle.c_tokens.specs.Lexemes.{is_one_of}
 use Rattle.c_tokens.specs.Lexemes.{IsLongest, is_mark, is_run, is_lexeme, lexeme_of}
 use Rattle.c_tokens.proofs.Longest.{is_longest, one_longest}
 

@@ -7,7 +7,7 @@ use Rattle.std.proofs.lemmas.List.{length-drop}
 use Rattle.std.proofs.Math.Nat.{mul_assoc, mul_comm, add-mul, pow-suc, one-le-pow, mul-le-mul_left}
 use Rattle.std.proofs.Math.ListN.{drop_of_length-le}
 use Rattle.std.proofs.Math.Seq.{drop-cons}
-use Rattle.c_tokens.specs.Bytes.{is_digit}
+use Rattle.c_words.specs.Bytes.{is_digit}
 use Rattle.c_tokens.specs.Lexemes.{value_of, is_decimal, literal_of}
 
 shift : (v d p q : ℕ) → (v * 10 + d) * p + q ≡ v * (p * 10) + (d * p + q)

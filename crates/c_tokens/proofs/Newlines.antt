@@ -6,7 +6,8 @@ use Rattle.std.proofs.lemmas.Bool.{and_parts, and_right, or_from, or_parts, or_r
 use Rattle.std.proofs.lemmas.List.{length-append}
 use Rattle.std.proofs.lemmas.List.Sums.{sum_by-append}
 use Rattle.std.proofs.lemmas.List.Folds.{list_any-append}
-use Rattle.c_tokens.specs.Bytes.{is_word_byte, is_one_of}
+use Rattle.c_words.specs.Bytes.{is_word_byte}
+use Rattle.c_tokens.specs.Lexemes.{is_one_of}
 use Rattle.c_tokens.specs.Lexemes.{is_lexeme, is_run, is_mark, is_single, is_pair}
 use Rattle.fam_outer.specs.Places.{is_newline}
 

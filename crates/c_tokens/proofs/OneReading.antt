@@ -10,7 +10,7 @@ use Rattle.fam_outer.specs.declared.faults.FileCode.{FileCode}
 use Rattle.fam_outer.specs.declared.faults.FileCode.TheVariants as codes
 use Rattle.c_tokens.specs.declared.token.Token.{Token}
 use Rattle.c_tokens.specs.declared.token.TokenKind.{TokenKind}
-use Rattle.c_tokens.specs.Bytes.{is_space}
+use Rattle.c_words.specs.Bytes.{is_space}
 use Rattle.c_tokens.specs.Lexemes.{is_lexeme, IsLongest, lexeme_of, kind_of}
 use Rattle.fam_outer.specs.Places.{place_at}
 use Rattle.c_tokens.specs.Reading.{IsSpaceBetween, IsTokenIn, StandBetween, IsStray, IsWrongLiteral, HasFault, IsReading, known, front_of, before, read_from, tokens_of}

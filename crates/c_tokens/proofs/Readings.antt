@@ -9,7 +9,7 @@ use Rattle.fam_outer.specs.declared.faults.FileCode.{FileCode}
 use Rattle.fam_outer.specs.declared.faults.FileCode.TheVariants.{StrayByte, Literal}
 use Rattle.c_tokens.specs.declared.token.Token.{Token}
 use Rattle.c_tokens.specs.declared.token.TokenKind.{TokenKind}
-use Rattle.c_tokens.specs.Bytes.{is_space}
+use Rattle.c_words.specs.Bytes.{is_space}
 use Rattle.c_tokens.specs.Lexemes.{is_lexeme, IsLongest, lexeme_of, kind_of}
 use Rattle.fam_outer.specs.Places.{place_at}
 use Rattle.c_tokens.specs.Reading.{slice, IsSpaceBetween, IsTokenIn, StandBetween, IsStray, HasFault, IsReading, known, front_of, before, read_lexeme, read_from, tokens_of}

@@ -7,7 +7,7 @@ use Rattle.fam_outer.specs.declared.faults.Place.{Place}
 use Rattle.fam_outer.specs.declared.faults.FileCode.{FileCode}
 use Rattle.c_tokens.specs.declared.token.Token.{Token}
 use Rattle.c_tokens.specs.declared.token.TokenKind.{TokenKind}
-use Rattle.c_tokens.specs.Bytes.{is_space}
+use Rattle.c_words.specs.Bytes.{is_space}
 use Rattle.c_tokens.specs.Lexemes.{is_lexeme, lexeme_of, kind_of}
 use Rattle.fam_outer.specs.Places.{is_newline, place_at}
 use Rattle.c_tokens.specs.Reading.{known, front_of, before, read_lexeme, read_from}

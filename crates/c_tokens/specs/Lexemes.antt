@@ -3,7 +3,12 @@ use Rattle.std.specs.Prelude.{◌≡◌, ℕ, zero, suc, ◌+◌, ◌-◌, ◌*�
 use Rattle.std.specs.List.{list_all}
 use Rattle.c_tokens.specs.declared.token.TokenKind.{TokenKind}
 use Rattle.c_tokens.specs.declared.token.TokenKind.TheVariants.{Word, Number, Mark}
-use Rattle.c_tokens.specs.Bytes.{is_digit, is_word_byte, is_one_of}
+use Rattle.c_words.specs.Bytes.{is_digit, is_word_byte}
+
+-- whether the byte is one of the list
+abbrev pub is_one_of : List ℕ → ℕ → Bool
+is_one_of [] b = false
+is_one_of (m ∷ ms) b = (b == m) || is_one_of ms b
 
 -- the marks of one byte
 abbrev pub is_single : ℕ → Bool

@@ -1,4 +1,3 @@
-pub mod Bytes
 pub mod Lexemes
 pub mod Lines
 pub mod Reading

@@ -4,11 +4,12 @@
 ghost use Rattle.std.specs.Prelude.{◌≡◌, length, take, Option, Some, None, Result, Ok, Err, IfOk, ◌<◌, ◌≤◌};
 ghost use Rattle.c_tokens.specs.Lexemes.{IsLongest, is_mark, lexeme_of, literal_of};
 ghost use Rattle.std.specs.List.{prefix_len};
-ghost use Rattle.c_tokens.specs.Bytes.{is_word_byte as is_word};
+ghost use Rattle.c_words.specs.Bytes.{is_word_byte as is_word};
 ghost use Rattle.c_tokens.specs.Lexemes as lexemes;
 ghost use Rattle.c_tokens.specs.Reading.{front_of};
 
-use crate::bytes::{is_digit, is_pair, is_single, is_word_byte};
+use crate::mark_bytes::{is_pair, is_single};
+use c_words::{is_digit, is_word_byte};
 use crate::token::TokenKind;
 use fam_outer::FileCode;
 

@@ -6,9 +6,9 @@ ghost use Rattle.fam_outer.specs.Places.{end_place};
 ghost use Rattle.c_tokens.specs.Reading.{tokens_of};
 ghost use Rattle.fam_outer.specs.Refusals.{Gives};
 
-use crate::bytes::is_space;
 use crate::lexemes::front;
 use crate::token::{Token, Tokens};
+use c_words::is_space;
 use fam_outer::{FILE_BYTES, FileRefusal, Place, place_after};
 use std::alloc::Global;
 

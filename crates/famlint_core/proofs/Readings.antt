@@ -11,7 +11,8 @@ use Rattle.famlint_core.specs.declared.fault.Fault.{Fault}
 use Rattle.famlint_core.specs.declared.fault.Fault.TheVariants as fault
 use Rattle.famlint_core.specs.declared.fault.Stop.{Stop}
 use Rattle.famlint_core.specs.declared.fault.Stop.TheVariants as stop
-use Rattle.famlint_core.specs.Stages.{IsFileTold, Reaches, and_then, file_stage}
+use Rattle.fam_outer.specs.Results.{and_then}
+use Rattle.famlint_core.specs.Stages.{IsFileTold, Reaches, file_stage}
 
 -- a file is read in one way
 abbrev pub OneReading : Type 0

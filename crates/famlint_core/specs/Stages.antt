@@ -1,6 +1,7 @@
 -- What the stages of a run answer, for what is told of the paths that the words name.
 use Rattle.std.specs.Prelude.{ℕ, ◌≡◌, ◌≤◌, ◌⊎◌, ⊤, List, [], ◌∷◌, Option, Some, Result, Ok, Err, IsOk}
 use Rattle.fam_outer.specs.Causes.{Rose}
+use Rattle.fam_outer.specs.Results.{and_then}
 use Rattle.fam_outer.specs.declared.faults.FileCode.{FileCode}
 use Rattle.fam_outer.specs.declared.faults.Place.{Place}
 use Rattle.c_tree.specs.Tree.{Whole}
@@ -49,11 +50,6 @@ Reaches view expected (Ok x) = expected ≡ Ok (view x)
 Reaches view expected (Err (stop.Refused fault)) = expected ≡ Err fault
 Reaches view expected (Err stop.ReadFault) = ⊤
 Reaches view expected (Err stop.NoMemory) = ⊤
-
--- one step after another
-abbrev pub and_then : {X Y : Type 0} → Result X Fault → (X → Result Y Fault) → Result Y Fault
-and_then (Ok x) next = next x
-and_then (Err fault) next = Err fault
 
 -- a load failed
 abbrev pub IsReadFault : {X : Type 0} → Result X Stop → Type 0

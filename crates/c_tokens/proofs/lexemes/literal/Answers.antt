@@ -1,7 +1,7 @@
 use Rattle.std.proofs.Common.{◌≡◌, ◌+◌, ◌-◌, ◌*◌, ◌^◌, ◌≤◌, length, drop, get_or, sym, ◌∙◌, arith}
 use Rattle.std.proofs.lemmas.List.Folds.{list_all_more}
 use Rattle.std.proofs.lemmas.Bool.{and_from}
-use Rattle.c_tokens.specs.Bytes.{is_digit}
+use Rattle.c_words.specs.Bytes.{is_digit}
 use Rattle.c_tokens.specs.Lexemes.{value_of}
 use Rattle.c_tokens.proofs.Literals.{one_more, at_least, large_is_none}
 use Rattle.c_tokens.proofs.lexemes.literal.Goals as goal

@@ -1,6 +1,6 @@
 use Rattle.std.proofs.Common.{◌≡◌, ◌≤◌, ◌+◌, ◌-◌, ◌*◌, ◌^◌, true, length, take, drop}
 use Rattle.std.specs.List.{list_all}
-use Rattle.c_tokens.specs.Bytes.{is_digit}
+use Rattle.c_words.specs.Bytes.{is_digit}
 use Rattle.c_tokens.specs.Lexemes.{value_of}
 use Rattle.c_tokens.proofs.lexemes.literal.Given as goal
 

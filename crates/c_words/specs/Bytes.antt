@@ -1,9 +1,13 @@
--- Kinds of bytes in code.
-use Rattle.std.specs.Prelude.{ℕ, Bool, false, ◌&&◌, ◌||◌, ◌==◌, nat_le, List, [], ◌∷◌}
+-- Kinds of bytes of C.
+use Rattle.std.specs.Prelude.{ℕ, Bool, ◌&&◌, ◌||◌, ◌==◌, nat_le}
 
 -- space, tab, newline, vertical tab, form feed and carriage return
 abbrev pub is_space : ℕ → Bool
 is_space b = (b == 32) || (nat_le 9 b && nat_le b 13)
+
+-- white space but a newline: space, tab, vertical tab, form feed and carriage return
+abbrev pub is_gap : ℕ → Bool
+is_gap b = (b == 32) || (b == 9) || (nat_le 11 b && nat_le b 13)
 
 -- ISO/IEC 9899:2011, 6.4.2.1: a digit
 abbrev pub is_digit : ℕ → Bool
@@ -16,8 +20,3 @@ is_nondigit b = (b == 95) || (nat_le 97 b && nat_le b 122) || (nat_le 65 b && na
 -- a letter, a digit or an underscore
 abbrev pub is_word_byte : ℕ → Bool
 is_word_byte b = is_nondigit b || is_digit b
-
--- whether the byte is one of the list
-abbrev pub is_one_of : List ℕ → ℕ → Bool
-is_one_of [] b = false
-is_one_of (m ∷ ms) b = (b == m) || is_one_of ms b
