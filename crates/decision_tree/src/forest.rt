@@ -86,8 +86,7 @@ impl<L: Eq + Hash + Drop> Forest<L> {
     pub fn leaf(&mut self, value: L) -> Result<Tree<L>, NoMemory>
         requires { IsExact L.eq }
         ensures same { IfOk result (λ t. plain t ≡ leaf value) }
-        ensures tree { IfOk result
-            (λ t. (first bound : ℕ) → IsTreeIn first bound self.new (numbered t)) }
+        ensures tree { IfOk result (λ t. IsTreeIn 0 64 self.new (numbered t)) }
         ensures added { IfOk result (λ t. (self.new ≡ self.old)
             ⊎ (self.new ≡ self.old ++ leaf value ∷ [])) }
         ensures unchanged { OnErr result (self.new ≡ self.old) }

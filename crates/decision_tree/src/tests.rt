@@ -32,7 +32,7 @@ fn formula_tree_again(alloc: Global) -> Result<Tree<bool>, NoMemory>
 #[tactic(auto, using(crate::proofs::Numbers::keeps_same, crate::proofs::Numbers::keeps_both))]
 fn leaf_again(forest: &mut Forest<u32>, value: u32) -> Result<Tree<u32>, NoMemory>
     ensures same { IfOk result (λ t. plain t ≡ leaf value) }
-    ensures tree { IfOk result (λ t. IsTreeIn 2 64 forest.new (numbered t)) }
+    ensures tree { IfOk result (λ t. IsTreeIn 0 64 forest.new (numbered t)) }
     ensures keeps { Keeps forest.old forest.new }
 {
     match forest.leaf(value) {
@@ -42,7 +42,7 @@ fn leaf_again(forest: &mut Forest<u32>, value: u32) -> Result<Tree<u32>, NoMemor
 }
 
 /// A node of the forest, once more after want of memory.
-#[tactic(auto, using(crate::proofs::Numbers::tree_stays, crate::proofs::Numbers::keeps_both))]
+#[tactic(auto, using(crate::proofs::Numbers::stays, crate::proofs::Numbers::keeps_both))]
 fn node_again(
     forest: &mut Forest<u32>,
     test: u32,
@@ -101,7 +101,7 @@ fn paths_begin_with_no(rt: HostRuntime) -> Result<(), Fail> {
 }
 
 #[test]
-#[tactic(auto, using(crate::proofs::Numbers::tree_stays))]
+#[tactic(auto, using(crate::proofs::Numbers::stays))]
 fn forests_make_each_tree_once(rt: HostRuntime) -> Result<(), Fail> {
     let mut forest = Forest::new(rt.alloc());
     let one = leaf_again(&mut forest, 1u32)?;

@@ -5,9 +5,8 @@ use Rattle.std.proofs.lemmas.Result.{IfOk-weaker}
 use Rattle.decision_tree.specs.declared.tree.Tree.{Tree}
 use Rattle.decision_tree.specs.Plain.{Plain, leaf, leaf_of, HasTest, IsReduced, IsReducedFrom, TestsBelow}
 use Rattle.decision_tree.specs.View.{numbered, plain}
-use Rattle.decision_tree.specs.Numbered.{Numbered, erase}
 use Rattle.decision_tree.specs.Listed.{IsTreeIn}
-use Rattle.decision_tree.proofs.Reduced.{reduced_from, tests_below}
+use Rattle.decision_tree.proofs.Reduced.{tests_below}
 use Rattle.cpp_conditions.specs.Propositions.{Proposition, Const, Test, Not, And, Or, true_on, IsBelow}
 use Rattle.tree_unify.specs.Formulas.{HasNumber, IsTreeOf}
 use Rattle.tree_unify.specs.Leaves.{HoldsLeaves}
@@ -82,10 +81,6 @@ reduced_of_two made t u h i = IfOk-weaker made (λ r. (m : ℕ) → IsReducedFro
 
 pub reduced_in : {E L : Type 0} (made : Result (Tree L) E) (forest : List (Plain L)) → IfOk made (λ r. IsTreeIn 0 64 forest (numbered r)) → IfOk made (λ r. IsReduced (plain r))
 reduced_in made forest = IfOk-weaker made (λ r. IsTreeIn 0 64 forest (numbered r)) (λ r. IsReduced (plain r)) (λ r h. h.reduced)
-
--- a tree whose tests are from k on
-pub from_root : {L : Type 0} (k : ℕ) (forest : List (Plain L)) (t : Numbered L) → IsTreeIn k 64 forest t → IsTreeIn 0 64 forest t
-from_root k forest t h = record { reduced = reduced_from (erase t) k h.reduced; small = h.small; own = h.own }
 
 -- two values are all leaves that a tree of truths may have
 pub all_truths : (t : Plain Bool) → HoldsLeaves (true ∷ (false ∷ [])) t

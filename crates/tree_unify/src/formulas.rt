@@ -61,7 +61,7 @@ pub fn test_tree(alloc: Global, f: &Formula) -> Result<Tree<bool>, NoMemory>
 }
 
 /// The forest's tree of a single test.
-#[tactic(auto, using(decision_tree::proofs::Numbers::keeps_both, crate::proofs::FormulaTrees::from_root))]
+#[tactic(auto, using(decision_tree::proofs::Numbers::stays, decision_tree::proofs::Numbers::keeps_both, decision_tree::proofs::Reduced::reduced_from))]
 fn test_in(forest: &mut Forest<bool>, number: u32) -> Result<Tree<bool>, NoMemory>
     requires { number < 64 }
     ensures means { IfOk result (λ t. IsTreeOf (Test number) (plain t)) }
@@ -76,7 +76,7 @@ fn test_in(forest: &mut Forest<bool>, number: u32) -> Result<Tree<bool>, NoMemor
 /// The forest's tree that is true at exactly the vectors at which the formula is. Its tests are numbers of the formula,
 /// which must be below 64. There are at most four steps for each operator. It answers an error only for want of memory;
 /// then too the forest has all that it had, and may have more.
-#[tactic(auto, using(decision_tree::proofs::Numbers::keeps_both))]
+#[tactic(auto, using(decision_tree::proofs::Numbers::keeps_both, decision_tree::proofs::Numbers::numbered_in))]
 pub fn test_tree_in<K: Ledger>(
     alloc: Global,
     forest: &mut Forest<bool>,

@@ -1,19 +1,10 @@
 use Rattle.std.proofs.Common.{rules, true, false, [], ◌∷◌, ap, ◌≡◌}
-use Rattle.std.proofs.lemmas.Result.{IfOk-weaker}
 use Rattle.cpp_conditions.specs.Propositions.{Not, And, Or}
 use Rattle.cpp_conditions.specs.View.{formula}
-use Rattle.decision_tree.specs.Listed.{IsTreeIn}
-use Rattle.decision_tree.specs.View.{numbered, plain}
-use Rattle.decision_tree.proofs.Numbers.{numbered_tree, tree_stays}
+use Rattle.decision_tree.specs.View.{plain}
 use Rattle.tree_unify.specs.Formulas.{operators}
 use Rattle.tree_unify.proofs.FormulaTrees.{negated_made, conjoined_made, disjoined_made, reduced_in, all_truths, steps_of_one, steps_of_two}
 use Rattle.tree_unify.proofs.formulas.+test_tree_in.Goals as goal
-
-pub returns-in-Const-clause-tree : goal.returns-in-Const-clause-tree
-returns-in-Const-clause-tree g t c = IfOk-weaker c.leaf.result _ (λ r. IsTreeIn 0 64 c.leaf.new.self (numbered r)) (λ r h. h 0 64) c.leaf.ensures.tree
-
-pub map_in-requires-clause-t : goal.map_in-requires-clause-t
-map_in-requires-clause-t g t c = numbered_tree 0 64 _ _ c.in_ok-inner-in-Not.ensures.tree
 
 pub returns-in_ok-inner-in-Not-clause-means : goal.returns-in_ok-inner-in-Not-clause-means
 returns-in_ok-inner-in-Not-clause-means g t c =
@@ -24,12 +15,6 @@ returns-in_ok-inner-in-Not-clause-steps g t c =
     let e : formula c.args.f.now ≡ Not (formula c.deref.result.now) = search rules in
     steps_of_one _ (operators (formula c.deref.result.now)) c.args.steps.now _ _ (ap operators e) c.in_ok-inner-in-Not.ensures.steps (c.map_in.ensures.steps (true ∷ (false ∷ [])) (all_truths (plain c.in_ok-inner-in-Not.inner)))
 
-pub unify_in-requires-clause-t : goal.unify_in-requires-clause-t
-unify_in-requires-clause-t g t c = numbered_tree 0 64 _ _ c.in_ok-left-in-And.ensures.tree
-
-pub unify_in-requires-clause-u : goal.unify_in-requires-clause-u
-unify_in-requires-clause-u g t c = numbered_tree 0 64 _ _ c.in_ok-right-in-And.ensures.tree
-
 pub returns-in_ok-right-in-And-clause-means : goal.returns-in_ok-right-in-And-clause-means
 returns-in_ok-right-in-And-clause-means g t c =
     conjoined_made c.unify_in.result _ (formula c.args.f.now) (formula c.deref-in-And.result.now) (formula c.deref-in-And-2.result.now) (plain c.in_ok-left-in-And.left) (plain c.in_ok-right-in-And.right) (search rules) (λ a b d h. h) c.in_ok-left-in-And.ensures.means c.in_ok-right-in-And.ensures.means c.unify_in.ensures.unified (reduced_in c.unify_in.result _ c.unify_in.ensures.tree) c.unify_in.ensures.tests
@@ -38,12 +23,6 @@ pub returns-in_ok-right-in-And-clause-steps : goal.returns-in_ok-right-in-And-cl
 returns-in_ok-right-in-And-clause-steps g t c =
     let e : formula c.args.f.now ≡ And (formula c.deref-in-And.result.now) (formula c.deref-in-And-2.result.now) = search rules in
     steps_of_two _ (operators (formula c.deref-in-And.result.now)) (operators (formula c.deref-in-And-2.result.now)) c.args.steps.now _ _ _ (ap operators e) c.in_ok-left-in-And.ensures.steps c.in_ok-right-in-And.ensures.steps (c.unify_in.ensures.steps (true ∷ (false ∷ [])) (true ∷ (false ∷ [])) (all_truths (plain c.in_ok-left-in-And.left)) (all_truths (plain c.in_ok-right-in-And.right)))
-
-pub unify_in-requires-in-Or-clause-t : goal.unify_in-requires-in-Or-clause-t
-unify_in-requires-in-Or-clause-t g t c = numbered_tree 0 64 _ _ c.in_ok-left-in-Or.ensures.tree
-
-pub unify_in-requires-in-Or-clause-u : goal.unify_in-requires-in-Or-clause-u
-unify_in-requires-in-Or-clause-u g t c = numbered_tree 0 64 _ _ c.in_ok-right-in-Or.ensures.tree
 
 pub returns-in_ok-right-in-Or-clause-means : goal.returns-in_ok-right-in-Or-clause-means
 returns-in_ok-right-in-Or-clause-means g t c =
