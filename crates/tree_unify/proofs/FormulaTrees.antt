@@ -3,7 +3,7 @@ use Rattle.std.specs.List.{Contains}
 use Rattle.std.proofs.Common.{◌≡◌, ◌⊎◌, inl, inr, ℕ, ◌+◌, ◌*◌, ◌<◌, ◌≤◌, Bool, true, false, not, ◌&&◌, ◌||◌, List, [], ◌∷◌, arith, ap, sym, ◌∙◌, subst, refl, Result, Ok, Err, IfOk}
 use Rattle.std.proofs.lemmas.Result.{IfOk-weaker}
 use Rattle.decision_tree.specs.declared.tree.Tree.{Tree}
-use Rattle.decision_tree.specs.Plain.{Plain, leaf, leaf_of, HasTest, IsReduced, IsReducedFrom, TestsBelow}
+use Rattle.decision_tree.specs.Plain.{Plain, leaf_of, HasTest, IsReduced, IsReducedFrom, TestsBelow}
 use Rattle.decision_tree.specs.View.{numbered, plain}
 use Rattle.decision_tree.specs.Listed.{IsTreeIn}
 use Rattle.decision_tree.proofs.Reduced.{tests_below}

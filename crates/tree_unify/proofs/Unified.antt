@@ -1,5 +1,5 @@
 -- What the two sides of a test say of two trees and the tree that is made of them.
-use Rattle.std.proofs.Common.{◌≡◌, ◌⊎◌, ℕ, Bool, true, false, List, cond, slice_index_or, refl, sym, ◌∙◌, ap, subst, inl, inr, Result, IfOk}
+use Rattle.std.proofs.Common.{◌≡◌, ◌⊎◌, ℕ, Bool, true, false, List, cond, slice_index_or, refl, sym, subst, inl, inr, Result, IfOk}
 use Rattle.std.proofs.lemmas.Result.{IfOk-weaker}
 use Rattle.decision_tree.specs.declared.tree.Tree.{Tree}
 use Rattle.decision_tree.specs.Plain.{Plain, leaf, node, leaf_of, HasTest, IsNodeOf}

@@ -69,7 +69,11 @@ impl<L: Ord + Copy> Operation<L, L, L> for Greater {
     ghost gives = { λ _ a b c. (c ≡ a) ⊎ (c ≡ b) };
 
     fn apply(&self, first: &L, second: &L) -> Result<L, NoMemory> {
-        if *first < *second { Ok(*second) } else { Ok(*first) }
+        if *first < *second {
+            Ok(*second)
+        } else {
+            Ok(*first)
+        }
     }
 }
 
