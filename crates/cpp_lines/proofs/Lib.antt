@@ -6,3 +6,4 @@ pub mod Coding
 pub mod Places
 pub mod Deciding
 pub mod Placed
+pub mod Pieces

@@ -4,3 +4,4 @@ pub mod Comments
 pub mod Directives
 pub mod Faults
 pub mod Lines
+pub mod Pieces

@@ -8,6 +8,7 @@ ghost use Rattle.cpp_lines.specs.Comments.{blank};
 ghost use Rattle.cpp_lines.specs.declared.line.Line as declared;
 ghost use Rattle.cpp_lines.specs.Lines.{ArePlaced, plain_lines_of};
 ghost use Rattle.cpp_lines.specs.Faults.{IsFirstFault, first_fault};
+ghost use Rattle.cpp_lines.specs.Pieces.{Piece, IsRead, IsReadOnce, joined};
 
 /// A blanked text and its code have as many bytes as the text, each at the place where it was.
 pub fn places_stay()
@@ -25,4 +26,12 @@ pub fn first_fault_decides()
 /// The places of the lines that `plain_lines` answers are places of the text.
 pub fn lines_are_placed()
     ensures { (text : List ℕ) (lines : List declared.Line) → plain_lines_of text ≡ Ok lines → ArePlaced text lines }
+{}
+
+/// Each text is in exactly one way bytes of code and comments, one behind another, and then nothing or a comment without
+/// its end. Its blanked text is theirs, with each byte of a comment but a newline a space.
+#[tactic(auto, using(crate::proofs::Pieces::read_once, crate::proofs::Pieces::blanked_joined))]
+pub fn texts_are_pieces()
+    ensures once { (text : List ℕ) → IsReadOnce text }
+    ensures blanked { (text : List ℕ) (ps : List Piece) (unclosed : List ℕ) → IsRead text ps unclosed → blank text ≡ joined ps unclosed }
 {}

@@ -1,6 +1,9 @@
+pub mod Assigned
 pub mod Canon
 pub mod Grows
 pub mod Nodes
 pub mod Numbers
+pub mod OnePath
 pub mod Places
+pub mod Reached
 pub mod Reduced

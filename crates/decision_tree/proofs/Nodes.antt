@@ -1,16 +1,16 @@
 -- A forest with one more node.
-use Rattle.std.proofs.Common.{slice_index_or, ◌≡◌, ◌≢◌, ℕ, ◌+◌, ◌&&◌, Bool, true, false, cond, eqb, List, [], ◌∷◌, ◌++◌, length, slice_get, Some, None, refl, sym, ◌∙◌, ap, subst, inl, inr, arith, true≢false}
+use Rattle.std.proofs.Common.{slice_index_or, ◌≡◌, ◌≢◌, ℕ, ◌+◌, ◌<◌, ◌&&◌, Bool, true, false, cond, eqb, List, [], ◌∷◌, ◌++◌, length, slice_get, Some, None, refl, sym, ◌∙◌, ap, subst, inl, inr, arith, true≢false}
 use Rattle.std.specs.Map.{lookup}
 use Rattle.std.proofs.lemmas.Map.Entries.{place_from_lookup}
 use Rattle.std.proofs.lemmas.Bool.Decides.{nat_tests, eqb_tells}
-use Rattle.decision_tree.specs.Plain.{Plain, leaf, node, leaf_of, IsReducedFrom, IsNodeOf}
-use Rattle.decision_tree.proofs.Reduced.{lower_bound}
+use Rattle.decision_tree.specs.Plain.{Plain, leaf, node, leaf_of, IsReducedFrom, IsNodeOf, TestsBelow}
+use Rattle.decision_tree.proofs.Reduced.{lower_bound, below_of_made}
 use Rattle.decision_tree.specs.declared.forest.Key.{Key}
 use Rattle.decision_tree.specs.declared.forest.Key.TheVariants as key
 use Rattle.decision_tree.specs.declared.tree.Tree.{Tree}
 use Rattle.decision_tree.specs.Keys.{same_key}
 use Rattle.decision_tree.specs.Numbered.{Numbered, kept, branch, erase, root}
-use Rattle.decision_tree.specs.Listed.{StandsAt, IsListed}
+use Rattle.decision_tree.specs.Listed.{StandsAt, IsListed, IsOf, IsTreeIn}
 use Rattle.decision_tree.specs.View.{numbered}
 use Rattle.decision_tree.specs.Entries.{IsEntry, trees, AreEntries}
 use Rattle.decision_tree.proofs.Places.{mapped_at, absent_at, length-mapped}
@@ -130,3 +130,23 @@ module _ {L : Type 0} where
   pub leads_of_made : (k : ℕ) (low high t : Plain L) → IsNodeOf k low high t → (v : List Bool) → leaf_of t v ≡ leaf_of (node k low high) v
   leads_of_made k low high t (inl h) v = ap (λ u. leaf_of u v) h.1 ∙ same_sides (slice_index_or v k false) (leaf_of low v) (leaf_of high v) (ap (λ u. leaf_of u v) h.0)
   leads_of_made k low high t (inr h) v = ap (λ u. leaf_of u v) h.1
+
+  -- the tree that is made of a test and two trees of a forest
+  pub tree_made : (k : ℕ) (before after : List (Plain L)) (off on t : Numbered L) → k < 64 → IsTreeIn (k + 1) 64 before off → IsTreeIn (k + 1) 64 before on → IsNodeOf k (erase off) (erase on) (erase t) → IsOf after t → IsTreeIn k 64 after t
+  tree_made k before after off on t small no_tree yes_tree made own = record {
+    reduced = reduced_of_made k (erase off) (erase on) (erase t) no_tree.reduced yes_tree.reduced made;
+    small = below_of_made 64 k (erase off) (erase on) (erase t) made small no_tree.small yes_tree.small;
+    own = own;
+  }
+
+  -- where both children are equal, it is the first
+  pub tree_of_equal : (k : ℕ) (forest : List (Plain L)) (off t : Numbered L) → t ≡ off → IsTreeIn (k + 1) 64 forest off → IsTreeIn k 64 forest t
+  tree_of_equal k forest off t e h = subst (IsTreeIn k 64 forest) (sym e) (record { reduced = lower_bound (erase off) (k + 1) k (omega arith) h.reduced; small = h.small; own = h.own })
+
+  -- a leaf that a forest has is a tree in it, with any bounds
+  pub leaf_tree : (first bound : ℕ) (forest : List (Plain L)) (t : Numbered L) (x : L) → erase t ≡ leaf x → IsOf forest t → IsTreeIn first bound forest t
+  leaf_tree first bound forest t x e own = record {
+    reduced = subst (IsReducedFrom first) (sym e) tt;
+    small = subst (TestsBelow bound) (sym e) tt;
+    own = own;
+  }

@@ -1,8 +1,8 @@
 -- What the numbers of a forest's trees tell.
-use Rattle.std.proofs.Common.{◌≡◌, ◌↔◌, List, [], ◌++◌, sym, ◌∙◌, ap, subst, inl, inr, append-nil, append_assoc}
+use Rattle.std.proofs.Common.{◌≡◌, ◌↔◌, ℕ, List, [], ◌++◌, sym, ◌∙◌, ap, subst, inl, inr, append-nil, append_assoc}
 use Rattle.decision_tree.specs.Plain.{Plain}
 use Rattle.decision_tree.specs.Numbered.{Numbered, kept, branch, erase, root, IsWithin, IsNumbered}
-use Rattle.decision_tree.specs.Listed.{IsListed, IsOf, Keeps}
+use Rattle.decision_tree.specs.Listed.{IsListed, IsOf, Keeps, IsNumberedTree, IsTreeIn}
 use Rattle.decision_tree.proofs.Nodes.{same_root, same_tree}
 
 module _ {L : Type 0} where
@@ -23,6 +23,13 @@ module _ {L : Type 0} where
   -- a tree of a forest stays one
   pub stays : (before after : List (Plain L)) (t : Numbered L) → Keeps before after → IsOf before t → IsOf after t
   stays before after t k h = k.stay t h
+
+  pub tree_stays : (first bound : ℕ) (before after : List (Plain L)) (t : Numbered L) → Keeps before after → IsTreeIn first bound before t → IsTreeIn first bound after t
+  tree_stays first bound before after t k h = record { reduced = h.reduced; small = h.small; own = k.stay t h.own }
+
+  -- and it is numbered
+  pub numbered_tree : (first bound : ℕ) (forest : List (Plain L)) (t : Numbered L) → IsTreeIn first bound forest t → IsNumberedTree first bound t
+  numbered_tree first bound forest t h = record { reduced = h.reduced; small = h.small; numbered = numbered_in forest t h.own }
 
   pub keeps_same : (before after : List (Plain L)) → after ≡ before → Keeps before after
   keeps_same before after e = record { more = []; begins = e ∙ sym (append-nil before); stay = λ t h. subst (λ ts. IsOf ts t) (sym e) h }

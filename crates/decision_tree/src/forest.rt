@@ -3,8 +3,8 @@ ghost use Rattle.std.specs.Prelude.{◌≡◌, ◌⊎◌, ℕ, Bool, ◌+◌, �
 ghost use Rattle.std.specs.Option.{option_copied};
 ghost use Rattle.std.specs.Map.{lookup};
 ghost use Rattle.decision_tree.specs.Keys.{same_key};
-ghost use Rattle.decision_tree.specs.Plain.{leaf, node, leaf_of, IsExact, IsNodeOf, IsReducedFrom};
-ghost use Rattle.decision_tree.specs.Listed.{IsOf, Keeps};
+ghost use Rattle.decision_tree.specs.Plain.{leaf, node, leaf_of, IsExact, IsNodeOf};
+ghost use Rattle.decision_tree.specs.Listed.{IsTreeIn, Keeps};
 ghost use Rattle.decision_tree.specs.View.{numbered, plain};
 
 use crate::tree::{Kept, Node, Tree};
@@ -86,7 +86,7 @@ impl<L: Eq + Hash + Drop> Forest<L> {
     pub fn leaf(&mut self, value: L) -> Result<Tree<L>, NoMemory>
         requires { IsExact L.eq }
         ensures same { IfOk result (λ t. plain t ≡ leaf value) }
-        ensures own { IfOk result (λ t. IsOf self.new (numbered t)) }
+        ensures tree { IfOk result (λ t. IsTreeIn 0 64 self.new (numbered t)) }
         ensures added { IfOk result (λ t. (self.new ≡ self.old)
             ⊎ (self.new ≡ self.old ++ leaf value ∷ [])) }
         ensures unchanged { OnErr result (self.new ≡ self.old) }
@@ -105,20 +105,20 @@ impl<L: Eq + Hash + Drop> Forest<L> {
     }
 
     /// The forest's tree that tests first and goes on at `no` or `yes`, made where it has none: `no` itself where they
-    /// are equal. Both must be trees of this forest, the test below 64, the children reduced and all their tests greater.
+    /// are equal, and then the forest stays as it was. The test must be below 64, and both reduced trees of this forest
+    /// whose tests are greater.
+    #[tactic(auto, using(crate::proofs::Nodes::tree_of_equal))]
     pub fn node(&mut self, test: u32, no: &Tree<L>, yes: &Tree<L>) -> Result<Tree<L>, NoMemory>
         requires small { test < 64 }
-        requires no_reduced { IsReducedFrom (test + 1) (plain no.now) }
-        requires yes_reduced { IsReducedFrom (test + 1) (plain yes.now) }
-        requires no_own { IsOf self.old (numbered no.now) }
-        requires yes_own { IsOf self.old (numbered yes.now) }
+        requires no { IsTreeIn (test + 1) 64 self.old (numbered no.now) }
+        requires yes { IsTreeIn (test + 1) 64 self.old (numbered yes.now) }
         ensures made { IfOk result (λ t. IsNodeOf test (plain no.now) (plain yes.now) (plain t)) }
-        ensures reduced { IfOk result (λ t. IsReducedFrom test (plain t)) }
+        ensures tree { IfOk result (λ t. IsTreeIn test 64 self.new (numbered t)) }
         ensures leads { IfOk result (λ t. (v : List Bool)
             → leaf_of (plain t) v ≡ leaf_of (node test (plain no.now) (plain yes.now)) v) }
-        ensures own { IfOk result (λ t. IsOf self.new (numbered t)) }
         ensures added { IfOk result (λ t. (self.new ≡ self.old)
             ⊎ (self.new ≡ self.old ++ node test (plain no.now) (plain yes.now) ∷ [])) }
+        ensures equal { plain no.now ≡ plain yes.now → self.new ≡ self.old }
         ensures unchanged { OnErr result (self.new ≡ self.old) }
         ensures keeps { Keeps self.old self.new }
     {

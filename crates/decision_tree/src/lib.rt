@@ -2,6 +2,7 @@
 #![tactic(auto)]
 
 pub mod forest;
+pub mod laws;
 pub mod paths;
 pub mod tree;
 

@@ -1,6 +1,6 @@
 ghost use Rattle.std.specs.Prelude.{◌≡◌, ◌+◌, ◌<◌, IfOk};
-ghost use Rattle.decision_tree.specs.Plain.{leaf, TestsBelow, IsReducedFrom};
-ghost use Rattle.decision_tree.specs.Listed.{IsOf, Keeps};
+ghost use Rattle.decision_tree.specs.Plain.{leaf, TestsBelow};
+ghost use Rattle.decision_tree.specs.Listed.{IsTreeIn, Keeps};
 ghost use Rattle.decision_tree.specs.View.{numbered, plain};
 
 use super::*;
@@ -32,7 +32,7 @@ fn formula_tree_again(alloc: Global) -> Result<Tree<bool>, NoMemory>
 #[tactic(auto, using(crate::proofs::Numbers::keeps_same, crate::proofs::Numbers::keeps_both))]
 fn leaf_again(forest: &mut Forest<u32>, value: u32) -> Result<Tree<u32>, NoMemory>
     ensures same { IfOk result (λ t. plain t ≡ leaf value) }
-    ensures own { IfOk result (λ t. IsOf forest.new (numbered t)) }
+    ensures tree { IfOk result (λ t. IsTreeIn 0 64 forest.new (numbered t)) }
     ensures keeps { Keeps forest.old forest.new }
 {
     match forest.leaf(value) {
@@ -50,12 +50,9 @@ fn node_again(
     yes: &Tree<u32>,
 ) -> Result<Tree<u32>, NoMemory>
     requires small { test < 64 }
-    requires no_reduced { IsReducedFrom (test + 1) (plain no.now) }
-    requires yes_reduced { IsReducedFrom (test + 1) (plain yes.now) }
-    requires no_own { IsOf forest.old (numbered no.now) }
-    requires yes_own { IsOf forest.old (numbered yes.now) }
-    ensures reduced { IfOk result (λ t. IsReducedFrom test (plain t)) }
-    ensures own { IfOk result (λ t. IsOf forest.new (numbered t)) }
+    requires no { IsTreeIn (test + 1) 64 forest.old (numbered no.now) }
+    requires yes { IsTreeIn (test + 1) 64 forest.old (numbered yes.now) }
+    ensures tree { IfOk result (λ t. IsTreeIn test 64 forest.new (numbered t)) }
     ensures keeps { Keeps forest.old forest.new }
 {
     match forest.node(test, no, yes) {

@@ -1,36 +1,34 @@
 -- Trees that are made of two trees, and noted.
 use Rattle.std.proofs.Common.{◌≡◌, ℕ, ◌+◌, ◌*◌, ◌<◌, ◌≤◌, min, Bool, true, false, List, [], ◌∷◌, ◌++◌, cond, length, refl, sym, ◌∙◌, ap, subst, inl, inr, arith, Result, Ok, Err, IfOk, None, Some}
 use Rattle.std.proofs.lemmas.Result.{IfOk-weaker}
-use Rattle.std.specs.Borrow.{Bor}
-use Rattle.std.specs.Fn.{Shared}
 use Rattle.std.specs.Map.{lookup, keys_of}
 use Rattle.std.proofs.lemmas.Bool.Decides.{eqb_tells}
 use Rattle.decision_tree.specs.declared.tree.Tree.{Tree}
-use Rattle.decision_tree.specs.Plain.{Plain, leaf, node, IsNodeOf, IsReduced, IsReducedFrom}
+use Rattle.decision_tree.specs.Plain.{Plain, leaf, node, leaf_of, IsNodeOf, IsReduced, IsReducedFrom, TestsBelow}
 use Rattle.decision_tree.specs.Numbered.{Numbered, kept, erase, root, IsWithin, IsNumbered}
-use Rattle.decision_tree.specs.Listed.{IsOf, Keeps}
+use Rattle.decision_tree.specs.Listed.{IsOf, Keeps, IsNumberedTree, IsTreeIn}
 use Rattle.decision_tree.specs.View.{numbered, plain}
-use Rattle.decision_tree.proofs.Reduced.{lower_bound}
+use Rattle.decision_tree.proofs.Reached.{reached, has_leaf_of}
+use Rattle.decision_tree.proofs.Reduced.{lower_bound, tests_below, test_below}
 use Rattle.decision_tree.proofs.Nodes.{reduced_of_made, leads_of_made}
 use Rattle.decision_tree.proofs.Places.{length-mapped}
 use Rattle.tree_unify.specs.declared.memo.Pair.{Pair}
-use Rattle.tree_unify.specs.Calls.{OpReturns}
 use Rattle.tree_unify.specs.Known.{IsKnown}
-use Rattle.tree_unify.specs.Leafwise.{IsUnified, TestsAreOfEither}
+use Rattle.tree_unify.specs.Leafwise.{IsUnified, LeavesComeFromBoth, TestsAreOfEither}
 use Rattle.tree_unify.specs.Leaves.{HoldsLeaves}
 use Rattle.tree_unify.specs.Made.{same_pair, IsMade, IsMemo, IsNoted, IsPairOfLeaves, IsTally}
 use Rattle.tree_unify.specs.Sides.{first_of, side_of}
 use Rattle.tree_unify.proofs.Bound.{tally_bound}
 use Rattle.tree_unify.proofs.Places.{inserted_last}
 use Rattle.tree_unify.proofs.Remembered.{memo_empty, tally_empty, memo_kept, memo_added, memo_found, tally_added, tally_pushed}
-use Rattle.tree_unify.proofs.SideLemmas.{pick, split_of_sides}
-use Rattle.tree_unify.proofs.Unified.{unified_at_leaves, unified_of_sides, tests_of_made}
+use Rattle.tree_unify.proofs.SideLemmas.{small_side, pick, split_of_sides}
+use Rattle.tree_unify.proofs.Unified.{unified_of_sides, tests_of_made}
 use Rattle.tree_unify.proofs.Pairs.{has_of_two}
 
 -- the leaf that an operation gives
-pub made_leaf : {A B C F E : Type 0} (g : Shared F (Bor A × (Bor B × Unit {0})) (Result C E)) (f : F) (z : C) (o : Result C E) (forest : List (Plain C)) (a : A) (b : B) (r : Numbered C) → OpReturns g f a b o → o ≡ Ok z → erase r ≡ leaf z → IsOf forest r → IsMade (λ p q s. OpReturns g f p q (Ok s)) forest (leaf a) (leaf b) r
-made_leaf {C = C} {E = E} g f z o forest a b r h e same own = record {
-  unified = subst (IsUnified (λ p q s. OpReturns g f p q (Ok s)) (leaf a) (leaf b)) (sym same) (unified_at_leaves g f z a b (subst (λ (x : Result C E). OpReturns g f a b x) e h));
+pub made_leaf : {A B C : Type 0} (P : A → B → C → Type 0) (z : C) (forest : List (Plain C)) (a : A) (b : B) (r : Numbered C) → P a b z → erase r ≡ leaf z → IsOf forest r → IsMade P forest (leaf a) (leaf b) r
+made_leaf P z forest a b r h same own = record {
+  unified = subst (IsUnified P (leaf a) (leaf b)) (sym same) (record { at_each = λ v. h });
   reduced = λ m p q. subst (IsReducedFrom m) (sym same) tt;
   tests = subst (TestsAreOfEither (leaf a) (leaf b)) (sym same) (record { each = λ k w. absurd w });
   own = own;
@@ -87,6 +85,16 @@ module _ {A B C : Type 0} {P : A → B → C → Type 0} where
   side_made t u k value s w r ht hu e f g h =
       h.reduced (k + 1) (subst (IsReducedFrom (k + 1)) (sym f) (side_above t k value ht (least_left (first_of t) (first_of u) k e)))
       (subst (IsReducedFrom (k + 1)) (sym g) (side_above u k value hu (least_right (first_of t) (first_of u) k e)))
+
+  pub side_tree : {forest : List (Plain C)} (t : Plain A) (u : Plain B) (k : ℕ) (value : Bool) (s : Plain A) (w : Plain B) (r : Numbered C) → TestsBelow 64 t → TestsBelow 64 u → IsReduced t → IsReduced u → k ≡ min (first_of t) (first_of u) → s ≡ side_of k value t → w ≡ side_of k value u → IsMade P forest s w r → IsTreeIn (k + 1) 64 forest r
+  side_tree t u k value s w r bt bu ht hu e f g h =
+      let bs : TestsBelow 64 s = subst (TestsBelow 64) (sym f) (small_side t 64 k value bt) in
+      let bw : TestsBelow 64 w = subst (TestsBelow 64) (sym g) (small_side u 64 k value bu) in
+      record {
+        reduced = side_made t u k value s w r ht hu e f g h;
+        small = tests_below 64 (erase r) (λ j x. elim (h.tests.each j x) [ inl y ↦ test_below 64 j s bs y | inr y ↦ test_below 64 j w bw y ]);
+        own = h.own;
+      }
 
   -- the node that is made of the sides
   pub made_node : {before middle after : List (Plain C)} (t s0 s1 : Plain A) (u w0 w1 : Plain B) (k : ℕ) (p q r : Numbered C) → k ≡ min (first_of t) (first_of u) → k < 64
@@ -173,6 +181,13 @@ module _ {A B C : Type 0} {P : A → B → C → Type 0} where
   pub known_empty : (forest : List (Plain C)) (t : Numbered A) (u : Numbered B) (ls ns : List (Pair × Tree C)) → ls ≡ [] → ns ≡ [] → IsKnown P forest t u ls ns
   known_empty forest t u ls ns e f = record { of_leaves = memo_empty ls e; of_nodes = memo_empty ns f; tally = tally_empty ls e }
 
+leaves_come : {A B C : Type 0} {P : A → B → C → Type 0} (t : Plain A) (u : Plain B) (r : Plain C) → IsUnified P t u r → IsReduced r → TestsBelow 64 r → LeavesComeFromBoth P t u r
+leaves_come {P = P} t u r m reduced small = record {
+  each = λ z w.
+      let v = reached 64 r z reduced small w in
+      (leaf_of t v.0, leaf_of u v.0, has_leaf_of t v.0, has_leaf_of u v.0, subst (P (leaf_of t v.0) (leaf_of u v.0)) v.2 (m.at_each v.0));
+}
+
 module _ {A B C E : Type 0} (P : A → B → C → Type 0) (forest : List (Plain C)) (made : Result (Tree C) E) where
   abbrev MadeOf : Plain A → Plain B → Type 0
   MadeOf t u = IfOk made (λ r. IsMade P forest t u (numbered r))
@@ -183,11 +198,22 @@ module _ {A B C E : Type 0} (P : A → B → C → Type 0) (forest : List (Plain
   pub made_unified : (t : Plain A) (u : Plain B) → MadeOf t u → IfOk made (λ r. IsUnified P t u (plain r))
   made_unified t u h = IfOk-weaker made (λ r. IsMade P forest t u (numbered r)) (λ r. IsUnified P t u (plain r)) (λ r m. m.unified) h
 
-  pub made_reduced : (t : Plain A) (u : Plain B) → MadeOf t u → IfOk made (λ r. (m : ℕ) → IsReducedFrom m t → IsReducedFrom m u → IsReducedFrom m (plain r))
-  made_reduced t u h = IfOk-weaker made (λ r. IsMade P forest t u (numbered r)) (λ r. (m : ℕ) → IsReducedFrom m t → IsReducedFrom m u → IsReducedFrom m (plain r)) (λ r m. m.reduced) h
+  -- a tree in the forest, as both operands are trees
+  pub made_tree : (t : Numbered A) (u : Numbered B) → IsNumberedTree 0 64 t → IsNumberedTree 0 64 u → MadeOf (erase t) (erase u) → IfOk made (λ r. IsTreeIn 0 64 forest (numbered r))
+  made_tree t u ht hu h =
+      IfOk-weaker made (λ r. IsMade P forest (erase t) (erase u) (numbered r)) (λ r. IsTreeIn 0 64 forest (numbered r))
+      (λ r m. record {
+        reduced = m.reduced 0 ht.reduced hu.reduced;
+        small = tests_below 64 (plain r) (λ k w. elim (m.tests.each k w) [ inl x ↦ test_below 64 k (erase t) ht.small x | inr y ↦ test_below 64 k (erase u) hu.small y ]);
+        own = m.own;
+      }) h
+
+  -- each leaf of it is reached by a vector, and so comes from those of the operands there
+  pub made_leaves : (t : Numbered A) (u : Numbered B) → IsNumberedTree 0 64 t → IsNumberedTree 0 64 u → MadeOf (erase t) (erase u) → IfOk made (λ r. LeavesComeFromBoth P (erase t) (erase u) (plain r))
+  made_leaves t u ht hu h =
+      IfOk-weaker made (λ r. IsMade P forest (erase t) (erase u) (numbered r)) (λ r. LeavesComeFromBoth P (erase t) (erase u) (plain r))
+      (λ r m. leaves_come (erase t) (erase u) (plain r) m.unified (m.reduced 0 ht.reduced hu.reduced)
+      (tests_below 64 (plain r) (λ k w. elim (m.tests.each k w) [ inl x ↦ test_below 64 k (erase t) ht.small x | inr y ↦ test_below 64 k (erase u) hu.small y ]))) h
 
   pub made_tests : (t : Plain A) (u : Plain B) → MadeOf t u → IfOk made (λ r. TestsAreOfEither t u (plain r))
   made_tests t u h = IfOk-weaker made (λ r. IsMade P forest t u (numbered r)) (λ r. TestsAreOfEither t u (plain r)) (λ r m. m.tests) h
-
-  pub made_own : (t : Plain A) (u : Plain B) → MadeOf t u → IfOk made (λ r. IsOf forest (numbered r))
-  made_own t u h = IfOk-weaker made (λ r. IsMade P forest t u (numbered r)) (λ r. IsOf forest (numbered r)) (λ r m. m.own) h

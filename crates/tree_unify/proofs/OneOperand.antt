@@ -1,10 +1,13 @@
 -- A map as an operation whose second operand is one leaf without a value.
-use Rattle.std.proofs.Common.{◌≡◌, ℕ, ◌+◌, ◌*◌, ◌≤◌, [], ◌∷◌, length, refl, subst, inl, inr, arith, Result, IfOk}
+use Rattle.std.proofs.Common.{◌≡◌, ℕ, ◌+◌, ◌*◌, ◌≤◌, [], ◌∷◌, length, refl, subst, inl, inr, arith, Result, Ok, Err, IfOk}
+use Rattle.std.specs.Borrow.{Bor}
+use Rattle.std.specs.Fn.{Shared, FnReturnsAt}
+use Rattle.std.proofs.lemmas.Fn.{says_at}
 use Rattle.std.proofs.lemmas.Result.{IfOk-weaker}
 use Rattle.decision_tree.specs.declared.tree.Tree.{Tree}
 use Rattle.decision_tree.specs.Plain.{Plain, leaf, leaf_of, HasTest}
 use Rattle.decision_tree.specs.View.{plain}
-use Rattle.tree_unify.specs.Leafwise.{IsMapped, IsUnified, TestsAreOf, TestsAreOfEither}
+use Rattle.tree_unify.specs.Leafwise.{IsMapped, IsUnified, LeavesComeFrom, LeavesComeFromBoth, TestsAreOf, TestsAreOfEither}
 use Rattle.tree_unify.specs.Leaves.{HoldsLeaves}
 
 pub all_units : (u : Plain (Unit {0})) → HoldsLeaves (tt ∷ []) u
@@ -12,6 +15,10 @@ all_units u = record { each = λ x w. (0, omega arith, refl) }
 
 pub one_column : (n s d : ℕ) → d ≤ s + n * length {A = Unit {0}} (tt ∷ []) → d ≤ s + n
 one_column n s d h = omega arith
+
+pub given_by_map : {F A B E : Type 0} (g : Shared F (Bor A × Unit {0}) (Result B E)) (f : F) (p : Bor A) (r : Result B E) → g.post f (p, tt) r → IfOk r (λ b. FnReturnsAt g f p.now (Ok b))
+given_by_map g f p (Ok b) h = says_at g h refl
+given_by_map g f p (Err e) h = tt
 
 module _ {A B E : Type 0} (made : Result (Tree B) E) (t : Plain A) (u : Plain (Unit {0})) where
   pub tests_of_one : u ≡ leaf tt → IfOk made (λ r. TestsAreOfEither t u (plain r)) → IfOk made (λ r. TestsAreOf t (plain r))
@@ -23,3 +30,8 @@ module _ {A B E : Type 0} (made : Result (Tree B) E) (t : Plain A) (u : Plain (U
   mapped_of_one P Q f h =
       IfOk-weaker made (λ r. IsUnified P t u (plain r)) (λ r. IsMapped Q t (plain r))
       (λ r m. record { at_each = λ v. f (leaf_of t v) (leaf_of u v) (leaf_of (plain r) v) (m.at_each v) }) h
+
+  pub leaves_of_one : (P : A → Unit {0} → B → Type 0) (Q : A → B → Type 0) → ((a : A) (x : Unit {0}) (b : B) → P a x b → Q a b) → IfOk made (λ r. LeavesComeFromBoth P t u (plain r)) → IfOk made (λ r. LeavesComeFrom Q t (plain r))
+  leaves_of_one P Q f h =
+      IfOk-weaker made (λ r. LeavesComeFromBoth P t u (plain r)) (λ r. LeavesComeFrom Q t (plain r))
+      (λ r m. record { each = λ b w. let x = m.each b w in (x.0, x.2, f x.0 x.1 b x.4) }) h

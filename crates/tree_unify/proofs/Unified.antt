@@ -1,12 +1,9 @@
 -- What the two sides of a test say of two trees and the tree that is made of them.
-use Rattle.std.proofs.Common.{◌≡◌, ◌⊎◌, ℕ, Bool, true, false, List, cond, slice_index_or, refl, sym, ◌∙◌, ap, subst, inl, inr, Result, IfOk, Ok}
-use Rattle.std.specs.Borrow.{Bor}
-use Rattle.std.specs.Fn.{Shared}
+use Rattle.std.proofs.Common.{◌≡◌, ◌⊎◌, ℕ, Bool, true, false, List, cond, slice_index_or, refl, sym, subst, inl, inr, Result, IfOk}
 use Rattle.std.proofs.lemmas.Result.{IfOk-weaker}
 use Rattle.decision_tree.specs.declared.tree.Tree.{Tree}
 use Rattle.decision_tree.specs.Plain.{Plain, leaf, node, leaf_of, HasTest, IsNodeOf}
 use Rattle.decision_tree.specs.View.{plain}
-use Rattle.tree_unify.specs.Calls.{OpReturns}
 use Rattle.tree_unify.specs.Leafwise.{IsUnified, TestsAreOfEither}
 
 -- at a test, t leads on to low or to high
@@ -45,18 +42,10 @@ module _ {A B C : Type 0} where
       IfOk-weaker made (λ r. (v : List Bool) → leaf_of (plain r) v ≡ leaf_of (node k p q) v) (λ r. IsUnified P t u (plain r))
       (λ r e. record { at_each = λ v. subst (P (leaf_of t v) (leaf_of u v)) (sym (e v)) (at_sides k t t0 t1 u u0 u1 p q a b f g v) }) h
 
-  pub unified_leaf : {F E D : Type 0} (g : Shared F (Bor A × (Bor B × Unit {0})) (Result C E)) (f : F) (t : Plain A) (u : Plain B) (made : Result (Tree C) D) (x : Bor A) (y : Bor B) (z : C) (o : Result C E) → t ≡ leaf x.now → u ≡ leaf y.now → g.post f (x, (y, tt)) o → o ≡ Ok z
-      → IfOk made (λ r. plain r ≡ leaf z) → IfOk made (λ r. IsUnified (λ a b c. OpReturns g f a b (Ok c)) t u (plain r))
-  unified_leaf g f t u made x y z o d e h i j =
-      IfOk-weaker made (λ r. plain r ≡ leaf z) (λ r. IsUnified (λ a b c. OpReturns g f a b (Ok c)) t u (plain r))
-      (λ r m. record {
-        at_each = λ v. record {
-          first = x;
-          second = y;
-          shows = (ap (λ s. leaf_of s v) (sym d), ap (λ s. leaf_of s v) (sym e));
-          says = record { met = subst (λ s. g.post f (x, (y, tt)) s) (i ∙ ap (λ s. Ok (leaf_of s v)) (sym m)) h };
-        };
-      }) j
+  pub unified_leaf : {D : Type 0} (P : A → B → C → Type 0) (t : Plain A) (u : Plain B) (made : Result (Tree C) D) (x : A) (y : B) (z : C) → t ≡ leaf x → u ≡ leaf y → P x y z → IfOk made (λ r. plain r ≡ leaf z) → IfOk made (λ r. IsUnified P t u (plain r))
+  unified_leaf P t u made x y z d e h j =
+      IfOk-weaker made (λ r. plain r ≡ leaf z) (λ r. IsUnified P t u (plain r))
+      (λ r m. subst (λ s. IsUnified P s u (plain r)) (sym d) (subst (λ s. IsUnified P (leaf x) s (plain r)) (sym e) (subst (IsUnified P (leaf x) (leaf y)) (sym m) (record { at_each = λ v. h })))) j
 
   pub tests_of_made : (k : ℕ) (t t0 t1 : Plain A) (u u0 u1 : Plain B) (p q r : Plain C) → IsSplit k t t0 t1 → IsSplit k u u0 u1 → HasTest k t ⊎ HasTest k u → TestsAreOfEither t0 u0 p → TestsAreOfEither t1 u1 q → IsNodeOf k p q r → (j : ℕ) → HasTest j r → HasTest j t ⊎ HasTest j u
   tests_of_made k t t0 t1 u u0 u1 p q r a b here f g (inl h) j w =
@@ -74,7 +63,3 @@ module _ {A B C : Type 0} where
   tests_node_of {E} {k} {t} {t0} {t1} {u} {u0} {u1} {p} {q} made a b here f g h =
       IfOk-weaker made (λ r. IsNodeOf k p q (plain r)) (λ r. TestsAreOfEither t u (plain r))
       (λ r e. record { each = tests_of_made k t t0 t1 u u0 u1 p q (plain r) a b here f g e }) h
-
--- what an operation gives for two leaves
-pub unified_at_leaves : {A B C : Type 0} {F E : Type 0} (g : Shared F (Bor A × (Bor B × Unit {0})) (Result C E)) (f : F) (z : C) (a : A) (b : B) → OpReturns g f a b (Ok z) → IsUnified (λ p q r. OpReturns g f p q (Ok r)) (leaf a) (leaf b) (leaf z)
-unified_at_leaves g f z a b h = record { at_each = λ v. h }

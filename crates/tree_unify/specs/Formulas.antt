@@ -1,5 +1,5 @@
 -- The tree of a formula.
-use Rattle.std.specs.Prelude.{◌≡◌, ◌⊎◌, ℕ, Bool, List}
+use Rattle.std.specs.Prelude.{◌≡◌, ◌⊎◌, ℕ, ◌+◌, Bool, List}
 use Rattle.decision_tree.specs.Plain.{Plain, leaf_of, HasTest, IsReduced}
 use Rattle.cpp_conditions.specs.Propositions.{Proposition, Const, Test, Not, And, Or, true_on}
 
@@ -16,3 +16,11 @@ pub record IsTreeOf (p : Proposition ℕ) (t : Plain Bool) : Type 0 where
   pub truth : (v : List Bool) → leaf_of t v ≡ true_on v p
   pub reduced : IsReduced t
   pub tests : (k : ℕ) → HasTest k t → HasNumber k p
+
+-- how many operators the formula has
+abbrev pub operators : Proposition ℕ → ℕ
+operators (Const b) = 0
+operators (Test n) = 0
+operators (Not p) = operators p + 1
+operators (And p q) = operators p + operators q + 1
+operators (Or p q) = operators p + operators q + 1

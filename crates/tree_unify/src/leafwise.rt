@@ -3,9 +3,10 @@ ghost use Rattle.std.specs.Prelude.{◌≡◌, ℕ, ◌<◌, IfOk, Ok};
 ghost use Rattle.std.specs.Fn.{FnReturnsAt};
 ghost use Rattle.decision_tree.specs.Plain.{IsReduced, IsReducedFrom, TestsBelow, IsExact};
 ghost use Rattle.decision_tree.specs.View.{plain};
-ghost use Rattle.tree_unify.specs.Calls.{IsCallableAt, IsCallableAtPairs, OpReturns};
+ghost use Rattle.tree_unify.specs.Calls.{IsCallableAt, TakesLeaves};
 ghost use Rattle.tree_unify.specs.Leafwise.{IsMapped, IsUnified, IsSelected, TestsAreOfAny, TestsAreOf, TestsAreOfEither};
 
+use crate::operation::Operation;
 use crate::sides::{first, side, value_of};
 use decision_tree::Tree;
 use fam_outer::NoMemory;
@@ -48,29 +49,28 @@ pub fn map<A, B: Eq + Drop, F: Fn(&A) -> Result<B, NoMemory>>(
 ///
 /// The operation must be callable at each leaf of `t` with each leaf of `u`, both trees reduced with tests below 64, and
 /// `==` of the new leaves equality of values. The new leaves and nodes have the number 0.
-#[tactic(auto, using(crate::proofs::SideLemmas::small_side, crate::proofs::SideLemmas::reduced_side, crate::proofs::Pairs::fewer_of_two, crate::proofs::Pairs::callable_sides))]
-pub fn unify<A, B, C: Eq + Drop, F: Fn(&A, &B) -> Result<C, NoMemory>>(
+#[tactic(auto, using(crate::proofs::SideLemmas::small_side, crate::proofs::SideLemmas::reduced_side, crate::proofs::Pairs::fewer_of_two, crate::proofs::Pairs::takes_sides))]
+pub fn unify<A, B, C: Eq + Drop, F: Operation<A, B, C>>(
     alloc: Global,
     op: &F,
     t: &Tree<A>,
     u: &Tree<B>,
 ) -> Result<Tree<C>, NoMemory>
-    requires callable { IsCallableAtPairs F.Fn op.now (plain t.now) (plain u.now) }
+    requires takes { TakesLeaves (F.takes op.now) (plain t.now) (plain u.now) }
     requires t_small { TestsBelow 64 (plain t.now) }
     requires u_small { TestsBelow 64 (plain u.now) }
     requires t_reduced { IsReduced (plain t.now) }
     requires u_reduced { IsReduced (plain u.now) }
     requires exact { IsExact C.eq }
     ensures unified { IfOk result
-        (λ r. IsUnified (λ a b c. OpReturns F.Fn op.now a b (Ok c))
-        (plain t.now) (plain u.now) (plain r)) }
+        (λ r. IsUnified (F.gives op.now) (plain t.now) (plain u.now) (plain r)) }
     ensures reduced { IfOk result
         (λ r. (m : ℕ) → IsReducedFrom m (plain t.now) → IsReducedFrom m (plain u.now)
         → IsReducedFrom m (plain r)) }
     ensures tests { IfOk result (λ r. TestsAreOfEither (plain t.now) (plain u.now) (plain r)) }
 {
     if let (Tree::Leaf(a), Tree::Leaf(b)) = (t, u) {
-        let made = op(value_of(a), value_of(b))?;
+        let made = op.apply(value_of(a), value_of(b))?;
         return Tree::leaf(alloc, made);
     }
     let k = first(t).min(first(u));

@@ -5,15 +5,19 @@ pub mod formulas;
 pub mod leafwise;
 pub mod memo;
 pub mod numbered;
+pub mod operation;
 pub mod restricted;
 pub mod sides;
 pub mod steps;
+pub mod truths;
 
-pub use formulas::test_tree;
+pub use formulas::{test_tree, test_tree_in};
 pub use leafwise::{map, select, unify};
 pub use numbered::{map_in, unify_in};
+pub use operation::Operation;
 pub use restricted::restrict;
 pub use steps::Steps;
+pub use truths::{Both, Either};
 
 #[cfg(test)]
 mod tests;

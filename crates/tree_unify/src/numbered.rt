@@ -3,15 +3,16 @@ ghost use Rattle.std.specs.Prelude.{◌≡◌, ℕ, ◌+◌, ◌*◌, ◌<◌, �
 ghost use Rattle.std.specs.Fn.{FnReturnsAt};
 ghost use Rattle.decision_tree.specs.Plain.{leaf, IsNodeOf, IsReduced, IsReducedFrom, TestsBelow, IsExact};
 ghost use Rattle.decision_tree.specs.Numbered.{kept, IsWithin, IsNumbered};
-ghost use Rattle.decision_tree.specs.Listed.{IsOf, Keeps};
+ghost use Rattle.decision_tree.specs.Listed.{IsNumberedTree, IsTreeIn, IsOf, Keeps};
 ghost use Rattle.decision_tree.specs.View.{numbered, plain};
-ghost use Rattle.tree_unify.specs.Calls.{IsCallableAt, IsCallableAtPairs, OpReturns};
+ghost use Rattle.tree_unify.specs.Calls.{IsCallableAt, TakesLeaves};
 ghost use Rattle.tree_unify.specs.Known.{IsKnown};
-ghost use Rattle.tree_unify.specs.Leafwise.{IsMapped, IsUnified, TestsAreOf, TestsAreOfEither};
+ghost use Rattle.tree_unify.specs.Leafwise.{IsMapped, IsUnified, LeavesComeFrom, LeavesComeFromBoth, TestsAreOf, TestsAreOfEither};
 ghost use Rattle.tree_unify.specs.Leaves.{HoldsLeaves};
 ghost use Rattle.tree_unify.specs.Made.{IsMade, IsNoted};
 
 use crate::memo::{Memo, Pair, find, remember};
+use crate::operation::Operation;
 use crate::sides::{first, side, value_of};
 use crate::steps::Steps;
 use decision_tree::{Forest, Kept, Tree};
@@ -29,22 +30,22 @@ struct Operands<'a, A, B> {
 }
 
 /// What the operation gives for two leaves. Its call is one step.
-fn call_counted<A, B, C, K: Ledger, F: Fn(&A, &B) -> Result<C, NoMemory>>(
+fn call_counted<A, B, C, K: Ledger, F: Operation<A, B, C>>(
     op: &F,
     a: &Kept<A>,
     b: &Kept<B>,
     steps: &mut Steps<K>,
 ) -> Result<C, NoMemory>
-    requires callable { IsCallableAtPairs F.Fn op.now (leaf a.now.value) (leaf b.now.value) }
-    ensures answer { OpReturns F.Fn op.now a.now.value b.now.value result }
+    requires takes { TakesLeaves (F.takes op.now) (leaf a.now.value) (leaf b.now.value) }
+    ensures answer { IfOk result (λ c. F.gives op.now a.now.value b.now.value c) }
     ensures counted { steps.new ≡ steps.old + 1 }
 {
     steps.tick();
-    op(value_of(a), value_of(b))
+    op.apply(value_of(a), value_of(b))
 }
 
 /// The leaf that the operation gives for two leaves, noted for their pair: one step.
-fn unify_new<A, B, C: Eq + Hash + Drop, K: Ledger, F: Fn(&A, &B) -> Result<C, NoMemory>>(
+fn unify_new<A, B, C: Eq + Hash + Drop, K: Ledger, F: Operation<A, B, C>>(
     forest: &mut Forest<C>,
     op: &F,
     a: &Kept<A>,
@@ -53,9 +54,9 @@ fn unify_new<A, B, C: Eq + Hash + Drop, K: Ledger, F: Fn(&A, &B) -> Result<C, No
     entries: &mut IndexMap<Pair, Tree<C>>,
     steps: &mut Steps<K>,
 ) -> Result<Tree<C>, NoMemory>
-    requires callable { IsCallableAtPairs F.Fn op.now (leaf a.now.value) (leaf b.now.value) }
+    requires takes { TakesLeaves (F.takes op.now) (leaf a.now.value) (leaf b.now.value) }
     requires exact { IsExact C.eq }
-    ensures made { IfOk result (λ r. IsMade (λ a b c. OpReturns F.Fn op.now a b (Ok c)) forest.new
+    ensures made { IfOk result (λ r. IsMade (F.gives op.now) forest.new
         (leaf a.now.value) (leaf b.now.value) (numbered r)) }
     ensures noted { IfOk result (λ r. IsNoted pair (numbered r)
         entries.old.entries entries.new.entries) }
@@ -70,7 +71,7 @@ fn unify_new<A, B, C: Eq + Hash + Drop, K: Ledger, F: Fn(&A, &B) -> Result<C, No
 }
 
 /// The leaf for two leaves, with what is known of pairs so far: one step, where their pair is not known.
-fn unify_leaves<A, B, C: Eq + Hash + Drop, K: Ledger, F: Fn(&A, &B) -> Result<C, NoMemory>>(
+fn unify_leaves<A, B, C: Eq + Hash + Drop, K: Ledger, F: Operation<A, B, C>>(
     forest: &mut Forest<C>,
     op: &F,
     whole: &Operands<'_, A, B>,
@@ -79,18 +80,18 @@ fn unify_leaves<A, B, C: Eq + Hash + Drop, K: Ledger, F: Fn(&A, &B) -> Result<C,
     memo: &mut Memo<C>,
     steps: &mut Steps<K>,
 ) -> Result<Tree<C>, NoMemory>
-    requires callable { IsCallableAtPairs F.Fn op.now (leaf a.now.value) (leaf b.now.value) }
+    requires takes { TakesLeaves (F.takes op.now) (leaf a.now.value) (leaf b.now.value) }
     requires t_numbered { IsNumbered (numbered whole.now.t.now) }
     requires u_numbered { IsNumbered (numbered whole.now.u.now) }
     requires a_within { IsWithin (kept a.now.number a.now.value) (numbered whole.now.t.now) }
     requires b_within { IsWithin (kept b.now.number b.now.value) (numbered whole.now.u.now) }
     requires exact { IsExact C.eq }
-    requires known { IsKnown (λ a b c. OpReturns F.Fn op.now a b (Ok c)) forest.old
+    requires known { IsKnown (F.gives op.now) forest.old
         (numbered whole.now.t.now) (numbered whole.now.u.now)
         memo.old.leaves.entries memo.old.nodes.entries }
-    ensures made { IfOk result (λ r. IsMade (λ a b c. OpReturns F.Fn op.now a b (Ok c)) forest.new
+    ensures made { IfOk result (λ r. IsMade (F.gives op.now) forest.new
         (leaf a.now.value) (leaf b.now.value) (numbered r)) }
-    ensures known { OnOk result (IsKnown (λ a b c. OpReturns F.Fn op.now a b (Ok c)) forest.new
+    ensures known { OnOk result (IsKnown (F.gives op.now) forest.new
         (numbered whole.now.t.now) (numbered whole.now.u.now)
         memo.new.leaves.entries memo.new.nodes.entries) }
     ensures counted { OnOk result (steps.new + length memo.old.leaves.entries
@@ -120,10 +121,8 @@ fn note_node<C: Eq + Hash + Drop>(
     entries: &mut IndexMap<Pair, Tree<C>>,
 ) -> Result<Tree<C>, NoMemory>
     requires small { test < 64 }
-    requires no_reduced { IsReducedFrom (test + 1) (plain no.now) }
-    requires yes_reduced { IsReducedFrom (test + 1) (plain yes.now) }
-    requires no_own { IsOf forest.old (numbered no.now) }
-    requires yes_own { IsOf forest.old (numbered yes.now) }
+    requires no { IsTreeIn (test + 1) 64 forest.old (numbered no.now) }
+    requires yes { IsTreeIn (test + 1) 64 forest.old (numbered yes.now) }
     ensures made { IfOk result (λ r. IsNodeOf test (plain no.now) (plain yes.now) (plain r)) }
     ensures own { IfOk result (λ r. IsOf forest.new (numbered r)) }
     ensures noted { IfOk result (λ r. IsNoted pair (numbered r)
@@ -137,8 +136,8 @@ fn note_node<C: Eq + Hash + Drop>(
 }
 
 /// The tree that is made of two subtrees of the operands, with what is known of pairs so far.
-#[tactic(auto, using(crate::proofs::SideLemmas::small_side, crate::proofs::SideLemmas::reduced_side, crate::proofs::Pairs::fewer_of_two, crate::proofs::Pairs::callable_sides, decision_tree::proofs::Numbers::keeps_both))]
-fn unify_known<A, B, C: Eq + Hash + Drop, K: Ledger, F: Fn(&A, &B) -> Result<C, NoMemory>>(
+#[tactic(auto, using(crate::proofs::SideLemmas::small_side, crate::proofs::SideLemmas::reduced_side, crate::proofs::Pairs::fewer_of_two, crate::proofs::Pairs::takes_sides, decision_tree::proofs::Numbers::keeps_both))]
+fn unify_known<A, B, C: Eq + Hash + Drop, K: Ledger, F: Operation<A, B, C>>(
     forest: &mut Forest<C>,
     op: &F,
     whole: &Operands<'_, A, B>,
@@ -147,7 +146,7 @@ fn unify_known<A, B, C: Eq + Hash + Drop, K: Ledger, F: Fn(&A, &B) -> Result<C, 
     memo: &mut Memo<C>,
     steps: &mut Steps<K>,
 ) -> Result<Tree<C>, NoMemory>
-    requires callable { IsCallableAtPairs F.Fn op.now (plain t.now) (plain u.now) }
+    requires takes { TakesLeaves (F.takes op.now) (plain t.now) (plain u.now) }
     requires t_numbered { IsNumbered (numbered whole.now.t.now) }
     requires u_numbered { IsNumbered (numbered whole.now.u.now) }
     requires t_within { IsWithin (numbered t.now) (numbered whole.now.t.now) }
@@ -157,12 +156,12 @@ fn unify_known<A, B, C: Eq + Hash + Drop, K: Ledger, F: Fn(&A, &B) -> Result<C, 
     requires t_reduced { IsReduced (plain t.now) }
     requires u_reduced { IsReduced (plain u.now) }
     requires exact { IsExact C.eq }
-    requires known { IsKnown (λ a b c. OpReturns F.Fn op.now a b (Ok c)) forest.old
+    requires known { IsKnown (F.gives op.now) forest.old
         (numbered whole.now.t.now) (numbered whole.now.u.now)
         memo.old.leaves.entries memo.old.nodes.entries }
-    ensures made { IfOk result (λ r. IsMade (λ a b c. OpReturns F.Fn op.now a b (Ok c)) forest.new
+    ensures made { IfOk result (λ r. IsMade (F.gives op.now) forest.new
         (plain t.now) (plain u.now) (numbered r)) }
-    ensures known { OnOk result (IsKnown (λ a b c. OpReturns F.Fn op.now a b (Ok c)) forest.new
+    ensures known { OnOk result (IsKnown (F.gives op.now) forest.new
         (numbered whole.now.t.now) (numbered whole.now.u.now)
         memo.new.leaves.entries memo.new.nodes.entries) }
     ensures counted { OnOk result (steps.new + length memo.old.leaves.entries
@@ -210,7 +209,7 @@ fn unify_known<A, B, C: Eq + Hash + Drop, K: Ledger, F: Fn(&A, &B) -> Result<C, 
 /// of memory too. The conditions are those of `unify`, and that `t` and `u` are numbered; they may be of other forests.
 /// After want of memory the forest has all that it had, and may have more.
 #[tactic(auto, using(crate::proofs::Making::known_empty, crate::proofs::Within::within_self))]
-pub fn unify_in<A, B, C: Eq + Hash + Drop, K: Ledger, F: Fn(&A, &B) -> Result<C, NoMemory>>(
+pub fn unify_in<A, B, C: Eq + Hash + Drop, K: Ledger, F: Operation<A, B, C>>(
     alloc: Global,
     forest: &mut Forest<C>,
     op: &F,
@@ -218,22 +217,16 @@ pub fn unify_in<A, B, C: Eq + Hash + Drop, K: Ledger, F: Fn(&A, &B) -> Result<C,
     u: &Tree<B>,
     steps: &mut Steps<K>,
 ) -> Result<Tree<C>, NoMemory>
-    requires callable { IsCallableAtPairs F.Fn op.now (plain t.now) (plain u.now) }
-    requires t_small { TestsBelow 64 (plain t.now) }
-    requires u_small { TestsBelow 64 (plain u.now) }
-    requires t_reduced { IsReduced (plain t.now) }
-    requires u_reduced { IsReduced (plain u.now) }
-    requires t_numbered { IsNumbered (numbered t.now) }
-    requires u_numbered { IsNumbered (numbered u.now) }
+    requires takes { TakesLeaves (F.takes op.now) (plain t.now) (plain u.now) }
+    requires t { IsNumberedTree 0 64 (numbered t.now) }
+    requires u { IsNumberedTree 0 64 (numbered u.now) }
     requires exact { IsExact C.eq }
     ensures unified { IfOk result
-        (λ r. IsUnified (λ a b c. OpReturns F.Fn op.now a b (Ok c))
-        (plain t.now) (plain u.now) (plain r)) }
-    ensures reduced { IfOk result
-        (λ r. (m : ℕ) → IsReducedFrom m (plain t.now) → IsReducedFrom m (plain u.now)
-        → IsReducedFrom m (plain r)) }
+        (λ r. IsUnified (F.gives op.now) (plain t.now) (plain u.now) (plain r)) }
+    ensures leaves { IfOk result
+        (λ r. LeavesComeFromBoth (F.gives op.now) (plain t.now) (plain u.now) (plain r)) }
     ensures tests { IfOk result (λ r. TestsAreOfEither (plain t.now) (plain u.now) (plain r)) }
-    ensures own { IfOk result (λ r. IsOf forest.new (numbered r)) }
+    ensures tree { IfOk result (λ r. IsTreeIn 0 64 forest.new (numbered r)) }
     ensures keeps { Keeps forest.old forest.new }
     ensures steps { (xs : List A) (ys : List B)
         → HoldsLeaves xs (plain t.now) → HoldsLeaves ys (plain u.now)
@@ -244,6 +237,26 @@ pub fn unify_in<A, B, C: Eq + Hash + Drop, K: Ledger, F: Fn(&A, &B) -> Result<C,
         nodes: IndexMap::new(alloc),
     };
     unify_known(forest, op, &Operands { t, u }, t, u, &mut memo, steps)
+}
+
+/// A map as an operation whose second operand has no value.
+#[derive(Drop)]
+struct OfFirst<'a, F> {
+    f: &'a F,
+}
+
+impl<A, B, F: Fn(&A) -> Result<B, NoMemory>> Operation<A, (), B> for OfFirst<'_, F> {
+    ghost use Rattle.std.specs.Prelude.{◌≡◌, Ok};
+    ghost use Rattle.std.specs.Borrow.{Bor};
+    ghost use Rattle.std.specs.Fn.{FnReturnsAt};
+
+    ghost takes = { λ op a _. (p : Bor A) → p.now ≡ a → F.pre op.f.now p };
+
+    ghost gives = { λ op a _ b. FnReturnsAt F.Fn op.f.now a (Ok b) };
+
+    fn apply(&self, first: &A, _second: &()) -> Result<B, NoMemory> {
+        (self.f)(first)
+    }
 }
 
 /// The forest's tree that has, at every vector, what the operation gives for the leaf of `t` there.
@@ -260,24 +273,18 @@ pub fn map_in<A, B: Eq + Hash + Drop, K: Ledger, F: Fn(&A) -> Result<B, NoMemory
     steps: &mut Steps<K>,
 ) -> Result<Tree<B>, NoMemory>
     requires callable { IsCallableAt F.Fn f.now (plain t.now) }
-    requires small { TestsBelow 64 (plain t.now) }
-    requires is_reduced { IsReduced (plain t.now) }
-    requires is_numbered { IsNumbered (numbered t.now) }
+    requires t { IsNumberedTree 0 64 (numbered t.now) }
     requires exact { IsExact B.eq }
     ensures mapped { IfOk result
         (λ r. IsMapped (λ a b. FnReturnsAt F.Fn f.now a (Ok b)) (plain t.now) (plain r)) }
-    ensures reduced { IfOk result
-        (λ r. (m : ℕ) → IsReducedFrom m (plain t.now) → IsReducedFrom m (plain r)) }
+    ensures leaves { IfOk result
+        (λ r. LeavesComeFrom (λ a b. FnReturnsAt F.Fn f.now a (Ok b)) (plain t.now) (plain r)) }
     ensures tests { IfOk result (λ r. TestsAreOf (plain t.now) (plain r)) }
-    ensures own { IfOk result (λ r. IsOf forest.new (numbered r)) }
+    ensures tree { IfOk result (λ r. IsTreeIn 0 64 forest.new (numbered r)) }
     ensures keeps { Keeps forest.old forest.new }
     ensures steps { (xs : List A) → HoldsLeaves xs (plain t.now)
         → steps.new ≤ steps.old + length xs }
 {
     let unit = Tree::leaf(alloc, ())?;
-    let of_first = |value: &A, _unit: &()| -> Result<B, NoMemory>
-        requires { F.pre f.now value }
-        ensures { FnReturnsAt F.Fn f.entry.now value.now result }
-    { f(value) };
-    unify_in(alloc, forest, &of_first, t, &unit, steps)
+    unify_in(alloc, forest, &OfFirst { f }, t, &unit, steps)
 }

@@ -11,7 +11,7 @@ use Rattle.tree_unify.proofs.leafwise.+unify.Goals as goal
 
 pub returns-in-Leaf-Leaf-clause-unified : goal.returns-in-Leaf-Leaf-clause-unified
 returns-in-Leaf-Leaf-clause-unified g t c =
-    unified_leaf g.F.Fn c.args.op.now (plain c.args.t.now) (plain c.args.u.now) c.leaf.result c.value_of.result c.value_of-in-Leaf-Leaf.result c.in_ok-made.made c.op.result (search rules) (search rules) (search rules) (search rules) (IfOk-weaker c.leaf.result (λ r. numbered r ≡ kept 0 c.in_ok-made.made) (λ r. plain r ≡ leaf c.in_ok-made.made) (λ r e. ap erase e) c.leaf.ensures)
+    unified_leaf (g.F.Operation.gives c.args.op.now) (plain c.args.t.now) (plain c.args.u.now) c.leaf.result c.value_of.result.now c.value_of-in-Leaf-Leaf.result.now c.in_ok-made.made (search rules) (search rules) (search rules) (IfOk-weaker c.leaf.result (λ r. numbered r ≡ kept 0 c.in_ok-made.made) (λ r. plain r ≡ leaf c.in_ok-made.made) (λ r e. ap erase e) c.leaf.ensures)
 
 pub returns-clause-unified : goal.returns-clause-unified
 returns-clause-unified g t c =

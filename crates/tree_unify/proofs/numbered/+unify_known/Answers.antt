@@ -4,8 +4,8 @@ use Rattle.std.specs.Map.{lookup}
 use Rattle.decision_tree.specs.Numbered.{root}
 use Rattle.decision_tree.specs.View.{numbered, plain}
 use Rattle.tree_unify.specs.Made.{same_pair}
-use Rattle.tree_unify.proofs.Making.{known_node, made_node_ok, bounded_known, made_found, side_made, made_at_leaves}
-use Rattle.decision_tree.proofs.Numbers.{keeps_same, keeps_both}
+use Rattle.tree_unify.proofs.Making.{known_node, made_node_ok, bounded_known, made_found, side_tree, made_at_leaves}
+use Rattle.decision_tree.proofs.Numbers.{keeps_same, keeps_both, tree_stays}
 use Rattle.tree_unify.proofs.numbered.+unify_known.Goals as goal
 
 pub returns-in-Some-clause-made : goal.returns-in-Some-clause-made
@@ -17,13 +17,13 @@ pub returns-in-Some-clause-bounded : goal.returns-in-Some-clause-bounded
 returns-in-Some-clause-bounded g t c =
     bounded_known (numbered c.args.whole.now.t.now) (numbered c.args.whole.now.u.now) c.args.memo.now.leaves.entries c.args.memo.now.nodes.entries c.args.steps.now c.requires.t_numbered c.requires.u_numbered c.requires.known
 
-pub note_node-requires-clause-no_reduced : goal.note_node-requires-clause-no_reduced
-note_node-requires-clause-no_reduced g t c =
-    side_made (plain c.args.t.now) (plain c.args.u.now) c.min-k.result false _ _ (numbered c.in_ok-no.no) c.requires.t_reduced c.requires.u_reduced (search rules) c.side.ensures.side c.side-2.ensures.side c.in_ok-no.ensures.made
+pub note_node-requires-clause-no : goal.note_node-requires-clause-no
+note_node-requires-clause-no g t c =
+    tree_stays _ 64 _ _ (numbered c.in_ok-no.no) c.in_ok-yes.ensures.keeps (side_tree (plain c.args.t.now) (plain c.args.u.now) c.min-k.result false _ _ (numbered c.in_ok-no.no) c.requires.t_small c.requires.u_small c.requires.t_reduced c.requires.u_reduced (search rules) c.side.ensures.side c.side-2.ensures.side c.in_ok-no.ensures.made)
 
-pub note_node-requires-clause-yes_reduced : goal.note_node-requires-clause-yes_reduced
-note_node-requires-clause-yes_reduced g t c =
-    side_made (plain c.args.t.now) (plain c.args.u.now) c.min-k.result true _ _ (numbered c.in_ok-yes.yes) c.requires.t_reduced c.requires.u_reduced (search rules) c.side-3.ensures.side c.side-4.ensures.side c.in_ok-yes.ensures.made
+pub note_node-requires-clause-yes : goal.note_node-requires-clause-yes
+note_node-requires-clause-yes g t c =
+    side_tree (plain c.args.t.now) (plain c.args.u.now) c.min-k.result true _ _ (numbered c.in_ok-yes.yes) c.requires.t_small c.requires.u_small c.requires.t_reduced c.requires.u_reduced (search rules) c.side-3.ensures.side c.side-4.ensures.side c.in_ok-yes.ensures.made
 
 pub returns-clause-made : goal.returns-clause-made
 returns-clause-made g t c =

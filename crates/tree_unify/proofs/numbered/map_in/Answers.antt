@@ -1,15 +1,20 @@
-use Rattle.std.proofs.Common.{[], ◌∷◌, length, rules, subst, Ok}
+use Rattle.std.proofs.Common.{[], ◌∷◌, length, rules, sym, subst, Ok}
 use Rattle.std.specs.Fn.{FnReturnsAt}
+use Rattle.decision_tree.specs.Plain.{HasLeaf}
 use Rattle.decision_tree.specs.View.{plain}
-use Rattle.tree_unify.proofs.OneOperand.{all_units, one_column, tests_of_one, mapped_of_one}
+use Rattle.tree_unify.proofs.OneOperand.{all_units, one_column, tests_of_one, mapped_of_one, leaves_of_one}
 use Rattle.tree_unify.proofs.numbered.map_in.Goals as goal
 
-pub unify_in-requires-clause-callable : goal.unify_in-requires-clause-callable
-unify_in-requires-clause-callable g c = record { each = λ p q w x. let h = c.requires.callable.each p w in search rules }
+pub unify_in-requires-clause-takes : goal.unify_in-requires-clause-takes
+unify_in-requires-clause-takes g c = record { each = λ x y w v p e. c.requires.callable.each p (subst (λ z. HasLeaf z (plain c.args.t.now)) (sym e) w) }
 
 pub returns-clause-mapped : goal.returns-clause-mapped
 returns-clause-mapped g c =
-    mapped_of_one c.unify_in.result (plain c.args.t.now) (plain c.in_ok-unit.unit) _ (λ a b. FnReturnsAt g.F.Fn c.args.f.now a (Ok b)) (λ a x b h. let k = h.says in let e = h.shows.0 in subst (λ y. FnReturnsAt g.F.Fn c.args.f.now y (Ok b)) h.shows.0 (search rules)) c.unify_in.ensures.unified
+    mapped_of_one c.unify_in.result (plain c.args.t.now) (plain c.in_ok-unit.unit) _ (λ a b. FnReturnsAt g.F.Fn c.args.f.now a (Ok b)) (λ a x b h. h) c.unify_in.ensures.unified
+
+pub returns-clause-leaves : goal.returns-clause-leaves
+returns-clause-leaves g c =
+    leaves_of_one c.unify_in.result (plain c.args.t.now) (plain c.in_ok-unit.unit) _ (λ a b. FnReturnsAt g.F.Fn c.args.f.now a (Ok b)) (λ a x b h. h) c.unify_in.ensures.leaves
 
 pub returns-clause-tests : goal.returns-clause-tests
 returns-clause-tests g c = tests_of_one c.unify_in.result (plain c.args.t.now) (plain c.in_ok-unit.unit) (search rules) c.unify_in.ensures.tests
