@@ -1,4 +1,3 @@
-pub mod Fit
 pub mod Narrowing
 pub mod Plausible
 pub mod Solutions

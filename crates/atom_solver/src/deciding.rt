@@ -1,16 +1,16 @@
 //! What conditions say over a box, by logic of three values.
 #![tactic(auto)]
 
-ghost use Rattle.std.specs.Prelude.{◌≡◌, ℤ, List, Bool, true, false, not, ◌&&◌, ◌||◌, [], ◌∷◌, MatchOption, length};
+ghost use Rattle.std.specs.Prelude.{◌≡◌, ℤ, List, Bool, true, false, not, ◌&&◌, ◌||◌, length};
 ghost use Rattle.linear_atoms.specs.Atoms.{AreRanges, IsWithin};
 ghost use Rattle.cpp_conditions.specs.Propositions.{IsFit, true_at};
 ghost use Rattle.cpp_conditions.specs.Validity.{AreFit};
 ghost use Rattle.cpp_conditions.specs.View.{proposition};
 ghost use Rattle.atom_solver.specs.Spans.{ranges, Agrees, IsKnown, meets};
 
-use crate::bounds::of_atom;
-use crate::spans::Span;
 use cpp_conditions::Condition;
+use linear_atoms::Span;
+use linear_atoms::slices::cut;
 
 /// What is known of a negation.
 fn negation(inner: Option<bool>) -> Option<bool>
@@ -54,7 +54,7 @@ fn decided(condition: &Condition, spans: &[Span]) -> Option<bool>
 {
     match condition {
         Condition::Const(truth) => Some(*truth),
-        Condition::Test(atom) => of_atom(atom, spans),
+        Condition::Test(atom) => atom.decided_within(spans),
         Condition::Not(inner) => negation(decided(inner, spans)),
         Condition::And(left, right) => both(decided(left, spans), decided(right, spans)),
         Condition::Or(left, right) => either(decided(left, spans), decided(right, spans)),
@@ -70,16 +70,6 @@ fn is_false(condition: &Condition, spans: &[Span]) -> bool
     match decided(condition, spans) {
         None => false,
         Some(truth) => !truth,
-    }
-}
-
-/// The first condition and those behind it.
-pub(crate) fn cut(conditions: &[Condition]) -> Option<(&Condition, &[Condition])>
-    ensures { MatchOption result (conditions.now ≡ []) (λ x. conditions.now ≡ x.0.now ∷ x.1.now) }
-{
-    match conditions {
-        [] => None,
-        [first, behind @ ..] => Some((first, behind)),
     }
 }
 

@@ -1,7 +1,6 @@
 //! Least configurations of feature models, and what the linear tests of a model and a file can say together.
 #![tactic(auto)]
 
-mod bounds;
 mod clashing;
 mod deciding;
 mod ends;

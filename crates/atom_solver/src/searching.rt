@@ -1,10 +1,10 @@
 //! The search: a box is ruled out by bounds, or narrowed by them and cut in two, the lower half first.
 #![tactic(auto)]
 
-ghost use Rattle.std.specs.Prelude.{◌≡◌, ℤ, List, IfOk, length};
+ghost use Rattle.std.specs.Prelude.{ℤ, List, IfOk, IfSome, length};
 ghost use Rattle.linear_atoms.specs.Atoms.{AreRanges};
 ghost use Rattle.cpp_conditions.specs.Propositions.{IsFit, true_at};
-ghost use Rattle.cpp_conditions.specs.Validity.{AreFit};
+ghost use Rattle.cpp_conditions.specs.Validity.{AreFit, IsConfig};
 ghost use Rattle.cpp_conditions.specs.View.{proposition};
 ghost use Rattle.atom_solver.specs.Solutions.{Finds};
 ghost use Rattle.atom_solver.specs.Spans.{ranges, meets, FindsIn};
@@ -13,10 +13,10 @@ use crate::clashing::are_contrary;
 use crate::deciding::is_ruled_out;
 use crate::narrowing::narrowed;
 use crate::points::at_point;
-use crate::spans::{Span, cut_box, spans_of};
+use crate::spans::{cut_box, spans_of};
 use cpp_conditions::{Condition, Model};
 use fam_outer::NoMemory;
-use linear_atoms::Config;
+use linear_atoms::{Config, Span};
 use std::alloc::Global;
 
 /// The first configuration of the box at which the constraints and what is wanted are true.
@@ -54,7 +54,8 @@ pub(crate) fn first_valid(
     requires constraints { AreFit (length model.now.features) model.now.constraints }
     requires wanted { IsFit (length model.now.features) (proposition wanted.now) }
     requires ranges { AreRanges model.now.features }
-    ensures { IfOk result (λ found. Finds model.now (λ (values : List ℤ). true_at values (proposition wanted.now)) found) }
+    ensures first { IfOk result (λ found. Finds model.now (λ (values : List ℤ). true_at values (proposition wanted.now)) found) }
+    ensures config { IfOk result (λ found. IfSome found (λ config. IsConfig model.now.features config.values)) }
 {
     let constraints = model.constraints.items();
     if are_contrary(constraints, wanted) {

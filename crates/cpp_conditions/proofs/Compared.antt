@@ -2,8 +2,6 @@
 use Rattle.std.proofs.Common.{◌≡◌, ℕ, suc, ◌/◌, ◌≤◌, ◌<◌, ℤ, pos, negsuc, neg_ℤ, ◌+ℤ◌, ◌-ℤ◌, ◌*ℤ◌, ◌≤ℤ◌, ◌<ℤ◌, int_lt, int_le, unsigned_abs, Bool, true, false, ◌&&◌, if◌then◌else◌, List, [], ◌∷◌, length, Option, Some, None, Err, refl, sym, ap, subst, ◌∙◌, arith, to_z, of_z, w64, FitsSigned}
 use Rattle.std.proofs.lemmas.Bool.{false≢true}
 use Rattle.std.proofs.lemmas.Int.{ints, to_z-of_z}
-use Rattle.std.proofs.Math.Nat.{div-le_self}
-use Rattle.std.specs.Prelude.{int_div}
 use Rattle.linear_atoms.specs.declared.atoms.Atom.{Atom}
 use Rattle.linear_atoms.specs.declared.atoms.Literal.{Literal}
 use Rattle.linear_atoms.specs.declared.atoms.Feature.{Feature}
@@ -12,19 +10,14 @@ use Rattle.linear_atoms.specs.declared.forms.LinearFault.{LinearFault}
 use Rattle.linear_atoms.specs.declared.forms.LinearFault.TheVariants as faults
 use Rattle.linear_atoms.specs.declared.normal.Normal.{Normal}
 use Rattle.linear_atoms.specs.declared.normal.Normal.TheVariants as normals
-use Rattle.linear_atoms.specs.Atoms.{AreBelow, AreRanges, IsWithin, IsDecided}
+use Rattle.linear_atoms.specs.Atoms.{AreBelow, IsAtom}
 use Rattle.linear_atoms.specs.Forms.{IsRising, form_sum, form_by, terms_sum, terms_by, is_small, are_small, is_small_form, FormsWithin}
-use Rattle.linear_atoms.specs.Normal.{common_divisor, divided, rounded_up, at_least, normal_by, normal_of, IsNormal}
-use Rattle.linear_atoms.specs.Ranges.{extreme_sum}
-use Rattle.linear_atoms.proofs.Coprimes.{normal_kept}
-use Rattle.linear_atoms.proofs.Divisors.{divisor_positive}
-use Rattle.linear_atoms.proofs.Extremes.{Reaches, reach, always, never, open_still}
-use Rattle.linear_atoms.proofs.Truths.{size_of_neg, quotient_ends}
+use Rattle.linear_atoms.specs.Normal.{IsNormal}
 use Rattle.cpp_conditions.specs.declared.operators.Operator.{Operator}
 use Rattle.cpp_conditions.specs.declared.operators.Operator.TheVariants.{Times, Plus, Minus, Less, AtMost, Greater, AtLeast, Equal, Differs, Both, Either}
-use Rattle.cpp_conditions.specs.Forming.{IsOver, IsSmallOver, IsWide, Widens, Means, IsTest}
+use Rattle.cpp_conditions.specs.Forming.{IsOver, IsSmallOver, IsWide, Widens, Means}
 use Rattle.cpp_conditions.specs.Grammar.{is_small_zero, is_small_compared}
-use Rattle.cpp_conditions.specs.Meaning.{difference, less_one, decided_of}
+use Rattle.cpp_conditions.specs.Meaning.{difference, less_one}
 use Rattle.cpp_conditions.specs.Propositions.{Proposition}
 use Rattle.cpp_conditions.proofs.Signs.{minus_one}
 use Rattle.cpp_conditions.proofs.Sizes.{and_true, and_left, and_right, false_left, small_back, small_negated, small_negated_terms, over_by, over_difference, over_small}
@@ -98,89 +91,10 @@ opposite_made fs a made o made_is =
       },
     )
 
--- ---- what the ranges decide
+-- ---- tests
 
-holds_once : (fs : List Feature) (atom : Atom) (r s : Option Bool) → (values : List ℤ) → IsWithin fs values → IsDecided fs atom r → IsDecided fs atom s → r ≡ s
-holds_once fs atom None None values w p q = refl
-holds_once fs atom None (Some v) values w p q = absurd (false≢true (sym p.1.2 ∙ q p.1.0 p.1.1 ∙ sym (q p.0.0 p.0.1) ∙ p.0.2))
-holds_once fs atom (Some v) None values w p q = absurd (false≢true (sym q.1.2 ∙ p q.1.0 q.1.1 ∙ sym (p q.0.0 q.0.1) ∙ q.0.2))
-holds_once fs atom (Some u) (Some v) values w p q = ap Some (sym (p values w) ∙ q values w)
-
-reached : (x y : ℤ) → int_le x y ≡ true → x ≤ℤ y
-reached x y e = grind (arith, ints)
-
-not_reached : (x y : ℤ) → int_le x y ≡ false → y <ℤ x
-not_reached x y e = grind (arith, ints)
-
-missed : (x y : ℤ) → int_lt x y ≡ true → x <ℤ y
-missed x y e = grind (arith, ints)
-
-not_missed : (x y : ℤ) → int_lt x y ≡ false → y ≤ℤ x
-not_missed x y e = grind (arith, ints)
-
-decides_by : (fs : List Feature) (atom : Atom) (b c : Bool) → AreRanges fs → IsRising atom.terms → AreBelow (length fs) atom.terms → int_le atom.bound (extreme_sum false fs atom.terms) ≡ b → int_lt (extreme_sum true fs atom.terms) atom.bound ≡ c
-    → IsDecided fs atom (if b then Some true else (if c then Some false else None))
-decides_by fs atom true c h r l e f = always fs atom (reached _ _ e)
-decides_by fs atom false true h r l e f = never fs atom (missed _ _ f)
-decides_by fs atom false false h r l e f = open_still fs atom h r l (not_reached _ _ e) (not_missed _ _ f)
-
-pub decided_is : (fs gs : List Feature) (atom : Atom) (r : Option Bool) → gs ≡ fs → AreRanges fs → IsTest fs atom → IsDecided gs atom r → r ≡ decided_of fs atom
-decided_is fs gs atom r same h t d =
-    let w : Reaches true fs atom.terms = reach true fs 0 atom.terms h t.rising t.below in
-    holds_once fs atom r (decided_of fs atom) w.values w.within (subst (λ x. IsDecided x atom r) same d)
-    (decides_by fs atom (int_le atom.bound (extreme_sum false fs atom.terms)) (int_lt (extreme_sum true fs atom.terms) atom.bound) h t.rising t.below refl refl)
-
--- ---- the atom of a normal form
-
-divided_below : (d : ℤ) (c : ℕ) (ts : List (ℕ × ℤ)) → AreBelow c ts → AreBelow c (divided d ts)
-divided_below d c [] b = tt
-divided_below d c (t ∷ ts) b = (b.0, divided_below d c ts b.1)
-
-divided_size : (a d : ℤ) → unsigned_abs (int_div a d) ≤ unsigned_abs a
-divided_size (pos a) (pos b) = div-le_self a b
-divided_size (pos a) (negsuc b) = rw (size_of_neg (a / suc b)) (div-le_self a (suc b))
-divided_size (negsuc a) (pos b) = rw (size_of_neg (suc a / b)) (div-le_self (suc a) b)
-divided_size (negsuc a) (negsuc b) = div-le_self (suc a) (suc b)
-
-small_number : (n : ℤ) → unsigned_abs n ≤ 2147483648 → is_small n ≡ true
-small_number n h = grind arith
-
-divided_number : (a d : ℤ) → is_small a ≡ true → is_small (int_div a d) ≡ true
-divided_number a d e = let h = divided_size a d in let k = number_size a e in small_number (int_div a d) (omega arith)
-
-divided_small : (d : ℤ) (ts : List (ℕ × ℤ)) → are_small ts ≡ true → are_small (divided d ts) ≡ true
-divided_small d [] e = refl
-divided_small d (t ∷ ts) e = and_true (is_small (int_div t.1 d)) (are_small (divided d ts)) (divided_number t.1 d (and_left (is_small t.1) (are_small ts) e)) (divided_small d ts (and_right (is_small t.1) (are_small ts) e))
-
-record HasSizes (fs : List Feature) (atom : Atom) : Type 0 where
-  pub below : AreBelow (length fs) atom.terms
-  pub small : are_small atom.terms ≡ true
-  pub bounded : unsigned_abs atom.bound ≤ 2147483649
-
-sizes_by : (fs : List Feature) (v : Bool) (ts : List (ℕ × ℤ)) (g k : ℤ) → AreBelow (length fs) ts → are_small ts ≡ true → is_small k ≡ true → pos 0 <ℤ g
-    → HasSizes fs (if v then at_least (divided g ts) (rounded_up k g) true else at_least (divided (neg_ℤ g) ts) (pos 1 -ℤ rounded_up k g) false).atom
-sizes_by fs true ts g k b s e p = let q = quotient_ends k g e p in record { below = divided_below g (length fs) ts b; small = divided_small g ts s; bounded = omega (arith, ints, q.0, q.1) }
-sizes_by fs false ts g k b s e p = let q = quotient_ends k g e p in record { below = divided_below (neg_ℤ g) (length fs) ts b; small = divided_small (neg_ℤ g) ts s; bounded = omega (arith, ints, q.0, q.1) }
-
-abbrev SizesOf : List Feature → Normal → Type 0
-SizesOf fs (normals.Const v) = Unit {0}
-SizesOf fs (normals.Literal l) = HasSizes fs l.atom
-
-positive : (n : ℕ) → 0 < n → pos 0 <ℤ pos n
-positive n h = omega (arith, ints)
-
-sizes_of : (fs : List Feature) (ts : List (ℕ × ℤ)) (k : ℤ) → IsRising ts → AreBelow (length fs) ts → are_small ts ≡ true → is_small k ≡ true → SizesOf fs (normal_by ts (common_divisor ts) k)
-sizes_of fs [] k r b s e = tt
-sizes_of fs (t ∷ ts) k r b s e =
-    let g : 0 < common_divisor (t ∷ ts) = divisor_positive (t ∷ ts) ts t.0 t.1 refl r in
-    sizes_by fs (int_lt (pos 0) t.1) (t ∷ ts) (pos (common_divisor (t ∷ ts))) k b s e (positive (common_divisor (t ∷ ts)) g)
-
-pub test_of_normal : (fs : List Feature) (a : Linear) (n : Normal) (l : Literal) → IsOver fs a → n ≡ normal_of a → is_small_form a ≡ true → n ≡ normals.Literal l → IsTest fs l.atom
-test_of_normal fs a n l o e s f =
-    let is : normal_of a ≡ normals.Literal l = sym e ∙ f in
-    let m : IsNormal (normals.Literal l) = subst IsNormal is (normal_kept a o.rising) in
-    let h : SizesOf fs (normals.Literal l) = subst (SizesOf fs) is (sizes_of fs a.terms a.constant o.rising o.below (and_left (are_small a.terms) (is_small a.constant) s) (and_right (are_small a.terms) (is_small a.constant) s)) in
-    record { rising = m.rising; below = h.below; small = h.small; bounded = h.bounded }
+pub atom_of_normal : (fs : List Feature) (n : Normal) (l : Literal) → IsNormal (length fs) n → n ≡ normals.Literal l → IsAtom (length fs) l.atom
+atom_of_normal fs n l h e = subst (IsNormal (length fs)) e h
 
 -- ---- terms that are too large
 

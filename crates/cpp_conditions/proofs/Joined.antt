@@ -34,7 +34,7 @@ inverse_made fs x u e inner made is inv f made_is l =
     let q : x ≡ Unary Inverse e = is ∙ ap (λ v. Unary v e) inv in
     let m : is_linear fs (Unary Inverse e) ≡ true = subst (λ y. is_linear fs y ≡ true) q l in
     let h = f (and_left (is_linear fs e) true m) in
-    subst (λ y. Means fs (Ok made) (cond fs y) (is_small_condition fs y)) (sym q) (made_is ∙ ap Not h.0, and_same (is_small_condition fs e) ∙ h.1, record { fit = h.2.fit; bounded = h.2.bounded })
+    subst (λ y. Means fs (Ok made) (cond fs y) (is_small_condition fs y)) (sym q) (made_is ∙ ap Not h.0, and_same (is_small_condition fs e) ∙ h.1, record { fit = h.2.fit; undecided = h.2.undecided })
 
 -- ---- `&&` and `||`
 
@@ -84,7 +84,7 @@ pub both_made : (fs : List Feature) (x a b : Expression) (left right made : Cond
 both_made fs x a b left right made j f g made_is l =
     let h = f (j.left l) in
     let k = g (j.right l) in
-    let o : IsOverFeatures fs (And (cond fs a) (cond fs b)) = record { fit = (h.2.fit, k.2.fit); bounded = (h.2.bounded, k.2.bounded) } in
+    let o : IsOverFeatures fs (And (cond fs a) (cond fs b)) = record { fit = (h.2.fit, k.2.fit); undecided = (h.2.undecided, k.2.undecided) } in
     (made_is ∙ ap (λ p. And p (proposition right)) h.0 ∙ ap (λ p. And (cond fs a) p) k.0 ∙ sym j.is, j.small ∙ and_true (is_small_condition fs a) (is_small_condition fs b) h.1 k.1, subst (IsOverFeatures fs) (sym j.is) o)
 
 pub either_made : (fs : List Feature) (x a b : Expression) (left right made : Condition) → Joins fs x a b Or → (is_linear fs a ≡ true → Means fs (Ok left) (cond fs a) (is_small_condition fs a)) → (is_linear fs b ≡ true → Means fs (Ok right) (cond fs b) (is_small_condition fs b))
@@ -92,7 +92,7 @@ pub either_made : (fs : List Feature) (x a b : Expression) (left right made : Co
 either_made fs x a b left right made j f g made_is l =
     let h = f (j.left l) in
     let k = g (j.right l) in
-    let o : IsOverFeatures fs (Or (cond fs a) (cond fs b)) = record { fit = (h.2.fit, k.2.fit); bounded = (h.2.bounded, k.2.bounded) } in
+    let o : IsOverFeatures fs (Or (cond fs a) (cond fs b)) = record { fit = (h.2.fit, k.2.fit); undecided = (h.2.undecided, k.2.undecided) } in
     (made_is ∙ ap (λ p. Or p (proposition right)) h.0 ∙ ap (λ p. Or (cond fs a) p) k.0 ∙ sym j.is, j.small ∙ and_true (is_small_condition fs a) (is_small_condition fs b) h.1 k.1, subst (IsOverFeatures fs) (sym j.is) o)
 
 -- ---- comparisons

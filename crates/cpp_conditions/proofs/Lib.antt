@@ -1,3 +1,4 @@
+pub mod Collected
 pub mod Compared
 pub mod Complete
 pub mod Descending
@@ -12,3 +13,4 @@ pub mod Signs
 pub mod Sizes
 pub mod Sound
 pub mod Total
+pub mod Within

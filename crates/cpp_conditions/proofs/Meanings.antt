@@ -11,7 +11,7 @@ use Rattle.linear_atoms.specs.declared.normal.Normal.TheVariants as normals
 use Rattle.linear_atoms.specs.Forms.{IsRising, form_at, sum_at, constant_form, feature_form, form_sum, form_by, terms_sum, terms_by}
 use Rattle.linear_atoms.specs.Atoms.{holds, IsWithin}
 use Rattle.linear_atoms.specs.Normal.{normal_of, normal_holds}
-use Rattle.linear_atoms.specs.Ranges.{extreme_sum}
+use Rattle.linear_atoms.specs.Ranges.{extreme_sum, decided_of}
 use Rattle.linear_atoms.specs.Texts.{boolean_at}
 use Rattle.linear_atoms.proofs.Extremes.{always, never}
 use Rattle.linear_atoms.proofs.Sums.{terms_sum_rises, terms_by_rises}
@@ -23,7 +23,7 @@ use Rattle.cpp_conditions.specs.declared.operators.Operator.TheVariants.{Times, 
 use Rattle.cpp_conditions.specs.declared.operators.Prefix.{Prefix}
 use Rattle.cpp_conditions.specs.declared.operators.Prefix.TheVariants.{Positive, Negative, Inverse}
 use Rattle.cpp_conditions.specs.Expressions.{Expression, Number, Name, IsDefined, Unary, Binary, found, value_at, defined_at, is_nonzero, value}
-use Rattle.cpp_conditions.specs.Meaning.{is_truth, is_boolean, names_feature, is_linear, name_form, defined_form, difference, form_before, form_between, form, decided_of, kept, signed, test_of, at_least_zero, less_one, is_zero, cond}
+use Rattle.cpp_conditions.specs.Meaning.{is_truth, is_boolean, names_feature, is_linear, name_form, defined_form, difference, form_before, form_between, form, kept, signed, test_of, at_least_zero, less_one, is_zero, cond}
 use Rattle.cpp_conditions.proofs.Signs.{minus_one, at_least, greater, at_most, less, bit_of, zero_test, equal_test}
 
 times_one : (v : ℤ) → v *ℤ pos 1 ≡ v

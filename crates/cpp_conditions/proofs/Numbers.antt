@@ -16,7 +16,7 @@ place_below [] n a e = cc
 place_below (b ∷ bs) zero a e = omega arith
 place_below (b ∷ bs) (suc n) a e = let h : n < length bs = place_below bs n a e in omega arith
 
-place_truth : (atoms : List Atom) (values : List ℤ) (n : ℕ) (a : Atom) → slice_get atoms n ≡ Some a → get_or (vector_at atoms values) n false ≡ holds a values
+pub place_truth : (atoms : List Atom) (values : List ℤ) (n : ℕ) (a : Atom) → slice_get atoms n ≡ Some a → get_or (vector_at atoms values) n false ≡ holds a values
 place_truth [] values n a e = cc
 place_truth (b ∷ bs) values zero a e = let f : b ≡ a = cc in ap (λ x. holds x values) f
 place_truth (b ∷ bs) values (suc n) a e = place_truth bs values n a e
@@ -41,12 +41,12 @@ numbered_truth atoms _ _ values h = absurd h
 
 -- ---- the place of an atom
 
-term_decides : (s t : ℕ × ℤ) → Decides (same_term s t) (s ≡ t)
+pub term_decides : (s t : ℕ × ℤ) → Decides (same_term s t) (s ≡ t)
 term_decides s t =
     Decides-like (same_term s t) (λ p i. (p.0 i, p.1 i)) (λ e. (ap (λ x. x.0) e, ap (λ x. x.1) e))
     (Decides-and (nat_eq s.0 t.0) (int_eq s.1 t.1) (Decides-eqb s.0 t.0) (Decides-int_eq s.1 t.1))
 
-atom_decides : (a b : Atom) → Decides (same_terms a.terms b.terms && int_eq a.bound b.bound) (a ≡ b)
+pub atom_decides : (a b : Atom) → Decides (same_terms a.terms b.terms && int_eq a.bound b.bound) (a ≡ b)
 atom_decides a b =
     Decides-like (same_terms a.terms b.terms && int_eq a.bound b.bound) (λ p i. record { terms = p.0 i; bound = p.1 i }) (λ e. (ap (λ (x : Atom). x.terms) e, ap (λ (x : Atom). x.bound) e))
     (Decides-and (same_terms a.terms b.terms) (int_eq a.bound b.bound) (pointwise_decides term_decides a.terms b.terms) (Decides-int_eq a.bound b.bound))

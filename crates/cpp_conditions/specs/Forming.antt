@@ -12,7 +12,7 @@ use Rattle.cpp_conditions.specs.declared.operators.Operator.{Operator}
 use Rattle.cpp_conditions.specs.declared.operators.Operator.TheVariants.{Times, Plus}
 use Rattle.cpp_conditions.specs.Expressions.{Expression}
 use Rattle.cpp_conditions.specs.Meaning.{is_truth, is_linear, difference}
-use Rattle.cpp_conditions.specs.Propositions.{Proposition, IsFit, AreBounded}
+use Rattle.cpp_conditions.specs.Propositions.{Proposition, IsFit, IsOpen}
 use Rattle.cpp_conditions.specs.View.{proposition}
 
 -- a number, in which no truth value is used as one and no product has a feature on both sides
@@ -60,20 +60,13 @@ combined Times a b = product_by a.terms a b
 combined Plus a b = form_sum a b
 combined _ a b = difference a b
 
--- a condition over the features, whose numbers have their sizes
+-- a condition over the features, whose ranges decide none of its atoms
 pub record IsOverFeatures (features : List Feature) (p : Proposition Atom) : Type 0 where
   pub fit : IsFit (length features) p
-  pub bounded : AreBounded p
+  pub undecided : IsOpen features p
 
 -- the condition, where what it is made of is small
 abbrev pub Means : List Feature → Result Condition LinearFault → Proposition Atom → Bool → Type 0
 Means features (Ok made) p small = (proposition made ≡ p) × (small ≡ true) × IsOverFeatures features p
 Means features (Err faults.NoMemory) p small = ⊤
 Means features (Err faults.TooLarge) p small = small ≡ false
-
--- an atom in its normal form, over the features
-pub record IsTest (features : List Feature) (atom : Atom) : Type 0 where
-  pub rising : IsRising atom.terms
-  pub below : AreBelow (length features) atom.terms
-  pub small : are_small atom.terms ≡ true
-  pub bounded : unsigned_abs atom.bound ≤ 2147483649

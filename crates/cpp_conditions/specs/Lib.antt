@@ -1,4 +1,5 @@
 pub mod Descent
+pub mod Distinct
 pub mod Expressions
 pub mod Forming
 pub mod Grammar

@@ -1,5 +1,5 @@
 -- The condition over atoms that an expression means.
-use Rattle.std.specs.Prelude.{ℕ, pos, negsuc, ◌-ℤ◌, int_lt, int_le, Bool, true, false, not, ◌&&◌, ◌||◌, if◌then◌else◌, List, Option, Some, None, is_some}
+use Rattle.std.specs.Prelude.{ℕ, pos, negsuc, ◌-ℤ◌, Bool, true, false, not, ◌&&◌, ◌||◌, if◌then◌else◌, List, Option, Some, None, is_some}
 use Rattle.linear_atoms.specs.declared.forms.Linear.{Linear}
 use Rattle.linear_atoms.specs.declared.atoms.Atom.{Atom}
 use Rattle.linear_atoms.specs.declared.atoms.Feature.{Feature}
@@ -7,7 +7,7 @@ use Rattle.linear_atoms.specs.declared.normal.Normal.{Normal}
 use Rattle.linear_atoms.specs.declared.normal.Normal.TheVariants as normals
 use Rattle.linear_atoms.specs.Forms.{constant_form, feature_form, form_sum, form_by}
 use Rattle.linear_atoms.specs.Normal.{normal_of}
-use Rattle.linear_atoms.specs.Ranges.{extreme_sum}
+use Rattle.linear_atoms.specs.Ranges.{decided_of}
 use Rattle.linear_atoms.specs.Texts.{boolean_at}
 use Rattle.cpp_conditions.specs.Propositions.{Proposition, Const, Test, Not, And, Or}
 use Rattle.cpp_conditions.specs.declared.operators.Operator.{Operator}
@@ -90,12 +90,6 @@ form features (Unary u e) = form_before u (form features e)
 form features (Binary op a b) = form_between op (names_feature features a) (form features a) (form features b)
 
 -- ---- tests
-
--- whether the ranges decide the atom
-abbrev pub decided_of : List Feature → Atom → Option Bool
-decided_of features atom =
-    if int_le atom.bound (extreme_sum false features atom.terms) then Some true
-    else (if int_lt (extreme_sum true features atom.terms) atom.bound then Some false else None)
 
 -- an atom that the ranges decide is replaced by its truth
 abbrev pub kept : Atom → Option Bool → Proposition Atom

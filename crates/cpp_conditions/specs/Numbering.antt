@@ -2,7 +2,7 @@
 use Rattle.std.specs.Prelude.{◌≡◌, ℕ, ℤ, Bool, ◌⊎◌, List, [], ◌∷◌, map, slice_get, Some}
 use Rattle.linear_atoms.specs.declared.atoms.Atom.{Atom}
 use Rattle.linear_atoms.specs.Atoms.{holds}
-use Rattle.cpp_conditions.specs.Propositions.{Proposition, Const, Test, Not, And, Or}
+use Rattle.cpp_conditions.specs.Propositions.{Proposition, Const, Test, Not, And, Or, AllTests}
 
 abbrev pub IsAmong : Atom → List Atom → Type 0
 IsAmong a [] = ⊥
@@ -10,11 +10,12 @@ IsAmong a (b ∷ bs) = (b ≡ a) ⊎ IsAmong a bs
 
 -- each atom of the condition stands in the list
 abbrev pub AreAmong : List Atom → Proposition Atom → Type 0
-AreAmong atoms (Const b) = Unit {0}
-AreAmong atoms (Test a) = IsAmong a atoms
-AreAmong atoms (Not p) = AreAmong atoms p
-AreAmong atoms (And p q) = AreAmong atoms p × AreAmong atoms q
-AreAmong atoms (Or p q) = AreAmong atoms p × AreAmong atoms q
+AreAmong atoms p = AllTests (λ (a : Atom). IsAmong a atoms) p
+
+-- each atom of the conditions stands in the list
+abbrev pub AreAllAmong : List Atom → List (Proposition Atom) → Type 0
+AreAllAmong atoms [] = Unit {0}
+AreAllAmong atoms (p ∷ ps) = AreAmong atoms p × AreAllAmong atoms ps
 
 -- the second has the numbers of the first's atoms in the list
 abbrev pub IsNumbered : List Atom → Proposition Atom → Proposition ℕ → Type 0

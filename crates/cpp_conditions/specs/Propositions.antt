@@ -1,8 +1,8 @@
 -- Propositions over tests of any kind.
-use Rattle.std.specs.Prelude.{◌≡◌, ℕ, ◌<◌, ◌≤◌, ℤ, unsigned_abs, Bool, true, false, not, ◌&&◌, ◌||◌, List, slice_index_or}
+use Rattle.std.specs.Prelude.{ℕ, ◌<◌, ℤ, Bool, false, not, ◌&&◌, ◌||◌, List, slice_index_or, None}
 use Rattle.linear_atoms.specs.declared.atoms.Atom.{Atom}
-use Rattle.linear_atoms.specs.Forms.{are_small}
-use Rattle.linear_atoms.specs.Atoms.{holds, AreBelow}
+use Rattle.linear_atoms.specs.declared.atoms.Feature.{Feature}
+use Rattle.linear_atoms.specs.Atoms.{holds, IsAtom, IsDecided}
 
 pub data Proposition (X : Type 0) : Type 0 where
   Const : (truth : Bool) → Proposition X
@@ -27,26 +27,22 @@ true_at values p = truth (λ (a : Atom). holds a values) p
 abbrev pub true_on : List Bool → Proposition ℕ → Bool
 true_on vector p = truth (λ n. slice_index_or vector n false) p
 
--- each atom's features are below this number, and its coefficients at most 2^31 in size
-abbrev pub IsFit : ℕ → Proposition Atom → Type 0
-IsFit count (Const b) = Unit {0}
-IsFit count (Test a) = AreBelow count a.terms × (are_small a.terms ≡ true)
-IsFit count (Not p) = IsFit count p
-IsFit count (And p q) = IsFit count p × IsFit count q
-IsFit count (Or p q) = IsFit count p × IsFit count q
+-- each test is so
+abbrev pub AllTests : {X : Type 0} → (X → Type 0) → Proposition X → Type 0
+AllTests P (Const b) = Unit {0}
+AllTests P (Test x) = P x
+AllTests P (Not p) = AllTests P p
+AllTests P (And p q) = AllTests P p × AllTests P q
+AllTests P (Or p q) = AllTests P p × AllTests P q
 
--- each atom's bound is at most 2^31 + 1 in size
-abbrev pub AreBounded : Proposition Atom → Type 0
-AreBounded (Const b) = Unit {0}
-AreBounded (Test a) = unsigned_abs a.bound ≤ 2147483649
-AreBounded (Not p) = AreBounded p
-AreBounded (And p q) = AreBounded p × AreBounded q
-AreBounded (Or p q) = AreBounded p × AreBounded q
+-- each atom is well formed over so many features
+abbrev pub IsFit : ℕ → Proposition Atom → Type 0
+IsFit count p = AllTests (IsAtom count) p
+
+-- the ranges of the features decide no atom
+abbrev pub IsOpen : List Feature → Proposition Atom → Type 0
+IsOpen features p = AllTests (λ (a : Atom). IsDecided features a None) p
 
 -- each test's number is below this
 abbrev pub IsBelow : ℕ → Proposition ℕ → Type 0
-IsBelow count (Const b) = Unit {0}
-IsBelow count (Test n) = n < count
-IsBelow count (Not p) = IsBelow count p
-IsBelow count (And p q) = IsBelow count p × IsBelow count q
-IsBelow count (Or p q) = IsBelow count p × IsBelow count q
+IsBelow count p = AllTests (λ n. n < count) p

@@ -1,15 +1,16 @@
 //! Tests that compare linear forms with 0.
 #![tactic(auto)]
 
-ghost use Rattle.std.specs.Prelude.{◌≡◌, ◌≤◌, negsuc, unsigned_abs, IfOk};
+ghost use Rattle.std.specs.Prelude.{◌≡◌, ◌≤◌, negsuc, unsigned_abs, length, IfOk};
+ghost use Rattle.linear_atoms.specs.Atoms.{IsAtom};
 ghost use Rattle.linear_atoms.specs.Forms as forms;
-ghost use Rattle.cpp_conditions.specs.Forming.{IsOver, IsSmallOver, IsWide, Widens, Means, IsTest, IsOverFeatures};
+ghost use Rattle.linear_atoms.specs.Ranges.{decided_of};
+ghost use Rattle.cpp_conditions.specs.Forming.{IsOver, IsSmallOver, IsWide, Widens, Means, IsOverFeatures};
 ghost use Rattle.cpp_conditions.specs.Grammar.{is_small_zero, is_small_compared};
 ghost use Rattle.cpp_conditions.specs.Meaning as meaning;
-ghost use Rattle.cpp_conditions.specs.Propositions.{Not};
 ghost use Rattle.cpp_conditions.specs.View.{proposition};
 
-use crate::conditions::Condition;
+use crate::conditions::{Condition, both, negation};
 use crate::names::Names;
 use crate::operators::Operator;
 use fam_outer::NoMemory;
@@ -62,8 +63,8 @@ fn lowered(form: Linear) -> Linear
 
 /// The test of an atom, or its truth where the ranges decide it.
 fn kept(names: &Names<'_>, atom: Atom) -> Condition
-    requires { IsTest names.now atom }
-    ensures is { proposition result ≡ meaning.kept atom (meaning.decided_of names.now atom) }
+    requires { IsAtom (length names.now) atom }
+    ensures is { proposition result ≡ meaning.kept atom (decided_of names.now atom) }
     ensures over { IsOverFeatures names.now (proposition result) }
 {
     match atom.decided(names.features()) {
@@ -79,7 +80,7 @@ fn signed(alloc: Global, condition: Condition, is_positive: bool) -> Result<Cond
     if is_positive {
         Ok(condition)
     } else {
-        Ok(Condition::Not(Box::new(alloc, condition)?))
+        negation(alloc, condition)
     }
 }
 
@@ -110,15 +111,8 @@ pub(crate) fn is_zero(
     let first = at_least_zero(alloc, names, &form)?;
     let form = lowered(form);
     let second = at_least_zero(alloc, names, &form)?;
-    let second = Condition::Not(Box::new(alloc, second)?);
-    Ok(Condition::And(Box::new(alloc, first)?, Box::new(alloc, second)?))
-}
-
-/// The negation of a condition.
-pub(crate) fn negation(alloc: Global, condition: Condition) -> Result<Condition, NoMemory>
-    ensures { IfOk result (λ made. proposition made ≡ Not (proposition condition)) }
-{
-    Ok(Condition::Not(Box::new(alloc, condition)?))
+    let second = negation(alloc, second)?;
+    Ok(both(alloc, first, second)?)
 }
 
 /// What a comparison says of its left side minus its right.

@@ -1,14 +1,15 @@
 //! Formulas: conditions with the numbers of their atoms.
 #![tactic(auto)]
 
-ghost use Rattle.std.specs.Prelude.{◌≡◌, ℤ, ◌<◌, ◌≤◌, ◌^◌, List, [], ◌∷◌, MatchOption, length, slice_get, Some, IfOk};
+ghost use Rattle.std.specs.Prelude.{◌≡◌, ℤ, ◌<◌, ◌≤◌, ◌^◌, List, length, slice_get, Some, IfOk};
 ghost use Rattle.cpp_conditions.specs.Numbering.{IsAmong, AreAmong, IsNumbered, vector_at};
-ghost use Rattle.cpp_conditions.specs.Propositions.{IsBelow, true_at, true_on};
+ghost use Rattle.cpp_conditions.specs.Propositions.{Not, And, Or, IsBelow, true_at, true_on};
 ghost use Rattle.cpp_conditions.specs.View.{proposition, formula};
 
 use crate::conditions::Condition;
 use fam_outer::NoMemory;
 use linear_atoms::Atom;
+use linear_atoms::slices::cut;
 use std::alloc::Global;
 
 /// A condition whose tests are numbers of atoms.
@@ -35,16 +36,51 @@ impl Formula {
             Formula::Or(left, right) => left.on(vector) || right.on(vector),
         }
     }
+
+    /// A copy of the formula.
+    pub fn copy(&self, alloc: Global) -> Result<Formula, NoMemory>
+        ensures { IfOk result (λ made. formula made ≡ formula self.now) }
+    {
+        match self {
+            Formula::Const(truth) => Ok(Formula::Const(*truth)),
+            Formula::Test(number) => Ok(Formula::Test(*number)),
+            Formula::Not(inner) => {
+                let inner = inner.copy(alloc)?;
+                negation(alloc, inner)
+            }
+            Formula::And(left, right) => {
+                let left = left.copy(alloc)?;
+                let right = right.copy(alloc)?;
+                both(alloc, left, right)
+            }
+            Formula::Or(left, right) => {
+                let left = left.copy(alloc)?;
+                let right = right.copy(alloc)?;
+                either(alloc, left, right)
+            }
+        }
+    }
 }
 
-/// The first atom and those behind it.
-fn cut(atoms: &[Atom]) -> Option<(&Atom, &[Atom])>
-    ensures { MatchOption result (atoms.now ≡ []) (λ x. atoms.now ≡ x.0.now ∷ x.1.now) }
+/// The negation of a formula. It answers an error only for want of memory.
+pub fn negation(alloc: Global, inner: Formula) -> Result<Formula, NoMemory>
+    ensures { IfOk result (λ made. formula made ≡ Not (formula inner)) }
 {
-    match atoms {
-        [] => None,
-        [first, behind @ ..] => Some((first, behind)),
-    }
+    Ok(Formula::Not(Box::new(alloc, inner)?))
+}
+
+/// Both formulas. It answers an error only for want of memory.
+pub fn both(alloc: Global, left: Formula, right: Formula) -> Result<Formula, NoMemory>
+    ensures { IfOk result (λ made. formula made ≡ And (formula left) (formula right)) }
+{
+    Ok(Formula::And(Box::new(alloc, left)?, Box::new(alloc, right)?))
+}
+
+/// One of the formulas or both. It answers an error only for want of memory.
+pub fn either(alloc: Global, left: Formula, right: Formula) -> Result<Formula, NoMemory>
+    ensures { IfOk result (λ made. formula made ≡ Or (formula left) (formula right)) }
+{
+    Ok(Formula::Or(Box::new(alloc, left)?, Box::new(alloc, right)?))
 }
 
 /// The number of an atom in a list that has it.
@@ -76,17 +112,17 @@ fn numbered(alloc: Global, condition: &Condition, atoms: &[Atom]) -> Result<Form
         Condition::Test(atom) => Ok(Formula::Test(place(atoms, atom))),
         Condition::Not(inner) => {
             let inner = numbered(alloc, inner, atoms)?;
-            Ok(Formula::Not(Box::new(alloc, inner)?))
+            negation(alloc, inner)
         }
         Condition::And(left, right) => {
             let left = numbered(alloc, left, atoms)?;
             let right = numbered(alloc, right, atoms)?;
-            Ok(Formula::And(Box::new(alloc, left)?, Box::new(alloc, right)?))
+            both(alloc, left, right)
         }
         Condition::Or(left, right) => {
             let left = numbered(alloc, left, atoms)?;
             let right = numbered(alloc, right, atoms)?;
-            Ok(Formula::Or(Box::new(alloc, left)?, Box::new(alloc, right)?))
+            either(alloc, left, right)
         }
     }
 }

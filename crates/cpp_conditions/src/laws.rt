@@ -9,7 +9,9 @@ ghost use Rattle.linear_atoms.specs.Atoms.{IsWithin};
 ghost use Rattle.cpp_conditions.specs.Expressions.{Expression, value, is_nonzero};
 ghost use Rattle.cpp_conditions.specs.Meaning.{is_linear, cond};
 ghost use Rattle.cpp_conditions.specs.Propositions.{Proposition, true_at};
+ghost use Rattle.cpp_conditions.specs.Distinct.{AreAtomsOf, HaveFewAtoms, HaveMoreAtoms};
 ghost use Rattle.cpp_conditions.specs.Grammar.{CSpells, ReadsAs};
+ghost use Rattle.cpp_conditions.specs.Validity.{Plain, all_true, IsValid};
 
 /// The condition that an expression means is true at a configuration within the ranges exactly where C's value of
 /// the expression is not 0 (ISO/IEC 9899:2011, 6.10.1 and 6.5), if no truth value in it is used as a number and no
@@ -26,6 +28,23 @@ pub fn bytes_spell_one_expression()
 /// Bytes are read in one way: as a condition, or with one fault.
 pub fn bytes_have_one_reading()
     ensures { (features : List Feature) (bytes : List ℕ) (r s : Result (Proposition Atom) ConditionFault) → ReadsAs features bytes r → ReadsAs features bytes s → r ≡ s }
+{}
+
+#[tactic(auto, using(crate::proofs::Collected::one_list))]
+/// The distinct atoms of conditions are one list.
+pub fn conditions_have_one_list_of_atoms()
+    ensures { (conditions : List (Proposition Atom)) (xs ys : List Atom) → AreAtomsOf conditions xs → AreAtomsOf conditions ys → xs ≡ ys }
+{}
+
+/// Where conditions have at most so many different atoms, they have no more.
+pub fn few_atoms_are_not_more()
+    ensures { (most : ℕ) (conditions : List (Proposition Atom)) → HaveFewAtoms most conditions → HaveMoreAtoms most conditions → ⊥ }
+{}
+
+#[tactic(auto, using(crate::proofs::Within::valid_parts))]
+/// A valid configuration has one value per feature, each in its range, and every constraint is true at it.
+pub fn valid_configurations_are_within()
+    ensures { (model : Plain) (values : List ℤ) → IsValid model values → IsWithin model.features values × (all_true values model.constraints ≡ true) }
 {}
 
 /// Bytes are always read in some way.

@@ -3,6 +3,7 @@
 
 mod comparing;
 pub mod conditions;
+pub mod distinct;
 mod expressions;
 mod forming;
 pub mod formulas;
@@ -17,8 +18,9 @@ mod tokens;
 mod truths;
 
 pub use conditions::Condition;
+pub use distinct::{add_atoms, distinct_atoms};
 pub use formulas::{Formula, number};
-pub use models::{Conditions, Features, Model, is_valid};
+pub use models::{Conditions, Features, Model, all_true, is_valid};
 pub use reading::{ConditionRefusal, read_condition};
 
 #[cfg(test)]

@@ -1,11 +1,13 @@
 //! Feature models: features with their ranges, and constraints.
 #![tactic(auto)]
 
-ghost use Rattle.std.specs.Prelude.{◌≡◌, ◌&&◌, [], ◌∷◌, length, true, MatchOption};
+ghost use Rattle.std.specs.Prelude.{◌≡◌, length, map, true};
 ghost use Rattle.linear_atoms.specs.Atoms.{AreValues};
-ghost use Rattle.cpp_conditions.specs.Validity.{is_in_range, is_within, all_true, AreFit};
+ghost use Rattle.cpp_conditions.specs.View.{proposition};
+ghost use Rattle.cpp_conditions.specs.Validity.{plain, is_in_range, is_within, all_true, is_valid, AreFit};
 
 use crate::conditions::Condition;
+use linear_atoms::slices::cut;
 use linear_atoms::{Config, Feature};
 use std::marker;
 
@@ -82,36 +84,6 @@ pub struct Model {
     pub constraints: Conditions,
 }
 
-/// The first feature and those behind it.
-fn cut_features(features: &[Feature]) -> Option<(&Feature, &[Feature])>
-    ensures { MatchOption result (features.now ≡ []) (λ x. features.now ≡ x.0.now ∷ x.1.now) }
-{
-    match features {
-        [] => None,
-        [first, behind @ ..] => Some((first, behind)),
-    }
-}
-
-/// The first value and those behind it.
-fn cut_values(values: &[i64]) -> Option<(&i64, &[i64])>
-    ensures { MatchOption result (values.now ≡ []) (λ x. values.now ≡ x.0.now ∷ x.1.now) }
-{
-    match values {
-        [] => None,
-        [first, behind @ ..] => Some((first, behind)),
-    }
-}
-
-/// The first condition and those behind it.
-fn cut_conditions(conditions: &[Condition]) -> Option<(&Condition, &[Condition])>
-    ensures { MatchOption result (conditions.now ≡ []) (λ x. conditions.now ≡ x.0.now ∷ x.1.now) }
-{
-    match conditions {
-        [] => None,
-        [first, behind @ ..] => Some((first, behind)),
-    }
-}
-
 /// Whether a value is in the range of its feature.
 fn is_in_range(feature: &Feature, value: &i64) -> bool
     ensures { result ≡ is_in_range feature.now value.now }
@@ -124,7 +96,7 @@ fn is_within(features: &[Feature], values: &[i64]) -> bool
     ensures value { result ≡ is_within features.now values.now }
     ensures length { result ≡ true → length values.now ≡ length features.now }
 {
-    match (cut_features(features), cut_values(values)) {
+    match (cut(features), cut(values)) {
         (None, None) => true,
         (Some((feature, features)), Some((value, values))) => {
             is_in_range(feature, value) && is_within(features, values)
@@ -133,23 +105,23 @@ fn is_within(features: &[Feature], values: &[i64]) -> bool
     }
 }
 
-/// Whether each condition is true.
-fn all_true(conditions: &[Condition], config: &Config) -> bool
+/// Whether each condition is true at a configuration, which has each feature that they name.
+pub fn all_true(conditions: &[Condition], config: &Config) -> bool
     requires fit { AreFit (length config.now.values) conditions.now }
     requires values { AreValues config.now.values }
-    ensures { result ≡ all_true config.now.values conditions.now }
+    ensures { result ≡ all_true config.now.values (map proposition conditions.now) }
 {
-    match cut_conditions(conditions) {
+    match cut(conditions) {
         None => true,
         Some((condition, behind)) => condition.at(config) && all_true(behind, config),
     }
 }
 
-/// Whether a configuration is valid: its values are in range, one per feature, and every constraint is true.
+/// Whether a configuration is valid: it has one value per feature, each in its range, and every constraint is true.
 pub fn is_valid(model: &Model, config: &Config) -> bool
     requires fit { AreFit (length model.now.features) model.now.constraints }
     requires values { AreValues config.now.values }
-    ensures { result ≡ (is_within model.now.features config.now.values && all_true config.now.values model.now.constraints) }
+    ensures { result ≡ is_valid (plain model.now) config.now.values }
 {
     is_within(model.features.items(), config.values.items())
         && all_true(model.constraints.items(), config)

@@ -1,7 +1,7 @@
 //! The features of a model, found by their names.
 #![tactic(auto)]
 
-ghost use Rattle.std.specs.Prelude.{◌≡◌, ◌≤◌, ◌+◌, ◌<◌, ◌^◌, [], ◌∷◌, length, MatchOption, IfOk};
+ghost use Rattle.std.specs.Prelude.{◌≡◌, ◌≤◌, ◌+◌, ◌<◌, ◌^◌, length, IfOk};
 ghost use Rattle.linear_atoms.specs.Atoms.{AreRanges};
 ghost use Rattle.linear_atoms.specs.Texts.{boolean_at};
 ghost use Rattle.cpp_conditions.specs.Expressions.{found};
@@ -11,6 +11,7 @@ ghost use Rattle.cpp_conditions.specs.Naming.{Finds, AreFeatures};
 use fam_outer::NoMemory;
 use indexmap::IndexMap;
 use linear_atoms::Feature;
+use linear_atoms::slices::cut;
 use std::alloc::Global;
 use std::marker;
 
@@ -31,16 +32,6 @@ impl<'a> marker::Model for Names<'a> {
     ghost view = { λ names. names.features.now };
 
     ghost invariant = { λ names. Finds names.numbers.entries 0 names.features.now × AreFeatures names.features.now };
-}
-
-/// The first feature and those behind it.
-fn cut(features: &[Feature]) -> Option<(&Feature, &[Feature])>
-    ensures { MatchOption result (features.now ≡ []) (λ x. features.now ≡ x.0.now ∷ x.1.now) }
-{
-    match features {
-        [] => None,
-        [first, behind @ ..] => Some((first, behind)),
-    }
 }
 
 /// The numbers of features by their names, counted from the first. Of features with one name, it is the first.

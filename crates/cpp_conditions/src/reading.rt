@@ -8,7 +8,7 @@ ghost use Rattle.cpp_conditions.specs.Expressions as expressions;
 ghost use Rattle.cpp_conditions.specs.Forming.{IsOverFeatures};
 ghost use Rattle.cpp_conditions.specs.Grammar.{CSpells, judged};
 ghost use Rattle.cpp_conditions.specs.Naming.{AreFeatures};
-ghost use Rattle.cpp_conditions.specs.Propositions.{IsFit, AreBounded, true_at};
+ghost use Rattle.cpp_conditions.specs.Propositions.{IsFit, IsOpen, true_at};
 ghost use Rattle.cpp_conditions.specs.Reading.{Reads, Judges};
 ghost use Rattle.cpp_conditions.specs.View.{proposition};
 
@@ -97,8 +97,8 @@ fn judge(
 /// It is C's expression of numbers, names, `defined`, parentheses and the operators
 /// `! + - * < <= > >= == != && ||` (ISO/IEC 9899:2011, 6.10.1 and 6.5). A feature's name is its value, and any other
 /// name is 0. `defined` is 1 for an integer feature, the value of a Boolean one, and 0 for any other name. At each
-/// configuration within the ranges the condition is true exactly where C's value of the expression is not 0. The
-/// features of its atoms are among these, a coefficient is at most 2^31 in size and a bound at most 2^31 + 1.
+/// configuration within the ranges the condition is true exactly where C's value of the expression is not 0. Its
+/// atoms are well formed over these features, and the ranges decide none of them.
 ///
 /// Its refusals, in their order:
 /// - `Syntax`, where a byte begins no token, or a run of digits and letters is no decimal number;
@@ -121,7 +121,7 @@ pub fn read_condition(
     ensures value { IfOk result (λ made. (e : expressions.Expression) (values : List ℤ) → CSpells e bytes.now → IsWithin features.now values
         → true_at values (proposition made) ≡ expressions.is_nonzero (expressions.value features.now values e)) }
     ensures fit { IfOk result (λ made. IsFit (length features.now) (proposition made)) }
-    ensures bounded { IfOk result (λ made. AreBounded (proposition made)) }
+    ensures undecided { IfOk result (λ made. IsOpen features.now (proposition made)) }
 {
     let tokens = scan(alloc, bytes)?;
     if count_deep(&tokens) > MOST_OPERATORS {

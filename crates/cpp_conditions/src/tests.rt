@@ -38,6 +38,61 @@ fn formulas_have_truths(rt: HostRuntime) -> Result<(), Fail> {
 }
 
 #[test]
+fn formulas_are_copied(rt: HostRuntime) -> Result<(), Fail> {
+    let alloc = rt.alloc();
+    let inner = formulas::negation(alloc, Formula::Test(1))?;
+    let made = formulas::either(alloc, Formula::Test(0), formulas::both(alloc, inner, Formula::Const(true))?)?;
+    match made.copy(alloc)? {
+        Formula::Or(left, right) => {
+            assert!(rt; matches!(&*left, Formula::Test(0)));
+            match &*right {
+                Formula::And(left, right) => {
+                    assert!(rt; matches!(&**left, Formula::Not(_)));
+                    assert!(rt; matches!(&**right, Formula::Const(true)));
+                }
+                _ => panic!(rt; "both are wanted"),
+            }
+        }
+        _ => panic!(rt; "one of two is wanted"),
+    }
+    Ok(())
+}
+
+/// The conditions `N >= 3 || A` and `N < 1 && A`.
+fn two_conditions(alloc: Global) -> Result<Vec<Condition>, Fail> {
+    let features = both_features(alloc)?;
+    let mut list = Vec::new(alloc);
+    for bytes in [b"N >= 3 || A".as_slice(), b"N < 1 && A".as_slice()] {
+        match read_condition(alloc, features.items(), bytes) {
+            Ok(condition) => list.push(condition)?,
+            Err(_) => return Err("a condition is wanted")?,
+        }
+    }
+    Ok(list)
+}
+
+#[test]
+fn distinct_atoms_are_in_order(rt: HostRuntime) -> Result<(), Fail> {
+    let alloc = rt.alloc();
+    let conditions = two_conditions(alloc)?;
+    let expected = [
+        at_least(alloc, 0, -1)?,
+        at_least(alloc, 0, -3)?,
+        at_least(alloc, 1, -1)?,
+    ];
+    match distinct_atoms(alloc, &conditions, 3)? {
+        Some(atoms) => assert!(rt; atoms.as_slice() == expected.as_slice()),
+        None => panic!(rt; "three atoms are wanted"),
+    }
+    assert!(rt; distinct_atoms(alloc, &conditions, 2)?.is_none());
+    let mut atoms = Vec::new(alloc);
+    add_atoms(alloc, &mut atoms, &Condition::Test(at_least(alloc, 1, -1)?))?;
+    add_atoms(alloc, &mut atoms, &Condition::Test(at_least(alloc, 0, -2)?))?;
+    assert!(rt; atoms.as_slice() == [at_least(alloc, 0, -2)?, at_least(alloc, 1, -1)?].as_slice());
+    Ok(())
+}
+
+#[test]
 fn atoms_are_numbered(rt: HostRuntime) -> Result<(), Fail> {
     let alloc = rt.alloc();
     let atoms = [at_least(alloc, 0, -1)?, at_least(alloc, 1, -3)?];

@@ -1,21 +1,18 @@
 //! Conditions of expressions.
 #![tactic(auto)]
 
-ghost use Rattle.std.specs.Prelude.{◌≡◌, ◌&&◌, true, IfOk};
+ghost use Rattle.std.specs.Prelude.{◌≡◌, ◌&&◌, true};
 ghost use Rattle.cpp_conditions.specs.Descent.{expression};
 ghost use Rattle.cpp_conditions.specs.Forming.{IsNumber, Means};
 ghost use Rattle.cpp_conditions.specs.Grammar.{are_small_forms, is_small_compared, is_small_condition};
 ghost use Rattle.cpp_conditions.specs.Meaning as meaning;
-ghost use Rattle.cpp_conditions.specs.Propositions.{And, Or};
-ghost use Rattle.cpp_conditions.specs.View.{proposition};
 
-use crate::comparing::{compare, is_zero, negation};
-use crate::conditions::Condition;
+use crate::comparing::{compare, is_zero};
+use crate::conditions::{Condition, both, either, negation};
 use crate::expressions::Expression;
 use crate::forming::form;
 use crate::names::Names;
 use crate::operators::{Operator, Prefix};
-use fam_outer::NoMemory;
 use linear_atoms::LinearFault;
 use std::alloc::Global;
 
@@ -48,20 +45,6 @@ fn of_comparison(
     let left = form(alloc, names, left)?;
     let right = form(alloc, names, right)?;
     compare(alloc, names, op, left, right)
-}
-
-/// Both conditions.
-fn both(alloc: Global, left: Condition, right: Condition) -> Result<Condition, NoMemory>
-    ensures { IfOk result (λ made. proposition made ≡ And (proposition left) (proposition right)) }
-{
-    Ok(Condition::And(Box::new(alloc, left)?, Box::new(alloc, right)?))
-}
-
-/// One of the conditions or both.
-fn either(alloc: Global, left: Condition, right: Condition) -> Result<Condition, NoMemory>
-    ensures { IfOk result (λ made. proposition made ≡ Or (proposition left) (proposition right)) }
-{
-    Ok(Condition::Or(Box::new(alloc, left)?, Box::new(alloc, right)?))
 }
 
 /// The condition that an expression means, where no truth value in it is used as a number and no product has a

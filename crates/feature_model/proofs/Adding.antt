@@ -1,21 +1,19 @@
 -- Constraints and atoms behind others.
-use Rattle.std.proofs.Common.{◌≡◌, ℕ, ◌+◌, ◌≤◌, ◌<◌, nat_le, Bool, true, false, cond, List, [], ◌∷◌, ◌++◌, map, length, Result, Ok, Err, refl, sym, ap, subst, ◌∙◌, arith, append_assoc, length-append}
+use Rattle.std.proofs.Common.{◌≡◌, ℕ, ◌+◌, List, [], ◌∷◌, ◌++◌, map, Result, Ok, Err, refl, sym, ap, subst, ◌∙◌, append_assoc}
 use Rattle.std.specs.Prelude.{⊤}
 use Rattle.std.proofs.lemmas.List.{append-nil}
-use Rattle.std.proofs.lemmas.Bool.{leb-true}
-use Rattle.linear_atoms.specs.declared.atoms.Atom.{Atom}
 use Rattle.linear_atoms.specs.declared.atoms.Feature.{Feature}
 use Rattle.cpp_conditions.specs.declared.conditions.Condition.{Condition}
 use Rattle.cpp_conditions.specs.declared.reading.ConditionRefusal.{ConditionRefusal}
 use Rattle.cpp_conditions.specs.declared.reading.ConditionRefusal.TheVariants as conditions
 use Rattle.cpp_conditions.specs.Grammar.{ReadsAs}
 use Rattle.cpp_conditions.specs.Reading.{Reads}
-use Rattle.cpp_conditions.specs.Propositions.{Proposition, Const, Test, Not, And, Or, AreBounded, IsFit}
-use Rattle.cpp_conditions.specs.Validity.{AreFit}
+use Rattle.cpp_conditions.specs.Propositions.{Proposition, IsFit, IsOpen}
+use Rattle.cpp_conditions.specs.Validity.{AreFit, AreOpen}
 use Rattle.cpp_conditions.specs.View.{proposition}
 use Rattle.feature_model.specs.declared.faults.ModelRefusal.{ModelRefusal}
 use Rattle.feature_model.specs.declared.faults.ModelRefusal.TheVariants as refusals
-use Rattle.feature_model.specs.Constraints.{AreRead, none, refused, first, numbered, Adds, AreAllBounded, has_atom, with_atoms, all_atoms}
+use Rattle.feature_model.specs.Constraints.{AreRead, none, refused, first, numbered, Adds}
 
 pub nothing_added : (features : List Feature) (n : ℕ) (texts : List (List ℕ)) (old : List Condition) (done : ⊤) → texts ≡ [] → Adds features n texts old old (Ok done)
 nothing_added features n texts old done e = ([], sym (append-nil old), subst (λ ts. AreRead features n ts (Ok [])) (sym e) (none n))
@@ -46,33 +44,9 @@ fit_last count (x ∷ xs) c h k = (k.0, fit_last count xs c h k.1)
 pub fit_more : (count : ℕ) (old mid : List Condition) (c : Condition) → mid ≡ old ++ c ∷ [] → IsFit count (proposition c) → AreFit count old → AreFit count mid
 fit_more count old mid c e h k = subst (AreFit count) (sym e) (fit_last count old c h k)
 
-bounded_last : (old : List Condition) (c : Condition) → AreBounded (proposition c) → AreAllBounded old → AreAllBounded (old ++ c ∷ [])
-bounded_last [] c h k = (h, tt)
-bounded_last (x ∷ xs) c h k = (k.0, bounded_last xs c h k.1)
+open_last : (features : List Feature) (old : List Condition) (c : Condition) → IsOpen features (proposition c) → AreOpen features old → AreOpen features (old ++ c ∷ [])
+open_last features [] c h k = (h, tt)
+open_last features (x ∷ xs) c h k = (k.0, open_last features xs c h k.1)
 
-pub bounded_more : (old mid : List Condition) (c : Condition) → mid ≡ old ++ c ∷ [] → AreBounded (proposition c) → AreAllBounded old → AreAllBounded mid
-bounded_more old mid c e h k = subst AreAllBounded (sym e) (bounded_last old c h k)
-
--- ---- atoms
-
-grows_by : (b : Bool) (found : List Atom) (a : Atom) → length found ≤ length (cond b found (found ++ a ∷ []))
-grows_by true found a = omega arith
-grows_by false found a = omega (arith, length-append found (a ∷ []))
-
-grows_one : (p : Proposition Atom) (found : List Atom) → length found ≤ length (with_atoms found p)
-grows_one (Const b) found = omega arith
-grows_one (Test a) found = grows_by (has_atom a found) found a
-grows_one (Not p) found = grows_one p found
-grows_one (And p q) found = let h = grows_one p found in let k = grows_one q (with_atoms found p) in omega arith
-grows_one (Or p q) found = let h = grows_one p found in let k = grows_one q (with_atoms found p) in omega arith
-
-pub grows : (ps : List (Proposition Atom)) (found : List Atom) → length found ≤ length (all_atoms found ps)
-grows [] found = omega arith
-grows (p ∷ ps) found = let h = grows_one p found in let k = grows ps (with_atoms found p) in omega arith
-
-at_most : (n m : ℕ) → 64 < n → n ≤ m → (b : Bool) → nat_le m 64 ≡ b → false ≡ b
-at_most n m h k true e = let l : m ≤ 64 = leb-true m 64 e in absurd (omega arith)
-at_most n m h k false e = refl
-
-pub too_many : (found : List Atom) (ps : List (Proposition Atom)) → 64 < length found → false ≡ nat_le (length (all_atoms found ps)) 64
-too_many found ps h = at_most (length found) (length (all_atoms found ps)) h (grows ps found) _ refl
+pub open_more : (features : List Feature) (old mid : List Condition) (c : Condition) → mid ≡ old ++ c ∷ [] → IsOpen features (proposition c) → AreOpen features old → AreOpen features mid
+open_more features old mid c e h k = subst (AreOpen features) (sym e) (open_last features old c h k)

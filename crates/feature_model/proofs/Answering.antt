@@ -4,12 +4,14 @@ use Rattle.std.specs.Prelude.{IfOk, ⊤}
 use Rattle.linear_atoms.specs.declared.atoms.Feature.{Feature}
 use Rattle.cpp_conditions.specs.declared.conditions.Condition.{Condition}
 use Rattle.cpp_conditions.specs.declared.models.Model.{Model}
+use Rattle.cpp_conditions.specs.Distinct.{HaveFewAtoms}
+use Rattle.cpp_conditions.specs.Validity.{Plain, plain, IsValid}
 use Rattle.cpp_conditions.specs.View.{proposition}
 use Rattle.feature_model.specs.declared.faults.ModelFault.{ModelFault}
 use Rattle.feature_model.specs.declared.faults.ModelRefusal.{ModelRefusal}
 use Rattle.feature_model.specs.declared.faults.ModelRefusal.TheVariants as refusals
 use Rattle.feature_model.specs.Constraints.{AreRead, Adds}
-use Rattle.feature_model.specs.Models.{Plain, plain, IsValid, Says, Ends, too_many_tests, void, accepted, untold, refused, said, Judges, Reads}
+use Rattle.feature_model.specs.Models.{Says, Ends, too_many_tests, void, accepted, untold, refused, said, Judges, Reads}
 use Rattle.feature_model.specs.Stages.{told_of, Fails}
 
 pub untold_so : (bytes : List ℕ) (e : ModelRefusal) → Fails e (told_of bytes) → Reads bytes (Err e)
@@ -50,3 +52,12 @@ valid_at m k _ (accepted h vs v) e = let same : m ≡ k = cc in (vs, subst (λ x
 pub valid_so : (model : Model) (r : Result Model ModelRefusal) → Judges model r → IfOk r (λ made. (values : List ℤ) × IsValid (plain made) values)
 valid_so model (Ok made) h = valid_at (plain model) (plain made) _ h refl
 valid_so model (Err e) h = tt
+
+few_at : (m k : Plain) (r : Result Plain ModelFault) → Ends m r → r ≡ Ok k → HaveFewAtoms 64 k.constraints
+few_at m k _ (too_many_tests h) e = cc
+few_at m k _ (void h i) e = cc
+few_at m k _ (accepted h vs v) e = let same : m ≡ k = cc in subst (λ (x : Plain). HaveFewAtoms 64 x.constraints) same h
+
+pub few_so : (model : Model) (r : Result Model ModelRefusal) → Judges model r → IfOk r (λ made. HaveFewAtoms 64 (plain made).constraints)
+few_so model (Ok made) h = few_at (plain model) (plain made) _ h refl
+few_so model (Err e) h = tt

@@ -5,5 +5,4 @@ pub mod Judging
 pub mod Once
 pub mod Repeating
 pub mod Setting
-pub mod Valid
 pub mod Valued

@@ -1,14 +1,16 @@
 -- Bytes are read in one way.
-use Rattle.std.proofs.Common.{◌≡◌, ℕ, ◌+◌, List, ◌∷◌, Result, Ok, Err, refl, sym, ap, subst, ◌∙◌, arith}
+use Rattle.std.proofs.Common.{◌≡◌, ℕ, ◌+◌, List, ◌∷◌, Result, Ok, Err, refl, sym, ap, subst, ◌∙◌}
 use Rattle.fam_outer.specs.declared.faults.ConditionFault.{ConditionFault}
 use Rattle.linear_atoms.specs.declared.atoms.Atom.{Atom}
 use Rattle.linear_atoms.specs.declared.atoms.Feature.{Feature}
+use Rattle.cpp_conditions.specs.Distinct.{HaveFewAtoms, HaveMoreAtoms}
 use Rattle.cpp_conditions.specs.Grammar.{ReadsAs}
 use Rattle.cpp_conditions.specs.Propositions.{Proposition}
+use Rattle.cpp_conditions.specs.Validity.{Plain, IsValid}
 use Rattle.feature_model.specs.declared.faults.ModelFault.{ModelFault}
 use Rattle.feature_model.specs.Constraints.{AreRead, none, refused, first}
 use Rattle.feature_model.specs.Models as models
-use Rattle.feature_model.specs.Models.{Plain, IsValid, Says, Ends, IsReadAs, untold, said}
+use Rattle.feature_model.specs.Models.{Says, Ends, IsReadAs, untold, said}
 use Rattle.feature_model.specs.Stages.{Told, told_of, ◌>>=◌}
 
 abbrev pub OneReading : Type 0
@@ -25,16 +27,19 @@ one_list u features _ _ _ _ (first n text texts p rest h a) (first m other other
     let same : p ≡ q = cc in
     ap (λ x. x >>= λ ps. Ok (p ∷ ps)) (one_list u features (n + 1) texts rest more a b) ∙ ap (λ y. more >>= λ ps. Ok (y ∷ ps)) same
 
-one_end : (m : Plain) (r s : Result Plain ModelFault) → Ends m r → Ends m s → r ≡ s
-one_end m _ _ (models.too_many_tests h) (models.too_many_tests k) = refl
-one_end m _ _ (models.too_many_tests h) (models.void k n) = absurd (omega arith)
-one_end m _ _ (models.too_many_tests h) (models.accepted k vs v) = absurd (omega arith)
-one_end m _ _ (models.void h n) (models.too_many_tests k) = absurd (omega arith)
-one_end m _ _ (models.void h n) (models.void k l) = refl
-one_end m _ _ (models.void h n) (models.accepted k vs v) = absurd (n vs v)
-one_end m _ _ (models.accepted h vs v) (models.too_many_tests k) = absurd (omega arith)
-one_end m _ _ (models.accepted h vs v) (models.void k n) = absurd (n vs v)
-one_end m _ _ (models.accepted h vs v) (models.accepted k ws w) = refl
+abbrev pub NotBoth : Type 0
+NotBoth = (most : ℕ) (conditions : List (Proposition Atom)) → HaveFewAtoms most conditions → HaveMoreAtoms most conditions → ⊥
+
+one_end : (x : NotBoth) (m : Plain) (r s : Result Plain ModelFault) → Ends m r → Ends m s → r ≡ s
+one_end x m _ _ (models.too_many_tests h) (models.too_many_tests k) = refl
+one_end x m _ _ (models.too_many_tests h) (models.void k n) = absurd (x 64 m.constraints k h)
+one_end x m _ _ (models.too_many_tests h) (models.accepted k vs v) = absurd (x 64 m.constraints k h)
+one_end x m _ _ (models.void h n) (models.too_many_tests k) = absurd (x 64 m.constraints h k)
+one_end x m _ _ (models.void h n) (models.void k l) = refl
+one_end x m _ _ (models.void h n) (models.accepted k vs v) = absurd (n vs v)
+one_end x m _ _ (models.accepted h vs v) (models.too_many_tests k) = absurd (x 64 m.constraints h k)
+one_end x m _ _ (models.accepted h vs v) (models.void k n) = absurd (n vs v)
+one_end x m _ _ (models.accepted h vs v) (models.accepted k ws w) = refl
 
 same_told : (bytes : List ℕ) (a b : Told) → told_of bytes ≡ Ok a → told_of bytes ≡ Ok b → a ≡ b
 same_told bytes a b h k = let e = sym h ∙ k in cc
@@ -56,16 +61,16 @@ not_both u bytes told f m t a s =
     let h = one_list u m.features 1 s.texts (Err f) (Ok m.constraints) b s.read in
     absurd cc
 
-pub one_reading : (u : OneReading) (bytes : List ℕ) (r s : Result Plain ModelFault) → IsReadAs bytes r → IsReadAs bytes s → r ≡ s
-one_reading u bytes _ _ (untold f h) (untold g k) = let e = sym h ∙ k in let same : f ≡ g = cc in cc
-one_reading u bytes _ _ (untold f h) (models.refused told g t a) = let e = sym h ∙ t in absurd cc
-one_reading u bytes _ _ (untold f h) (said m end s x) = let e = sym h ∙ s.told in absurd cc
-one_reading u bytes _ _ (models.refused told f t a) (untold g k) = let e = sym k ∙ t in absurd cc
-one_reading u bytes _ _ (models.refused told f t a) (models.refused other g v b) =
+pub one_reading : (u : OneReading) (x : NotBoth) (bytes : List ℕ) (r s : Result Plain ModelFault) → IsReadAs bytes r → IsReadAs bytes s → r ≡ s
+one_reading u x bytes _ _ (untold f h) (untold g k) = let e = sym h ∙ k in let same : f ≡ g = cc in cc
+one_reading u x bytes _ _ (untold f h) (models.refused told g t a) = let e = sym h ∙ t in absurd cc
+one_reading u x bytes _ _ (untold f h) (said m end s e) = let d = sym h ∙ s.told in absurd cc
+one_reading u x bytes _ _ (models.refused told f t a) (untold g k) = let e = sym k ∙ t in absurd cc
+one_reading u x bytes _ _ (models.refused told f t a) (models.refused other g v b) =
     let e = same_told bytes told other t v in
     let h = one_list u other.features 1 other.texts (Err f) (Err g) (subst (λ (x : Told). AreRead x.features 1 x.texts (Err f)) e a) b in
     let same : f ≡ g = cc in cc
-one_reading u bytes _ _ (models.refused told f t a) (said m end s x) = not_both u bytes told f m t a s
-one_reading u bytes _ _ (said m end s x) (untold g k) = let e = sym k ∙ s.told in absurd cc
-one_reading u bytes _ _ (said m end s x) (models.refused told g t a) = not_both u bytes told g m t a s
-one_reading u bytes _ _ (said m end s x) (said k last t y) = one_end m end last x (subst (λ p. Ends p last) (sym (one_said u bytes m k s t)) y)
+one_reading u x bytes _ _ (models.refused told f t a) (said m end s e) = not_both u bytes told f m t a s
+one_reading u x bytes _ _ (said m end s e) (untold g k) = let d = sym k ∙ s.told in absurd cc
+one_reading u x bytes _ _ (said m end s e) (models.refused told g t a) = not_both u bytes told g m t a s
+one_reading u x bytes _ _ (said m end s e) (said k last t y) = one_end x m end last e (subst (λ p. Ends p last) (sym (one_said u bytes m k s t)) y)

@@ -1,15 +1,13 @@
--- Constraints read one after another, and their distinct atoms.
-use Rattle.std.specs.Prelude.{◌≡◌, ⊤, ℕ, ◌+◌, Bool, false, ◌&&◌, ◌||◌, if◌then◌else◌, List, [], ◌∷◌, ◌++◌, map, Result, Ok, Err}
-use Rattle.std.specs.Ordering.{int_eq}
+-- Constraints read one after another.
+use Rattle.std.specs.Prelude.{◌≡◌, ⊤, ℕ, ◌+◌, List, [], ◌∷◌, ◌++◌, map, Result, Ok, Err}
 use Rattle.fam_outer.specs.declared.faults.ConditionFault.{ConditionFault}
 use Rattle.linear_atoms.specs.declared.atoms.Atom.{Atom}
 use Rattle.linear_atoms.specs.declared.atoms.Feature.{Feature}
-use Rattle.linear_atoms.specs.Order.{same_terms}
 use Rattle.cpp_conditions.specs.declared.conditions.Condition.{Condition}
 use Rattle.cpp_conditions.specs.declared.reading.ConditionRefusal.{ConditionRefusal}
 use Rattle.cpp_conditions.specs.declared.reading.ConditionRefusal.TheVariants as conditions
 use Rattle.cpp_conditions.specs.Grammar.{ReadsAs}
-use Rattle.cpp_conditions.specs.Propositions.{Proposition, Const, Test, Not, And, Or, AreBounded}
+use Rattle.cpp_conditions.specs.Propositions.{Proposition}
 use Rattle.cpp_conditions.specs.View.{proposition}
 use Rattle.feature_model.specs.declared.faults.ModelFault.{ModelFault}
 use Rattle.feature_model.specs.declared.faults.ModelFault.TheVariants as faults
@@ -23,39 +21,6 @@ pub data AreRead (features : List Feature) : ℕ → List (List ℕ) → Result 
   refused : (n : ℕ) (text : List ℕ) (texts : List (List ℕ)) (fault : ConditionFault) → ReadsAs features text (Err fault) → AreRead features n (text ∷ texts) (Err (faults.Constraint n fault))
   first : (n : ℕ) (text : List ℕ) (texts : List (List ℕ)) (p : Proposition Atom) (others : Result (List (Proposition Atom)) ModelFault) → ReadsAs features text (Ok p) → AreRead features (n + 1) texts others
       → AreRead features n (text ∷ texts) (others >>= λ ps. Ok (p ∷ ps))
-
--- ---- atoms
-
-abbrev pub same_atom : Atom → Atom → Bool
-same_atom a b = same_terms a.terms b.terms && int_eq a.bound b.bound
-
-abbrev pub has_atom : Atom → List Atom → Bool
-has_atom a [] = false
-has_atom a (b ∷ bs) = same_atom b a || has_atom a bs
-
-abbrev pub with_atom : List Atom → Atom → List Atom
-with_atom found a = if has_atom a found then found else found ++ a ∷ []
-
--- atoms and those of a condition that are not among them, each once
-abbrev pub with_atoms : List Atom → Proposition Atom → List Atom
-with_atoms found (Const b) = found
-with_atoms found (Test a) = with_atom found a
-with_atoms found (Not p) = with_atoms found p
-with_atoms found (And p q) = with_atoms (with_atoms found p) q
-with_atoms found (Or p q) = with_atoms (with_atoms found p) q
-
-abbrev pub all_atoms : List Atom → List (Proposition Atom) → List Atom
-all_atoms found [] = found
-all_atoms found (p ∷ ps) = all_atoms (with_atoms found p) ps
-
--- the atoms of conditions, each once
-abbrev pub distinct_atoms : List (Proposition Atom) → List Atom
-distinct_atoms ps = all_atoms [] ps
-
--- each atom's bound is at most 2^31 + 1 in size
-abbrev pub AreAllBounded : List Condition → Type 0
-AreAllBounded [] = Unit {0}
-AreAllBounded (c ∷ cs) = AreBounded (proposition c) × AreAllBounded cs
 
 -- ---- what the code answers
 

@@ -1,34 +1,14 @@
 -- Which model bytes are read as, and which refusal the others have.
-use Rattle.std.specs.Prelude.{◌≡◌, ⊤, ℕ, ◌<◌, ◌≤◌, ℤ, Bool, true, ◌&&◌, List, [], ◌∷◌, map, length, Result, Ok, Err}
-use Rattle.linear_atoms.specs.declared.atoms.Atom.{Atom}
-use Rattle.linear_atoms.specs.declared.atoms.Feature.{Feature}
-use Rattle.linear_atoms.specs.Atoms.{IsWithin}
+use Rattle.std.specs.Prelude.{◌≡◌, ⊤, ℕ, ℤ, List, Result, Ok, Err}
 use Rattle.cpp_conditions.specs.declared.models.Model.{Model}
-use Rattle.cpp_conditions.specs.Propositions.{Proposition, true_at}
-use Rattle.cpp_conditions.specs.View.{proposition}
+use Rattle.cpp_conditions.specs.Distinct.{HaveFewAtoms, HaveMoreAtoms}
+use Rattle.cpp_conditions.specs.Validity.{Plain, plain, IsValid}
 use Rattle.feature_model.specs.declared.faults.ModelFault.{ModelFault}
 use Rattle.feature_model.specs.declared.faults.ModelFault.TheVariants as faults
 use Rattle.feature_model.specs.declared.faults.ModelRefusal.{ModelRefusal}
 use Rattle.feature_model.specs.declared.faults.ModelRefusal.TheVariants as refusals
-use Rattle.feature_model.specs.Constraints.{AreRead, distinct_atoms}
+use Rattle.feature_model.specs.Constraints.{AreRead}
 use Rattle.feature_model.specs.Stages.{Told, told_of}
-
--- features, and constraints over them
-pub record Plain : Type 0 where
-  pub features : List Feature
-  pub constraints : List (Proposition Atom)
-
-abbrev pub plain : Model → Plain
-plain model = record { features = model.features; constraints = map proposition model.constraints }
-
-abbrev pub are_true : List ℤ → List (Proposition Atom) → Bool
-are_true values [] = true
-are_true values (p ∷ ps) = true_at values p && are_true values ps
-
--- one value per feature, in its range, and every constraint is true
-pub record IsValid (model : Plain) (values : List ℤ) : Type 0 where
-  pub within : IsWithin model.features values
-  pub constraints : are_true values model.constraints ≡ true
 
 -- the bytes say these features, and constraints that are read as these
 pub record Says (bytes : List ℕ) (model : Plain) : Type 0 where
@@ -38,9 +18,9 @@ pub record Says (bytes : List ℕ) (model : Plain) : Type 0 where
 
 -- a model with more than 64 distinct atoms, or without a valid configuration, is refused
 pub data Ends (model : Plain) : Result Plain ModelFault → Type 0 where
-  too_many_tests : 64 < length (distinct_atoms model.constraints) → Ends model (Err faults.TooManyTests)
-  void : length (distinct_atoms model.constraints) ≤ 64 → ((values : List ℤ) → IsValid model values → ⊥) → Ends model (Err faults.Void)
-  accepted : length (distinct_atoms model.constraints) ≤ 64 → (values : List ℤ) → IsValid model values → Ends model (Ok model)
+  too_many_tests : HaveMoreAtoms 64 model.constraints → Ends model (Err faults.TooManyTests)
+  void : HaveFewAtoms 64 model.constraints → ((values : List ℤ) → IsValid model values → ⊥) → Ends model (Err faults.Void)
+  accepted : HaveFewAtoms 64 model.constraints → (values : List ℤ) → IsValid model values → Ends model (Ok model)
 
 -- the first fault, or the model
 pub data IsReadAs (bytes : List ℕ) : Result Plain ModelFault → Type 0 where

@@ -5,7 +5,7 @@ use Rattle.std.specs.Str.{bytes_eq}
 use Rattle.linear_atoms.specs.declared.atoms.Feature.{Feature}
 use Rattle.cpp_conditions.specs.declared.models.Model.{Model}
 use Rattle.cpp_conditions.specs.Tokens.{is_number, number_from}
-use Rattle.cpp_conditions.specs.Validity.{is_in_range, is_within, all_true}
+use Rattle.cpp_conditions.specs.Validity.{plain, is_in_range, is_valid}
 use Rattle.feature_model.specs.declared.faults.ConfigFault.{ConfigFault}
 use Rattle.feature_model.specs.declared.faults.ConfigFault.TheVariants as faults
 use Rattle.feature_model.specs.declared.faults.ConfigRefusal.{ConfigRefusal}
@@ -94,7 +94,7 @@ settled n (f ∷ fs) (s ∷ ss) = value_by n f s >>= λ v. settled (n + 1) fs ss
 settled n _ _ = Ok []
 
 abbrev pub checked : Model → List ℤ → Result (List ℤ) ConfigFault
-checked model values = if is_within model.features values && all_true values model.constraints then Ok values else Err faults.NotValid
+checked model values = if is_valid (plain model) values then Ok values else Err faults.NotValid
 
 -- the values that the words give, or the first fault
 abbrev pub config_of : Model → List (List ℕ) → Result (List ℤ) ConfigFault

@@ -12,20 +12,11 @@ use crate::names::is_misnamed;
 use crate::shapes::Entry;
 use fam_outer::NoMemory;
 use linear_atoms::Feature;
+use linear_atoms::slices::cut;
 use std::alloc::Global;
 
 /// The greatest size of a feature's value.
 const MOST_VALUE: i64 = 1_048_576;
-
-/// The first entry and those behind it.
-fn cut(entries: &[Entry]) -> Option<(&Entry, &[Entry])>
-    ensures { MatchOption result (entries.now ≡ []) (λ x. entries.now ≡ x.0.now ∷ x.1.now) }
-{
-    match entries {
-        [] => None,
-        [first, behind @ ..] => Some((first, behind)),
-    }
-}
 
 /// Whether a range has its ends the wrong way round, or one that is too great in size.
 fn is_bad_range(range: Option<(i64, i64)>) -> bool

@@ -1,15 +1,14 @@
 //! Feature models read from JSON.
 #![tactic(auto)]
 
-ghost use Rattle.std.specs.Prelude.{◌≡◌, ◌≤◌, ℤ, List, map, length, IfOk};
+ghost use Rattle.std.specs.Prelude.{◌≡◌, ◌≤◌, ℤ, List, length, IfOk};
 ghost use Rattle.cpp_conditions.specs.Naming.{AreFeatures};
-ghost use Rattle.cpp_conditions.specs.Validity.{AreFit};
-ghost use Rattle.cpp_conditions.specs.View.{proposition};
+ghost use Rattle.cpp_conditions.specs.Distinct.{HaveFewAtoms};
+ghost use Rattle.cpp_conditions.specs.Validity.{plain, IsValid, AreFit, AreOpen};
 ghost use Rattle.serde_json.specs.View.{view};
 ghost use Rattle.feature_model.specs.declared.faults.ModelFault.TheVariants as faults;
 ghost use Rattle.feature_model.specs.Features.{AreDistinct, AreNamed, HaveSwitches};
-ghost use Rattle.feature_model.specs.Constraints.{AreAllBounded, distinct_atoms};
-ghost use Rattle.feature_model.specs.Models.{Reads, Judges, IsValid, plain};
+ghost use Rattle.feature_model.specs.Models.{Reads, Judges};
 ghost use Rattle.feature_model.specs.Shapes.{outline};
 ghost use Rattle.feature_model.specs.Stages.{Gives, or_fault, value_of, outlined, told_from, told_of};
 
@@ -133,7 +132,8 @@ fn judged(alloc: Global, model: Model) -> Result<Model, ModelRefusal>
 /// - `TooManyTests`, where the constraints together have more than 64 distinct atoms;
 /// - `Void`, where no configuration is valid.
 ///
-/// It answers `NoMemory` for want of memory.
+/// The atoms of its constraints are well formed over its features, and the ranges decide none of them. It answers
+/// `NoMemory` for want of memory.
 pub fn read_model(alloc: Global, bytes: &[u8]) -> Result<Model, ModelRefusal>
     ensures read { Reads bytes.now result }
     ensures features { IfOk result (λ made. AreFeatures made.features) }
@@ -141,8 +141,8 @@ pub fn read_model(alloc: Global, bytes: &[u8]) -> Result<Model, ModelRefusal>
     ensures named { IfOk result (λ made. AreNamed made.features) }
     ensures switches { IfOk result (λ made. HaveSwitches made.features) }
     ensures fit { IfOk result (λ made. AreFit (length made.features) made.constraints) }
-    ensures bounded { IfOk result (λ made. AreAllBounded made.constraints) }
-    ensures atoms { IfOk result (λ made. length (distinct_atoms (map proposition made.constraints)) ≤ 64) }
+    ensures undecided { IfOk result (λ made. AreOpen made.features made.constraints) }
+    ensures atoms { IfOk result (λ made. HaveFewAtoms 64 (plain made).constraints) }
     ensures valid { IfOk result (λ made. (values : List ℤ) × IsValid (plain made) values) }
 {
     let (features, texts) = told_of(alloc, bytes)?;

@@ -5,14 +5,14 @@ ghost use Rattle.std.specs.Prelude.{◌≡◌, ◌+◌, ◌≤◌, [], ◌∷◌
 ghost use Rattle.std.specs.declared.alloc.Global.{Global};
 ghost use Rattle.linear_atoms.specs.Atoms.{AreValues};
 ghost use Rattle.cpp_conditions.specs.Naming.{AreFeatures};
-ghost use Rattle.cpp_conditions.specs.Validity.{AreFit};
-ghost use Rattle.atom_solver.specs.Solutions.{IsValid};
+ghost use Rattle.cpp_conditions.specs.Validity.{plain, IsValid, IsConfig, AreFit};
 ghost use Rattle.feature_model.specs.Settings as given;
 
 use crate::faults::{ConfigFault, ConfigRefusal};
-use crate::slots::{cut_features, step};
+use crate::slots::step;
 use cpp_conditions::{Model, is_valid};
 use fam_outer::{NoMemory, Values};
+use linear_atoms::slices::cut;
 use linear_atoms::{Config, Feature};
 use std::alloc::Global;
 
@@ -50,7 +50,7 @@ fn all_set(
 }
 
 /// The first slot and those behind it.
-fn cut(slots: &[Option<i64>]) -> Option<(Option<i64>, &[Option<i64>])>
+fn cut_slots(slots: &[Option<i64>]) -> Option<(Option<i64>, &[Option<i64>])>
     ensures { MatchOption result (slots.now ≡ []) (λ x. slots.now ≡ x.0 ∷ x.1.now) }
 {
     match slots {
@@ -87,7 +87,7 @@ fn settle(
     ensures adds { given.Adds values.old.items values.new.items result (given.settled number features.now slots.now) }
     ensures small { AreValues values.old.items → AreValues values.new.items }
 {
-    let (Some((feature, features)), Some((slot, slots))) = (cut_features(features), cut(slots))
+    let (Some((feature, features)), Some((slot, slots))) = (cut(features), cut_slots(slots))
     else {
         return Ok(());
     };
@@ -116,11 +116,12 @@ fn settled(
 
 /// The configuration, if it is valid.
 fn checked(model: &Model, config: Config) -> Result<Config, ConfigRefusal>
+    requires features { AreFeatures model.now.features }
     requires fit { AreFit (length model.now.features) model.now.constraints }
     requires values { AreValues config.values }
     ensures checked { given.Gives (λ c. c.values) result (given.checked model.now config.values) }
-    ensures same { IfOk result (λ made. made.values ≡ config.values) }
-    ensures valid { IfOk result (λ made. IsValid model.now made.values) }
+    ensures config { IfOk result (λ made. IsConfig model.now.features made.values) }
+    ensures valid { IfOk result (λ made. IsValid (plain model.now) made.values) }
 {
     if is_valid(model, &config) {
         Ok(config)
@@ -152,8 +153,8 @@ pub fn read_config(
     requires features { AreFeatures model.now.features }
     requires fit { AreFit (length model.now.features) model.now.constraints }
     ensures read { given.Gives (λ c. c.values) result (given.config_of model.now (map string_bytes settings.now)) }
-    ensures values { IfOk result (λ made. AreValues made.values) }
-    ensures valid { IfOk result (λ made. IsValid model.now made.values) }
+    ensures valid { IfOk result (λ made. IsValid (plain model.now) made.values) }
+    ensures config { IfOk result (λ made. IsConfig model.now.features made.values) }
 {
     let slots = all_set(alloc, model.features.items(), settings)?;
     let values = settled(alloc, model.features.items(), &slots)?;

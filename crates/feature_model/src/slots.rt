@@ -9,16 +9,7 @@ ghost use Rattle.feature_model.specs.Settings as settings;
 use crate::faults::ConfigFault;
 use crate::values::{fits, value_of};
 use linear_atoms::Feature;
-
-/// The first feature and those behind it.
-pub(crate) fn cut_features(features: &[Feature]) -> Option<(&Feature, &[Feature])>
-    ensures { MatchOption result (features.now ≡ []) (λ x. features.now ≡ x.0.now ∷ x.1.now) }
-{
-    match features {
-        [] => None,
-        [first, behind @ ..] => Some((first, behind)),
-    }
-}
+use linear_atoms::slices::cut;
 
 /// The number, counted from this one, and the feature with the name.
 fn named<'a>(name: &[u8], number: usize, features: &'a [Feature]) -> Option<(usize, &'a Feature)>
@@ -28,7 +19,7 @@ fn named<'a>(name: &[u8], number: usize, features: &'a [Feature]) -> Option<(usi
     ensures within { IfSome result (λ x. x.0 < number + length features.now) }
     ensures small { IfSome result (λ x. settings.IsSmallRange x.1.now) }
 {
-    let (first, behind) = cut_features(features)?;
+    let (first, behind) = cut(features)?;
     if first.name.bytes() == name {
         Some((number, first))
     } else {

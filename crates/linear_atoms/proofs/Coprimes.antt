@@ -6,10 +6,14 @@ use Rattle.std.proofs.Math.Nat.{mul-dvd-mul_right, mul-le-mul_right}
 use Rattle.std.specs.Int.{◌∣◌}
 use Rattle.std.proofs.lemmas.Nat.Gcd.{mod-eq-zero_of_dvd, le_of_dvd, dvd_refl}
 use Rattle.linear_atoms.specs.declared.forms.Linear.{Linear}
-use Rattle.linear_atoms.specs.Forms.{RisesFrom, IsRising}
-use Rattle.linear_atoms.specs.Normal.{divides_all, greatest_to, common_divisor, divided, rounded_up, at_least, literal_by, normal_by, normal_of, LeadsPositive, IsNormalAtom, IsNormal}
+use Rattle.linear_atoms.specs.declared.normal.Normal.{Normal}
+use Rattle.linear_atoms.specs.Forms.{RisesFrom, IsRising, is_small, are_small, is_small_form}
+use Rattle.linear_atoms.specs.Atoms.{AreBelow, LeadsPositive, IsAtom}
+use Rattle.linear_atoms.specs.Divisors.{divides_all, greatest_to, common_divisor}
+use Rattle.linear_atoms.specs.Normal.{divided, rounded_up, at_least, literal_by, normal_by, normal_of, IsNormal}
 use Rattle.linear_atoms.proofs.Divisors.{Divides, divides_head, divides_tail, divides_cons, one_divides, pos_size, pos_divisor, IsGreatest, divisor_is, IsBounded, divisor_bounds}
-use Rattle.linear_atoms.proofs.Truths.{exact, size_of_neg}
+use Rattle.linear_atoms.proofs.Quotients.{divided_below, divided_small}
+use Rattle.linear_atoms.proofs.Truths.{and_left, and_right, exact, size_of_neg, quotient_ends}
 
 different : (b : Bool) → b ≡ false → b ≡ true → ⊥
 different b e f = cc
@@ -101,26 +105,52 @@ first_down (pos zero) (suc g) h p n z = absurd (n refl)
 first_down (pos (suc a)) (suc g) h p n z = absurd (let q : pos 0 <ℤ pos (suc a) = omega (arith, ints) in false_lt (int_lt (pos 0) (pos (suc a))) h q.lt)
 first_down (negsuc a) (suc g) h p n z = above_zero (suc a / suc g) z
 
-normal_atom : (d : ℤ) (t : ℕ × ℤ) (ts : List (ℕ × ℤ)) (bound : ℤ) → IsRising (t ∷ ts) → unsigned_abs d ≡ common_divisor (t ∷ ts) → Divides (unsigned_abs d) (t ∷ ts) → pos 0 <ℤ int_div t.1 d
-    → IsNormalAtom (record { terms = divided d (t ∷ ts); bound = bound })
-normal_atom d t ts bound r e h p = record { rising = divided_rises d 0 (t ∷ ts) r h; positive = p; coprime = coprime d t ts r e h }
+-- what is said of the terms and the constant of a form
+record IsGiven (count : ℕ) (ts : List (ℕ × ℤ)) (k : ℤ) : Type 0 where
+  pub rising : IsRising ts
+  pub below : AreBelow count ts
+  pub small : are_small ts ≡ true
+  pub constant : is_small k ≡ true
 
-literal_normal : (b : Bool) (t : ℕ × ℤ) (ts : List (ℕ × ℤ)) (k : ℤ) → b ≡ int_lt (pos 0) t.1 → IsRising (t ∷ ts)
-    → IsNormalAtom (if b then at_least (divided (pos (common_divisor (t ∷ ts))) (t ∷ ts)) (rounded_up k (pos (common_divisor (t ∷ ts)))) true
+normal_atom : (count : ℕ) (d : ℤ) (t : ℕ × ℤ) (ts : List (ℕ × ℤ)) (bound k : ℤ) → IsGiven count (t ∷ ts) k → unsigned_abs d ≡ common_divisor (t ∷ ts) → Divides (unsigned_abs d) (t ∷ ts) → pos 0 <ℤ int_div t.1 d
+    → unsigned_abs bound ≤ 2147483649 → IsAtom count (record { terms = divided d (t ∷ ts); bound = bound })
+normal_atom count d t ts bound k i e h p b = record {
+  rising = divided_rises d 0 (t ∷ ts) i.rising h;
+  coprime = coprime d t ts i.rising e h;
+  small = divided_small d (t ∷ ts) i.small;
+  positive = p;
+  below = divided_below d count (t ∷ ts) i.below;
+  bounded = b;
+}
+
+positive_divisor : (n : ℕ) → 0 < n → pos 0 <ℤ pos n
+positive_divisor n h = omega (arith, ints)
+
+up_size : (k : ℤ) (g : ℕ) → is_small k ≡ true → 0 < g → unsigned_abs (rounded_up k (pos g)) ≤ 2147483649
+up_size k g h p = let q = quotient_ends k (pos g) h (positive_divisor g p) in omega (arith, ints, q.0, q.1)
+
+down_size : (k : ℤ) (g : ℕ) → is_small k ≡ true → 0 < g → unsigned_abs (pos 1 -ℤ rounded_up k (pos g)) ≤ 2147483649
+down_size k g h p = let q = quotient_ends k (pos g) h (positive_divisor g p) in omega (arith, ints, q.0, q.1)
+
+literal_normal : (count : ℕ) (b : Bool) (t : ℕ × ℤ) (ts : List (ℕ × ℤ)) (k : ℤ) → b ≡ int_lt (pos 0) t.1 → IsGiven count (t ∷ ts) k
+    → IsAtom count (if b then at_least (divided (pos (common_divisor (t ∷ ts))) (t ∷ ts)) (rounded_up k (pos (common_divisor (t ∷ ts)))) true
     else at_least (divided (neg_ℤ (pos (common_divisor (t ∷ ts)))) (t ∷ ts)) (pos 1 -ℤ rounded_up k (pos (common_divisor (t ∷ ts)))) false).atom
-literal_normal true t ts k e r =
+literal_normal count true t ts k e i =
     let g : ℕ = common_divisor (t ∷ ts) in
-    let h : Divides g (t ∷ ts) = record { all = (divisor_bounds t ts r).divides } in
-    normal_atom (pos g) t ts (rounded_up k (pos g)) r refl h (first_up t.1 g (sym e) (nonzero_at (pos g) t ts h r.1))
-literal_normal false t ts k e r =
+    let m : IsBounded g (unsigned_abs t.1) (t ∷ ts) = divisor_bounds t ts i.rising in
+    let h : Divides g (t ∷ ts) = record { all = m.divides } in
+    normal_atom count (pos g) t ts (rounded_up k (pos g)) k i refl h (first_up t.1 g (sym e) (nonzero_at (pos g) t ts h i.rising.1)) (up_size k g i.constant m.positive)
+literal_normal count false t ts k e i =
     let g : ℕ = common_divisor (t ∷ ts) in
-    let h : Divides (unsigned_abs (neg_ℤ (pos g))) (t ∷ ts) = subst (λ x. Divides x (t ∷ ts)) (sym (size_of_neg g)) (record { all = (divisor_bounds t ts r).divides }) in
-    normal_atom (neg_ℤ (pos g)) t ts (pos 1 -ℤ rounded_up k (pos g)) r (size_of_neg g) h
-    (first_down t.1 g (sym e) (divisor_bounds t ts r).positive r.1 (nonzero_at (neg_ℤ (pos g)) t ts h r.1))
+    let m : IsBounded g (unsigned_abs t.1) (t ∷ ts) = divisor_bounds t ts i.rising in
+    let h : Divides (unsigned_abs (neg_ℤ (pos g))) (t ∷ ts) = subst (λ x. Divides x (t ∷ ts)) (sym (size_of_neg g)) (record { all = m.divides }) in
+    normal_atom count (neg_ℤ (pos g)) t ts (pos 1 -ℤ rounded_up k (pos g)) k i (size_of_neg g) h
+    (first_down t.1 g (sym e) m.positive i.rising.1 (nonzero_at (neg_ℤ (pos g)) t ts h i.rising.1)) (down_size k g i.constant m.positive)
 
-normal_by_terms : (ts : List (ℕ × ℤ)) (k : ℤ) → IsRising ts → IsNormal (normal_by ts (common_divisor ts) k)
-normal_by_terms [] k r = tt
-normal_by_terms (t ∷ ts) k r = literal_normal (int_lt (pos 0) t.1) t ts k refl r
+normal_by_terms : (count : ℕ) (ts : List (ℕ × ℤ)) (k : ℤ) → IsGiven count ts k → IsNormal count (normal_by ts (common_divisor ts) k)
+normal_by_terms count [] k i = tt
+normal_by_terms count (t ∷ ts) k i = literal_normal count (int_lt (pos 0) t.1) t ts k refl i
 
-pub normal_kept : (form : Linear) → IsRising form.terms → IsNormal (normal_of form)
-normal_kept form r = normal_by_terms form.terms form.constant r
+pub normal_kept : (count : ℕ) (form : Linear) (made : Normal) → made ≡ normal_of form → is_small_form form ≡ true → IsRising form.terms → AreBelow count form.terms → IsNormal count made
+normal_kept count form made e s r b = subst (IsNormal count) (sym e)
+    (normal_by_terms count form.terms form.constant (record { rising = r; below = b; small = and_left (are_small form.terms) (is_small form.constant) s; constant = and_right (are_small form.terms) (is_small form.constant) s }))

@@ -5,7 +5,7 @@ use Rattle.std.proofs.lemmas.Bool.Decides.{nat_tests}
 use Rattle.std.proofs.lemmas.Nat.Gcd.{mod-eq-zero_of_dvd, dvd_of_mod-eq-zero, le_of_dvd, dvd_trans, dvd-zero, dvd_refl}
 use Rattle.std.proofs.Math.Nat.{mod-zero}
 use Rattle.linear_atoms.specs.Forms.{IsRising, is_small, are_small}
-use Rattle.linear_atoms.specs.Normal.{divides_all, greatest_to, common_divisor}
+use Rattle.linear_atoms.specs.Divisors.{divides_all, greatest_to, common_divisor}
 
 -- the number divides each coefficient
 pub record Divides (d : ℕ) (ts : List (ℕ × ℤ)) : Type 0 where

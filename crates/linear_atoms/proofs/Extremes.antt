@@ -1,14 +1,13 @@
 -- The least and the greatest sum over the ranges bound each sum, and are reached.
-use Rattle.std.proofs.Common.{◌≡◌, ℕ, zero, suc, ◌*◌, ◌≤◌, ◌<◌, ℤ, pos, negsuc, ◌+ℤ◌, ◌-ℤ◌, ◌*ℤ◌, ◌≤ℤ◌, ◌<ℤ◌, int_lt, int_le, unsigned_abs, Bool, true, false, if◌then◌else◌, List, [], ◌∷◌, length, get_or, sym, ap, subst, refl, ◌∙◌, arith, Some, None, FitsSigned, to_z, of_z, w64}
-use Rattle.std.specs.Int.{w128}
-use Rattle.std.proofs.lemmas.Int.{ints, to_z-of_z}
-use Rattle.linear_atoms.proofs.Sums.{wide}
+use Rattle.std.proofs.Common.{◌≡◌, ℕ, zero, suc, ◌*◌, ◌≤◌, ◌<◌, ℤ, pos, negsuc, ◌+ℤ◌, ◌-ℤ◌, ◌*ℤ◌, ◌≤ℤ◌, ◌<ℤ◌, int_lt, int_le, unsigned_abs, Bool, true, false, if◌then◌else◌, List, [], ◌∷◌, length, map, get_or, sym, ap, subst, refl, ◌∙◌, arith, Option, Some, None}
+use Rattle.std.proofs.lemmas.Int.{ints}
+use Rattle.std.proofs.lemmas.Bool.{false≢true}
 use Rattle.std.proofs.Math.IntN.{negsuc-*ℤ-pos}
 use Rattle.linear_atoms.specs.declared.atoms.Feature.{Feature}
 use Rattle.linear_atoms.specs.declared.atoms.Atom.{Atom}
 use Rattle.linear_atoms.specs.Forms.{RisesFrom, IsRising, sum_at}
-use Rattle.linear_atoms.specs.Atoms.{AreBelow, AreRanges, IsWithin, IsDecided}
-use Rattle.linear_atoms.specs.Ranges.{extreme_value, extreme_at, extreme_sum}
+use Rattle.linear_atoms.specs.Atoms.{AreBelow, AreRanges, IsAtom, IsWithin, IsDecided}
+use Rattle.linear_atoms.specs.Ranges.{extreme_value, extreme_at, extreme_sum, decided_of}
 use Rattle.linear_atoms.proofs.Integers.{times-sum}
 
 size_by : (b g : Bool) (f : Feature) → unsigned_abs f.low ≤ 1048576 → unsigned_abs f.high ≤ 1048576 → unsigned_abs (if b then (if g then f.high else f.low) else (if g then f.low else f.high)) ≤ 1048576
@@ -22,11 +21,19 @@ extreme_size g a [] n h = omega arith
 extreme_size g a (f ∷ fs) zero h = size_by (int_lt (pos 0) a) g f h.1 h.2
 extreme_size g a (f ∷ fs) (suc n) h = extreme_size g a fs n h.3
 
--- the feature at a place
-pub extreme_is : (g : Bool) (a : ℤ) (fs : List Feature) (n : ℕ) (x : Feature) → n < length fs → x ≡ get_or fs n x → extreme_value g a x ≡ extreme_at g a fs n
-extreme_is g a [] n x h e = absurd (omega arith)
-extreme_is g a (f ∷ fs) zero x h e = ap (extreme_value g a) e
-extreme_is g a (f ∷ fs) (suc n) x h e = extreme_is g a fs n x (omega arith) e
+-- what has a range, at a place
+pub extreme_is : {X : Type 0} (feature : X → Feature) (g : Bool) (a : ℤ) (xs : List X) (n : ℕ) (x : X) → n < length xs → x ≡ get_or xs n x → extreme_value g a (feature x) ≡ extreme_at g a (map feature xs) n
+extreme_is feature g a [] n x h e = absurd (omega arith)
+extreme_is feature g a (y ∷ ys) zero x h e = ap (λ z. extreme_value g a (feature z)) e
+extreme_is feature g a (y ∷ ys) (suc n) x h e = extreme_is feature g a ys n x (omega arith) e
+
+pub length_mapped : {X : Type 0} (feature : X → Feature) (xs : List X) → length (map feature xs) ≡ length xs
+length_mapped feature [] = refl
+length_mapped feature (x ∷ xs) = ap suc (length_mapped feature xs)
+
+pub map_same : {X : Type 0} (xs : List X) → map (λ x. x) xs ≡ xs
+map_same [] = refl
+map_same (x ∷ xs) = ap (λ ys. x ∷ ys) (map_same xs)
 
 pub extreme_split : (g : Bool) (fs : List Feature) (rest behind : List (ℕ × ℤ)) (n : ℕ) (a p : ℤ) → rest ≡ (n, a) ∷ behind → p ≡ a *ℤ extreme_at g a fs n → extreme_sum g fs rest ≡ p +ℤ extreme_sum g fs behind
 extreme_split g fs rest behind n a p e f = ap (extreme_sum g fs) e ∙ ap (λ x. x +ℤ extreme_sum g fs behind) (sym f)
@@ -179,7 +186,7 @@ never fs atom h vs w =
     let l : sum_at atom.terms vs ≤ℤ extreme_sum true fs atom.terms = (sums_between fs vs atom.terms w).1 in
     failed atom.bound (sum_at atom.terms vs) (omega (arith, ints))
 
-pub open_still : (fs : List Feature) (atom : Atom) → AreRanges fs → IsRising atom.terms → AreBelow (length fs) atom.terms → extreme_sum false fs atom.terms <ℤ atom.bound → atom.bound ≤ℤ extreme_sum true fs atom.terms → IsDecided fs atom None
+open_still : (fs : List Feature) (atom : Atom) → AreRanges fs → IsRising atom.terms → AreBelow (length fs) atom.terms → extreme_sum false fs atom.terms <ℤ atom.bound → atom.bound ≤ℤ extreme_sum true fs atom.terms → IsDecided fs atom None
 open_still fs atom h r b l g =
     let p : Reaches true fs atom.terms = reach true fs 0 atom.terms h r b in
     let q : Reaches false fs atom.terms = reach false fs 0 atom.terms h r b in
@@ -189,22 +196,32 @@ open_still fs atom h r b l g =
       (q.values, q.within, failed atom.bound (sum_at atom.terms q.values) (omega (arith, ints))),
     )
 
--- ---- the tests as the code makes them
+reached : (x y : ℤ) → int_le x y ≡ true → x ≤ℤ y
+reached x y e = grind (arith, ints)
 
-both_wide : (b r s : ℤ) → FitsSigned w64 b → FitsSigned w128 r → r ≡ s → int_le (to_z w128 (of_z w128 (to_z w64 (of_z w64 b)))) (to_z w128 (of_z w128 r)) ≡ int_le b s
-both_wide b r s f g e = rw (wide b f, to_z-of_z w128 r g, e) refl
+not_reached : (x y : ℤ) → int_le x y ≡ false → y <ℤ x
+not_reached x y e = grind (arith, ints)
 
-pub reaches : (b r s : ℤ) → FitsSigned w64 b → FitsSigned w128 r → r ≡ s → int_le (to_z w128 (of_z w128 (to_z w64 (of_z w64 b)))) (to_z w128 (of_z w128 r)) ≡ true → b ≤ℤ s
-reaches b r s f g e h = let k : int_le b s ≡ true = sym (both_wide b r s f g e) ∙ h in grind (arith, ints)
+missed : (x y : ℤ) → int_lt x y ≡ true → x <ℤ y
+missed x y e = grind (arith, ints)
 
-pub stays_below : (b r s : ℤ) → FitsSigned w64 b → FitsSigned w128 r → r ≡ s → int_le (to_z w128 (of_z w128 (to_z w64 (of_z w64 b)))) (to_z w128 (of_z w128 r)) ≡ false → s <ℤ b
-stays_below b r s f g e h = let k : int_le b s ≡ false = sym (both_wide b r s f g e) ∙ h in grind (arith, ints)
+not_missed : (x y : ℤ) → int_lt x y ≡ false → y ≤ℤ x
+not_missed x y e = grind (arith, ints)
 
-other_wide : (b r s : ℤ) → FitsSigned w64 b → FitsSigned w128 r → r ≡ s → int_lt (to_z w128 (of_z w128 r)) (to_z w128 (of_z w128 (to_z w64 (of_z w64 b)))) ≡ int_lt s b
-other_wide b r s f g e = rw (wide b f, to_z-of_z w128 r g, e) refl
+decides_by : (fs : List Feature) (atom : Atom) (b c : Bool) → AreRanges fs → IsAtom (length fs) atom → int_le atom.bound (extreme_sum false fs atom.terms) ≡ b → int_lt (extreme_sum true fs atom.terms) atom.bound ≡ c
+    → IsDecided fs atom (if b then Some true else (if c then Some false else None))
+decides_by fs atom true c h a e f = always fs atom (reached _ _ e)
+decides_by fs atom false true h a e f = never fs atom (missed _ _ f)
+decides_by fs atom false false h a e f = open_still fs atom h a.rising a.below (not_reached _ _ e) (not_missed _ _ f)
 
-pub is_below : (b r s : ℤ) → FitsSigned w64 b → FitsSigned w128 r → r ≡ s → int_lt (to_z w128 (of_z w128 r)) (to_z w128 (of_z w128 (to_z w64 (of_z w64 b)))) ≡ true → s <ℤ b
-is_below b r s f g e h = let k : int_lt s b ≡ true = sym (other_wide b r s f g e) ∙ h in grind (arith, ints)
+pub decided_so : (fs : List Feature) (atom : Atom) → AreRanges fs → IsAtom (length fs) atom → IsDecided fs atom (decided_of fs atom)
+decided_so fs atom h a = decides_by fs atom (int_le atom.bound (extreme_sum false fs atom.terms)) (int_lt (extreme_sum true fs atom.terms) atom.bound) h a refl refl
 
-pub is_not_below : (b r s : ℤ) → FitsSigned w64 b → FitsSigned w128 r → r ≡ s → int_lt (to_z w128 (of_z w128 r)) (to_z w128 (of_z w128 (to_z w64 (of_z w64 b)))) ≡ false → b ≤ℤ s
-is_not_below b r s f g e h = let k : int_lt s b ≡ false = sym (other_wide b r s f g e) ∙ h in grind (arith, ints)
+one_answer : (fs : List Feature) (atom : Atom) (r s : Option Bool) (values : List ℤ) → IsWithin fs values → IsDecided fs atom r → IsDecided fs atom s → r ≡ s
+one_answer fs atom None None values w p q = refl
+one_answer fs atom None (Some v) values w p q = absurd (false≢true (sym p.1.2 ∙ q p.1.0 p.1.1 ∙ sym (q p.0.0 p.0.1) ∙ p.0.2))
+one_answer fs atom (Some v) None values w p q = absurd (false≢true (sym q.1.2 ∙ p q.1.0 q.1.1 ∙ sym (p q.0.0 q.0.1) ∙ q.0.2))
+one_answer fs atom (Some u) (Some v) values w p q = ap Some (sym (p values w) ∙ q values w)
+
+pub decided_once : (fs : List Feature) (atom : Atom) (said : Option Bool) → AreRanges fs → IsAtom (length fs) atom → IsDecided fs atom said → said ≡ decided_of fs atom
+decided_once fs atom said h a d = one_answer fs atom said (decided_of fs atom) (lows fs) (lows_within fs h) d (decided_so fs atom h a)

@@ -5,6 +5,7 @@ pub mod Integers
 pub mod Merges
 pub mod Normals
 pub mod Products
+pub mod Quotients
 pub mod Readings
 pub mod Sums
 pub mod Truths

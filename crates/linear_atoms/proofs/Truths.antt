@@ -10,7 +10,8 @@ use Rattle.linear_atoms.specs.declared.forms.Linear.{Linear}
 use Rattle.linear_atoms.specs.declared.normal.Normal.TheVariants as normals
 use Rattle.linear_atoms.specs.Forms.{IsRising, sum_at, form_at, is_small}
 use Rattle.linear_atoms.specs.Atoms.{literal_holds}
-use Rattle.linear_atoms.specs.Normal.{divides_all, common_divisor, divided, rounded_up, at_least, literal_by, normal_by, normal_of, normal_holds}
+use Rattle.linear_atoms.specs.Divisors.{divides_all, common_divisor}
+use Rattle.linear_atoms.specs.Normal.{divided, rounded_up, at_least, literal_by, normal_by, normal_of, normal_holds}
 use Rattle.linear_atoms.proofs.Integers.{sum-times, times-sum, past}
 use Rattle.linear_atoms.proofs.Divisors.{IsBounded, divisor_bounds}
 
@@ -26,11 +27,11 @@ exact a d h =
     let f : int_rem a d ≡ pos 0 = rem_zero a d h in
     omega (arith, ints)
 
-and_left : (a b : Bool) → (a && b) ≡ true → a ≡ true
+pub and_left : (a b : Bool) → (a && b) ≡ true → a ≡ true
 and_left true b e = refl
 and_left false b e = e
 
-and_right : (a b : Bool) → (a && b) ≡ true → b ≡ true
+pub and_right : (a b : Bool) → (a && b) ≡ true → b ≡ true
 and_right true b e = e
 and_right false b e = cc
 
@@ -139,7 +140,7 @@ spread ts rest n a g k e = subst (λ x. normals.Literal (literal_by a x (pos g) 
 pub made_normal : (form : Linear) (rest : List (ℕ × ℤ)) (n : ℕ) (a g : ℤ) → form.terms ≡ (n, a) ∷ rest → g ≡ pos (common_divisor form.terms) → normals.Literal (literal_by a form.terms g form.constant) ≡ normal_of form
 made_normal form rest n a g e f = ap (λ x. normals.Literal (literal_by a form.terms x form.constant)) f ∙ spread form.terms rest n a (common_divisor form.terms) form.constant e
 
-size_small : (k : ℤ) → is_small k ≡ true → unsigned_abs k ≤ 2147483648
+pub size_small : (k : ℤ) → is_small k ≡ true → unsigned_abs k ≤ 2147483648
 size_small k h = grind (arith, nat_tests)
 
 quotient_size : (k g : ℤ) → pos 0 <ℤ g → unsigned_abs (int_div_euclid k g) ≤ unsigned_abs k

@@ -1,9 +1,10 @@
 -- Atoms and literals at configurations, and over the ranges of the features.
-use Rattle.std.specs.Prelude.{◌≡◌, ℕ, ◌≤◌, ◌<◌, ℤ, ◌≤ℤ◌, int_le, unsigned_abs, Bool, true, false, not, if◌then◌else◌, List, [], ◌∷◌, Option, Some, None}
+use Rattle.std.specs.Prelude.{◌≡◌, ℕ, ◌≤◌, ◌<◌, ℤ, pos, ◌≤ℤ◌, ◌<ℤ◌, int_le, unsigned_abs, Bool, true, false, not, if◌then◌else◌, List, [], ◌∷◌, Option, Some, None}
 use Rattle.linear_atoms.specs.declared.atoms.Feature.{Feature}
 use Rattle.linear_atoms.specs.declared.atoms.Atom.{Atom}
 use Rattle.linear_atoms.specs.declared.atoms.Literal.{Literal}
-use Rattle.linear_atoms.specs.Forms.{sum_at}
+use Rattle.linear_atoms.specs.Divisors.{common_divisor}
+use Rattle.linear_atoms.specs.Forms.{IsRising, are_small, sum_at}
 
 -- the sum of the terms is at least the bound
 abbrev pub holds : Atom → List ℤ → Bool
@@ -16,6 +17,28 @@ literal_holds literal values = if literal.positive then holds literal.atom value
 abbrev pub AreBelow : ℕ → List (ℕ × ℤ) → Type 0
 AreBelow count [] = Unit {0}
 AreBelow count (t ∷ ts) = (t.0 < count) × AreBelow count ts
+
+abbrev pub LeadsPositive : List (ℕ × ℤ) → Type 0
+LeadsPositive [] = ⊥
+LeadsPositive (t ∷ ts) = pos 0 <ℤ t.1
+
+-- a well-formed atom over so many features: terms rise, the coefficients are coprime and at most 2^31 in size, the
+-- first is positive, and the bound is at most 2^31 + 1 in size
+pub record IsAtom (count : ℕ) (atom : Atom) : Type 0 where
+  pub rising : IsRising atom.terms
+  pub coprime : common_divisor atom.terms ≡ 1
+  pub small : are_small atom.terms ≡ true
+  pub positive : LeadsPositive atom.terms
+  pub below : AreBelow count atom.terms
+  pub bounded : unsigned_abs atom.bound ≤ 2147483649
+
+abbrev pub AreAtoms : ℕ → List Atom → Type 0
+AreAtoms count [] = Unit {0}
+AreAtoms count (a ∷ bs) = IsAtom count a × AreAtoms count bs
+
+abbrev pub AreLiterals : ℕ → List Literal → Type 0
+AreLiterals count [] = Unit {0}
+AreLiterals count (l ∷ ls) = IsAtom count l.atom × AreLiterals count ls
 
 -- each value is at most 2^20 in size
 abbrev pub AreValues : List ℤ → Type 0

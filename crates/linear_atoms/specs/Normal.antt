@@ -1,5 +1,5 @@
 -- The normal form of "this is at least 0".
-use Rattle.std.specs.Prelude.{◌≡◌, ⊤, ℕ, zero, suc, ◌%◌, nat_eq, ℤ, pos, neg_ℤ, ◌-ℤ◌, unsigned_abs, int_div, int_lt, int_le, Bool, true, false, ◌&&◌, if◌then◌else◌, List, [], ◌∷◌, Result, Ok, Err, ◌<ℤ◌}
+use Rattle.std.specs.Prelude.{◌≡◌, ⊤, ℕ, ℤ, pos, neg_ℤ, ◌-ℤ◌, int_div, int_lt, int_le, Bool, true, false, if◌then◌else◌, List, [], ◌∷◌, Result, Ok, Err}
 use Rattle.std.specs.Int.{int_div_euclid}
 use Rattle.linear_atoms.specs.declared.forms.Linear.{Linear}
 use Rattle.linear_atoms.specs.declared.forms.LinearFault.{LinearFault}
@@ -8,23 +8,9 @@ use Rattle.linear_atoms.specs.declared.atoms.Atom.{Atom}
 use Rattle.linear_atoms.specs.declared.atoms.Literal.{Literal}
 use Rattle.linear_atoms.specs.declared.normal.Normal.{Normal}
 use Rattle.linear_atoms.specs.declared.normal.Normal.TheVariants as normals
-use Rattle.linear_atoms.specs.Forms.{IsRising, is_small_form}
-use Rattle.linear_atoms.specs.Atoms.{literal_holds}
-
--- ---- the greatest common divisor of the coefficients
-
-abbrev pub divides_all : ℕ → List (ℕ × ℤ) → Bool
-divides_all d [] = true
-divides_all d (t ∷ ts) = nat_eq (unsigned_abs t.1 % d) 0 && divides_all d ts
-
--- the greatest number up to a limit that divides each coefficient
-abbrev pub greatest_to : ℕ → List (ℕ × ℤ) → ℕ
-greatest_to zero ts = 0
-greatest_to (suc n) ts = if divides_all (suc n) ts then suc n else greatest_to n ts
-
-unfoldable pub common_divisor : List (ℕ × ℤ) → ℕ
-common_divisor [] = 0
-common_divisor (t ∷ ts) = greatest_to (unsigned_abs t.1) (t ∷ ts)
+use Rattle.linear_atoms.specs.Divisors.{common_divisor}
+use Rattle.linear_atoms.specs.Forms.{is_small_form}
+use Rattle.linear_atoms.specs.Atoms.{literal_holds, IsAtom}
 
 -- ---- the normal form
 
@@ -62,18 +48,7 @@ NormalWithin (Ok made) form = (made ≡ normal_of form) × (is_small_form form �
 NormalWithin (Err faults.NoMemory) form = ⊤
 NormalWithin (Err faults.TooLarge) form = is_small_form form ≡ false
 
--- ---- atoms in normal form
-
-abbrev pub LeadsPositive : List (ℕ × ℤ) → Type 0
-LeadsPositive [] = ⊥
-LeadsPositive (t ∷ ts) = pos 0 <ℤ t.1
-
--- terms rise, the first coefficient is positive, and the coefficients are coprime
-pub record IsNormalAtom (atom : Atom) : Type 0 where
-  pub rising : IsRising atom.terms
-  pub positive : LeadsPositive atom.terms
-  pub coprime : common_divisor atom.terms ≡ 1
-
-abbrev pub IsNormal : Normal → Type 0
-IsNormal (normals.Const truth) = Unit {0}
-IsNormal (normals.Literal literal) = IsNormalAtom literal.atom
+-- a truth, or a well-formed atom over so many features
+abbrev pub IsNormal : ℕ → Normal → Type 0
+IsNormal count (normals.Const truth) = Unit {0}
+IsNormal count (normals.Literal literal) = IsAtom count literal.atom

@@ -2,8 +2,8 @@
 #![tactic(auto)]
 
 ghost use Rattle.std.specs.Prelude.{◌≡◌, ◌*◌, ℤ, ◌*ℤ◌, ◌+ℤ◌, List, true, IfOk, length, unsigned_abs, ◌≤◌};
-ghost use Rattle.linear_atoms.specs.Forms.{IsRising, sum_at, are_small};
-ghost use Rattle.linear_atoms.specs.Atoms.{holds, AreBelow, AreValues};
+ghost use Rattle.linear_atoms.specs.Forms.{sum_at, are_small};
+ghost use Rattle.linear_atoms.specs.Atoms.{holds, AreBelow, AreValues, IsAtom};
 
 use crate::merging::{cut, product};
 use crate::terms::Terms;
@@ -71,8 +71,7 @@ impl Atom {
 
     /// Whether the test is true at a configuration, which has each feature that it names.
     pub fn truth(&self, config: &Config) -> bool
-        requires named { AreBelow (length config.now.values) self.now.terms }
-        requires coefficients { are_small self.now.terms ≡ true }
+        requires atom { IsAtom (length config.now.values) self.now }
         requires values { AreValues config.now.values }
         ensures { result ≡ holds self.now config.now.values }
     {

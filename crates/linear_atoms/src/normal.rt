@@ -3,8 +3,10 @@
 
 ghost use Rattle.std.specs.Prelude.{◌≡◌, ◌≢◌, ℕ, ◌<◌, ◌≤◌, ◌∷◌, ℤ, pos, negsuc, int_le, ◌≤ℤ◌, ◌<ℤ◌, List, true, IfOk};
 ghost use Rattle.std.specs.Int.{IsGcd};
+ghost use Rattle.linear_atoms.specs.Atoms.{AreBelow};
+ghost use Rattle.linear_atoms.specs.Divisors.{common_divisor};
 ghost use Rattle.linear_atoms.specs.Forms.{IsRising, form_at, is_small, are_small, is_small_form};
-ghost use Rattle.linear_atoms.specs.Normal.{common_divisor, divided, rounded_up, literal_by, normal_of, normal_holds, NormalWithin, IsNormal};
+ghost use Rattle.linear_atoms.specs.Normal.{divided, rounded_up, literal_by, normal_of, normal_holds, NormalWithin, IsNormal};
 
 use crate::atoms::{Atom, Literal};
 use crate::forms::{Linear, LinearFault};
@@ -132,15 +134,15 @@ impl Linear {
     /// Let `g` be the greatest common divisor of the coefficients and `k` the constant. Where the first
     /// coefficient is positive, it is the literal "terms `a/g` at least `-k/g` rounded up". Where it is
     /// negative, it is the negation of "terms `-a/g` at least `1 - r`", with `r` equal to `-k/g` rounded up.
-    /// It is true at a configuration exactly where the form is at least 0. The literal's coefficients are coprime,
-    /// and the first is positive.
+    /// It is true at a configuration exactly where the form is at least 0. The literal's atom is well formed over
+    /// each number of features that has those of the form.
     ///
     /// It answers `TooLarge` exactly where a coefficient or the constant passes 2^31 in size, and `NoMemory`
     /// for want of memory.
     pub fn normal(&self, alloc: Global) -> Result<Normal, LinearFault>
         requires { IsRising self.now.terms }
         ensures exact { NormalWithin result self.now }
-        ensures normal { IsNormal (normal_of self.now) }
+        ensures atom { (count : ℕ) → AreBelow count self.now.terms → IfOk result (λ made. IsNormal count made) }
         ensures truth { (values : List ℤ) → normal_holds (normal_of self.now) values ≡ int_le (pos 0) (form_at self.now values) }
     {
         let terms = self.terms.items();

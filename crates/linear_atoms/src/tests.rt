@@ -1,6 +1,7 @@
 //! Linear forms, atoms and literals over features `A` (Boolean), `N` and `M` (from 0 to 7).
 
 ghost use Rattle.std.specs.Prelude.{◌≡◌, pos, IfOk};
+ghost use Rattle.linear_atoms.specs.Atoms.{IsAtom};
 ghost use Rattle.linear_atoms.specs.Forms.{IsRising};
 
 use crate::*;
@@ -23,6 +24,14 @@ fn atom(alloc: Global, list: &[(u32, i64)], bound: i64) -> Result<Atom, NoMemory
         terms: terms(alloc, list)?,
         bound,
     })
+}
+
+/// A well-formed atom over two features.
+fn test(alloc: Global, list: &[(u32, i64)], bound: i64) -> Result<Atom, NoMemory>
+    requires { IsAtom 2 (record { terms = list.now; bound = bound }) }
+    ensures { IfOk result (λ made. IsAtom 2 made) }
+{
+    atom(alloc, list, bound)
 }
 
 fn feature(alloc: Global, name: &[u8], boolean: bool, high: i64) -> Result<Feature, NoMemory>
@@ -105,36 +114,39 @@ fn atoms_are_in_order(rt: HostRuntime) -> Result<(), Fail> {
     Ok(())
 }
 
-/// `2 * N - M >= 3` at values of `A`, `N` and `M`.
+#[tactic(auto, unfolding(crate::specs::Divisors::common_divisor))]
+/// `2 * A - N >= -3` at values of `A` and `N`.
 #[test]
 fn atoms_have_truths(rt: HostRuntime) -> Result<(), Fail> {
-    let atom = atom(rt.alloc(), &[(1, 2), (2, -1)], 3)?;
-    let mut values = Vec::new(rt.alloc());
-    values.push(1)?;
-    values.push(3)?;
-    values.push(3)?;
-    let config = Config {
-        values: Values::from_vec(values),
-    };
-    assert!(rt; atom.truth(&config));
+    let atom = test(rt.alloc(), &[(0, 2), (1, -1)], -3)?;
+    for (value, truth) in [(5, true), (6, false)] {
+        let config = Config {
+            values: Values::from_vec(vec![in rt.alloc(); 1, value]?),
+        };
+        assert!(rt; atom.truth(&config) == truth);
+    }
     Ok(())
 }
 
+#[tactic(auto, unfolding(crate::specs::Divisors::common_divisor))]
 #[test]
 fn ranges_decide(rt: HostRuntime) -> Result<(), Fail> {
     let features = [
         feature(rt.alloc(), b"A", true, 1)?,
         feature(rt.alloc(), b"N", false, 7)?,
     ];
-    let reached = atom(rt.alloc(), &[(0, 1), (1, -1)], -7)?;
-    let open = atom(rt.alloc(), &[(0, 1), (1, -1)], 1)?;
-    let missed = atom(rt.alloc(), &[(0, 1), (1, -1)], 2)?;
+    let spans = [Span { low: 0, high: 1 }, Span { low: 1, high: 7 }];
+    let reached = test(rt.alloc(), &[(0, 1), (1, -1)], -7)?;
+    let open = test(rt.alloc(), &[(0, 1), (1, -1)], 1)?;
+    let missed = test(rt.alloc(), &[(0, 1), (1, -1)], 2)?;
     assert_eq!(rt; reached.decided(&features), Some(true));
     assert_eq!(rt; open.decided(&features), None);
     assert_eq!(rt; missed.decided(&features), Some(false));
+    assert_eq!(rt; open.decided_within(&spans), Some(false));
     Ok(())
 }
 
+#[tactic(auto, unfolding(crate::specs::Divisors::common_divisor))]
 #[test]
 fn literals_have_texts(rt: HostRuntime) -> Result<(), Fail> {
     let features = [
@@ -142,15 +154,15 @@ fn literals_have_texts(rt: HostRuntime) -> Result<(), Fail> {
         feature(rt.alloc(), b"N", false, 7)?,
     ];
     let switch = Literal {
-        atom: atom(rt.alloc(), &[(0, 1)], 1)?,
+        atom: test(rt.alloc(), &[(0, 1)], 1)?,
         positive: false,
     };
     let sum = Literal {
-        atom: atom(rt.alloc(), &[(0, 1), (1, -2)], -3)?,
+        atom: test(rt.alloc(), &[(0, 1), (1, -2)], -3)?,
         positive: false,
     };
     let multiple = Literal {
-        atom: atom(rt.alloc(), &[(1, 3)], 4)?,
+        atom: test(rt.alloc(), &[(0, 2), (1, 3)], 4)?,
         positive: true,
     };
     assert_eq!(rt;
@@ -163,7 +175,7 @@ fn literals_have_texts(rt: HostRuntime) -> Result<(), Fail> {
     );
     assert_eq!(rt;
         multiple.text(rt.alloc(), &features)?.bytes(),
-        b"3*N >= 4".as_slice()
+        b"2*A + 3*N >= 4".as_slice()
     );
     Ok(())
 }

@@ -4,7 +4,7 @@
 ghost use Rattle.std.specs.Prelude.{◌≡◌, ◌++◌, ◌≤◌, true, length, unsigned_abs, IfOk, vec_len, codes};
 ghost use Rattle.std.specs.Fmt.{signed_decimal};
 ghost use Rattle.linear_atoms.specs.Forms.{are_small, is_small};
-ghost use Rattle.linear_atoms.specs.Atoms.{AreBelow};
+ghost use Rattle.linear_atoms.specs.Atoms.{AreBelow, IsAtom};
 ghost use Rattle.linear_atoms.specs.Texts.{sign_text, sized_text, terms_text, is_switch, literal_text};
 
 use crate::atoms::{Atom, Feature, Literal};
@@ -112,9 +112,7 @@ impl Literal {
     /// `T >= c` where it is positive, with `c` the bound, and `T <= d` where it is negative, with `d` the bound
     /// minus 1. `T` has the terms in order, as `N`, `3*N` or `N - 2*M`.
     pub fn text(&self, alloc: Global, features: &[Feature]) -> Result<Text, NoMemory>
-        requires named { AreBelow (length features.now) self.now.atom.terms }
-        requires coefficients { are_small self.now.atom.terms ≡ true }
-        requires bound { unsigned_abs self.now.atom.bound ≤ 2147483649 }
+        requires { IsAtom (length features.now) self.now.atom }
         ensures { IfOk result (λ text. text ≡ literal_text features.now self.now) }
     {
         let terms = terms_text(alloc, self.atom.terms.items(), features)?;

@@ -2,7 +2,7 @@ use Rattle.std.proofs.Common.{Ok, Err, subst}
 use Rattle.cpp_conditions.specs.Grammar.{ReadsAs}
 use Rattle.cpp_conditions.specs.Reading.{Reads}
 use Rattle.cpp_conditions.specs.View.{proposition}
-use Rattle.feature_model.proofs.Adding.{nothing_added, text_refused, first_added, fit_more, bounded_more}
+use Rattle.feature_model.proofs.Adding.{nothing_added, text_refused, first_added, fit_more, open_more}
 use Rattle.feature_model.proofs.constraints.+add_constraints.Goals as goal
 
 pub returns-in_default-clause-read : goal.returns-in_default-clause-read
@@ -21,5 +21,5 @@ returns-clause-read t c =
 pub returns-clause-fit : goal.returns-clause-fit
 returns-clause-fit t c h = c.add_constraints.ensures.fit (fit_more _ c.args.made.now.items c.push.new.self.items c.in-Ok.condition c.in_ok-push-in-Ok.ensures.items c.in-Ok.ensures.fit h)
 
-pub returns-clause-bounded : goal.returns-clause-bounded
-returns-clause-bounded t c h = c.add_constraints.ensures.bounded (bounded_more c.args.made.now.items c.push.new.self.items c.in-Ok.condition c.in_ok-push-in-Ok.ensures.items c.in-Ok.ensures.bounded h)
+pub returns-clause-undecided : goal.returns-clause-undecided
+returns-clause-undecided t c h = c.add_constraints.ensures.undecided (open_more c.args.features.now c.args.made.now.items c.push.new.self.items c.in-Ok.condition c.in_ok-push-in-Ok.ensures.items c.in-Ok.ensures.undecided h)

@@ -1,5 +1,5 @@
 use Rattle.std.proofs.lemmas.Result.{err_from_is_err_and}
-use Rattle.feature_model.proofs.Answering.{untold_so, refused_so, read_so, valid_so}
+use Rattle.feature_model.proofs.Answering.{untold_so, refused_so, read_so, few_so, valid_so}
 use Rattle.feature_model.proofs.models.read_model.Goals as goal
 
 pub returns-in_err-features-clause-read : goal.returns-in_err-features-clause-read
@@ -18,6 +18,9 @@ pub returns-clause-read : goal.returns-clause-read
 returns-clause-read c =
     read_so c.args.bytes.now c.in_ok-features.features.items c.deref.result.now c.in_ok-features.texts.items c.deref-2.result.now (record { features = c.from_vec.result; constraints = c.from_vec-2.result }) c.new-constraints.result.items c.add_constraints.new.made.items
     c.in_ok-add_constraints.field-0 c.judged.result c.in_ok-features.ensures.told c.deref.ensures.value c.deref-2.ensures.value c.new-constraints.ensures.items c.in_ok-add_constraints.ensures.read c.from_vec.ensures c.from_vec-2.ensures c.judged.ensures.judged
+
+pub returns-clause-atoms : goal.returns-clause-atoms
+returns-clause-atoms c = few_so _ c.judged.result c.judged.ensures.judged
 
 pub returns-clause-valid : goal.returns-clause-valid
 returns-clause-valid c = valid_so _ c.judged.result c.judged.ensures.judged
