@@ -6,8 +6,8 @@ pub mod FoldLemmas
 pub mod LeafEquality
 pub mod FormLemmas
 pub mod Merges
-pub mod Nodes
-pub mod StopLemmas
+pub mod AtNothing
+pub mod NodeEquations
 mod Products
 mod FormValues
 mod Results
