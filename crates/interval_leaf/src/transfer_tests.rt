@@ -10,7 +10,7 @@ use crate::IntervalLeaf;
 use crate::tests::{GREATEST, LEAST, leaf};
 use c_tree::{Expr, Kind, Mode, Op, Stmt};
 use fam_outer::{NoMemory, Place};
-use leaf_domain::{Leaf, assign, assume, fits, forget, form_of, may, range_of, raw_of};
+use leaf_domain::{Leaf, assign, assume, fits, forget, form_of, may, range_of, raw_of, split};
 use std::alloc::Global;
 use std::test::Fail;
 
@@ -27,6 +27,17 @@ fn with_x(alloc: Global, op: Op, n: i64) -> Result<Expr, NoMemory>
     ensures { IfOk result (λ e. term e ≡ Binary op (Var 0) (Number n)) }
 {
     binary(alloc, op, Expr::Var(0), Expr::Number(n))
+}
+
+/// `((x op 1) op 1) op .. 1`, so deep.
+fn nested(alloc: Global, op: Op, depth: u32) -> Result<Expr, NoMemory>
+    ensures { IfOk result (λ e. IsTermOf 2 (term e)) }
+{
+    let mut e = Expr::Var(0);
+    'deeper: for _k in 0..depth {
+        e = binary(alloc, op, e, Expr::Number(1))?;
+    }
+    Ok(e)
 }
 
 /// `x = e;`.
@@ -136,6 +147,48 @@ fn tests_of_expressions(rt: HostRuntime) -> Result<(), Fail> {
     let both = binary(rt.alloc(), Op::And, above, below)?;
     let made = assume(rt.alloc(), &entered, &both, true, Mode::Stop)?;
     assert_eq!(rt; ends(&made), Some((4, 4)));
+    Ok(())
+}
+
+#[test]
+fn both_sides_of_expressions(rt: HostRuntime) -> Result<(), Fail> {
+    let entered = leaf(rt.alloc(), -3, 5)?;
+    let cases = [
+        (Op::Lt, 2, Some((-3, 1)), Some((2, 5))),
+        (Op::Ge, 6, None, Some((-3, 5))),
+        (Op::Eq, 5, Some((5, 5)), Some((-3, 4))),
+        (Op::And, 0, None, Some((-3, 5))),
+        (Op::Or, 1, Some((-3, 5)), None),
+        (Op::Mul, 0, None, Some((-3, 5))),
+    ];
+    for (op, n, when_true, when_false) in cases {
+        assert!(rt; 0 <= n && n <= GREATEST);
+        let e = with_x(rt.alloc(), op, n)?;
+        let sides = split(rt.alloc(), &entered, &e, Mode::Stop)?;
+        assert_eq!(rt; ends(&sides.when_true), when_true, "{op:?} {n}");
+        assert_eq!(rt; ends(&sides.when_false), when_false, "{op:?} {n}");
+    }
+    Ok(())
+}
+
+/// Each part is looked at once, so that a deep expression takes no longer than its length.
+#[test]
+fn deep_expressions(rt: HostRuntime) -> Result<(), Fail> {
+    let entered = leaf(rt.alloc(), -3, 5)?;
+    let cases = [
+        (Op::Lt, ((0, 1), (0, 1), true)),
+        (Op::Add, ((61, 69), (61, 69), true)),
+        (Op::Sub, ((-67, -59), (-67, -59), true)),
+        (Op::And, ((0, 1), (0, 1), true)),
+    ];
+    for (op, want) in cases {
+        let e = nested(rt.alloc(), op, 64)?;
+        assert_eq!(rt;
+            found(rt.alloc(), &entered, &e, Mode::Stop)?,
+            want,
+            "{op:?}"
+        );
+    }
     Ok(())
 }
 

@@ -14,7 +14,7 @@ use Rattle.c_tree.specs.declared.tree.Op.{Op}
 use Rattle.c_tree.specs.declared.tree.Op.TheVariants.{Add, Sub, Mul, Div, Rem}
 use Rattle.c_tree.specs.Value.{least}
 use Rattle.leaf_domain.specs.Ranges.{exact}
-use Rattle.leaf_domain.proofs.Signed.{quotients_some}
+use Rattle.leaf_domain.proofs.RangeEquations.{quotients_some}
 
 -- ---- sums and products
 sums_hold : (a b : Range) (n m : ℤ) → Within n a → Within m b → Within (n +ℤ m) (sums_of a b)

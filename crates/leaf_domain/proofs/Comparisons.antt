@@ -15,6 +15,7 @@ use Rattle.leaf_domain.specs.Compares.{holds_between, mirror_of, cut_of}
 use Rattle.leaf_domain.specs.Forms.{IsForm}
 use Rattle.leaf_domain.specs.Leaves.{LeafValue, LeafMeaning, LeafLaws, Answers, nothing_of, is_nothing_of}
 use Rattle.leaf_domain.specs.Transfer.{where_some, variable_of, form_where, met, form_met, compared}
+use Rattle.leaf_domain.proofs.Answered.{answers_self, answers_then}
 use Rattle.leaf_domain.proofs.CutLemmas.{cut_in_int, cut_holds, mirrored}
 use Rattle.leaf_domain.proofs.ArithmeticLemmas.{not_empty}
 use Rattle.leaf_domain.proofs.FormValues.{Comes}
@@ -60,12 +61,6 @@ module _ (M : LeafMeaning) (laws : LeafLaws M) where
 
   pub held : (v : LeafValue) (s : List ℤ) → M.holds v s → is_nothing_of v ≡ false
   held v s h = held_content v.variables v.content s h
-
-  pub answers_self : (v : LeafValue) → M.valid v → Answers M v v
-  answers_self v h = record { valid = h; same = refl }
-
-  pub answers_then : (u v w : LeafValue) → Answers M u v → Answers M v w → Answers M u w
-  answers_then u v w h k = record { valid = k.valid; same = k.same ∙ h.same }
 
   pub term_over : (e : Term) (v w : LeafValue) → Answers M v w → IsTermOf v.variables e → IsTermOf w.variables e
   term_over e v w h o = subst (λ (n : ℕ). IsTermOf n e) (sym h.same) o

@@ -1,13 +1,14 @@
-pub mod Signed
+pub mod RangeEquations
 pub mod ArithmeticLemmas
 pub mod CutLemmas
-pub mod Wrapping
+pub mod WrapEquations
 pub mod FoldLemmas
 pub mod LeafEquality
 pub mod FormLemmas
-pub mod Merges
-pub mod Nodes
-pub mod StopLemmas
+pub mod TermEquations
+pub mod AtNothing
+pub mod Answered
+pub mod NodeEquations
 mod Products
 mod FormValues
 mod Results

@@ -1,5 +1,5 @@
 -- Values of both modes, and the ranges that hold them.
-use Rattle.std.proofs.Common.{◌≡◌, ◌≢◌, ◌⊎◌, inl, inr, ℤ, pos, negsuc, neg_ℤ, ◌+ℤ◌, ◌-ℤ◌, ◌≤ℤ◌, int_le, int_div, int_rem, Bool, true, false, not, ◌&&◌, ◌||◌, if◌then◌else◌, Some, None, Result, Ok, Err, refl, ap, sym, ◌∙◌, subst, arith}
+use Rattle.std.proofs.Common.{◌≡◌, ◌≢◌, ◌⊎◌, inl, inr, ℤ, pos, negsuc, neg_ℤ, ◌≤ℤ◌, int_le, int_div, int_rem, Bool, true, false, not, ◌&&◌, ◌||◌, if◌then◌else◌, Some, None, Result, Ok, Err, refl, ap, sym, ◌∙◌, subst, arith}
 use Rattle.std.specs.Int.{int_min, int_max}
 use Rattle.std.specs.Ordering.{int_eq}
 use Rattle.std.proofs.lemmas.Int.{ints, clamps}
@@ -13,7 +13,7 @@ use Rattle.c_tree.specs.declared.tree.Op.TheVariants.{Div, Rem}
 use Rattle.c_tree.specs.Value.{least, greatest, IsInt, in_range, wrapped, result_in, truth_of, is_zero, ◌>>=◌, quotient_of, remainder_of}
 use Rattle.c_tree.proofs.Values.{IsInt-wrapped, wrapped_differs}
 use Rattle.leaf_domain.specs.declared.range.Range.{Range}
-use Rattle.leaf_domain.specs.Ranges.{Within, IsInInt, exact, empty_range, is_empty_range, range_at, whole_int, meet_of, clip_of, upward_of, shifted_of, fold_of}
+use Rattle.leaf_domain.specs.Ranges.{Within, IsInInt, exact, empty_range, whole_int, meet_of, clip_of, fold_of}
 use Rattle.leaf_domain.specs.Transfer.{truth_range, zero_range, negated_range, results_in, is_inside, is_within_int}
 use Rattle.leaf_domain.proofs.CutLemmas.{ends_in_int, ends_hold}
 use Rattle.leaf_domain.proofs.ArithmeticLemmas.{not_empty, rem_is_left}

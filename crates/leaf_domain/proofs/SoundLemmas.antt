@@ -1,5 +1,5 @@
 -- Transfer is sound: each value is in its range, and each store where an expression is as wanted is kept.
-use Rattle.std.proofs.Common.{◌≡◌, ◌≢◌, ℕ, ◌<◌, ℤ, pos, neg_ℤ, ◌+ℤ◌, ◌-ℤ◌, ◌*ℤ◌, ◌≤ℤ◌, Bool, true, false, not, ◌&&◌, if◌then◌else◌, List, Option, Some, None, Ok, refl, ap, sym, ◌∙◌, subst, arith, slice_set}
+use Rattle.std.proofs.Common.{◌≡◌, ◌≢◌, ℕ, ◌<◌, ℤ, pos, neg_ℤ, ◌+ℤ◌, ◌-ℤ◌, ◌*ℤ◌, ◌≤ℤ◌, Bool, true, false, ◌&&◌, if◌then◌else◌, List, Option, Some, None, Ok, refl, ap, sym, ◌∙◌, subst, arith, slice_set}
 use Rattle.std.proofs.lemmas.Int.{ints}
 use Rattle.c_tree.specs.declared.tree.Mode.{Mode}
 use Rattle.c_tree.specs.declared.tree.Mode.TheVariants.{Stop}
@@ -11,15 +11,16 @@ use Rattle.c_tree.specs.Fit.{IsTermOf}
 use Rattle.leaf_domain.specs.declared.form.Form.{Form}
 use Rattle.leaf_domain.specs.declared.range.Range.{Range}
 use Rattle.leaf_domain.specs.declared.compare.Compare.TheVariants as compares
-use Rattle.leaf_domain.specs.Ranges.{Within, IsInInt, exact, range_at, empty_range, is_empty_range, whole_int, clip_of, arithmetic_range}
+use Rattle.leaf_domain.specs.Ranges.{Within, IsInInt, exact, range_at, is_empty_range, whole_int, clip_of, arithmetic_range}
 use Rattle.leaf_domain.specs.Forms.{form_of_term}
 use Rattle.leaf_domain.specs.Leaves.{LeafValue, LeafMeaning, LeafLaws, Answers, nothing_of, is_nothing_of}
-use Rattle.leaf_domain.specs.Transfer.{transfer, where_some, range_where_some, range_of_sides, truth_range, fits_in, form_where, numeric, negated_range, range_of_term, fits_term, assumed, assigned, form_set, forgotten}
+use Rattle.leaf_domain.specs.Transfer.{transfer, fits_in, form_where, numeric, negated_range, range_of_term, fits_term, assumed, assigned, form_set, forgotten}
 use Rattle.leaf_domain.specs.Soundness.{FormsAreForms, IsWanted, Suits, TransferAnswers}
 use Rattle.leaf_domain.proofs.ArithmeticLemmas.{arithmetic_holds, not_empty}
 use Rattle.leaf_domain.proofs.FormValues.{Comes, number_comes, variable_comes, neg_comes, add_comes, sub_comes, mul_comes}
 use Rattle.leaf_domain.proofs.Results.{gives, gives_same, then_gives, both_give, truth_two, truth_one, truth_zero, zero_from_test, nonzero_from_test, and_left, and_right, negated_holds, clip_in_int, clip_holds, in_int_at, whole_in_int, quotient_gives, remainder_gives}
 use Rattle.leaf_domain.proofs.Comparisons.{AreForms, forms_where, comes_where, nothing_answers}
+use Rattle.leaf_domain.proofs.AtNothing.{nothing_is, range_of_nothing, assumed_of_nothing}
 use Rattle.leaf_domain.proofs.SoundNodes.{Sound, both_gives, either_gives, numeric_sound, logical_sound, modular_sound, comparison_sound, both_sound, either_sound}
 
 -- every expression fits where overflows stop
@@ -213,88 +214,11 @@ module _ (M : LeafMeaning) (laws : LeafLaws M) (mode : Mode) (forms : FormsAreFo
 
   -- ---- Nothing
 
-  where_nothing : (v w : LeafValue) → is_nothing_of v ≡ true → where_some v w ≡ v
-  where_nothing v w e = ap (λ t. if t then v else w) e
-
-  range_where_nothing : (v : LeafValue) (r : Range) → is_nothing_of v ≡ true → range_where_some v r ≡ empty_range
-  range_where_nothing v r e = ap (λ t. if t then empty_range else r) e
-
-  sides_nothing : (v u w : LeafValue) → is_nothing_of v ≡ true → range_of_sides (where_some v u) (where_some v w) ≡ empty_range
-  sides_nothing v u w e =
-      ap (λ x. range_of_sides x (where_some v w)) (where_nothing v u e) ∙ ap (λ x. range_of_sides v x) (where_nothing v w e)
-      ∙ ap (λ t. truth_range (not t) (not t)) e
-
-  range_of_nothing : (e : Term) (v : LeafValue) → is_nothing_of v ≡ true → range_of_term M mode e v ≡ empty_range
-  range_of_nothing (Number n) v h = range_where_nothing v _ h
-  range_of_nothing (Var x) v h = range_where_nothing v _ h
-  range_of_nothing (Neg a) v h = range_where_nothing v _ h
-  range_of_nothing (Not a) v h = sides_nothing v _ _ h
-  range_of_nothing (Binary Add a b) v h = range_where_nothing v _ h
-  range_of_nothing (Binary Sub a b) v h = range_where_nothing v _ h
-  range_of_nothing (Binary Mul a b) v h = range_where_nothing v _ h
-  range_of_nothing (Binary Div a b) v h = range_where_nothing v _ h
-  range_of_nothing (Binary Rem a b) v h = range_where_nothing v _ h
-  range_of_nothing (Binary Lt a b) v h = sides_nothing v _ _ h
-  range_of_nothing (Binary Le a b) v h = sides_nothing v _ _ h
-  range_of_nothing (Binary Gt a b) v h = sides_nothing v _ _ h
-  range_of_nothing (Binary Ge a b) v h = sides_nothing v _ _ h
-  range_of_nothing (Binary Eq a b) v h = sides_nothing v _ _ h
-  range_of_nothing (Binary Ne a b) v h = sides_nothing v _ _ h
-  range_of_nothing (Binary And a b) v h = sides_nothing v _ _ h
-  range_of_nothing (Binary Or a b) v h = sides_nothing v _ _ h
-
-  true_of_nothing : (e : Term) (v : LeafValue) → is_nothing_of v ≡ true → (transfer M mode e).when_true v ≡ v
-  true_of_nothing (Number n) v h = where_nothing v _ h
-  true_of_nothing (Var x) v h = where_nothing v _ h
-  true_of_nothing (Neg a) v h = where_nothing v _ h
-  true_of_nothing (Not a) v h = where_nothing v _ h
-  true_of_nothing (Binary Add a b) v h = where_nothing v _ h
-  true_of_nothing (Binary Sub a b) v h = where_nothing v _ h
-  true_of_nothing (Binary Mul a b) v h = where_nothing v _ h
-  true_of_nothing (Binary Div a b) v h = where_nothing v _ h
-  true_of_nothing (Binary Rem a b) v h = where_nothing v _ h
-  true_of_nothing (Binary Lt a b) v h = where_nothing v _ h
-  true_of_nothing (Binary Le a b) v h = where_nothing v _ h
-  true_of_nothing (Binary Gt a b) v h = where_nothing v _ h
-  true_of_nothing (Binary Ge a b) v h = where_nothing v _ h
-  true_of_nothing (Binary Eq a b) v h = where_nothing v _ h
-  true_of_nothing (Binary Ne a b) v h = where_nothing v _ h
-  true_of_nothing (Binary And a b) v h = where_nothing v _ h
-  true_of_nothing (Binary Or a b) v h = where_nothing v _ h
-
-  false_of_nothing : (e : Term) (v : LeafValue) → is_nothing_of v ≡ true → (transfer M mode e).when_false v ≡ v
-  false_of_nothing (Number n) v h = where_nothing v _ h
-  false_of_nothing (Var x) v h = where_nothing v _ h
-  false_of_nothing (Neg a) v h = where_nothing v _ h
-  false_of_nothing (Not a) v h = where_nothing v _ h
-  false_of_nothing (Binary Add a b) v h = where_nothing v _ h
-  false_of_nothing (Binary Sub a b) v h = where_nothing v _ h
-  false_of_nothing (Binary Mul a b) v h = where_nothing v _ h
-  false_of_nothing (Binary Div a b) v h = where_nothing v _ h
-  false_of_nothing (Binary Rem a b) v h = where_nothing v _ h
-  false_of_nothing (Binary Lt a b) v h = where_nothing v _ h
-  false_of_nothing (Binary Le a b) v h = where_nothing v _ h
-  false_of_nothing (Binary Gt a b) v h = where_nothing v _ h
-  false_of_nothing (Binary Ge a b) v h = where_nothing v _ h
-  false_of_nothing (Binary Eq a b) v h = where_nothing v _ h
-  false_of_nothing (Binary Ne a b) v h = where_nothing v _ h
-  false_of_nothing (Binary And a b) v h = where_nothing v _ h
-  false_of_nothing (Binary Or a b) v h = where_nothing v _ h
-
-  assumed_of_nothing : (e : Term) (want : Bool) (v : LeafValue) → is_nothing_of v ≡ true → assumed M mode e want v ≡ v
-  assumed_of_nothing e true v h = true_of_nothing e v h
-  assumed_of_nothing e false v h = false_of_nothing e v h
-
-  -- a leaf without a list is Nothing
-  nothing_is : (n : ℕ) (c : Option (List ℤ)) → is_nothing_of (record { variables = n; content = c }) ≡ true → record { variables = n; content = c } ≡ nothing_of n
-  nothing_is n None e = refl
-  nothing_is n (Some ns) e = cc
-
   forgotten_of_nothing : (x : ℕ) (v : LeafValue) → is_nothing_of v ≡ true → is_nothing_of (forgotten M x v) ≡ true
   forgotten_of_nothing x v h = ap (λ w. is_nothing_of (M.set_range w x whole_int)) (nothing_is v.variables v.content h) ∙ ap is_nothing_of (laws.set_nothing v.variables x whole_int)
 
   assigned_of_nothing : (x : ℕ) (e : Term) (v : LeafValue) → is_nothing_of v ≡ true → is_nothing_of (assigned M mode x e v) ≡ true
-  assigned_of_nothing x e v h = ap (λ r. is_nothing_of (if is_empty_range r then nothing_of v.variables else form_set M x (form_where (fits_term M mode e v) (form_of_term e)) r v)) (range_of_nothing e v h)
+  assigned_of_nothing x e v h = ap (λ r. is_nothing_of (if is_empty_range r then nothing_of v.variables else form_set M x (form_where (fits_term M mode e v) (form_of_term e)) r v)) (range_of_nothing M mode e v h)
 
   pub transfer_answers : TransferAnswers M mode
   transfer_answers = record {
@@ -302,8 +226,8 @@ module _ (M : LeafMeaning) (laws : LeafLaws M) (mode : Mode) (forms : FormsAreFo
     assumed_answers = assumed_answers;
     assigned_answers = assigned_answers;
     forgotten_answers = λ x v l h. laws.set_answers v x whole_int h l whole_in_int;
-    range_of_nothing = range_of_nothing;
-    assumed_of_nothing = assumed_of_nothing;
+    range_of_nothing = range_of_nothing M mode;
+    assumed_of_nothing = assumed_of_nothing M mode;
     assigned_of_nothing = assigned_of_nothing;
     forgotten_of_nothing = forgotten_of_nothing;
   }

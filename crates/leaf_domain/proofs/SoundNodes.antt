@@ -21,7 +21,8 @@ use Rattle.leaf_domain.specs.Soundness.{FormsAreForms}
 use Rattle.leaf_domain.proofs.CutLemmas.{negation_holds}
 use Rattle.leaf_domain.proofs.FormValues.{Comes, sub_comes, number_comes}
 use Rattle.leaf_domain.proofs.Results.{gives, gives_same, both_give, in_range_gives, wrapped_int, truth_two, truth_one, truth_zero, zero_from_test, nonzero_from_test, test_of_nonzero, not_true, not_false, and_left, and_right, meet_holds, empty_in_int, zero_in_int, truth_in_int, truth_has_one, truth_has_zero, results_in_int, results_hold, int_inside}
-use Rattle.leaf_domain.proofs.Comparisons.{AreForms, forms_where, comes_where, held, answers_then, term_over, where_answers, where_holds, compared_answers, compared_holds}
+use Rattle.leaf_domain.proofs.Answered.{answers_then}
+use Rattle.leaf_domain.proofs.Comparisons.{AreForms, forms_where, comes_where, held, term_over, where_answers, where_holds, compared_answers, compared_holds}
 
 -- what is shown of each node
 pub record Sound (M : LeafMeaning) (mode : Mode) (e : Term) (T : Transfer) : Type 0 where
@@ -244,16 +245,16 @@ module _ (M : LeafMeaning) (laws : LeafLaws M) (mode : Mode) (forms : FormsAreFo
         first v h o = da.true_answers v h (over v.variables o).0
 
         second : (v : LeafValue) → M.valid v → IsTermOf v.variables e → Answers M v (B.when_false (A.when_true v))
-        second v h o = let t = first v h o in answers_then M laws v _ _ t (db.false_answers _ t.valid (next_over v _ t o))
+        second v h o = let t = first v h o in answers_then v _ _ t (db.false_answers _ t.valid (next_over v _ t o))
 
         true_answers : (v : LeafValue) → M.valid v → IsTermOf v.variables e → Answers M v (B.when_true (A.when_true v))
-        true_answers v h o = let t = first v h o in answers_then M laws v _ _ t (db.true_answers _ t.valid (next_over v _ t o))
+        true_answers v h o = let t = first v h o in answers_then v _ _ t (db.true_answers _ t.valid (next_over v _ t o))
 
         alike : (v : LeafValue) → M.valid v → IsTermOf v.variables e → Alike M (A.when_false v) (B.when_false (A.when_true v))
         alike v h o = let p = da.false_answers v h (over v.variables o).0 in record { first = p.valid; second = (second v h o).valid; same = p.same ∙ sym (second v h o).same }
 
         false_answers : (v : LeafValue) → M.valid v → IsTermOf v.variables e → Answers M v (M.join (A.when_false v) (B.when_false (A.when_true v)))
-        false_answers v h o = answers_then M laws v _ _ (da.false_answers v h (over v.variables o).0) (laws.join_answers _ _ (alike v h o))
+        false_answers v h o = answers_then v _ _ (da.false_answers v h (over v.variables o).0) (laws.join_answers _ _ (alike v h o))
 
         true_holds : (v : LeafValue) (s : List ℤ) → M.valid v → IsTermOf v.variables e → M.holds v s → BothTaken (value_of a s mode) (value_of b s mode) (pos 1) → M.holds (B.when_true (A.when_true v)) s
         true_holds v s h o w (left_zero p q) = cc
@@ -279,16 +280,16 @@ module _ (M : LeafMeaning) (laws : LeafLaws M) (mode : Mode) (forms : FormsAreFo
         first v h o = da.false_answers v h (over v.variables o).0
 
         second : (v : LeafValue) → M.valid v → IsTermOf v.variables e → Answers M v (B.when_true (A.when_false v))
-        second v h o = let t = first v h o in answers_then M laws v _ _ t (db.true_answers _ t.valid (next_over v _ t o))
+        second v h o = let t = first v h o in answers_then v _ _ t (db.true_answers _ t.valid (next_over v _ t o))
 
         false_answers : (v : LeafValue) → M.valid v → IsTermOf v.variables e → Answers M v (B.when_false (A.when_false v))
-        false_answers v h o = let t = first v h o in answers_then M laws v _ _ t (db.false_answers _ t.valid (next_over v _ t o))
+        false_answers v h o = let t = first v h o in answers_then v _ _ t (db.false_answers _ t.valid (next_over v _ t o))
 
         alike : (v : LeafValue) → M.valid v → IsTermOf v.variables e → Alike M (A.when_true v) (B.when_true (A.when_false v))
         alike v h o = let p = da.true_answers v h (over v.variables o).0 in record { first = p.valid; second = (second v h o).valid; same = p.same ∙ sym (second v h o).same }
 
         true_answers : (v : LeafValue) → M.valid v → IsTermOf v.variables e → Answers M v (M.join (A.when_true v) (B.when_true (A.when_false v)))
-        true_answers v h o = answers_then M laws v _ _ (da.true_answers v h (over v.variables o).0) (laws.join_answers _ _ (alike v h o))
+        true_answers v h o = answers_then v _ _ (da.true_answers v h (over v.variables o).0) (laws.join_answers _ _ (alike v h o))
 
         true_holds : (v : LeafValue) (s : List ℤ) → M.valid v → IsTermOf v.variables e → M.holds v s → EitherTaken (value_of a s mode) (value_of b s mode) (pos 1) → M.holds (M.join (A.when_true v) (B.when_true (A.when_false v))) s
         true_holds v s h o w (left_nonzero n p z q) = laws.join_holds _ _ s (alike v h o) (inl (da.true_holds v s n h (over v.variables o).0 w p z))

@@ -1,5 +1,7 @@
 -- What one pass over an expression answers in a leaf, by the kind of its node.
-use Rattle.std.specs.Prelude.{ℕ, ◌<◌, Bool, true, false, ◌&&◌, not, Option, None, IfSome}
+use Rattle.std.specs.Prelude.{ℕ, ◌<◌, ℤ, negsuc, Bool, true, false, ◌&&◌, ◌||◌, not, Option, Some, None, IfSome}
+use Rattle.c_tree.specs.declared.tree.Kind.{Kind}
+use Rattle.c_tree.specs.declared.tree.Kind.TheVariants.{Overflow, ZeroDivisor, Assertion}
 use Rattle.c_tree.specs.declared.tree.Mode.{Mode}
 use Rattle.c_tree.specs.declared.tree.Op.{Op}
 use Rattle.c_tree.specs.declared.tree.Op.TheVariants.{Div, Rem, Lt, Le, Gt, Ge, Eq}
@@ -10,10 +12,14 @@ use Rattle.leaf_domain.specs.declared.compare.Compare.{Compare}
 use Rattle.leaf_domain.specs.declared.compare.Compare.TheVariants as compares
 use Rattle.leaf_domain.specs.declared.evaluation.Evaluation.{Evaluation}
 use Rattle.leaf_domain.specs.declared.sides.Operand.{Operand}
-use Rattle.leaf_domain.specs.Ranges.{IsInInt, clip_of, arithmetic_range, is_arithmetic}
+use Rattle.leaf_domain.specs.declared.stops.Stops.{Stops}
+use Rattle.leaf_domain.specs.declared.survey.Survey.{Survey}
+use Rattle.leaf_domain.specs.Ranges.{IsInInt, is_empty_range, range_at, clip_of, arithmetic_range, is_arithmetic}
 use Rattle.leaf_domain.specs.Leaves.{LeafValue, LeafMeaning}
-use Rattle.leaf_domain.specs.Transfer.{Transfer, range_where_some, range_of_sides, fits_in, is_inside, results_in, raw_of_sum, negated_range, variable_of, form_where, form_less_zero, zero_range, compared}
-use Rattle.leaf_domain.specs.Forms.{form_of_term, difference_form}
+use Rattle.leaf_domain.specs.Transfer.{Transfer, transfer, range_where_some, range_of_sides, fits_in, is_inside, results_in, raw_of_sum, negated_range, form_where, form_less_zero, zero_range, compared}
+use Rattle.leaf_domain.specs.Forms.{form_of_term, kept_form, constant_form, variable_form, multiple_form, difference_form, binary_form}
+use Rattle.leaf_domain.specs.Stops.{may_leave, stops_at, either_stops, unless_nothing, may_term}
+use Rattle.leaf_domain.specs.Sums.{HasForm}
 
 -- the ranges and the fit of an expression in a leaf
 abbrev pub evaluation_of : Transfer → LeafValue → Evaluation
@@ -72,10 +78,82 @@ abbrev pub compared_at : LeafMeaning → Compare → Operand → Operand → Opt
 compared_at M op a b f v = compared M op a.variable b.variable a.range b.range f v
 
 -- the leaf where the comparison of two expressions holds, by what was found of them
-abbrev pub compared_terms : LeafMeaning → Compare → Term → Term → Evaluation → Evaluation → LeafValue → LeafValue
-compared_terms M op a b left right v =
-    compared M op (variable_of a) (variable_of b) left.range right.range (form_where (left.fits && right.fits) (difference_form (form_of_term a) (form_of_term b))) v
+abbrev pub compared_terms : LeafMeaning → Compare → Option ℕ → Option ℕ → Survey → Survey → LeafValue → LeafValue
+compared_terms M op x y left right v =
+    compared M op x y left.evaluation.range right.evaluation.range (form_where (left.evaluation.fits && right.evaluation.fits) (difference_form left.form right.form)) v
 
 -- the leaf where the comparison of a number with 0 holds, by what was found of it
-abbrev pub compared_zero : LeafMeaning → Compare → Term → Evaluation → LeafValue → LeafValue
-compared_zero M op e found v = compared M op (variable_of e) None found.range zero_range (form_where found.fits (form_less_zero (form_of_term e))) v
+abbrev pub compared_zero : LeafMeaning → Compare → Option ℕ → Survey → LeafValue → LeafValue
+compared_zero M op x found v = compared M op x None found.evaluation.range zero_range (form_where found.evaluation.fits (form_less_zero found.form)) v
+
+-- ---- stops
+
+-- with which kinds an expression may stop
+abbrev pub stops_of : LeafMeaning → Mode → Term → LeafValue → Stops
+stops_of M mode e v = record { overflow = may_term M mode Overflow e v; zero_divisor = may_term M mode ZeroDivisor e v }
+
+abbrev pub has_kind : Stops → Kind → Bool
+has_kind s Overflow = s.overflow
+has_kind s ZeroDivisor = s.zero_divisor
+has_kind s Assertion = false
+
+abbrev pub no_stops : Stops
+no_stops = record { overflow = false; zero_divisor = false }
+
+abbrev pub stops_where_some : LeafValue → Stops → Stops
+stops_where_some v s = record { overflow = unless_nothing v s.overflow; zero_divisor = unless_nothing v s.zero_divisor }
+
+-- those of the first and of the second
+abbrev pub joined_stops : Stops → Stops → Stops
+joined_stops s t = record { overflow = s.overflow || t.overflow; zero_divisor = s.zero_divisor || t.zero_divisor }
+
+-- a negation of this range before clipping, by its operand's stops and range
+abbrev pub negation_stops : Mode → Range → Stops → Range → Stops
+negation_stops mode raw s r = record {
+  overflow = s.overflow || (not (is_empty_range r) && may_leave mode Overflow raw);
+  zero_divisor = s.zero_divisor || (not (is_empty_range r) && may_leave mode ZeroDivisor raw);
+}
+
+-- an operator of this range before clipping, by its operands' stops and ranges
+abbrev pub operator_stops : Mode → Op → Range → Stops → Stops → Range → Range → Stops
+operator_stops mode op raw left right r s = record {
+  overflow = either_stops left.overflow right.overflow (stops_at mode Overflow op raw r s) r s;
+  zero_divisor = either_stops left.zero_divisor right.zero_divisor (stops_at mode ZeroDivisor op raw r s) r s;
+}
+
+-- ---- all that one pass finds
+
+abbrev pub survey_of : LeafMeaning → Mode → Term → LeafValue → Survey
+survey_of M mode e v = record { evaluation = evaluation_of (transfer M mode e) v; form = form_of_term e; stops = stops_of M mode e v }
+
+-- a range within `int`, and a form over so many variables, which are at most 16
+pub record IsOver (count : ℕ) (s : Survey) : Type 0 where
+  pub range : IsInInt s.evaluation.range
+  pub form : HasForm count s.form
+  pub few : HasForm 16 s.form
+
+abbrev pub number_survey : ℤ → LeafValue → Survey
+number_survey n v = record { evaluation = number_at v (range_at n n) (range_at n n) true; form = kept_form (constant_form n); stops = no_stops }
+
+abbrev pub variable_survey : LeafMeaning → ℕ → LeafValue → Survey
+variable_survey M x v = record { evaluation = number_at v (M.bounds_of v x) (M.bounds_of v x) true; form = Some (variable_form x); stops = no_stops }
+
+-- a number, by its evaluation, its form and the stops that it has where the leaf is not Nothing
+abbrev pub numeric_survey : LeafValue → Evaluation → Option Form → Stops → Survey
+numeric_survey v found f s = record { evaluation = found; form = f; stops = stops_where_some v s }
+
+abbrev pub negation_survey : LeafMeaning → Mode → Survey → LeafValue → Survey
+negation_survey M mode a v =
+    let f = multiple_form (negsuc 0) a.form in
+    let found = negation_at M mode f a.evaluation v in
+    numeric_survey v found f (negation_stops mode found.raw a.stops a.evaluation.range)
+
+abbrev pub operation_survey : LeafMeaning → Mode → Op → Survey → Survey → LeafValue → Survey
+operation_survey M mode op a b v =
+    let f = binary_form op a.form b.form in
+    let found = arithmetic_at M mode op f a.evaluation b.evaluation v in
+    numeric_survey v found f (operator_stops mode op found.raw a.stops b.stops a.evaluation.range b.evaluation.range)
+
+-- a truth value that is 1 in the first leaf and 0 in the second
+abbrev pub truth_survey : Mode → LeafValue → LeafValue → Stops → Survey
+truth_survey mode when_true when_false s = record { evaluation = truth_at mode when_true when_false; form = None; stops = s }

@@ -10,18 +10,21 @@ pub mod leaf;
 pub mod linear;
 pub mod range;
 mod sides;
-pub mod stops;
+pub mod statements;
+mod stops;
+mod survey;
 mod terms;
 pub mod transfer;
 
 pub use compare::{Compare, cut, cut_is_sound, mirror};
 pub use form::{Form, Terms};
-pub use laws::{equality_is_exact, transfer_is_sound};
+pub use laws::{equality_is_exact, leaf_is_valid, transfer_is_sound};
 pub use leaf::Leaf;
 pub use linear::form_of;
 pub use range::{Range, arithmetic, arithmetic_is_sound, fold_is_sound};
-pub use stops::may;
-pub use transfer::{assign, assume, fits, forget, range_of, raw_of};
+pub use sides::Sides;
+pub use statements::may;
+pub use transfer::{assign, assume, fits, forget, range_of, raw_of, split};
 
 #[cfg(test)]
 mod tests;

@@ -1,10 +1,10 @@
 //! The linear form of an expression.
 #![tactic(auto)]
 
-ghost use Rattle.std.specs.Prelude.{◌≡◌, ℕ, IfOk, IfSome};
+ghost use Rattle.std.specs.Prelude.{◌≡◌, ℕ, negsuc, IfOk, IfSome};
 ghost use Rattle.c_tree.specs.Fit.{IsTermOf};
 ghost use Rattle.c_tree.specs.View.{term};
-ghost use Rattle.leaf_domain.specs.Forms.{IsForm, constant_form, variable_form, form_sum, form_by, kept_form, sum_form, multiple_form, difference_form, product_of, product_form, has_no_term, form_of_term};
+ghost use Rattle.leaf_domain.specs.Forms.{IsForm, constant_form, variable_form, form_sum, form_by, kept_form, sum_form, multiple_form, difference_form, product_of, product_form, has_no_term, binary_form, form_of_term};
 ghost use Rattle.leaf_domain.specs.Sums.{kept_number, formed, HasForm};
 
 use crate::form::{Form, Terms};
@@ -31,7 +31,7 @@ pub(crate) fn constant(alloc: Global, n: i64) -> Option<Form>
 }
 
 /// The form of a variable.
-fn variable(alloc: Global, x: u32) -> Result<Form, NoMemory>
+pub(crate) fn variable(alloc: Global, x: u32) -> Result<Form, NoMemory>
     ensures { IfOk result (λ made. made ≡ variable_form x) }
 {
     let mut list = Vec::new(alloc);
@@ -130,6 +130,32 @@ fn product(alloc: Global, f: &Option<Form>, g: &Option<Form>) -> Result<Option<F
 {
     match (f, g) {
         (Some(f), Some(g)) => product_of(alloc, f, g),
+        _ => Ok(None),
+    }
+}
+
+/// The form of a negation, by that of its operand.
+pub(crate) fn negated(alloc: Global, f: &Option<Form>) -> Result<Option<Form>, NoMemory>
+    ensures { IfOk result (λ made. made ≡ multiple_form (negsuc 0) f.now) }
+{
+    multiple(alloc, -1, f)
+}
+
+/// The form of an operator, by those of its operands.
+pub(crate) fn combined(
+    alloc: Global,
+    op: Op,
+    f: &Option<Form>,
+    g: &Option<Form>,
+) -> Result<Option<Form>, NoMemory>
+    requires f { HasForm 16 f.now }
+    requires g { HasForm 16 g.now }
+    ensures { IfOk result (λ made. made ≡ binary_form op f.now g.now) }
+{
+    match op {
+        Op::Add => sum(alloc, f, g),
+        Op::Sub => difference(alloc, f, g),
+        Op::Mul => product(alloc, f, g),
         _ => Ok(None),
     }
 }

@@ -9,14 +9,16 @@ ghost use Rattle.leaf_domain.specs.Ranges.{IsInInt};
 ghost use Rattle.leaf_domain.specs.Compares.{negation_of};
 ghost use Rattle.leaf_domain.specs.Sums.{HasForm};
 ghost use Rattle.leaf_domain.specs.Transfer.{variable_of, met, form_met};
-ghost use Rattle.leaf_domain.specs.Evaluations.{IsOperand, compared_at, compared_terms, compared_zero, compare_of_op};
+ghost use Rattle.leaf_domain.specs.Evaluations.{IsOperand, IsOver, no_stops, joined_stops, compared_at, compared_terms, compared_zero, compare_of_op};
 
 use crate::compare::{Compare, cut, mirror, negation};
-use crate::differences::{difference_in, less_zero_in};
-use crate::evaluation::Evaluation;
+use crate::differences::{difference_where, less_zero_where};
 use crate::form::Form;
+use crate::laws::leaf_is_valid;
 use crate::leaf::Leaf;
 use crate::range::Range;
+use crate::stops::{Stops, joined_stops, no_stops};
+use crate::survey::Survey;
 use c_tree::{Expr, Op};
 use fam_outer::NoMemory;
 use std::alloc::Global;
@@ -28,11 +30,52 @@ pub struct Sides<L> {
     pub when_false: L,
 }
 
+/// A leaf where an expression is not 0, one where it is, and the kinds with which it may stop.
+#[derive(Drop)]
+pub struct Split<L> {
+    pub when_true: L,
+    pub when_false: L,
+    pub stops: Stops,
+}
+
 /// An operand of a comparison: which variable it is, where it is one, and its range.
 #[derive(Clone, Copy, Debug)]
 pub struct Operand {
     pub variable: Option<u32>,
     pub range: Range,
+}
+
+/// The sides with the stops.
+pub(crate) fn with_stops<L: Leaf>(sides: Sides<L>, stops: Stops) -> Split<L>
+    ensures when_true { result.when_true ≡ sides.when_true }
+    ensures when_false { result.when_false ≡ sides.when_false }
+    ensures stops { result.stops ≡ stops }
+{
+    let Sides {
+        when_true,
+        when_false,
+    } = sides;
+    Split {
+        when_true,
+        when_false,
+        stops,
+    }
+}
+
+/// The sides without the stops.
+pub(crate) fn sides_of<L: Leaf>(split: Split<L>) -> Sides<L>
+    ensures when_true { result.when_true ≡ split.when_true }
+    ensures when_false { result.when_false ≡ split.when_false }
+{
+    let Split {
+        when_true,
+        when_false,
+        stops: _,
+    } = split;
+    Sides {
+        when_true,
+        when_false,
+    }
 }
 
 /// The number of a variable, where the expression is one.
@@ -78,7 +121,7 @@ fn best<L: Leaf>(alloc: Global, leaf: &L) -> Result<L, NoMemory>
     ensures value { IfOk result (λ made. L.value made ≡ L.meaning.best (L.value leaf.now)) }
     ensures same { IfOk result (λ made. (L.value made).variables ≡ (L.value leaf.now).variables) }
 {
-    let _known = leaf.variables();
+    leaf_is_valid(leaf);
     leaf.best(alloc)
 }
 
@@ -88,83 +131,94 @@ fn joined<L: Leaf>(alloc: Global, a: &L, b: &L) -> Result<L, NoMemory>
     ensures value { IfOk result (λ made. L.value made ≡ L.meaning.join (L.value a.now) (L.value b.now)) }
     ensures same { IfOk result (λ made. (L.value made).variables ≡ (L.value a.now).variables) }
 {
-    let _known = a.variables();
-    let _known = b.variables();
+    leaf_is_valid(a);
+    leaf_is_valid(b);
     a.join(alloc, b)
 }
 
 /// Both sides of a leaf that holds no store: the leaf.
-pub(crate) fn copies<L: Leaf>(alloc: Global, leaf: &L) -> Result<Sides<L>, NoMemory>
+pub(crate) fn copies<L: Leaf>(alloc: Global, leaf: &L) -> Result<Split<L>, NoMemory>
     ensures when_true { IfOk result (λ made. L.value made.when_true ≡ L.value leaf.now) }
     ensures when_false { IfOk result (λ made. L.value made.when_false ≡ L.value leaf.now) }
+    ensures stops { IfOk result (λ made. made.stops ≡ no_stops) }
 {
-    Ok(Sides {
+    Ok(Split {
         when_true: leaf.copy(alloc)?,
         when_false: leaf.copy(alloc)?,
+        stops: no_stops(),
     })
 }
 
 /// The sides of `!a` by those of `a`.
-pub(crate) fn swapped<L: Leaf>(sides: Sides<L>) -> Sides<L>
-    ensures when_true { result.when_true ≡ sides.when_false }
-    ensures when_false { result.when_false ≡ sides.when_true }
+pub(crate) fn swapped<L: Leaf>(split: Split<L>) -> Split<L>
+    ensures when_true { result.when_true ≡ split.when_false }
+    ensures when_false { result.when_false ≡ split.when_true }
+    ensures stops { result.stops ≡ split.stops }
 {
-    let Sides {
+    let Split {
         when_true,
         when_false,
-    } = sides;
-    Sides {
+        stops,
+    } = split;
+    Split {
         when_true: when_false,
         when_false: when_true,
+        stops,
     }
 }
 
 /// The sides of `a && b` by those of `a`, and by those of `b` where `a` is not 0.
 pub(crate) fn both<L: Leaf>(
     alloc: Global,
-    first: Sides<L>,
-    second: Sides<L>,
-) -> Result<Sides<L>, NoMemory>
+    first: Split<L>,
+    second: Split<L>,
+) -> Result<Split<L>, NoMemory>
     requires { (L.value first.when_false).variables ≡ (L.value second.when_false).variables }
     ensures when_true { IfOk result (λ made. L.value made.when_true ≡ L.value second.when_true) }
     ensures when_false { IfOk result (λ made. L.value made.when_false ≡ L.meaning.join (L.value first.when_false) (L.value second.when_false)) }
     ensures same { IfOk result (λ made. (L.value made.when_false).variables ≡ (L.value first.when_false).variables) }
+    ensures stops { IfOk result (λ made. made.stops ≡ joined_stops first.stops second.stops) }
 {
     let when_false = joined(alloc, &first.when_false, &second.when_false)?;
-    Ok(Sides {
+    let stops = joined_stops(first.stops, second.stops);
+    Ok(Split {
         when_true: second.when_true,
         when_false,
+        stops,
     })
 }
 
 /// The sides of `a || b` by those of `a`, and by those of `b` where `a` is 0.
 pub(crate) fn either<L: Leaf>(
     alloc: Global,
-    first: Sides<L>,
-    second: Sides<L>,
-) -> Result<Sides<L>, NoMemory>
+    first: Split<L>,
+    second: Split<L>,
+) -> Result<Split<L>, NoMemory>
     requires { (L.value first.when_true).variables ≡ (L.value second.when_true).variables }
     ensures when_true { IfOk result (λ made. L.value made.when_true ≡ L.meaning.join (L.value first.when_true) (L.value second.when_true)) }
     ensures when_false { IfOk result (λ made. L.value made.when_false ≡ L.value second.when_false) }
     ensures same { IfOk result (λ made. (L.value made.when_true).variables ≡ (L.value first.when_true).variables) }
+    ensures stops { IfOk result (λ made. made.stops ≡ joined_stops first.stops second.stops) }
 {
     let when_true = joined(alloc, &first.when_true, &second.when_true)?;
-    Ok(Sides {
+    let stops = joined_stops(first.stops, second.stops);
+    Ok(Split {
         when_true,
         when_false: second.when_false,
+        stops,
     })
 }
 
 /// The leaf met with the range of a variable, where there is one.
-fn meet_variable<L: Leaf>(alloc: Global, leaf: &L, x: Option<u32>, r: Range) -> Result<L, NoMemory>
-    requires x { IfSome x (λ x. x < (L.value leaf.now).variables) }
+fn meet_variable<L: Leaf>(alloc: Global, leaf: L, x: Option<u32>, r: Range) -> Result<L, NoMemory>
+    requires x { IfSome x (λ x. x < (L.value leaf).variables) }
     requires r { IsInInt r }
-    ensures value { IfOk result (λ made. L.value made ≡ met L.meaning x r (L.value leaf.now)) }
-    ensures same { IfOk result (λ made. (L.value made).variables ≡ (L.value leaf.now).variables) }
+    ensures value { IfOk result (λ made. L.value made ≡ met L.meaning x r (L.value leaf)) }
+    ensures same { IfOk result (λ made. (L.value made).variables ≡ (L.value leaf).variables) }
 {
-    let _known = leaf.variables();
+    leaf_is_valid(&leaf);
     match x {
-        None => leaf.copy(alloc),
+        None => Ok(leaf),
         Some(x) => leaf.meet_range(alloc, x, r),
     }
 }
@@ -172,17 +226,17 @@ fn meet_variable<L: Leaf>(alloc: Global, leaf: &L, x: Option<u32>, r: Range) -> 
 /// The leaf met with the comparison of a form with 0, where there is one.
 fn meet_form<L: Leaf>(
     alloc: Global,
-    leaf: &L,
+    leaf: L,
     form: &Option<Form>,
     op: Compare,
 ) -> Result<L, NoMemory>
-    requires { HasForm (L.value leaf.now).variables form.now }
-    ensures value { IfOk result (λ made. L.value made ≡ form_met L.meaning form.now op (L.value leaf.now)) }
-    ensures same { IfOk result (λ made. (L.value made).variables ≡ (L.value leaf.now).variables) }
+    requires { HasForm (L.value leaf).variables form.now }
+    ensures value { IfOk result (λ made. L.value made ≡ form_met L.meaning form.now op (L.value leaf)) }
+    ensures same { IfOk result (λ made. (L.value made).variables ≡ (L.value leaf).variables) }
 {
-    let _known = leaf.variables();
+    leaf_is_valid(&leaf);
     match form {
-        None => leaf.copy(alloc),
+        None => Ok(leaf),
         Some(form) => leaf.meet_form(alloc, form, op),
     }
 }
@@ -208,9 +262,9 @@ fn compare<L: Leaf>(
     }
     let second = cut(mirror(op), b.range, a.range);
     let made = best(alloc, leaf)?;
-    let made = meet_variable(alloc, &made, a.variable, first)?;
-    let made = meet_variable(alloc, &made, b.variable, second)?;
-    meet_form(alloc, &made, form, op)
+    let made = meet_variable(alloc, made, a.variable, first)?;
+    let made = meet_variable(alloc, made, b.variable, second)?;
+    meet_form(alloc, made, form, op)
 }
 
 /// Both outcomes of a comparison.
@@ -245,21 +299,22 @@ pub(crate) fn compare_operands<L: Leaf>(
     op: Compare,
     a: &Expr,
     b: &Expr,
-    left: Evaluation,
-    right: Evaluation,
+    left: &Survey,
+    right: &Survey,
 ) -> Result<Sides<L>, NoMemory>
     requires a { IsTermOf (L.value leaf.now).variables (term a.now) }
     requires b { IsTermOf (L.value leaf.now).variables (term b.now) }
-    requires left { IsInInt left.range }
-    requires right { IsInInt right.range }
-    ensures when_true { IfOk result (λ made. L.value made.when_true ≡ compared_terms L.meaning op (term a.now) (term b.now) left right (L.value leaf.now)) }
-    ensures when_false { IfOk result (λ made. L.value made.when_false ≡ compared_terms L.meaning (negation_of op) (term a.now) (term b.now) left right (L.value leaf.now)) }
+    requires left { IsOver (L.value leaf.now).variables left.now }
+    requires right { IsOver (L.value leaf.now).variables right.now }
+    ensures when_true { IfOk result (λ made. L.value made.when_true ≡ compared_terms L.meaning op (variable_of (term a.now)) (variable_of (term b.now)) left.now right.now (L.value leaf.now)) }
+    ensures when_false { IfOk result (λ made. L.value made.when_false ≡ compared_terms L.meaning (negation_of op) (variable_of (term a.now)) (variable_of (term b.now)) left.now right.now (L.value leaf.now)) }
     ensures true_same { IfOk result (λ made. (L.value made.when_true).variables ≡ (L.value leaf.now).variables) }
     ensures false_same { IfOk result (λ made. (L.value made.when_false).variables ≡ (L.value leaf.now).variables) }
 {
-    let form = difference_in(alloc, leaf, a, b, left.fits && right.fits)?;
-    let a = operand_of(leaf, a, left.range);
-    let b = operand_of(leaf, b, right.range);
+    let counts = left.evaluation.fits && right.evaluation.fits;
+    let form = difference_where(alloc, &left.form, &right.form, counts)?;
+    let a = operand_of(leaf, a, left.evaluation.range);
+    let b = operand_of(leaf, b, right.evaluation.range);
     compare_both(alloc, leaf, op, a, b, &form)
 }
 
@@ -268,20 +323,20 @@ pub(crate) fn compare_zero<L: Leaf>(
     alloc: Global,
     leaf: &L,
     e: &Expr,
-    found: Evaluation,
+    found: &Survey,
 ) -> Result<Sides<L>, NoMemory>
     requires e { IsTermOf (L.value leaf.now).variables (term e.now) }
-    requires found { IsInInt found.range }
-    ensures when_true { IfOk result (λ made. L.value made.when_true ≡ compared_zero L.meaning Ne (term e.now) found (L.value leaf.now)) }
-    ensures when_false { IfOk result (λ made. L.value made.when_false ≡ compared_zero L.meaning Eq (term e.now) found (L.value leaf.now)) }
+    requires found { IsOver (L.value leaf.now).variables found.now }
+    ensures when_true { IfOk result (λ made. L.value made.when_true ≡ compared_zero L.meaning Ne (variable_of (term e.now)) found.now (L.value leaf.now)) }
+    ensures when_false { IfOk result (λ made. L.value made.when_false ≡ compared_zero L.meaning Eq (variable_of (term e.now)) found.now (L.value leaf.now)) }
     ensures true_same { IfOk result (λ made. (L.value made.when_true).variables ≡ (L.value leaf.now).variables) }
     ensures false_same { IfOk result (λ made. (L.value made.when_false).variables ≡ (L.value leaf.now).variables) }
 {
-    let form = less_zero_in(alloc, leaf, e, found.fits)?;
+    let form = less_zero_where(alloc, &found.form, found.evaluation.fits)?;
     let zero = Operand {
         variable: None,
         range: Range { low: 0, high: 0 },
     };
-    let number = operand_of(leaf, e, found.range);
+    let number = operand_of(leaf, e, found.evaluation.range);
     compare_both(alloc, leaf, Compare::Ne, number, zero, &form)
 }

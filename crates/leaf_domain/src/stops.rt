@@ -1,22 +1,73 @@
-//! Whether a statement may stop.
+//! Whether an expression may stop, by the kind of its node.
 #![tactic(auto)]
 
-ghost use Rattle.std.specs.Prelude.{◌≡◌, ◌&&◌, IfOk};
-ghost use Rattle.c_tree.specs.Fit.{IsTermOf, IsCodeOf};
-ghost use Rattle.c_tree.specs.Tree.{Done};
-ghost use Rattle.c_tree.specs.View.{term, front};
+ghost use Rattle.std.specs.Prelude.{◌≡◌, ◌&&◌, ◌||◌, not};
 ghost use Rattle.leaf_domain.specs.declared.range.Range as range;
 ghost use Rattle.c_tree.specs.declared.tree.Mode as modes;
 ghost use Rattle.c_tree.specs.declared.tree.Op.TheVariants.{Div, Rem};
-ghost use Rattle.leaf_domain.specs.Stops.{has_number, may_leave, stops_at, either_stops, may_term, is_of_value, may_fail, may_at};
+ghost use Rattle.leaf_domain.specs.Ranges.{is_empty_range};
+ghost use Rattle.leaf_domain.specs.Stops.{has_number, may_leave, stops_at, either_stops, is_of_value};
+ghost use Rattle.leaf_domain.specs.Evaluations.{has_kind, no_stops, stops_where_some, joined_stops, negation_stops, operator_stops};
 
 use crate::evaluation::is_inside;
 use crate::leaf::Leaf;
 use crate::range::Range;
-use crate::transfer::{evaluate, split};
-use c_tree::{Expr, Kind, Mode, Op, Stmt};
-use fam_outer::NoMemory;
-use std::alloc::Global;
+use c_tree::{Kind, Mode, Op};
+
+/// The kinds with which an expression may stop.
+#[derive(Clone, Copy, Debug)]
+pub struct Stops {
+    pub overflow: bool,
+    pub zero_divisor: bool,
+}
+
+/// Whether the kind is among them.
+pub(crate) fn has_kind(stops: Stops, kind: Kind) -> bool
+    ensures { result ≡ has_kind stops kind }
+{
+    match kind {
+        Kind::Overflow => stops.overflow,
+        Kind::ZeroDivisor => stops.zero_divisor,
+        Kind::Assertion => false,
+    }
+}
+
+/// Whether expressions stop with the kind.
+pub(crate) fn is_of_value(kind: Kind) -> bool
+    ensures { result ≡ is_of_value kind }
+{
+    match kind {
+        Kind::Assertion => false,
+        _ => true,
+    }
+}
+
+/// No kind.
+pub(crate) fn no_stops() -> Stops
+    ensures { result ≡ no_stops }
+{
+    Stops {
+        overflow: false,
+        zero_divisor: false,
+    }
+}
+
+/// These kinds, and none at Nothing.
+pub(crate) fn stops_where_some<L: Leaf>(leaf: &L, stops: Stops) -> Stops
+    ensures { result ≡ stops_where_some (L.value leaf.now) stops }
+{
+    if leaf.is_nothing() { no_stops() } else { stops }
+}
+
+/// The kinds of both.
+pub(crate) fn joined_stops(a: Stops, b: Stops) -> Stops
+    ensures { result ≡ joined_stops a b }
+{
+    Stops {
+        overflow: a.overflow || b.overflow,
+        zero_divisor: a.zero_divisor || b.zero_divisor,
+    }
+}
 
 fn has_number(n: i64, a: Range) -> bool
     ensures { result ≡ has_number n a }
@@ -75,117 +126,40 @@ fn either_stops(left: bool, right: bool, own: bool, r: Range, s: Range) -> bool
     left || !r.is_empty() && right || !(r.is_empty() || s.is_empty()) && own
 }
 
-/// Whether an expression may stop with the kind.
-fn may_stop<L: Leaf>(
-    alloc: Global,
-    leaf: &L,
-    kind: Kind,
-    e: &Expr,
+/// Whether the operand of a negation stops, or the negation where the operand has a value.
+fn negation_stops_with(mode: Mode, kind: Kind, raw: Range, operand: bool, r: Range) -> bool
+    ensures { result ≡ (operand || (not (is_empty_range r) && may_leave mode kind raw)) }
+{
+    operand || !r.is_empty() && may_leave(mode, kind, raw)
+}
+
+/// The kinds with which a negation of this range may stop, by those of its operand and its range.
+pub(crate) fn negation_stops(mode: Mode, raw: Range, operand: Stops, r: Range) -> Stops
+    ensures { result ≡ negation_stops mode raw operand r }
+{
+    Stops {
+        overflow: negation_stops_with(mode, Kind::Overflow, raw, operand.overflow, r),
+        zero_divisor: negation_stops_with(mode, Kind::ZeroDivisor, raw, operand.zero_divisor, r),
+    }
+}
+
+/// The kinds with which an operator of this range may stop, by those of its operands and their
+/// ranges.
+pub(crate) fn operator_stops(
     mode: Mode,
-) -> Result<bool, NoMemory>
-    requires { IsTermOf (L.value leaf.now).variables (term e.now) }
-    ensures { IfOk result (λ b. b ≡ may_term L.meaning mode kind (term e.now) (L.value leaf.now)) }
+    op: Op,
+    raw: Range,
+    left: Stops,
+    right: Stops,
+    r: Range,
+    s: Range,
+) -> Stops
+    ensures { result ≡ operator_stops mode op raw left right r s }
 {
-    if leaf.is_nothing() {
-        return Ok(false);
-    }
-    match e {
-        Expr::Number(_) | Expr::Var(_) => Ok(false),
-        Expr::Not(a) => may_stop(alloc, leaf, kind, a, mode),
-        Expr::Neg(a) => {
-            let operand = may_stop(alloc, leaf, kind, a, mode)?;
-            let found = evaluate(alloc, leaf, a, mode)?;
-            let whole = evaluate(alloc, leaf, e, mode)?;
-            Ok(operand || !found.range.is_empty() && may_leave(mode, kind, whole.raw))
-        }
-        Expr::Binary(op, a, b) => {
-            let left = may_stop(alloc, leaf, kind, a, mode)?;
-            match op {
-                Op::And => {
-                    let sides = split(alloc, leaf, a, mode)?;
-                    let right = may_stop(alloc, &sides.when_true, kind, b, mode)?;
-                    Ok(left || right)
-                }
-                Op::Or => {
-                    let sides = split(alloc, leaf, a, mode)?;
-                    let right = may_stop(alloc, &sides.when_false, kind, b, mode)?;
-                    Ok(left || right)
-                }
-                _ => {
-                    let right = may_stop(alloc, leaf, kind, b, mode)?;
-                    let r = evaluate(alloc, leaf, a, mode)?;
-                    let s = evaluate(alloc, leaf, b, mode)?;
-                    let whole = evaluate(alloc, leaf, e, mode)?;
-                    let own = stops_at(mode, kind, *op, whole.raw, r.range, s.range);
-                    Ok(either_stops(left, right, own, r.range, s.range))
-                }
-            }
-        }
-    }
-}
-
-fn is_of_value(kind: Kind) -> bool
-    ensures { result ≡ is_of_value kind }
-{
-    match kind {
-        Kind::Assertion => false,
-        _ => true,
-    }
-}
-
-/// Whether the value or the test of a statement may stop with the kind.
-fn may_stop_value<L: Leaf>(
-    alloc: Global,
-    leaf: &L,
-    kind: Kind,
-    e: &Expr,
-    mode: Mode,
-) -> Result<bool, NoMemory>
-    requires { IsTermOf (L.value leaf.now).variables (term e.now) }
-    ensures { IfOk result (λ b. b ≡ (is_of_value kind && may_term L.meaning mode kind (term e.now) (L.value leaf.now))) }
-{
-    if is_of_value(kind) {
-        may_stop(alloc, leaf, kind, e, mode)
-    } else {
-        Ok(false)
-    }
-}
-
-/// Whether the test of an assertion may be 0.
-fn may_fail<L: Leaf>(alloc: Global, leaf: &L, test: &Expr, mode: Mode) -> Result<bool, NoMemory>
-    requires { IsTermOf (L.value leaf.now).variables (term test.now) }
-    ensures { IfOk result (λ b. b ≡ may_fail L.meaning mode (term test.now) (L.value leaf.now)) }
-{
-    if leaf.is_nothing() {
-        return Ok(false);
-    }
-    let sides = split(alloc, leaf, test, mode)?;
-    Ok(!sides.when_false.is_nothing())
-}
-
-/// Whether a statement that is entered with the leaf may stop with the kind. Of a statement with
-/// others in it this is asked of its own test alone.
-pub fn may<L: Leaf>(
-    alloc: Global,
-    leaf: &L,
-    kind: Kind,
-    s: &Stmt,
-    mode: Mode,
-) -> Result<bool, NoMemory>
-    requires { IsCodeOf (L.value leaf.now).variables (front s.now Done) }
-    ensures { IfOk result (λ b. b ≡ may_at L.meaning mode kind (front s.now Done) (L.value leaf.now)) }
-{
-    match s {
-        Stmt::Assign { value, .. } => may_stop_value(alloc, leaf, kind, value, mode),
-        Stmt::If { test, .. } => may_stop_value(alloc, leaf, kind, test, mode),
-        Stmt::While { test, .. } => may_stop_value(alloc, leaf, kind, test, mode),
-        Stmt::Assert { test, .. } => {
-            if is_of_value(kind) {
-                may_stop(alloc, leaf, kind, test, mode)
-            } else {
-                may_fail(alloc, leaf, test, mode)
-            }
-        }
-        _ => Ok(false),
+    let overflow = stops_at(mode, Kind::Overflow, op, raw, r, s);
+    let zero_divisor = stops_at(mode, Kind::ZeroDivisor, op, raw, r, s);
+    Stops {
+        overflow: either_stops(left.overflow, right.overflow, overflow, r, s),
+        zero_divisor: either_stops(left.zero_divisor, right.zero_divisor, zero_divisor, r, s),
     }
 }

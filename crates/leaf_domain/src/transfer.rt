@@ -1,100 +1,106 @@
 //! What an expression does to a leaf, generic over the kind of leaf.
 #![tactic(auto)]
 
-ghost use Rattle.std.specs.Prelude.{◌≡◌, ◌<◌, IfOk};
+ghost use Rattle.std.specs.Prelude.{◌≡◌, ◌<◌, IfOk, true, false};
 ghost use Rattle.c_tree.specs.Fit.{IsTermOf};
 ghost use Rattle.c_tree.specs.View.{term};
 ghost use Rattle.leaf_domain.specs.Ranges.{IsInInt};
 ghost use Rattle.leaf_domain.specs.Sums.{HasForm};
-ghost use Rattle.leaf_domain.specs.Evaluations.{evaluation_of};
+ghost use Rattle.leaf_domain.specs.Evaluations.{IsOver, survey_of, stops_of};
 ghost use Rattle.leaf_domain.specs.Transfer as transfer;
 
-use crate::differences::{counted_form_in, form_in};
-use crate::evaluation::{Evaluation, atom, is_truth, negation, operation, truth};
+use crate::differences::form_where;
+use crate::evaluation::is_truth;
 use crate::form::Form;
+use crate::laws::leaf_is_valid;
 use crate::leaf::Leaf;
 use crate::range::Range;
 use crate::sides::{
-    Sides, both, compare_operands, compare_zero, comparison, copies, either, swapped,
+    Sides, Split, both, compare_operands, compare_zero, comparison, copies, either, sides_of,
+    swapped, with_stops,
 };
+use crate::stops::operator_stops;
+use crate::survey::{Survey, negation, number, operation, truth, variable_at};
 use c_tree::{Expr, Mode, Op};
 use fam_outer::NoMemory;
 use std::alloc::Global;
 
-/// What is found of an expression in a leaf: each part of it is looked at once.
+/// All that is found of an expression in a leaf: each part of it is looked at once.
 #[cycle(transfer)]
-pub(crate) fn evaluate<L: Leaf>(
+pub(crate) fn survey<L: Leaf>(
     alloc: Global,
     leaf: &L,
     e: &Expr,
     mode: Mode,
-) -> Result<Evaluation, NoMemory>
+) -> Result<Survey, NoMemory>
     requires { IsTermOf (L.value leaf.now).variables (term e.now) }
-    ensures value { IfOk result (λ found. found ≡ evaluation_of (transfer.transfer L.meaning mode (term e.now)) (L.value leaf.now)) }
-    ensures int { IfOk result (λ found. IsInInt found.range) }
+    ensures value { IfOk result (λ found. found ≡ survey_of L.meaning mode (term e.now) (L.value leaf.now)) }
+    ensures over { IfOk result (IsOver (L.value leaf.now).variables) }
 {
-    let _known = leaf.variables();
     if is_truth(e) {
-        let sides = split(alloc, leaf, e, mode)?;
-        return Ok(truth(&sides.when_true, &sides.when_false, mode));
+        let made = split_with_stops(alloc, leaf, e, mode)?;
+        return Ok(truth(&made.when_true, &made.when_false, mode, made.stops));
     }
     match e {
-        Expr::Number(n) => Ok(atom(leaf, Range { low: *n, high: *n })),
-        Expr::Var(x) => Ok(atom(leaf, leaf.bounds_of(*x))),
+        Expr::Number(n) => Ok(number(alloc, leaf, *n)),
+        Expr::Var(x) => variable_at(alloc, leaf, *x),
         Expr::Neg(a) => {
-            let found = evaluate(alloc, leaf, a, mode)?;
-            let form = form_in(alloc, leaf, e)?;
-            Ok(negation(leaf, mode, &form, found))
+            let found = survey(alloc, leaf, a, mode)?;
+            negation(alloc, leaf, mode, &found)
         }
         Expr::Binary(op, a, b) => {
-            let left = evaluate(alloc, leaf, a, mode)?;
-            let right = evaluate(alloc, leaf, b, mode)?;
-            let form = form_in(alloc, leaf, e)?;
-            Ok(operation(leaf, mode, *op, &form, left, right))
+            let left = survey(alloc, leaf, a, mode)?;
+            let right = survey(alloc, leaf, b, mode)?;
+            operation(alloc, leaf, mode, *op, &left, &right)
         }
         Expr::Not(_) => unreachable!(),
     }
 }
 
-/// The leaves where an expression is not 0 and where it is: each part of it is looked at once.
+/// The leaves where an expression is not 0 and where it is, and the kinds with which it may stop:
+/// each part of it is looked at once.
 #[cycle(transfer)]
-pub(crate) fn split<L: Leaf>(
+pub(crate) fn split_with_stops<L: Leaf>(
     alloc: Global,
     leaf: &L,
     e: &Expr,
     mode: Mode,
-) -> Result<Sides<L>, NoMemory>
+) -> Result<Split<L>, NoMemory>
     requires { IsTermOf (L.value leaf.now).variables (term e.now) }
     ensures when_true { IfOk result (λ made. L.value made.when_true ≡ (transfer.transfer L.meaning mode (term e.now)).when_true (L.value leaf.now)) }
     ensures when_false { IfOk result (λ made. L.value made.when_false ≡ (transfer.transfer L.meaning mode (term e.now)).when_false (L.value leaf.now)) }
     ensures true_same { IfOk result (λ made. (L.value made.when_true).variables ≡ (L.value leaf.now).variables) }
     ensures false_same { IfOk result (λ made. (L.value made.when_false).variables ≡ (L.value leaf.now).variables) }
+    ensures stops { IfOk result (λ made. made.stops ≡ stops_of L.meaning mode (term e.now) (L.value leaf.now)) }
 {
-    let _known = leaf.variables();
     if leaf.is_nothing() {
         return copies(alloc, leaf);
     }
     if !is_truth(e) {
-        let found = evaluate(alloc, leaf, e, mode)?;
-        return compare_zero(alloc, leaf, e, found);
+        let found = survey(alloc, leaf, e, mode)?;
+        let sides = compare_zero(alloc, leaf, e, &found)?;
+        return Ok(with_stops(sides, found.stops));
     }
     match e {
-        Expr::Not(a) => Ok(swapped(split(alloc, leaf, a, mode)?)),
+        Expr::Not(a) => Ok(swapped(split_with_stops(alloc, leaf, a, mode)?)),
         Expr::Binary(op, a, b) => match op {
             Op::And => {
-                let first = split(alloc, leaf, a, mode)?;
-                let second = split(alloc, &first.when_true, b, mode)?;
+                let first = split_with_stops(alloc, leaf, a, mode)?;
+                let second = split_with_stops(alloc, &first.when_true, b, mode)?;
                 both(alloc, first, second)
             }
             Op::Or => {
-                let first = split(alloc, leaf, a, mode)?;
-                let second = split(alloc, &first.when_false, b, mode)?;
+                let first = split_with_stops(alloc, leaf, a, mode)?;
+                let second = split_with_stops(alloc, &first.when_false, b, mode)?;
                 either(alloc, first, second)
             }
             _ => {
-                let left = evaluate(alloc, leaf, a, mode)?;
-                let right = evaluate(alloc, leaf, b, mode)?;
-                compare_operands(alloc, leaf, comparison(*op), a, b, left, right)
+                let left = survey(alloc, leaf, a, mode)?;
+                let right = survey(alloc, leaf, b, mode)?;
+                let sides = compare_operands(alloc, leaf, comparison(*op), a, b, &left, &right)?;
+                let (r, s) = (left.evaluation.range, right.evaluation.range);
+                let stops = operator_stops(mode, *op, Range::EMPTY, left.stops, right.stops, r, s);
+                Ok(with_stops(sides, stops))
             }
         },
         _ => unreachable!(),
@@ -106,8 +112,8 @@ pub fn raw_of<L: Leaf>(alloc: Global, leaf: &L, e: &Expr, mode: Mode) -> Result<
     requires { IsTermOf (L.value leaf.now).variables (term e.now) }
     ensures { IfOk result (λ r. r ≡ transfer.raw_of_term L.meaning mode (term e.now) (L.value leaf.now)) }
 {
-    let found = evaluate(alloc, leaf, e, mode)?;
-    Ok(found.raw)
+    let found = survey(alloc, leaf, e, mode)?;
+    Ok(found.evaluation.raw)
 }
 
 /// The range of the values of an expression at the stores of a leaf.
@@ -115,8 +121,8 @@ pub fn range_of<L: Leaf>(alloc: Global, leaf: &L, e: &Expr, mode: Mode) -> Resul
     requires { IsTermOf (L.value leaf.now).variables (term e.now) }
     ensures { IfOk result (λ r. r ≡ transfer.range_of_term L.meaning mode (term e.now) (L.value leaf.now)) }
 {
-    let found = evaluate(alloc, leaf, e, mode)?;
-    Ok(found.range)
+    let found = survey(alloc, leaf, e, mode)?;
+    Ok(found.evaluation.range)
 }
 
 /// Whether no negation, sum, difference or product in the expression leaves `int` at a store of the
@@ -125,8 +131,20 @@ pub fn fits<L: Leaf>(alloc: Global, leaf: &L, e: &Expr, mode: Mode) -> Result<bo
     requires { IsTermOf (L.value leaf.now).variables (term e.now) }
     ensures { IfOk result (λ b. b ≡ transfer.fits_term L.meaning mode (term e.now) (L.value leaf.now)) }
 {
-    let found = evaluate(alloc, leaf, e, mode)?;
-    Ok(found.fits)
+    let found = survey(alloc, leaf, e, mode)?;
+    Ok(found.evaluation.fits)
+}
+
+/// The leaf where an expression is not 0 and the leaf where it is, by one pass over it.
+pub fn split<L: Leaf>(alloc: Global, leaf: &L, e: &Expr, mode: Mode) -> Result<Sides<L>, NoMemory>
+    requires { IsTermOf (L.value leaf.now).variables (term e.now) }
+    ensures when_true { IfOk result (λ made. L.value made.when_true ≡ transfer.assumed L.meaning mode (term e.now) true (L.value leaf.now)) }
+    ensures when_false { IfOk result (λ made. L.value made.when_false ≡ transfer.assumed L.meaning mode (term e.now) false (L.value leaf.now)) }
+    ensures true_same { IfOk result (λ made. (L.value made.when_true).variables ≡ (L.value leaf.now).variables) }
+    ensures false_same { IfOk result (λ made. (L.value made.when_false).variables ≡ (L.value leaf.now).variables) }
+{
+    let made = split_with_stops(alloc, leaf, e, mode)?;
+    Ok(sides_of(made))
 }
 
 /// The leaf where an expression is not 0, or is 0.
@@ -162,7 +180,7 @@ fn set<L: Leaf>(
     ensures value { IfOk result (λ made. L.value made ≡ transfer.form_set L.meaning x form.now range (L.value leaf.now)) }
     ensures same { IfOk result (λ made. (L.value made).variables ≡ (L.value leaf.now).variables) }
 {
-    let _known = leaf.variables();
+    leaf_is_valid(leaf);
     match form {
         None => leaf.set_range(alloc, x, range),
         Some(form) => leaf.set_form(alloc, x, form, range),
@@ -176,12 +194,16 @@ pub fn assign<L: Leaf>(alloc: Global, leaf: &L, x: u32, e: &Expr, mode: Mode) ->
     ensures value { IfOk result (λ made. L.value made ≡ transfer.assigned L.meaning mode x (term e.now) (L.value leaf.now)) }
     ensures same { IfOk result (λ made. (L.value made).variables ≡ (L.value leaf.now).variables) }
 {
-    let found = evaluate(alloc, leaf, e, mode)?;
-    if found.range.is_empty() {
+    let Survey {
+        evaluation,
+        form,
+        ..
+    } = survey(alloc, leaf, e, mode)?;
+    if evaluation.range.is_empty() {
         return L::nothing(alloc, leaf.variables());
     }
-    let form = counted_form_in(alloc, leaf, e, found.fits)?;
-    set(alloc, leaf, x, &form, found.range)
+    let form = form_where(form, evaluation.fits);
+    set(alloc, leaf, x, &form, evaluation.range)
 }
 
 /// The leaf after `x = input()`, which is any number of `int`.
@@ -190,6 +212,6 @@ pub fn forget<L: Leaf>(alloc: Global, leaf: &L, x: u32) -> Result<L, NoMemory>
     ensures value { IfOk result (λ made. L.value made ≡ transfer.forgotten L.meaning x (L.value leaf.now)) }
     ensures same { IfOk result (λ made. (L.value made).variables ≡ (L.value leaf.now).variables) }
 {
-    let _known = leaf.variables();
+    leaf_is_valid(leaf);
     leaf.set_range(alloc, x, Range::INT)
 }

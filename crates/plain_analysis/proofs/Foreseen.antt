@@ -22,7 +22,8 @@ use Rattle.plain_analysis.specs.declared.options.Options.{Options}
 use Rattle.plain_analysis.specs.Loops.{final_leaf}
 use Rattle.plain_analysis.specs.Statements.{Entry, after_of, entries_of}
 use Rattle.plain_analysis.specs.Promises.{IsForeseen}
-use Rattle.plain_analysis.proofs.Recursion.{answers_then, join_answer, after_answers, final_of_code, loop_holds}
+use Rattle.leaf_domain.proofs.Answered.{answers_then}
+use Rattle.plain_analysis.proofs.Recursion.{join_answer, after_answers, final_of_code, loop_holds}
 
 zero_from_test : (n : ℤ) → is_zero n ≡ true → n ≡ pos 0
 zero_from_test n e = grind (arith, ints)
@@ -165,7 +166,7 @@ module _ (M : LeafMeaning) (laws : LeafLaws M) (o : Options) (A : TransferAnswer
         test = test;
         names = subst (λ m. IsCodeOf m body) (sym i.same) g.names.1;
         known = g.known.0;
-        inside = good_after body v (assumed M o.mode e true x) (answers_then M laws o A v x (assumed M o.mode e true x) i a) g.names.1 g.plain.0
+        inside = good_after body v (assumed M o.mode e true x) (answers_then v x (assumed M o.mode e true x) i a) g.names.1 g.plain.0
             (all_first Known (entries_of M o body (assumed M o.mode e true x)) (entries_of M o rest (assumed M o.mode e false x)) g.known.1);
         again = (loop_holds M laws o A e body v g.valid g.names.0 g.names.1).again;
       }
@@ -176,7 +177,7 @@ module _ (M : LeafMeaning) (laws : LeafLaws M) (o : Options) (A : TransferAnswer
       let i = final_of_code M laws o A e body v g.valid g.names.0 g.names.1 in
       let test : IsTermOf x.variables e = subst (λ m. IsTermOf m e) (sym i.same) g.names.0 in
       let a = A.assumed_answers e false x (suits_own e x i.valid test) in
-      good_after rest v (assumed M o.mode e false x) (answers_then M laws o A v x (assumed M o.mode e false x) i a) g.names.2 g.plain.1
+      good_after rest v (assumed M o.mode e false x) (answers_then v x (assumed M o.mode e false x) i a) g.names.2 g.plain.1
       (all_second Known (entries_of M o body (assumed M o.mode e true x)) (entries_of M o rest (assumed M o.mode e false x)) g.known.1)
 
   -- ---- the cuts of statements
@@ -266,10 +267,10 @@ module _ (M : LeafMeaning) (laws : LeafLaws M) (o : Options) (A : TransferAnswer
       no_good = good_after q v no_in (A.assumed_answers e false v own) g.names.2 g.plain.1 (all_first Known (entries_of M o q no_in) (entries_of M o rest both) others)
 
       yes_out : Answers M v (after_of M o p yes_in)
-      yes_out = answers_then M laws o A v yes_in (after_of M o p yes_in) (A.assumed_answers e true v own) (after_answers M laws o A p yes_in yes_good.valid yes_good.names)
+      yes_out = answers_then v yes_in (after_of M o p yes_in) (A.assumed_answers e true v own) (after_answers M laws o A p yes_in yes_good.valid yes_good.names)
 
       no_out : Answers M v (after_of M o q no_in)
-      no_out = answers_then M laws o A v no_in (after_of M o q no_in) (A.assumed_answers e false v own) (after_answers M laws o A q no_in no_good.valid no_good.names)
+      no_out = answers_then v no_in (after_of M o q no_in) (A.assumed_answers e false v own) (after_answers M laws o A q no_in no_good.valid no_good.names)
 
       alike : Alike M (after_of M o p yes_in) (after_of M o q no_in)
       alike = record { first = yes_out.valid; second = no_out.valid; same = yes_out.same ∙ sym no_out.same }

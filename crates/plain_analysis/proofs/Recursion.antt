@@ -9,13 +9,10 @@ use Rattle.plain_analysis.specs.declared.options.Options.{Options}
 use Rattle.plain_analysis.specs.Loops.{turn_of, round_of, rounds_of, narrowing_of, narrowings_of, widened_leaf, final_leaf}
 use Rattle.plain_analysis.specs.Statements.{after_of}
 use Rattle.plain_analysis.specs.Promises.{LoopsSettle}
+use Rattle.leaf_domain.proofs.Answered.{answers_self, answers_then}
+use Rattle.leaf_domain.proofs.AtNothing.{nothing_is}
 use Rattle.plain_analysis.proofs.Rounds.{rounds_stay}
 use Rattle.plain_analysis.proofs.Settles.{first_phase_settles, leq_content}
-
--- a leaf without bounds is Nothing
-nothing_is : (m : ℕ) (c : Option (List ℤ)) → is_nothing_of (record { variables = m; content = c }) ≡ true → record { variables = m; content = c } ≡ nothing_of m
-nothing_is m None e = refl
-nothing_is m (Some ns) e = cc
 
 module _ (M : LeafMeaning) (laws : LeafLaws M) (o : Options) (A : TransferAnswers M o.mode) where
   pub suits : (e : Term) (v : LeafValue) (n : ℕ) → M.valid v → v.variables ≡ n → IsTermOf n e → Suits M e v
@@ -37,12 +34,6 @@ module _ (M : LeafMeaning) (laws : LeafLaws M) (o : Options) (A : TransferAnswer
       by_test : (t : Bool) → is_nothing_of (if t then M.narrow x (G x) else x) ≡ true
       by_test true = narrow_nothings x (G x) e
       by_test false = e
-
-  answers_self : (v : LeafValue) → M.valid v → Answers M v v
-  answers_self v h = record { valid = h; same = refl }
-
-  pub answers_then : (u v w : LeafValue) → Answers M u v → Answers M v w → Answers M u w
-  answers_then u v w h k = record { valid = k.valid; same = k.same ∙ h.same }
 
   -- a function from leaves of n variables to such leaves
   pub Keeps : ℕ → (LeafValue → LeafValue) → Type 0

@@ -14,7 +14,7 @@ use crate::findings::{Findings, PlaceLeaf, PlaceLeaves};
 use crate::options::Options;
 use c_tree::Program;
 use fam_outer::NoMemory;
-use leaf_domain::{Leaf, transfer_is_sound};
+use leaf_domain::{Leaf, leaf_is_valid, transfer_is_sound};
 use std::alloc::Global;
 
 /// The analysis of a plain program from a leaf of its variables.
@@ -70,5 +70,5 @@ fn runs_are_foreseen<L: Leaf>(program: &Program, start: &L, options: &Options)
     ensures settled { LoopsSettle L.meaning options.now }
 {
     transfer_is_sound::<L>();
-    let _known = start.variables();
+    leaf_is_valid(start);
 }

@@ -19,14 +19,6 @@ length_zipped f [] bs e = refl
 length_zipped f (a ∷ us) [] e = cc
 length_zipped f (a ∷ us) (b ∷ bs) e = ap suc (length_zipped f us bs (omega arith))
 
--- two leaves of one call have as many ranges
-pub same_lengths : (a b : LeafValue) (us bs : List Range) → a.variables ≡ b.variables → a ≡ interval_of us → b ≡ interval_of bs → length us ≡ length bs
-same_lengths a b us bs s e f = sym (ap (λ v. v.variables) e) ∙ s ∙ ap (λ v. v.variables) f
-
-pub few_zipped : (f : Range → Range → Range) (a b : LeafValue) (us bs rs : List Range) → a.variables ≤ 16 → a.variables ≡ b.variables → a ≡ interval_of us → b ≡ interval_of bs → rs ≡ map (λ (a, b). f a b) (zip us bs) → length rs ≤ 16
-few_zipped f a b us bs rs h s e g k =
-    omega (arith, ap length k, length_zipped f us bs (same_lengths a b us bs s e g), ap (λ v. v.variables) e)
-
 -- ---- ranges that a leaf can have
 cover_own : (a b : Range) → IsOwn a → IsOwn b → IsOwn (cover_of a b)
 cover_own a b h k = record { low = omega (arith, ints, clamps); order = omega (arith, ints, clamps); high = omega (arith, ints, clamps) }
@@ -71,31 +63,6 @@ own_set (s ∷ rs) (suc x) r h k = (h.0, own_set rs x r h.1 k)
 pub own_points : (s : List ℤ) → All IsInt s → AllOwn (map point_of s)
 own_points [] h = tt
 own_points (n ∷ s) h = let k = All-head IsInt n s h in (record { low = k.low; order = omega (arith, ints); high = k.high }, own_points s (All-tail IsInt n s h))
-
--- ---- the operations at leaves that are not Nothing
-pub join_some : (a b r : LeafValue) (us bs rs : List Range) → a ≡ interval_of us → b ≡ interval_of bs → rs ≡ covers us bs → r ≡ interval_of rs → r ≡ interval_join a b
-join_some a b r us bs rs e f g h = rw (e, f, h, g, pairs_numbers us, pairs_numbers bs)
-
-pub widen_some : (a b r : LeafValue) (us bs rs : List Range) → a ≡ interval_of us → b ≡ interval_of bs → rs ≡ widened_all us bs → r ≡ interval_of rs → r ≡ interval_widen a b
-widen_some a b r us bs rs e f g h = rw (e, f, h, g, pairs_numbers us, pairs_numbers bs)
-
-pub narrow_some : (a b r : LeafValue) (us bs rs : List Range) → a ≡ interval_of us → b ≡ interval_of bs → rs ≡ narrowed_all us bs → r ≡ settled rs → r ≡ interval_narrow a b
-narrow_some a b r us bs rs e f g h = rw (e, f, h, g, pairs_numbers us, pairs_numbers bs)
-
-pub leq_some : (a b : LeafValue) (us bs : List Range) (r : Bool) → a ≡ interval_of us → b ≡ interval_of bs → r ≡ all_lie_in us bs → r ≡ interval_leq a b
-leq_some a b us bs r e f g = rw (e, f, g, pairs_numbers us, pairs_numbers bs)
-
-pub bounds_some : (a : LeafValue) (us : List Range) (x : ℕ) → a ≡ interval_of us → interval_bounds a x ≡ slice_index_or us x empty_range
-bounds_some a us x e = rw (e, pairs_numbers us)
-
-pub with_some : (a : LeafValue) (us : List Range) (x : ℕ) (r : Range) → a ≡ interval_of us → is_empty_range r ≡ false → interval_with a x r ≡ interval_of (slice_set us x r)
-with_some a us x r e f = rw (e, f, pairs_numbers us)
-
--- past the end aside, the default does not matter
-pub read_at : (us : List Range) (x : ℕ) (d e : Range) → x < length us → slice_index_or us x d ≡ slice_index_or us x e
-read_at [] x d e h = absurd (omega arith)
-read_at (u ∷ us) zero d e h = refl
-read_at (u ∷ us) (suc x) d e h = read_at us x d e (omega arith)
 
 pub is_interval : (rs : List Range) → length rs ≤ 16 → AllOwn rs → IsInterval (interval_of rs)
 is_interval rs h k = (h, (ap numbers_of (pairs_numbers rs), ap length (sym (pairs_numbers rs)), rw (pairs_numbers rs) k))

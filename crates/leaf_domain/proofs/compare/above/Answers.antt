@@ -1,6 +1,6 @@
 use Rattle.std.proofs.Common.{rules, pos, ◌+ℤ◌, FitsSigned, w64, refl}
 use Rattle.std.proofs.lemmas.Int.{to_z-of_z}
-use Rattle.leaf_domain.proofs.Signed.{new_is}
+use Rattle.leaf_domain.proofs.RangeEquations.{new_is}
 use Rattle.leaf_domain.proofs.compare.above.Goals as goal
 
 pub returns : goal.returns

@@ -1,6 +1,6 @@
 use Rattle.std.proofs.Common.{rules, FitsSigned, w64}
 use Rattle.std.proofs.lemmas.Int.{to_z-of_z}
-use Rattle.leaf_domain.proofs.Signed.{new_is}
+use Rattle.leaf_domain.proofs.RangeEquations.{new_is}
 use Rattle.leaf_domain.proofs.compare.without.Goals as goal
 
 pub returns : goal.returns

@@ -1,7 +1,7 @@
 use Rattle.leaf_domain.proofs.FormLemmas.{forms_are_forms}
 use Rattle.leaf_domain.proofs.SoundLemmas.{transfer_answers}
 use Rattle.leaf_domain.proofs.FitLemmas.{transfer_holds}
-use Rattle.leaf_domain.proofs.StopLemmas.{nothing_stops}
+use Rattle.leaf_domain.proofs.AtNothing.{nothing_stops}
 use Rattle.leaf_domain.proofs.laws.transfer_is_sound.Goals as goal
 
 pub returns-clause-forms : goal.returns-clause-forms

@@ -1,6 +1,6 @@
 use Rattle.std.proofs.Common.{sym, ◌∙◌, w64, FitsSigned, rules}
 use Rattle.std.proofs.lemmas.Int.{to_z-of_z}
-use Rattle.leaf_domain.proofs.Merges.{merged_more, merged_large}
+use Rattle.leaf_domain.proofs.TermEquations.{merged_more, merged_large}
 use Rattle.leaf_domain.proofs.terms.merged.Goals as goal
 
 pub returns-in_default-kept : goal.returns-in_default-kept

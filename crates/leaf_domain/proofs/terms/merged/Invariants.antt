@@ -1,6 +1,6 @@
 use Rattle.std.proofs.Common.{◌+◌, length}
 use Rattle.leaf_domain.specs.Forms.{terms_sum}
-use Rattle.leaf_domain.proofs.Merges.{Merging}
+use Rattle.leaf_domain.proofs.TermEquations.{Merging}
 use Rattle.leaf_domain.proofs.terms.merged.Given as goal
 
 abbrev pub invariant-terms : goal.invariant-terms

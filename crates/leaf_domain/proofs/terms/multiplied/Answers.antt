@@ -1,6 +1,6 @@
 use Rattle.std.proofs.Common.{sym, ◌∙◌, w64, FitsSigned, rules}
 use Rattle.std.proofs.lemmas.Int.{to_z-of_z}
-use Rattle.leaf_domain.proofs.Merges.{multiplied_more, multiplied_large}
+use Rattle.leaf_domain.proofs.TermEquations.{multiplied_more, multiplied_large}
 use Rattle.leaf_domain.proofs.terms.multiplied.Goals as goal
 
 pub returns-in_default-kept_product : goal.returns-in_default-kept_product

@@ -1,6 +1,6 @@
 use Rattle.std.proofs.Common.{length}
 use Rattle.leaf_domain.specs.Forms.{terms_by}
-use Rattle.leaf_domain.proofs.Merges.{Multiplying}
+use Rattle.leaf_domain.proofs.TermEquations.{Multiplying}
 use Rattle.leaf_domain.proofs.terms.multiplied.Given as goal
 
 abbrev pub invariant-terms : goal.invariant-terms

@@ -1,6 +1,6 @@
 use Rattle.std.proofs.Common.{w64, FitsSigned, rules}
 use Rattle.std.proofs.lemmas.Int.{to_z-of_z}
-use Rattle.leaf_domain.proofs.Merges.{behind_terms, only_left, only_right, left_below, right_below, both_same}
+use Rattle.leaf_domain.proofs.TermEquations.{behind_terms, only_left, only_right, left_below, right_below, both_same}
 use Rattle.leaf_domain.proofs.terms.next.Goals as goal
 
 pub returns-in-None-Some-clause-first : goal.returns-in-None-Some-clause-first

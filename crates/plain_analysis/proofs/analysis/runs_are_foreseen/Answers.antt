@@ -7,7 +7,7 @@ pub returns-clause-runs : goal.returns-clause-runs
 returns-clause-runs g c =
     let o = c.args.options.now in
     let sound = c.transfer_is_sound.ensures in
-    runs g.L.Leaf.meaning o (whole c.args.program.now) (g.L.Leaf.value c.args.start.now) c.requires.program c.requires.plain g.met.L.Leaf.laws (sound.answers o.mode) (sound.holds o.mode) c.variables-known.ensures.valid c.requires.variables
+    runs g.L.Leaf.meaning o (whole c.args.program.now) (g.L.Leaf.value c.args.start.now) c.requires.program c.requires.plain g.met.L.Leaf.laws (sound.answers o.mode) (sound.holds o.mode) c.leaf_is_valid.ensures.valid c.requires.variables
 
 pub returns-clause-settled : goal.returns-clause-settled
 returns-clause-settled g c =
