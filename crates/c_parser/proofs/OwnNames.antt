@@ -78,8 +78,8 @@ own_declared bytes l p is a =
       file = file;
       forms = a.spelled.spelled.forms;
       are =
-        ap (λ (w : Whole). w.names) a.spelled.spelled.is
-        ∙ sym (ap (λ (xs : List ℕ). each_once [] (names_at l.names xs)) numbers ∙ ap (each_once []) (all_at [] l.names 0 refl) ∙ all_new [] l.names distinct);
+          ap (λ (w : Whole). w.names) a.spelled.spelled.is
+          ∙ sym (ap (λ (xs : List ℕ). each_once [] (names_at l.names xs)) numbers ∙ ap (each_once []) (all_at [] l.names 0 refl) ∙ all_new [] l.names distinct);
     }
 
 pub read_declared : (bytes : List ℕ) (r : Result Program FileRefusal) → IsReadOver [] bytes r → IfOk r (λ p. AreDeclaredNames [] bytes (whole p).names)

@@ -9,8 +9,8 @@ ghost use Rattle.c_tokens.specs.Lexemes as lexemes;
 ghost use Rattle.c_tokens.specs.Reading.{front_of};
 
 use crate::mark_bytes::{is_pair, is_single};
-use c_words::{is_digit, is_word_byte};
 use crate::token::TokenKind;
+use c_words::{is_digit, is_word_byte};
 use fam_outer::FileCode;
 
 /// The greatest `int`.

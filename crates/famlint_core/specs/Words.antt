@@ -5,7 +5,7 @@ use Rattle.c_tree.specs.declared.tree.Mode.{Mode}
 use Rattle.c_tree.specs.declared.tree.Mode.TheVariants as modes
 use Rattle.command_words.specs.Arguments.{arguments_of}
 use Rattle.command_words.specs.declared.reading.Arguments.{Arguments}
-use Rattle.command_words.specs.declared.refusal.Usage.{Usage}
+use Rattle.command_words.specs.declared.refusal.Usage.{Usage as WordsUsage}
 use Rattle.fam_outer.specs.declared.refusal.Refusal.{Refusal}
 use Rattle.fam_outer.specs.declared.refusal.Refusal.TheVariants as refusal
 use Rattle.command_words.specs.declared.settings.Domain.{Domain}
@@ -82,7 +82,7 @@ abbrev pub reading : List (List ℕ) → Result Request Fault
 reading words = request_for (arguments_of words)
 
 -- a call that reads words answers this; want of memory is free
-abbrev pub ReadsWords : Result Request Fault → Result Request (Refusal Usage) → Type 0
+abbrev pub ReadsWords : Result Request Fault → Result Request (Refusal WordsUsage) → Type 0
 ReadsWords expected (Ok request) = expected ≡ Ok request
 ReadsWords expected (Err (refusal.Fault usage)) = expected ≡ Err Usage
 ReadsWords expected (Err refusal.NoMemory) = ⊤

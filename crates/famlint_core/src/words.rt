@@ -8,7 +8,9 @@ ghost use Rattle.famlint_core.specs.Words as specs;
 ghost use Rattle.famlint_core.specs.Words.{reading, role_of, ReadsWords};
 
 use c_tree::Mode;
-use command_words::{Arguments, Domain, Given, Overflow, Settings, Usage, Word, WordsRefusal, read_words};
+use command_words::{
+    Arguments, Domain, Given, Overflow, Settings, Usage, Word, WordsRefusal, read_words,
+};
 use fam_outer::Text;
 use plain_analysis::Options;
 use std::alloc::Global;

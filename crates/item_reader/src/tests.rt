@@ -310,12 +310,18 @@ fn limits(rt: HostRuntime) -> Result<(), Fail> {
     }
     assert!(rt; read(&rt, alloc, &blocks).is_ok());
     let blocks = nested(alloc, &[], Sign::LeftBrace, 65, &[])?;
-    assert_eq!(rt; read(&rt, alloc, &blocks).err(), Some(UnreadRefusal::Fault(Unread::Deep(69))));
+    assert_eq!(rt;
+        read(&rt, alloc, &blocks).err(),
+        Some(UnreadRefusal::Fault(Unread::Deep(69)))
+    );
     let front = [Sign::Name(0), Sign::Equals];
     let back = [Sign::Number(1), Sign::Semicolon, Sign::RightBrace];
     let sum = nested(alloc, &front, Sign::Oper(Op::Sub), 64, &back)?;
     assert!(rt; read(&rt, alloc, &sum).is_ok());
     let sum = nested(alloc, &front, Sign::Oper(Op::Sub), 65, &back)?;
-    assert_eq!(rt; read(&rt, alloc, &sum).err(), Some(UnreadRefusal::Fault(Unread::Deep(71))));
+    assert_eq!(rt;
+        read(&rt, alloc, &sum).err(),
+        Some(UnreadRefusal::Fault(Unread::Deep(71)))
+    );
     Ok(())
 }

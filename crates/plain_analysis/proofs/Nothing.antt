@@ -68,7 +68,7 @@ module _ (M : LeafMeaning) (laws : LeafLaws M) (o : Options) (answers : Transfer
   after_nothing (Assert place e rest) = ap (after_of M o rest) (assumed_nothing e true) ∙ after_nothing rest
   after_nothing (If place e p q rest) =
       ap (after_of M o rest) (joined_nothing (after_of M o p (assumed M o.mode e true (nothing_of n))) (after_of M o q (assumed M o.mode e false (nothing_of n)))
-        (ap (after_of M o p) (assumed_nothing e true) ∙ after_nothing p) (ap (after_of M o q) (assumed_nothing e false) ∙ after_nothing q))
+      (ap (after_of M o p) (assumed_nothing e true) ∙ after_nothing p) (ap (after_of M o q) (assumed_nothing e false) ∙ after_nothing q))
       ∙ after_nothing rest
   after_nothing (While place e body rest) =
       ap (λ v. after_of M o rest (assumed M o.mode e false v)) (loop_nothing e (after_of M o body) (after_nothing body))
