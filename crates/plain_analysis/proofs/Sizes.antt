@@ -66,6 +66,13 @@ no_smaller s place e p q l h k =
     let part : size_of (code l) ≡ size_of (code q.items) = ap (λ l. size_of (code l)) k in
     omega arith
 
+pub sides_smaller : (s : Stmt) (place : Place) (e : Expr) (p q : Vec Stmt Global) (l m : List Stmt) → s ≡ variant.If place e p q → l ≡ p.items → m ≡ q.items → size_of (code l) + size_of (code m) < size_of (front s Done)
+sides_smaller s place e p q l m h j k =
+    let whole : size_of (front s Done) ≡ size_of (code p.items) + size_of (code q.items) + 0 + 1 = ap (λ s. size_of (front s Done)) h ∙ ap size_of (front-If place e p q) in
+    let first : size_of (code l) ≡ size_of (code p.items) = ap (λ l. size_of (code l)) j in
+    let second : size_of (code m) ≡ size_of (code q.items) = ap (λ l. size_of (code l)) k in
+    omega arith
+
 pub body_smaller : (s : Stmt) (place : Place) (e : Expr) (body : Vec Stmt Global) (l : List Stmt) → s ≡ variant.While place e body → l ≡ body.items → size_of (code l) < size_of (front s Done)
 body_smaller s place e body l h k =
     let whole : size_of (front s Done) ≡ size_of (code body.items) + 0 + 1 = ap (λ s. size_of (front s Done)) h ∙ ap size_of (front-While place e body) in

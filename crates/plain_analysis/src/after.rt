@@ -1,7 +1,7 @@
 //! The leaf after statements.
 #![tactic(auto)]
 
-ghost use Rattle.std.specs.Prelude.{◌≡◌, IfOk, IfSome, IfNone};
+ghost use Rattle.std.specs.Prelude.{◌≡◌, IfOk, IfSome, IfNone, true, false};
 ghost use Rattle.c_tree.specs.Tree.{Done};
 ghost use Rattle.c_tree.specs.View.{term, front, code};
 ghost use Rattle.c_tree.specs.Fit.{IsTermOf, IsCodeOf};
@@ -15,7 +15,9 @@ use crate::options::Options;
 use crate::steps::{joined, moved, narrowed_by};
 use c_tree::{Expr, Stmt};
 use fam_outer::NoMemory;
-use leaf_domain::{Leaf, assign, assume, equality_is_exact, forget, transfer_is_sound};
+use leaf_domain::{
+    Leaf, assign, assume, equality_is_exact, forget, leaf_is_valid, split, transfer_is_sound,
+};
 use std::alloc::Global;
 
 /// The leaf after a list of statements that is entered with `leaf`. Nothing stays Nothing.
@@ -32,7 +34,7 @@ pub(crate) fn after_list<L: Leaf>(
     ensures same { IfOk result (λ made. (L.value made).variables ≡ (L.value leaf.now).variables) }
 {
     transfer_is_sound::<L>();
-    let _known = leaf.variables();
+    leaf_is_valid(leaf);
     if leaf.is_nothing() {
         return leaf.copy(alloc);
     }
@@ -54,11 +56,7 @@ fn after_stmt<L: Leaf>(alloc: Global, s: &Stmt, leaf: &L, options: Options) -> R
         Stmt::Assign { target, value, .. } => assign(alloc, leaf, *target, value, options.mode),
         Stmt::Input { target, .. } => forget(alloc, leaf, *target),
         Stmt::Assert { test, .. } => assume(alloc, leaf, test, true, options.mode),
-        Stmt::If { test, yes, no, .. } => {
-            let after_yes = after_side(alloc, yes, test, true, leaf, options)?;
-            let after_no = after_side(alloc, no, test, false, leaf, options)?;
-            joined(alloc, &after_yes, &after_no)
-        }
+        Stmt::If { test, yes, no, .. } => after_choice(alloc, yes, no, test, leaf, options),
         Stmt::While { test, body, .. } => {
             let last = final_leaf(alloc, body, test, leaf, options)?;
             assume(alloc, &last, test, false, options.mode)
@@ -66,6 +64,30 @@ fn after_stmt<L: Leaf>(alloc: Global, s: &Stmt, leaf: &L, options: Options) -> R
         Stmt::Block { body, .. } => after_list(alloc, body, leaf, options),
         Stmt::Skip { .. } | Stmt::Cond { .. } => leaf.copy(alloc),
     }
+}
+
+/// The leaf after two lists of statements, of which the first is entered where a test is not 0, and the second where it is.
+#[cycle(after)]
+fn after_choice<L: Leaf>(
+    alloc: Global,
+    yes: &[Stmt],
+    no: &[Stmt],
+    test: &Expr,
+    leaf: &L,
+    options: Options,
+) -> Result<L, NoMemory>
+    requires test { IsTermOf (L.value leaf.now).variables (term test.now) }
+    requires yes { IsCodeOf (L.value leaf.now).variables (code yes.now) }
+    requires no { IsCodeOf (L.value leaf.now).variables (code no.now) }
+    ensures value { IfOk result (λ made. L.value made ≡ L.meaning.join
+        (after_of L.meaning options (code yes.now) (assumed L.meaning options.mode (term test.now) true (L.value leaf.now)))
+        (after_of L.meaning options (code no.now) (assumed L.meaning options.mode (term test.now) false (L.value leaf.now)))) }
+    ensures same { IfOk result (λ made. (L.value made).variables ≡ (L.value leaf.now).variables) }
+{
+    let sides = split(alloc, leaf, test, options.mode)?;
+    let after_yes = after_list(alloc, yes, &sides.when_true, options)?;
+    let after_no = after_list(alloc, no, &sides.when_false, options)?;
+    joined(alloc, &after_yes, &after_no)
 }
 
 /// The leaf after a list of statements that is entered where a test is not 0, or is 0.

@@ -5,7 +5,7 @@ ghost use Rattle.std.specs.Prelude.{◌≡◌, IfOk, IfSome, IfNone, true, false
 ghost use Rattle.plain_analysis.specs.Loops.{moved_by, round_by};
 
 use fam_outer::NoMemory;
-use leaf_domain::Leaf;
+use leaf_domain::{Leaf, leaf_is_valid};
 use std::alloc::Global;
 
 /// The join of two leaves.
@@ -14,8 +14,8 @@ pub fn joined<L: Leaf>(alloc: Global, a: &L, b: &L) -> Result<L, NoMemory>
     ensures value { IfOk result (λ made. L.value made ≡ L.meaning.join (L.value a.now) (L.value b.now)) }
     ensures same { IfOk result (λ made. (L.value made).variables ≡ (L.value a.now).variables) }
 {
-    let _known = a.variables();
-    let _known = b.variables();
+    leaf_is_valid(a);
+    leaf_is_valid(b);
     a.join(alloc, b)
 }
 
@@ -26,8 +26,8 @@ pub fn narrowed_by<L: Leaf>(alloc: Global, at: &L, next: &L) -> Result<L, NoMemo
     ensures value { IfOk result (λ made. L.value made ≡ L.meaning.narrow (L.value at.now) (L.value next.now)) }
     ensures same { IfOk result (λ made. (L.value made).variables ≡ (L.value at.now).variables) }
 {
-    let _known = at.variables();
-    let _known = next.variables();
+    leaf_is_valid(at);
+    leaf_is_valid(next);
     at.narrow(alloc, next)
 }
 
@@ -45,8 +45,8 @@ pub fn moved<L: Leaf>(
     ensures value { IfOk result (λ made. IfSome made (λ leaf. L.value leaf ≡ moved_by L.meaning is_early (L.value at.now) (L.value next.now))) }
     ensures same { IfOk result (λ made. IfSome made (λ leaf. (L.value leaf).variables ≡ (L.value at.now).variables)) }
 {
-    let _known = at.variables();
-    let _known = next.variables();
+    leaf_is_valid(at);
+    leaf_is_valid(next);
     if next.leq(at) {
         return Ok(None);
     }

@@ -7,7 +7,7 @@ use Rattle.plain_analysis.specs.Loops.{final_leaf}
 use Rattle.plain_analysis.specs.Statements.{after_of, loop_turn}
 use Rattle.plain_analysis.proofs.Nothing.{after_stays}
 use Rattle.plain_analysis.proofs.Listed.{IsCodeOf-at, front-While, fit_If, fit_While, fit_same}
-use Rattle.plain_analysis.proofs.Sizes.{size-at, yes_smaller, no_smaller, body_smaller}
+use Rattle.plain_analysis.proofs.Sizes.{size-at, sides_smaller, body_smaller}
 use Rattle.plain_analysis.proofs.Rounds.{rounds_stay, rounds_move, narrowings_stay, narrowings_move}
 use Rattle.plain_analysis.proofs.after.+after.Goals as goal
 
@@ -18,23 +18,15 @@ after_list-after_stmt-requires g t c κs within =
     let fit : IsCodeOf (g.L.Leaf.value c.loop-s.made).variables (front s Done) = subst (λ n. IsCodeOf n (front s Done)) (sym c.loop-s.invariant.same) at_entry in
     (omega (arith, size-at c.args.list.now c.loop-s.s-index s c.loop-s-test.true c.s-item.is), search rules)
 
-pub after_stmt-after_side-requires : goal.after_stmt-after_side-requires
-after_stmt-after_side-requires g t c κs within =
+pub after_stmt-after_choice-requires : goal.after_stmt-after_choice-requires
+after_stmt-after_choice-requires g t c κs within =
     let n = (g.L.Leaf.value c.args.leaf.now).variables in
     let i = c.in-If in
     let fit = fit_If n c.args.s.now i.place i.test i.yes i.no i.is c.requires in
     let test : IsTermOf n (term i.test) = fit.0 in
-    let side : IsCodeOf n (code c.deref.result.now) = fit_same n _ _ c.deref.ensures.value fit.1 in
-    (omega (arith, yes_smaller c.args.s.now i.place i.test i.yes i.no c.deref.result.now i.is c.deref.ensures.value), search rules)
-
-pub after_stmt-after_side-requires-in-If : goal.after_stmt-after_side-requires-in-If
-after_stmt-after_side-requires-in-If g t c κs within =
-    let n = (g.L.Leaf.value c.args.leaf.now).variables in
-    let i = c.in-If in
-    let fit = fit_If n c.args.s.now i.place i.test i.yes i.no i.is c.requires in
-    let test : IsTermOf n (term i.test) = fit.0 in
-    let side : IsCodeOf n (code c.deref-in-If.result.now) = fit_same n _ _ c.deref-in-If.ensures.value fit.2 in
-    (omega (arith, no_smaller c.args.s.now i.place i.test i.yes i.no c.deref-in-If.result.now i.is c.deref-in-If.ensures.value), search rules)
+    let yes : IsCodeOf n (code c.deref.result.now) = fit_same n _ _ c.deref.ensures.value fit.1 in
+    let no : IsCodeOf n (code c.deref-in-If.result.now) = fit_same n _ _ c.deref-in-If.ensures.value fit.2 in
+    (omega (arith, sides_smaller c.args.s.now i.place i.test i.yes i.no c.deref.result.now c.deref-in-If.result.now i.is c.deref.ensures.value c.deref-in-If.ensures.value), search rules)
 
 pub after_stmt-final_leaf-requires : goal.after_stmt-final_leaf-requires
 after_stmt-final_leaf-requires g t c κs within =
@@ -100,7 +92,7 @@ pub after_list-returns-then-is_nothing-clause-value : goal.after_list-returns-th
 after_list-returns-then-is_nothing-clause-value g t c =
     let value = g.L.Leaf.value in
     let v = value c.args.leaf.now in
-    let few : v.variables ≤ 16 = subst (λ n. n ≤ 16) c.variables-known.ensures.value c.variables-known.ensures.few in
+    let few : v.variables ≤ 16 = c.leaf_is_valid.ensures.few in
     let stays = after_stays g.L.Leaf.meaning g.met.L.Leaf.laws c.args.options (c.transfer_is_sound.ensures.answers c.args.options.mode) v few (sym c.is_nothing.ensures ∙ c.if-is_nothing.true) (code c.args.list.now) in
     subst (λ u. IfOk c.copy.result (λ made. value made ≡ u)) (sym stays) c.copy.ensures
 

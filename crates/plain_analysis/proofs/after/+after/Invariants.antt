@@ -49,6 +49,9 @@ decreases-after_list g l = 7 * size_of (code l.list.now) + 1
 abbrev pub decreases-after_side : goal.decreases-after_side
 decreases-after_side g l = 7 * size_of (code l.list.now) + 2
 
+abbrev pub decreases-after_choice : goal.decreases-after_choice
+decreases-after_choice g l = 7 * (size_of (code l.yes.now) + size_of (code l.no.now)) + 2
+
 abbrev pub decreases-turn : goal.decreases-turn
 decreases-turn g l = 7 * size_of (code l.body.now) + 3
 
