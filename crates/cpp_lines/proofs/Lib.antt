@@ -7,3 +7,4 @@ pub mod Places
 pub mod Deciding
 pub mod Placed
 pub mod Pieces
+pub mod PieceFaults

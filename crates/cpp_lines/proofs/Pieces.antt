@@ -1,5 +1,5 @@
 -- A text is in one way a list of pieces.
-use Rattle.std.proofs.Common.{◌≡◌, ◌⊎◌, ℕ, zero, suc, ◌+◌, ◌≤◌, ◌<◌, Bool, true, false, ◌||◌, cond, List, [], ◌∷◌, ◌++◌, length, drop, map, Option, Some, None, refl, sym, ◌∙◌, ap, subst, inl, inr, true≢false, append_assoc, append-nil, arith}
+use Rattle.std.proofs.Common.{◌≡◌, ◌⊎◌, ℕ, zero, suc, ◌+◌, ◌≤◌, Bool, true, false, ◌||◌, cond, List, [], ◌∷◌, ◌++◌, length, drop, map, Some, None, refl, sym, ◌∙◌, ap, subst, inl, inr, true≢false, append_assoc, append-nil, arith}
 use Rattle.std.specs.Prelude.{option_map, unwrap_or, ◌==◌, ◌&&◌, ◌-◌, not}
 use Rattle.std.specs.List.{list_any, prefix_len}
 use Rattle.std.proofs.lemmas.Bool.{eqb-true}
@@ -7,7 +7,7 @@ use Rattle.std.proofs.lemmas.Bool.Decides.{nat_tests}
 use Rattle.fam_outer.specs.Places.{is_newline}
 use Rattle.cpp_lines.specs.Bytes.{begins_with, is_line_byte}
 use Rattle.cpp_lines.specs.Comments.{block_len, comment_len, comment_left, blanked_byte, blank_from, blank}
-use Rattle.cpp_lines.specs.Pieces.{Piece, code, block, line, spelled, HasNoEnd, opens, IsLineEnd, MayStand, IsUnclosedOrNone, IsRead, IsReadOnce, space_for, without_comment, joined}
+use Rattle.cpp_lines.specs.Pieces.{Piece, code, block, line, spelled, HasNoEnd, opens, IsLineEnd, MayStand, IsUnclosedOrNone, IsRead, IsReadOnce, space_for, without_comment, joined, IsComment}
 
 -- ---- comments without an end, and up to the first end
 
@@ -36,7 +36,7 @@ same_begin : (c : ℕ) (cs ys zs : List ℕ) → begins_with 42 47 (c ∷ (cs ++
 same_begin c [] ys zs = refl
 same_begin c (d ∷ ds) ys zs = refl
 
-closed_len : (inner rest : List ℕ) → HasNoEnd (inner ++ 42 ∷ []) → block_len (inner ++ 42 ∷ (47 ∷ rest)) ≡ Some (length inner + 2)
+pub closed_len : (inner rest : List ℕ) → HasNoEnd (inner ++ 42 ∷ []) → block_len (inner ++ 42 ∷ (47 ∷ rest)) ≡ Some (length inner + 2)
 closed_len [] rest h = refl
 closed_len (c ∷ cs) rest h =
     let here : begins_with 42 47 (c ∷ (cs ++ 42 ∷ (47 ∷ rest))) ≡ false = same_begin c cs (47 ∷ rest) [] ∙ h.nowhere 0 in
@@ -44,7 +44,7 @@ closed_len (c ∷ cs) rest h =
     ∙ ap (option_map suc) (closed_len cs rest (shorter c (cs ++ 42 ∷ []) h))
     ∙ ap Some (let k : suc (length cs + 2) ≡ suc (length cs) + 2 = omega arith in k)
 
-open_len : (bytes : List ℕ) → HasNoEnd bytes → block_len bytes ≡ None
+pub open_len : (bytes : List ℕ) → HasNoEnd bytes → block_len bytes ≡ None
 open_len [] h = refl
 open_len (c ∷ cs) h =
     ap (λ t. cond t (Some 2) (option_map suc (block_len cs))) (h.nowhere 0) ∙ ap (option_map suc) (open_len cs (shorter c cs h))
@@ -57,7 +57,7 @@ and_parts : (x y : Bool) → (x && y) ≡ true → (x ≡ true) × (y ≡ true)
 and_parts true y e = (refl, e)
 and_parts false y e = absurd cc
 
-or_parts : (x y : Bool) → (x || y) ≡ false → (x ≡ false) × (y ≡ false)
+pub or_parts : (x y : Bool) → (x || y) ≡ false → (x ≡ false) × (y ≡ false)
 or_parts true y e = absurd cc
 or_parts false y e = (refl, e)
 
@@ -138,7 +138,7 @@ same_block (x ∷ xs) (y ∷ ys) r s e h i =
     let a = more.0 in
     (cc, more.1)
 
-block_text : (inner rest : List ℕ) → spelled (block inner) ++ rest ≡ 47 ∷ (42 ∷ (inner ++ 42 ∷ (47 ∷ rest)))
+pub block_text : (inner rest : List ℕ) → spelled (block inner) ++ rest ≡ 47 ∷ (42 ∷ (inner ++ 42 ∷ (47 ∷ rest)))
 block_text inner rest = ap (λ xs. 47 ∷ (42 ∷ xs)) (append_assoc inner (42 ∷ (47 ∷ [])) rest)
 
 no_comment : (b : ℕ) (r bytes : List ℕ) → opens (b ∷ r) ≡ false → opens bytes ≡ true → b ∷ r ≡ bytes → ⊥
@@ -235,7 +235,7 @@ read_once text =
 
 -- ---- the blanked text
 
-not_zero : (n : ℕ) → (suc n == 0) ≡ false
+pub not_zero : (n : ℕ) → (suc n == 0) ≡ false
 not_zero n = grind (arith, nat_tests)
 
 passed : (xs rest : List ℕ) → blank_from (length xs) (xs ++ rest) ≡ map space_for xs ++ blank_from 0 rest
@@ -257,22 +257,24 @@ length-star : (inner : List ℕ) → length (inner ++ 42 ∷ (47 ∷ [])) ≡ le
 length-star [] = refl
 length-star (c ∷ cs) = let h = length-star cs in omega arith
 
-piece_blanked : (p : Piece) (rest : List ℕ) → MayStand p rest → blank_from 0 (spelled p ++ rest) ≡ without_comment p ++ blank_from 0 rest
-piece_blanked (code b) rest h =
+pub code_len : (b : ℕ) (rest : List ℕ) → opens (b ∷ rest) ≡ false → comment_len (b ∷ rest) ≡ 0
+code_len b rest h =
     let parts = or_parts (begins_with 47 42 (b ∷ rest)) (begins_with 47 47 (b ∷ rest)) h in
-    let none : comment_len (b ∷ rest) ≡ 0 = no_len (begins_with 47 42 (b ∷ rest)) (begins_with 47 47 (b ∷ rest)) _ _ parts.0 parts.1 in
-    ap (λ n. blanked_byte n b ∷ blank_from (n - 1) rest) none
+    no_len (begins_with 47 42 (b ∷ rest)) (begins_with 47 47 (b ∷ rest)) _ _ parts.0 parts.1
   where
     no_len : (x y : Bool) (m n : ℕ) → x ≡ false → y ≡ false → cond x m (cond y n 0) ≡ 0
     no_len x y m n e f = cc
-piece_blanked (block xs) rest h =
-    let len : comment_len (spelled (block xs) ++ rest) ≡ suc (length (42 ∷ (xs ++ 42 ∷ (47 ∷ [])))) =
-    ap comment_len (block_text xs rest) ∙ (block_comment xs rest h ∙ (let k = length-star xs in let l : 2 + (length xs + 2) ≡ suc (suc (length (xs ++ 42 ∷ (47 ∷ [])))) = omega arith in l)) in
-    comment_passed 47 (42 ∷ (xs ++ 42 ∷ (47 ∷ []))) rest len
-piece_blanked (line xs) rest h =
-    let len : comment_len (47 ∷ (47 ∷ (xs ++ rest))) ≡ suc (length (47 ∷ xs)) =
-    (let k = line_len xs rest h.0 h.1 in let l : 1 + (1 + prefix_len is_line_byte (xs ++ rest)) ≡ suc (suc (length xs)) = omega arith in l) in
-    comment_passed 47 (47 ∷ xs) rest len
+
+pub piece_len : (p : Piece) (rest : List ℕ) → MayStand p rest → IsComment p → comment_len (spelled p ++ rest) ≡ length (spelled p)
+piece_len (code b) rest h c = absurd c
+piece_len (block xs) rest h c =
+    ap comment_len (block_text xs rest) ∙ (block_comment xs rest h ∙ (let k = length-star xs in let l : 2 + (length xs + 2) ≡ suc (suc (length (xs ++ 42 ∷ (47 ∷ [])))) = omega arith in l))
+piece_len (line xs) rest h c = let k = line_len xs rest h.0 h.1 in let l : 1 + (1 + prefix_len is_line_byte (xs ++ rest)) ≡ suc (suc (length xs)) = omega arith in l
+
+piece_blanked : (p : Piece) (rest : List ℕ) → MayStand p rest → blank_from 0 (spelled p ++ rest) ≡ without_comment p ++ blank_from 0 rest
+piece_blanked (code b) rest h = ap (λ n. blanked_byte n b ∷ blank_from (n - 1) rest) (code_len b rest h)
+piece_blanked (block xs) rest h = comment_passed 47 (42 ∷ (xs ++ 42 ∷ (47 ∷ []))) rest (piece_len (block xs) rest h tt)
+piece_blanked (line xs) rest h = comment_passed 47 (47 ∷ xs) rest (piece_len (line xs) rest h tt)
 
 whole_passed : (x : ℕ) (xs : List ℕ) → comment_len (x ∷ xs) ≡ suc (length xs) → blank_from 0 (x ∷ xs) ≡ map space_for (x ∷ xs)
 whole_passed x xs e =

@@ -1,8 +1,11 @@
 -- A text as pieces, one behind another: bytes of code, and comments (ISO/IEC 9899:2011, 5.1.1.2 and 6.4.9).
-use Rattle.std.specs.Prelude.{◌≡◌, ◌⊎◌, ℕ, Bool, true, false, ◌||◌, List, [], ◌∷◌, ◌++◌, drop, map, if◌then◌else◌}
+use Rattle.std.specs.Prelude.{◌≡◌, ◌≢◌, ◌⊎◌, ℕ, Bool, true, false, ◌||◌, List, [], ◌∷◌, ◌++◌, length, drop, map, if◌then◌else◌}
 use Rattle.std.specs.List.{list_any}
 use Rattle.fam_outer.specs.Places.{is_newline}
+use Rattle.fam_outer.specs.declared.faults.FileCode.{FileCode}
+use Rattle.fam_outer.specs.declared.faults.FileCode.TheVariants.{OpenComment, Splice, CommentAtDirective}
 use Rattle.cpp_lines.specs.Bytes.{begins_with}
+use Rattle.cpp_lines.specs.Faults.{is_splice, touches_directive}
 
 -- a byte of code, a comment with what stands between `/*` and `*/`, or one with what stands from `//` on in its line
 pub data Piece : Type 0 where
@@ -64,3 +67,33 @@ without_comment (line inner) = map space_for (spelled (line inner))
 abbrev pub joined : List Piece → List ℕ → List ℕ
 joined [] unclosed = map space_for unclosed
 joined (p ∷ ps) unclosed = without_comment p ++ joined ps unclosed
+
+-- ---- faults, said of the pieces
+
+-- the bytes of pieces, one behind another
+abbrev pub all_spelled : List Piece → List ℕ
+all_spelled [] = []
+all_spelled (p ∷ ps) = spelled p ++ all_spelled ps
+
+abbrev pub IsComment : Piece → Type 0
+IsComment (code b) = ⊥
+IsComment (block inner) = Unit {0}
+IsComment (line inner) = Unit {0}
+
+-- one of the pieces is a comment at this offset; it has a newline, and its first or its last line is a directive line
+pub record IsAtDirective (text : List ℕ) (ps : List Piece) (offset : ℕ) : Type 0 where
+  pub front : List Piece
+  pub comment : Piece
+  pub back : List Piece
+  pub among : ps ≡ front ++ comment ∷ back
+  pub begins : offset ≡ length (all_spelled front)
+  pub is_comment : IsComment comment
+  pub touches : touches_directive text offset (length (spelled comment)) ≡ true
+
+-- what is at fault at an offset of a text that is read as these pieces: the end of a line behind a backslash, the comment without
+-- its end, or a comment at a directive line
+abbrev pub HasFault : List ℕ → List Piece → List ℕ → ℕ → FileCode → Type 0
+HasFault text ps unclosed offset Splice = is_splice (drop offset text) ≡ true
+HasFault text ps unclosed offset OpenComment = (unclosed ≢ []) × (offset ≡ length (all_spelled ps))
+HasFault text ps unclosed offset CommentAtDirective = IsAtDirective text ps offset
+HasFault text ps unclosed offset _ = ⊥

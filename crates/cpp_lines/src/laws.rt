@@ -1,14 +1,15 @@
 //! Laws of comments and lines, for the crates above: each function does nothing, and its contract is the law.
 #![tactic(auto)]
 
-ghost use Rattle.std.specs.Prelude.{◌≡◌, ℕ, List, length, Ok};
+ghost use Rattle.std.specs.Prelude.{◌≡◌, ◌↔◌, ◌<◌, ℕ, List, length, Ok, Some};
 ghost use Rattle.fam_outer.specs.Places.{place_at};
+ghost use Rattle.fam_outer.specs.declared.faults.FileCode.{FileCode};
 ghost use Rattle.cpp_lines.specs.Code.{code_of};
 ghost use Rattle.cpp_lines.specs.Comments.{blank};
 ghost use Rattle.cpp_lines.specs.declared.line.Line as declared;
 ghost use Rattle.cpp_lines.specs.Lines.{ArePlaced, plain_lines_of};
-ghost use Rattle.cpp_lines.specs.Faults.{IsFirstFault, first_fault};
-ghost use Rattle.cpp_lines.specs.Pieces.{Piece, IsRead, IsReadOnce, joined};
+ghost use Rattle.cpp_lines.specs.Faults.{IsFirstFault, fault_of, first_fault};
+ghost use Rattle.cpp_lines.specs.Pieces.{HasFault, Piece, IsRead, IsReadOnce, joined};
 
 /// A blanked text and its code have as many bytes as the text, each at the place where it was.
 pub fn places_stay()
@@ -33,5 +34,15 @@ pub fn lines_are_placed()
 #[tactic(auto, using(crate::proofs::Pieces::read_once, crate::proofs::Pieces::blanked_joined))]
 pub fn texts_are_pieces()
     ensures once { (text : List ℕ) → IsReadOnce text }
-    ensures blanked { (text : List ℕ) (ps : List Piece) (unclosed : List ℕ) → IsRead text ps unclosed → blank text ≡ joined ps unclosed }
+    ensures blanked { (text : List ℕ) (ps : List Piece) (unclosed : List ℕ)
+        → IsRead text ps unclosed → blank text ≡ joined ps unclosed }
+{}
+
+/// The faults of a text are those of its pieces: the end of a line behind a backslash, a comment without its end, and a
+/// comment with a newline whose first or last line is a directive line.
+#[tactic(auto, using(crate::proofs::PieceFaults::faults_of_pieces))]
+pub fn faults_are_of_pieces()
+    ensures { (text : List ℕ) (ps : List Piece) (unclosed : List ℕ) (offset : ℕ) (code : FileCode)
+        → IsRead text ps unclosed → offset < length text
+        → ((fault_of text offset ≡ Some code) ↔ HasFault text ps unclosed offset code) }
 {}
