@@ -41,7 +41,11 @@ fn formulas_have_truths(rt: HostRuntime) -> Result<(), Fail> {
 fn formulas_are_copied(rt: HostRuntime) -> Result<(), Fail> {
     let alloc = rt.alloc();
     let inner = formulas::negation(alloc, Formula::Test(1))?;
-    let made = formulas::either(alloc, Formula::Test(0), formulas::both(alloc, inner, Formula::Const(true))?)?;
+    let made = formulas::either(
+        alloc,
+        Formula::Test(0),
+        formulas::both(alloc, inner, Formula::Const(true))?,
+    )?;
     match made.copy(alloc)? {
         Formula::Or(left, right) => {
             assert!(rt; matches!(&*left, Formula::Test(0)));

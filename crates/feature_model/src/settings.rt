@@ -87,8 +87,7 @@ fn settle(
     ensures adds { given.Adds values.old.items values.new.items result (given.settled number features.now slots.now) }
     ensures small { AreValues values.old.items → AreValues values.new.items }
 {
-    let (Some((feature, features)), Some((slot, slots))) = (cut(features), cut_slots(slots))
-    else {
+    let (Some((feature, features)), Some((slot, slots))) = (cut(features), cut_slots(slots)) else {
         return Ok(());
     };
     match value_by(number, feature, slot) {
