@@ -1,5 +1,5 @@
 -- Tests as the code makes them.
-use Rattle.std.proofs.Common.{◌≡◌, ℕ, suc, ◌/◌, ◌≤◌, ◌<◌, ℤ, pos, negsuc, neg_ℤ, ◌+ℤ◌, ◌-ℤ◌, ◌*ℤ◌, ◌≤ℤ◌, ◌<ℤ◌, int_lt, int_le, unsigned_abs, Bool, true, false, ◌&&◌, if◌then◌else◌, List, [], ◌∷◌, length, Option, Some, None, Err, refl, sym, ap, subst, ◌∙◌, arith, to_z, of_z, w64, FitsSigned}
+use Rattle.std.proofs.Common.{◌≡◌, ◌≤◌, ℤ, pos, negsuc, neg_ℤ, ◌+ℤ◌, ◌-ℤ◌, ◌*ℤ◌, unsigned_abs, true, false, ◌&&◌, List, length, Err, sym, ap, subst, ◌∙◌, arith, to_z, of_z, w64, FitsSigned}
 use Rattle.std.proofs.lemmas.Bool.{false≢true}
 use Rattle.std.proofs.lemmas.Int.{ints, to_z-of_z}
 use Rattle.linear_atoms.specs.declared.atoms.Atom.{Atom}
@@ -15,12 +15,12 @@ use Rattle.linear_atoms.specs.Forms.{IsRising, form_sum, form_by, terms_sum, ter
 use Rattle.linear_atoms.specs.Normal.{IsNormal}
 use Rattle.cpp_conditions.specs.declared.operators.Operator.{Operator}
 use Rattle.cpp_conditions.specs.declared.operators.Operator.TheVariants.{Times, Plus, Minus, Less, AtMost, Greater, AtLeast, Equal, Differs, Both, Either}
-use Rattle.cpp_conditions.specs.Forming.{IsOver, IsSmallOver, IsWide, Widens, Means}
+use Rattle.cpp_conditions.specs.Forming.{IsSmallOver, IsWide, Widens, Means}
 use Rattle.cpp_conditions.specs.Grammar.{is_small_zero, is_small_compared}
 use Rattle.cpp_conditions.specs.Meaning.{difference, less_one}
 use Rattle.cpp_conditions.specs.Propositions.{Proposition}
 use Rattle.cpp_conditions.proofs.Signs.{minus_one}
-use Rattle.cpp_conditions.proofs.Sizes.{and_true, and_left, and_right, false_left, small_back, small_negated, small_negated_terms, over_by, over_difference, over_small}
+use Rattle.cpp_conditions.proofs.Sizes.{and_left, and_right, false_left, small_back, small_negated, small_negated_terms, over_by, over_difference, over_small}
 
 -- ---- differences and opposites
 

@@ -1,12 +1,12 @@
 -- Each list of bytes has a reading.
-use Rattle.std.proofs.Common.{◌≡◌, ℕ, zero, suc, ◌≤◌, ◌<◌, ◌⊎◌, inl, inr, Bool, true, false, List, [], ◌∷◌, length, Option, Some, None, Result, refl, sym, ap, subst, ◌∙◌, arith}
+use Rattle.std.proofs.Common.{◌≡◌, ℕ, zero, suc, ◌≤◌, ◌<◌, ◌⊎◌, inl, inr, Bool, true, false, List, [], ◌∷◌, length, Option, Some, None, Result, refl, sym, subst, arith}
 use Rattle.std.proofs.lemmas.Bool.{cases_lt}
 use Rattle.fam_outer.specs.declared.faults.ConditionFault.{ConditionFault}
 use Rattle.fam_outer.specs.declared.faults.ConditionFault.TheVariants as faults
 use Rattle.linear_atoms.specs.declared.atoms.Atom.{Atom}
 use Rattle.linear_atoms.specs.declared.atoms.Feature.{Feature}
 use Rattle.cpp_conditions.specs.Expressions.{Expression}
-use Rattle.cpp_conditions.specs.Grammar.{Spells, judged, ReadsAs, no_tokens, too_deep, no_condition, read}
+use Rattle.cpp_conditions.specs.Grammar.{judged, ReadsAs, no_tokens, too_deep, no_condition, read}
 use Rattle.cpp_conditions.specs.Machine.{Wants, read as read_by}
 use Rattle.cpp_conditions.specs.Propositions.{Proposition}
 use Rattle.cpp_conditions.specs.Scanning.{lexeme_at}

@@ -3,7 +3,7 @@ use Rattle.std.proofs.Common.{◌≡◌, suc, ◌≤◌, ℤ, ◌≤ℤ◌, unsi
 use Rattle.std.proofs.lemmas.Int.{ints}
 use Rattle.linear_atoms.specs.declared.atoms.Feature.{Feature}
 use Rattle.linear_atoms.specs.Atoms.{AreRanges, IsWithin}
-use Rattle.cpp_conditions.specs.Validity.{Plain, is_in_range, is_within, all_true, is_valid, IsValid, IsConfig}
+use Rattle.cpp_conditions.specs.Validity.{Plain, is_in_range, is_within, all_true, IsValid, IsConfig}
 
 and_left : (a b : Bool) → (a && b) ≡ true → a ≡ true
 and_left true b e = refl

@@ -1,5 +1,5 @@
 -- What the functions of the descent answer, as the machine does it.
-use Rattle.std.specs.Prelude.{◌≡◌, ⊤, ℕ, suc, ◌≤◌, List, [], ◌∷◌, map, Option, Some, None, Result, Ok, Err}
+use Rattle.std.specs.Prelude.{◌≡◌, ⊤, ℕ, suc, ◌≤◌, List, ◌∷◌, map, Option, Some, None, Result, Ok, Err}
 use Rattle.std.specs.Borrow.{Bor}
 use Rattle.cpp_conditions.specs.declared.stop.Stop.{Stop}
 use Rattle.cpp_conditions.specs.declared.stop.Stop.TheVariants as stops

@@ -33,18 +33,21 @@ pub fn bytes_have_one_reading()
 #[tactic(auto, using(crate::proofs::Collected::one_list))]
 /// The distinct atoms of conditions are one list.
 pub fn conditions_have_one_list_of_atoms()
-    ensures { (conditions : List (Proposition Atom)) (xs ys : List Atom) → AreAtomsOf conditions xs → AreAtomsOf conditions ys → xs ≡ ys }
+    ensures { (conditions : List (Proposition Atom)) (xs ys : List Atom) → AreAtomsOf conditions xs
+        → AreAtomsOf conditions ys → xs ≡ ys }
 {}
 
 /// Where conditions have at most so many different atoms, they have no more.
 pub fn few_atoms_are_not_more()
-    ensures { (most : ℕ) (conditions : List (Proposition Atom)) → HaveFewAtoms most conditions → HaveMoreAtoms most conditions → ⊥ }
+    ensures { (most : ℕ) (conditions : List (Proposition Atom)) → HaveFewAtoms most conditions
+        → HaveMoreAtoms most conditions → ⊥ }
 {}
 
 #[tactic(auto, using(crate::proofs::Within::valid_parts))]
 /// A valid configuration has one value per feature, each in its range, and every constraint is true at it.
 pub fn valid_configurations_are_within()
-    ensures { (model : Plain) (values : List ℤ) → IsValid model values → IsWithin model.features values × (all_true values model.constraints ≡ true) }
+    ensures { (model : Plain) (values : List ℤ) → IsValid model values
+        → IsWithin model.features values × (all_true values model.constraints ≡ true) }
 {}
 
 /// Bytes are always read in some way.

@@ -1,5 +1,5 @@
 -- Constraints and atoms behind others.
-use Rattle.std.proofs.Common.{◌≡◌, ℕ, ◌+◌, List, [], ◌∷◌, ◌++◌, map, Result, Ok, Err, refl, sym, ap, subst, ◌∙◌, append_assoc}
+use Rattle.std.proofs.Common.{◌≡◌, ℕ, ◌+◌, List, [], ◌∷◌, ◌++◌, map, Result, Ok, Err, sym, ap, subst, ◌∙◌, append_assoc}
 use Rattle.std.specs.Prelude.{⊤}
 use Rattle.std.proofs.lemmas.List.{append-nil}
 use Rattle.linear_atoms.specs.declared.atoms.Feature.{Feature}
@@ -8,7 +8,7 @@ use Rattle.cpp_conditions.specs.declared.reading.ConditionRefusal.{ConditionRefu
 use Rattle.cpp_conditions.specs.declared.reading.ConditionRefusal.TheVariants as conditions
 use Rattle.cpp_conditions.specs.Grammar.{ReadsAs}
 use Rattle.cpp_conditions.specs.Reading.{Reads}
-use Rattle.cpp_conditions.specs.Propositions.{Proposition, IsFit, IsOpen}
+use Rattle.cpp_conditions.specs.Propositions.{IsFit, IsOpen}
 use Rattle.cpp_conditions.specs.Validity.{AreFit, AreOpen}
 use Rattle.cpp_conditions.specs.View.{proposition}
 use Rattle.feature_model.specs.declared.faults.ModelRefusal.{ModelRefusal}

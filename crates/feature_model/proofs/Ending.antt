@@ -1,5 +1,5 @@
 -- Models that are accepted, and those that have no valid configuration.
-use Rattle.std.proofs.Common.{◌≡◌, ℤ, Bool, true, false, List, [], map, None, Some, Ok, Err, subst, true≢false}
+use Rattle.std.proofs.Common.{◌≡◌, ℤ, List, [], map, None, Some, Ok, Err, subst, true≢false}
 use Rattle.linear_atoms.specs.declared.atoms.Config.{Config}
 use Rattle.cpp_conditions.specs.declared.conditions.Condition.{Condition}
 use Rattle.cpp_conditions.specs.declared.models.Model.{Model}

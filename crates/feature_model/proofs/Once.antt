@@ -6,7 +6,7 @@ use Rattle.linear_atoms.specs.declared.atoms.Feature.{Feature}
 use Rattle.cpp_conditions.specs.Distinct.{HaveFewAtoms, HaveMoreAtoms}
 use Rattle.cpp_conditions.specs.Grammar.{ReadsAs}
 use Rattle.cpp_conditions.specs.Propositions.{Proposition}
-use Rattle.cpp_conditions.specs.Validity.{Plain, IsValid}
+use Rattle.cpp_conditions.specs.Validity.{Plain}
 use Rattle.feature_model.specs.declared.faults.ModelFault.{ModelFault}
 use Rattle.feature_model.specs.Constraints.{AreRead, none, refused, first}
 use Rattle.feature_model.specs.Models as models

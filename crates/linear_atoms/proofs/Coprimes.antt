@@ -1,5 +1,5 @@
 -- The coefficients of a normal form are coprime, and the first is positive.
-use Rattle.std.proofs.Common.{◌≡◌, ◌≢◌, ℕ, zero, suc, ◌+◌, ◌*◌, ◌%◌, ◌/◌, ◌≤◌, ◌<◌, nat_eq, ℤ, pos, negsuc, neg_ℤ, ◌-ℤ◌, ◌*ℤ◌, ◌≤ℤ◌, ◌<ℤ◌, int_div, int_lt, unsigned_abs, Bool, true, false, ◌&&◌, if◌then◌else◌, List, [], ◌∷◌, sym, ap, subst, refl, ◌∙◌, arith, T}
+use Rattle.std.proofs.Common.{◌≡◌, ◌≢◌, ℕ, zero, suc, ◌*◌, ◌/◌, ◌≤◌, ◌<◌, ℤ, pos, negsuc, neg_ℤ, ◌-ℤ◌, ◌*ℤ◌, ◌<ℤ◌, int_div, int_lt, unsigned_abs, Bool, true, false, if◌then◌else◌, List, [], ◌∷◌, sym, ap, subst, refl, ◌∙◌, arith, T}
 use Rattle.std.proofs.lemmas.Int.{ints, unsigned_abs-mul}
 use Rattle.std.proofs.Math.IntN.{zero-*ℤ}
 use Rattle.std.proofs.Math.Nat.{mul-dvd-mul_right, mul-le-mul_right}
@@ -8,10 +8,10 @@ use Rattle.std.proofs.lemmas.Nat.Gcd.{mod-eq-zero_of_dvd, le_of_dvd, dvd_refl}
 use Rattle.linear_atoms.specs.declared.forms.Linear.{Linear}
 use Rattle.linear_atoms.specs.declared.normal.Normal.{Normal}
 use Rattle.linear_atoms.specs.Forms.{RisesFrom, IsRising, is_small, are_small, is_small_form}
-use Rattle.linear_atoms.specs.Atoms.{AreBelow, LeadsPositive, IsAtom}
+use Rattle.linear_atoms.specs.Atoms.{AreBelow, IsAtom}
 use Rattle.linear_atoms.specs.Divisors.{divides_all, greatest_to, common_divisor}
-use Rattle.linear_atoms.specs.Normal.{divided, rounded_up, at_least, literal_by, normal_by, normal_of, IsNormal}
-use Rattle.linear_atoms.proofs.Divisors.{Divides, divides_head, divides_tail, divides_cons, one_divides, pos_size, pos_divisor, IsGreatest, divisor_is, IsBounded, divisor_bounds}
+use Rattle.linear_atoms.specs.Normal.{divided, rounded_up, at_least, normal_by, normal_of, IsNormal}
+use Rattle.linear_atoms.proofs.Divisors.{Divides, divides_head, divides_tail, divides_cons, one_divides, pos_size, pos_divisor, divisor_is, IsBounded, divisor_bounds}
 use Rattle.linear_atoms.proofs.Quotients.{divided_below, divided_small}
 use Rattle.linear_atoms.proofs.Truths.{and_left, and_right, exact, size_of_neg, quotient_ends}
 

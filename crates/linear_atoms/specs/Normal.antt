@@ -4,7 +4,6 @@ use Rattle.std.specs.Int.{int_div_euclid}
 use Rattle.linear_atoms.specs.declared.forms.Linear.{Linear}
 use Rattle.linear_atoms.specs.declared.forms.LinearFault.{LinearFault}
 use Rattle.linear_atoms.specs.declared.forms.LinearFault.TheVariants as faults
-use Rattle.linear_atoms.specs.declared.atoms.Atom.{Atom}
 use Rattle.linear_atoms.specs.declared.atoms.Literal.{Literal}
 use Rattle.linear_atoms.specs.declared.normal.Normal.{Normal}
 use Rattle.linear_atoms.specs.declared.normal.Normal.TheVariants as normals

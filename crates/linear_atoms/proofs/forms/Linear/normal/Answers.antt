@@ -1,6 +1,5 @@
 use Rattle.std.proofs.Common.{Ok, rules}
 use Rattle.linear_atoms.specs.declared.normal.Normal.TheVariants as normals
-use Rattle.linear_atoms.specs.declared.forms.LinearFault.{LinearFault}
 use Rattle.linear_atoms.specs.Normal.{NormalWithin}
 use Rattle.linear_atoms.proofs.Coprimes.{normal_kept}
 use Rattle.linear_atoms.proofs.forms.Linear.normal.Goals as goal
