@@ -1,5 +1,5 @@
 -- A leaf that is answered for a leaf, and one that is answered for that.
-use Rattle.std.proofs.Common.{◌≡◌, refl, ◌∙◌}
+use Rattle.std.proofs.Common.{refl, ◌∙◌}
 use Rattle.leaf_domain.specs.Leaves.{LeafValue, LeafMeaning, Answers}
 
 pub answers_self : {M : LeafMeaning} (v : LeafValue) → M.valid v → Answers M v v

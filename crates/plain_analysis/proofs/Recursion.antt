@@ -1,5 +1,5 @@
 -- The recursion over statements keeps leaves of the kind, and Nothing.
-use Rattle.std.proofs.Common.{◌≡◌, ℕ, zero, suc, ◌+◌, ◌<◌, Bool, true, false, if◌then◌else◌, nat_lt, List, Option, Some, None, refl, ap, sym, ◌∙◌, subst, ℤ, inl, inr}
+use Rattle.std.proofs.Common.{◌≡◌, ℕ, zero, suc, ◌+◌, ◌<◌, Bool, true, false, if◌then◌else◌, nat_lt, List, refl, ap, sym, ◌∙◌, subst, ℤ, inl, inr}
 use Rattle.c_tree.specs.Tree.{Term, Code, Done, Assign, Input, Assert, If, While, Block, Skip, Cond}
 use Rattle.c_tree.specs.Fit.{IsTermOf, IsCodeOf}
 use Rattle.leaf_domain.specs.Leaves.{LeafValue, LeafMeaning, LeafLaws, Alike, Answers, nothing_of, is_nothing_of}

@@ -6,8 +6,7 @@ use Rattle.std.proofs.lemmas.List.Elements.{All-head, All-tail}
 use Rattle.leaf_domain.specs.declared.range.Range.{Range}
 use Rattle.leaf_domain.specs.Ranges.{Within, is_empty_range, cover_of, empty_range}
 use Rattle.c_tree.specs.Value.{IsInt}
-use Rattle.leaf_domain.specs.Leaves.{LeafValue}
-use Rattle.interval_leaf.specs.Intervals.{numbers_of, pairs_of, interval_of, IsOwn, AllOwn, HasEnds, AllEnds, point_of, covers, lies_in, all_lie_in, widened, narrowed, widened_all, narrowed_all, settled, interval_join, interval_widen, interval_narrow, interval_leq, interval_bounds, interval_with, IsInterval, AllWithinRanges, own_ends, own_bounds_in}
+use Rattle.interval_leaf.specs.Intervals.{numbers_of, pairs_of, interval_of, IsOwn, AllOwn, HasEnds, AllEnds, point_of, covers, lies_in, all_lie_in, widened, narrowed, widened_all, narrowed_all, IsInterval, AllWithinRanges, own_ends, own_bounds_in}
 
 pub pairs_numbers : (rs : List Range) → pairs_of (numbers_of rs) ≡ rs
 pairs_numbers [] = refl
