@@ -7,7 +7,8 @@ use Rattle.std.proofs.lemmas.Bool.{or_parts}
 use Rattle.std.proofs.lemmas.List.{append-nil, length-drop, length-append, drop-drop}
 use Rattle.fam_outer.specs.Places.{is_newline}
 use Rattle.cpp_lines.specs.declared.line.Line.{Line}
-use Rattle.cpp_lines.specs.Bytes.{is_gap, is_line_byte, has_first, behind_gap}
+use Rattle.c_words.specs.Bytes.{is_gap}
+use Rattle.cpp_lines.specs.Bytes.{is_line_byte, has_first, behind_gap}
 use Rattle.cpp_lines.specs.Directives.{begins_directive}
 use Rattle.cpp_lines.specs.Code.{code_byte, code_bytes, code_from}
 use Rattle.cpp_lines.specs.Lines.{pieces, in_first, is_code, IsLineAt, AreLinesFrom}

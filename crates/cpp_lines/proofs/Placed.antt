@@ -9,7 +9,7 @@ use Rattle.fam_outer.specs.Places.{is_newline, end_place, place_at}
 use Rattle.fam_outer.proofs.Placing.{spot, behind_bytes}
 use Rattle.cpp_lines.specs.declared.line.Line.{Line}
 use Rattle.cpp_lines.specs.declared.line.LineKind.{LineKind}
-use Rattle.cpp_lines.specs.Bytes.{is_gap}
+use Rattle.c_words.specs.Bytes.{is_gap}
 use Rattle.cpp_lines.specs.Directives.{begins_directive, plain_kind}
 use Rattle.cpp_lines.specs.Lines.{pieces, line_place, line_with, plain_line, plain_lines_from, is_code, ArePlaced}
 use Rattle.cpp_lines.proofs.Listing.{got, both, IsCodeOr, kind_is, behind_line}

@@ -1,15 +1,8 @@
--- Kinds of bytes in lines.
-use Rattle.std.specs.Prelude.{ℕ, Bool, false, not, ◌&&◌, ◌||◌, ◌==◌, nat_le, List, [], ◌∷◌, drop}
+-- Bytes at the front of a line.
+use Rattle.std.specs.Prelude.{ℕ, Bool, false, not, ◌&&◌, ◌==◌, List, [], ◌∷◌, drop}
 use Rattle.std.specs.List.{prefix_len}
+use Rattle.c_words.specs.Bytes.{is_gap}
 use Rattle.fam_outer.specs.Places.{is_newline}
-
--- white space but a newline: space, tab, vertical tab, form feed and carriage return
-abbrev pub is_gap : ℕ → Bool
-is_gap b = (b == 32) || (b == 9) || (nat_le 11 b && nat_le b 13)
-
--- a letter, a digit or an underscore
-abbrev pub is_word_byte : ℕ → Bool
-is_word_byte b = (b == 95) || (nat_le 97 b && nat_le b 122) || (nat_le 65 b && nat_le b 90) || (nat_le 48 b && nat_le b 57)
 
 abbrev pub is_line_byte : ℕ → Bool
 is_line_byte b = not (is_newline b)

@@ -8,7 +8,8 @@ use Rattle.cpp_lines.specs.declared.directives.Directive.{Directive}
 use Rattle.cpp_lines.specs.declared.directives.Directive.TheVariants as named
 use Rattle.cpp_lines.specs.declared.line.LineKind.{LineKind}
 use Rattle.cpp_lines.specs.declared.line.LineKind.TheVariants as kinds
-use Rattle.cpp_lines.specs.Bytes.{is_gap, is_word_byte, has_first, behind_gap}
+use Rattle.c_words.specs.Bytes.{is_gap, is_word_byte}
+use Rattle.cpp_lines.specs.Bytes.{has_first, behind_gap}
 
 -- the line at the front is a directive line: its first byte that is not white space is `#`
 abbrev pub begins_directive : List ℕ → Bool

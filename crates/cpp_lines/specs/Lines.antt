@@ -7,7 +7,7 @@ use Rattle.fam_outer.specs.Places.{is_newline, place_at}
 use Rattle.cpp_lines.specs.declared.line.Line.{Line}
 use Rattle.cpp_lines.specs.declared.line.LineKind.{LineKind}
 use Rattle.cpp_lines.specs.declared.line.LineKind.TheVariants.{Code}
-use Rattle.cpp_lines.specs.Bytes.{is_gap}
+use Rattle.c_words.specs.Bytes.{is_gap}
 use Rattle.cpp_lines.specs.Directives.{begins_directive, plain_kind}
 
 -- a byte in front of the first piece

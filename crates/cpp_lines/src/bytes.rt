@@ -3,7 +3,10 @@
 
 ghost use Rattle.std.specs.Prelude.{◌≡◌, ℕ, ◌<◌, ◌≤◌, ◌+◌, ◌^◌, List, [], ◌∷◌, ◌++◌, length, take, drop, MatchOption};
 ghost use Rattle.std.specs.List.{prefix_len};
+ghost use Rattle.c_words.specs.Bytes as words;
 ghost use Rattle.cpp_lines.specs.Bytes as kinds;
+
+use c_words::{is_gap, is_word_byte};
 
 /// The first byte and those behind it.
 pub(crate) fn cut(bytes: &[u8]) -> Option<(u8, &[u8])>
@@ -13,20 +16,6 @@ pub(crate) fn cut(bytes: &[u8]) -> Option<(u8, &[u8])>
         [] => None,
         [b, behind @ ..] => Some((*b, behind)),
     }
-}
-
-/// White space but a newline.
-pub(crate) fn is_gap(b: u8) -> bool
-    ensures { result ≡ kinds.is_gap b }
-{
-    matches!(b, b' ' | b'\t' | 11..=13)
-}
-
-/// A letter, a digit or an underscore.
-pub(crate) fn is_word_byte(b: u8) -> bool
-    ensures { result ≡ kinds.is_word_byte b }
-{
-    matches!(b, b'_' | b'a'..=b'z' | b'A'..=b'Z' | b'0'..=b'9')
 }
 
 /// Whether the first two bytes are these.
@@ -60,7 +49,7 @@ pub(crate) fn line_len(bytes: &[u8]) -> usize
 
 /// How many bytes of white space but newlines stand at the front.
 pub(crate) fn gap_len(bytes: &[u8]) -> usize
-    ensures value { result ≡ prefix_len kinds.is_gap bytes.now }
+    ensures value { result ≡ prefix_len words.is_gap bytes.now }
     ensures within { result ≤ length bytes.now }
 {
     bytes.iter().take_while(|b| is_gap(**b)).count()
@@ -75,7 +64,7 @@ pub(crate) fn behind_gap(bytes: &[u8]) -> &[u8]
 
 /// How many letters, digits and underscores stand at the front.
 fn word_len(bytes: &[u8]) -> usize
-    ensures value { result ≡ prefix_len kinds.is_word_byte bytes.now }
+    ensures value { result ≡ prefix_len words.is_word_byte bytes.now }
     ensures within { result ≤ length bytes.now }
 {
     bytes.iter().take_while(|b| is_word_byte(**b)).count()
@@ -83,8 +72,8 @@ fn word_len(bytes: &[u8]) -> usize
 
 /// The letters, digits and underscores at the front, and what stands behind them.
 pub(crate) fn split_word(bytes: &[u8]) -> (&[u8], &[u8])
-    ensures word { result.0.now ≡ take (prefix_len kinds.is_word_byte bytes.now) bytes.now }
-    ensures behind { result.1.now ≡ drop (prefix_len kinds.is_word_byte bytes.now) bytes.now }
+    ensures word { result.0.now ≡ take (prefix_len words.is_word_byte bytes.now) bytes.now }
+    ensures behind { result.1.now ≡ drop (prefix_len words.is_word_byte bytes.now) bytes.now }
 {
     bytes.split_at(word_len(bytes))
 }

@@ -11,8 +11,9 @@ use Rattle.cpp_conditions.specs.Reading.{Reads}
 use Rattle.cpp_conditions.specs.Propositions.{IsFit, IsOpen}
 use Rattle.cpp_conditions.specs.Validity.{AreFit, AreOpen}
 use Rattle.cpp_conditions.specs.View.{proposition}
-use Rattle.feature_model.specs.declared.faults.ModelRefusal.{ModelRefusal}
-use Rattle.feature_model.specs.declared.faults.ModelRefusal.TheVariants as refusals
+use Rattle.fam_outer.specs.declared.refusal.Refusal.{Refusal}
+use Rattle.feature_model.specs.declared.faults.ModelFault.{ModelFault}
+use Rattle.fam_outer.specs.declared.refusal.Refusal.TheVariants as refusals
 use Rattle.feature_model.specs.Constraints.{AreRead, none, refused, first, numbered, Adds}
 
 pub nothing_added : (features : List Feature) (n : ℕ) (texts : List (List ℕ)) (old : List Condition) (done : ⊤) → texts ≡ [] → Adds features n texts old old (Ok done)
@@ -22,18 +23,18 @@ refused_by : (features : List Feature) (n : ℕ) (behind : List (List ℕ)) (tex
 refused_by features n behind text old conditions.NoMemory h = tt
 refused_by features n behind text old (conditions.Fault fault) h = refused n text behind fault h
 
-pub text_refused : (features : List Feature) (n : ℕ) (texts behind : List (List ℕ)) (text : List ℕ) (old : List Condition) (refusal : ConditionRefusal) (given : ModelRefusal) → texts ≡ text ∷ behind → Reads features text (Err refusal) → given ≡ numbered n refusal
+pub text_refused : (features : List Feature) (n : ℕ) (texts behind : List (List ℕ)) (text : List ℕ) (old : List Condition) (refusal : ConditionRefusal) (given : (Refusal ModelFault)) → texts ≡ text ∷ behind → Reads features text (Err refusal) → given ≡ numbered n refusal
     → Adds features n texts old old (Err given)
 text_refused features n texts behind text old refusal given cut h e = subst (λ ts. Adds features n ts old old (Err given)) (sym cut) (subst (λ g. Adds features n (text ∷ behind) old old (Err g)) (sym e) (refused_by features n behind text old refusal h))
 
-more_added : (features : List Feature) (n : ℕ) (behind : List (List ℕ)) (text : List ℕ) (old mid new : List Condition) (c : Condition) (r : Result ⊤ ModelRefusal) → ReadsAs features text (Ok (proposition c)) → mid ≡ old ++ c ∷ []
+more_added : (features : List Feature) (n : ℕ) (behind : List (List ℕ)) (text : List ℕ) (old mid new : List Condition) (c : Condition) (r : Result ⊤ (Refusal ModelFault)) → ReadsAs features text (Ok (proposition c)) → mid ≡ old ++ c ∷ []
     → Adds features (n + 1) behind mid new r → Adds features n (text ∷ behind) old new r
 more_added features n behind text old mid new c (Ok done) h e k =
     (c ∷ k.0, k.1 ∙ ap (λ x. x ++ k.0) e ∙ append_assoc old (c ∷ []) k.0, first n text behind (proposition c) (Ok (map proposition k.0)) h k.2)
 more_added features n behind text old mid new c (Err refusals.NoMemory) h e k = tt
 more_added features n behind text old mid new c (Err (refusals.Fault fault)) h e k = first n text behind (proposition c) (Err fault) h k
 
-pub first_added : (features : List Feature) (n : ℕ) (texts behind : List (List ℕ)) (text : List ℕ) (old mid new : List Condition) (c : Condition) (r : Result ⊤ ModelRefusal) → texts ≡ text ∷ behind → ReadsAs features text (Ok (proposition c)) → mid ≡ old ++ c ∷ []
+pub first_added : (features : List Feature) (n : ℕ) (texts behind : List (List ℕ)) (text : List ℕ) (old mid new : List Condition) (c : Condition) (r : Result ⊤ (Refusal ModelFault)) → texts ≡ text ∷ behind → ReadsAs features text (Ok (proposition c)) → mid ≡ old ++ c ∷ []
     → Adds features (n + 1) behind mid new r → Adds features n texts old new r
 first_added features n texts behind text old mid new c r cut h e k = subst (λ ts. Adds features n ts old new r) (sym cut) (more_added features n behind text old mid new c r h e k)
 

@@ -11,8 +11,8 @@ use Rattle.cpp_conditions.specs.Propositions.{Proposition}
 use Rattle.cpp_conditions.specs.View.{proposition}
 use Rattle.feature_model.specs.declared.faults.ModelFault.{ModelFault}
 use Rattle.feature_model.specs.declared.faults.ModelFault.TheVariants as faults
-use Rattle.feature_model.specs.declared.faults.ModelRefusal.{ModelRefusal}
-use Rattle.feature_model.specs.declared.faults.ModelRefusal.TheVariants as refusals
+use Rattle.fam_outer.specs.declared.refusal.Refusal.{Refusal}
+use Rattle.fam_outer.specs.declared.refusal.Refusal.TheVariants as refusals
 use Rattle.feature_model.specs.Stages.{◌>>=◌}
 
 -- the texts are read as these constraints, or the first that is refused has this fault and its number, counted from n
@@ -25,12 +25,12 @@ pub data AreRead (features : List Feature) : ℕ → List (List ℕ) → Result 
 -- ---- what the code answers
 
 -- the refusal of the constraint of number n
-abbrev pub numbered : ℕ → ConditionRefusal → ModelRefusal
+abbrev pub numbered : ℕ → ConditionRefusal → (Refusal ModelFault)
 numbered n conditions.NoMemory = refusals.NoMemory
 numbered n (conditions.Fault fault) = refusals.Fault (faults.Constraint n fault)
 
 -- behind the old conditions stand those that the texts are read as; or their fault
-abbrev pub Adds : List Feature → ℕ → List (List ℕ) → List Condition → List Condition → Result ⊤ ModelRefusal → Type 0
+abbrev pub Adds : List Feature → ℕ → List (List ℕ) → List Condition → List Condition → Result ⊤ (Refusal ModelFault) → Type 0
 Adds features n texts old new (Ok _) = (more : List Condition) × (new ≡ old ++ more) × AreRead features n texts (Ok (map proposition more))
 Adds features n texts old new (Err refusals.NoMemory) = ⊤
 Adds features n texts old new (Err (refusals.Fault fault)) = AreRead features n texts (Err fault)

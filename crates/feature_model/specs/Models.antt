@@ -5,8 +5,8 @@ use Rattle.cpp_conditions.specs.Distinct.{HaveFewAtoms, HaveMoreAtoms}
 use Rattle.cpp_conditions.specs.Validity.{Plain, plain, IsValid}
 use Rattle.feature_model.specs.declared.faults.ModelFault.{ModelFault}
 use Rattle.feature_model.specs.declared.faults.ModelFault.TheVariants as faults
-use Rattle.feature_model.specs.declared.faults.ModelRefusal.{ModelRefusal}
-use Rattle.feature_model.specs.declared.faults.ModelRefusal.TheVariants as refusals
+use Rattle.fam_outer.specs.declared.refusal.Refusal.{Refusal}
+use Rattle.fam_outer.specs.declared.refusal.Refusal.TheVariants as refusals
 use Rattle.feature_model.specs.Constraints.{AreRead}
 use Rattle.feature_model.specs.Stages.{Told, told_of}
 
@@ -31,13 +31,13 @@ pub data IsReadAs (bytes : List ℕ) : Result Plain ModelFault → Type 0 where
 -- ---- what the code answers
 
 -- the model, or why it is refused, unless memory runs out
-abbrev pub Judges : Model → Result Model ModelRefusal → Type 0
+abbrev pub Judges : Model → Result Model (Refusal ModelFault) → Type 0
 Judges model (Ok made) = Ends (plain model) (Ok (plain made))
 Judges model (Err refusals.NoMemory) = ⊤
 Judges model (Err (refusals.Fault fault)) = Ends (plain model) (Err fault)
 
 -- the answer is what the bytes are read as, unless memory runs out
-abbrev pub Reads : List ℕ → Result Model ModelRefusal → Type 0
+abbrev pub Reads : List ℕ → Result Model (Refusal ModelFault) → Type 0
 Reads bytes (Ok made) = IsReadAs bytes (Ok (plain made))
 Reads bytes (Err refusals.NoMemory) = ⊤
 Reads bytes (Err (refusals.Fault fault)) = IsReadAs bytes (Err fault)

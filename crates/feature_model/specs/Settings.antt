@@ -8,8 +8,8 @@ use Rattle.cpp_conditions.specs.Tokens.{is_number, number_from}
 use Rattle.cpp_conditions.specs.Validity.{plain, is_in_range, is_valid}
 use Rattle.feature_model.specs.declared.faults.ConfigFault.{ConfigFault}
 use Rattle.feature_model.specs.declared.faults.ConfigFault.TheVariants as faults
-use Rattle.feature_model.specs.declared.faults.ConfigRefusal.{ConfigRefusal}
-use Rattle.feature_model.specs.declared.faults.ConfigRefusal.TheVariants as refusals
+use Rattle.fam_outer.specs.declared.refusal.Refusal.{Refusal}
+use Rattle.fam_outer.specs.declared.refusal.Refusal.TheVariants as refusals
 use Rattle.feature_model.specs.Stages.{◌>>=◌}
 
 -- ---- words
@@ -103,13 +103,13 @@ config_of model words = steps model.features 1 (unset model.features) words >>= 
 -- ---- what the code answers
 
 -- what was made, seen as this, is the expected one, unless memory runs out
-abbrev pub Gives : {X Y : Type 0} → (X → Y) → Result X ConfigRefusal → Result Y ConfigFault → Type 0
+abbrev pub Gives : {X Y : Type 0} → (X → Y) → Result X (Refusal ConfigFault) → Result Y ConfigFault → Type 0
 Gives seen (Ok made) expected = expected ≡ Ok (seen made)
 Gives seen (Err refusals.NoMemory) expected = ⊤
 Gives seen (Err (refusals.Fault fault)) expected = expected ≡ Err fault
 
 -- the values behind the old ones are the expected ones
-abbrev pub Adds : List ℤ → List ℤ → Result ⊤ ConfigRefusal → Result (List ℤ) ConfigFault → Type 0
+abbrev pub Adds : List ℤ → List ℤ → Result ⊤ (Refusal ConfigFault) → Result (List ℤ) ConfigFault → Type 0
 Adds old new (Ok _) expected = (more : List ℤ) × (new ≡ old ++ more) × (expected ≡ Ok more)
 Adds old new (Err refusals.NoMemory) expected = ⊤
 Adds old new (Err (refusals.Fault fault)) expected = expected ≡ Err fault

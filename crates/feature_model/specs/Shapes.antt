@@ -4,7 +4,7 @@ use Rattle.serde_json.specs.Data.{Data, Items, no_items, item, Members, no_membe
 use Rattle.serde_json.specs.Find.{get, as_array, as_number, as_object, as_str, as_i64}
 use Rattle.feature_model.specs.declared.shapes.Entry.{Entry}
 use Rattle.feature_model.specs.declared.shapes.Outline as coded
-use Rattle.feature_model.specs.Names.{is_among}
+use Rattle.c_words.specs.Keywords.{is_among}
 
 -- each member has one of these names
 abbrev pub are_among : List (List ℕ) → Members → Bool

@@ -6,8 +6,8 @@ use Rattle.serde_json.specs.Data.{Data}
 use Rattle.serde_json.specs.Read.{read}
 use Rattle.feature_model.specs.declared.faults.ModelFault.{ModelFault}
 use Rattle.feature_model.specs.declared.faults.ModelFault.TheVariants as faults
-use Rattle.feature_model.specs.declared.faults.ModelRefusal.{ModelRefusal}
-use Rattle.feature_model.specs.declared.faults.ModelRefusal.TheVariants as refusals
+use Rattle.fam_outer.specs.declared.refusal.Refusal.{Refusal}
+use Rattle.fam_outer.specs.declared.refusal.Refusal.TheVariants as refusals
 use Rattle.feature_model.specs.Features.{feature, fault_of}
 use Rattle.feature_model.specs.Shapes.{Outline, outline_of}
 
@@ -58,11 +58,11 @@ told_of bytes = outlined bytes >>= told_from
 -- ---- what the code answers
 
 -- the fault is the expected one, unless memory runs out
-abbrev pub Fails : {Y : Type 0} → ModelRefusal → Result Y ModelFault → Type 0
+abbrev pub Fails : {Y : Type 0} → (Refusal ModelFault) → Result Y ModelFault → Type 0
 Fails refusals.NoMemory expected = ⊤
 Fails (refusals.Fault fault) expected = expected ≡ Err fault
 
 -- what was made, seen as this, is the expected one, or the fault is
-abbrev pub Gives : {X Y : Type 0} → (X → Y) → Result X ModelRefusal → Result Y ModelFault → Type 0
+abbrev pub Gives : {X Y : Type 0} → (X → Y) → Result X (Refusal ModelFault) → Result Y ModelFault → Type 0
 Gives seen (Ok made) expected = expected ≡ Ok (seen made)
 Gives seen (Err refusal) expected = Fails refusal expected

@@ -1,8 +1,7 @@
 //! Why bytes are no feature model, and why settings give no configuration.
 #![tactic(auto)]
 
-use fam_outer::{ConditionFault, NoMemory};
-use std::alloc::{AllocError, AllocFailed};
+use fam_outer::{ConditionFault, Refusal};
 
 /// Why bytes are no model: M1 to M10, in this order. A number counts features or constraints from 1.
 #[derive(Clone, Copy, Debug, PartialEq, Eq)]
@@ -20,44 +19,7 @@ pub enum ModelFault {
 }
 
 /// The refusal of a model: want of memory, or a fault.
-#[derive(Clone, Copy, Debug, PartialEq, Eq)]
-pub enum ModelRefusal {
-    NoMemory,
-    Fault(ModelFault),
-}
-
-impl From<NoMemory> for ModelRefusal {
-    ghost use Rattle.std.specs.Prelude.{◌≡◌};
-    ghost use Rattle.feature_model.specs.declared.faults.ModelRefusal.TheVariants as refusals;
-
-    ghost from_gives = { λ _ given. given ≡ refusals.NoMemory };
-
-    fn from(_error: NoMemory) -> ModelRefusal {
-        ModelRefusal::NoMemory
-    }
-}
-
-impl From<AllocError> for ModelRefusal {
-    ghost use Rattle.std.specs.Prelude.{◌≡◌};
-    ghost use Rattle.feature_model.specs.declared.faults.ModelRefusal.TheVariants as refusals;
-
-    ghost from_gives = { λ _ given. given ≡ refusals.NoMemory };
-
-    fn from(_error: AllocError) -> ModelRefusal {
-        ModelRefusal::NoMemory
-    }
-}
-
-impl<T: Drop> From<AllocFailed<T>> for ModelRefusal {
-    ghost use Rattle.std.specs.Prelude.{◌≡◌};
-    ghost use Rattle.feature_model.specs.declared.faults.ModelRefusal.TheVariants as refusals;
-
-    ghost from_gives = { λ _ given. given ≡ refusals.NoMemory };
-
-    fn from(_error: AllocFailed<T>) -> ModelRefusal {
-        ModelRefusal::NoMemory
-    }
-}
+pub type ModelRefusal = Refusal<ModelFault>;
 
 /// Why settings give no configuration: K1 to K5, in this order. The number of K2 counts features from 1, the others
 /// count words from 1.
@@ -71,41 +33,4 @@ pub enum ConfigFault {
 }
 
 /// The refusal of settings: want of memory, or a fault.
-#[derive(Clone, Copy, Debug, PartialEq, Eq)]
-pub enum ConfigRefusal {
-    NoMemory,
-    Fault(ConfigFault),
-}
-
-impl From<NoMemory> for ConfigRefusal {
-    ghost use Rattle.std.specs.Prelude.{◌≡◌};
-    ghost use Rattle.feature_model.specs.declared.faults.ConfigRefusal.TheVariants as refusals;
-
-    ghost from_gives = { λ _ given. given ≡ refusals.NoMemory };
-
-    fn from(_error: NoMemory) -> ConfigRefusal {
-        ConfigRefusal::NoMemory
-    }
-}
-
-impl From<AllocError> for ConfigRefusal {
-    ghost use Rattle.std.specs.Prelude.{◌≡◌};
-    ghost use Rattle.feature_model.specs.declared.faults.ConfigRefusal.TheVariants as refusals;
-
-    ghost from_gives = { λ _ given. given ≡ refusals.NoMemory };
-
-    fn from(_error: AllocError) -> ConfigRefusal {
-        ConfigRefusal::NoMemory
-    }
-}
-
-impl<T: Drop> From<AllocFailed<T>> for ConfigRefusal {
-    ghost use Rattle.std.specs.Prelude.{◌≡◌};
-    ghost use Rattle.feature_model.specs.declared.faults.ConfigRefusal.TheVariants as refusals;
-
-    ghost from_gives = { λ _ given. given ≡ refusals.NoMemory };
-
-    fn from(_error: AllocFailed<T>) -> ConfigRefusal {
-        ConfigRefusal::NoMemory
-    }
-}
+pub type ConfigRefusal = Refusal<ConfigFault>;

@@ -6,60 +6,10 @@ ghost use Rattle.std.specs.List.{list_all};
 ghost use Rattle.std.specs.Str.{bytes_eq};
 ghost use Rattle.cpp_conditions.specs.Grammar.{is_reserved};
 ghost use Rattle.cpp_conditions.specs.Tokens.{is_first, is_word, is_identifier};
+ghost use Rattle.c_words.specs.Keywords as words;
 ghost use Rattle.feature_model.specs.Names as names;
 
-/// The keywords of C (ISO/IEC 9899:2011, 6.4.1) with `_Imaginary`, and the other words with a meaning of their own.
-const RESERVED_WORDS: [&str; 49] = [
-    "auto",
-    "break",
-    "case",
-    "char",
-    "const",
-    "continue",
-    "default",
-    "do",
-    "double",
-    "else",
-    "enum",
-    "extern",
-    "float",
-    "for",
-    "goto",
-    "if",
-    "inline",
-    "int",
-    "long",
-    "register",
-    "restrict",
-    "return",
-    "short",
-    "signed",
-    "sizeof",
-    "static",
-    "struct",
-    "switch",
-    "typedef",
-    "union",
-    "unsigned",
-    "void",
-    "volatile",
-    "while",
-    "_Alignas",
-    "_Alignof",
-    "_Atomic",
-    "_Bool",
-    "_Complex",
-    "_Generic",
-    "_Imaginary",
-    "_Noreturn",
-    "_Static_assert",
-    "_Thread_local",
-    "main",
-    "assert",
-    "input",
-    "defined",
-    "NDEBUG",
-];
+use c_words::is_reserved as is_reserved_word;
 
 /// Whether two texts are equal.
 fn is(word: &[u8], text: &str) -> bool
@@ -70,7 +20,7 @@ fn is(word: &[u8], text: &str) -> bool
 
 /// Whether a word is one of these.
 pub(crate) fn is_among(words: &[&str], word: &[u8]) -> bool
-    ensures { result ≡ names.is_among (map (λ w. w.now) words.now) word.now }
+    ensures { result ≡ words.is_among (map (λ w. w.now) words.now) word.now }
 {
     for other in words {
         if is(word, *other) {
@@ -140,5 +90,5 @@ fn is_reserved(bytes: &[u8]) -> bool
 pub(crate) fn is_misnamed(bytes: &[u8]) -> bool
     ensures { result ≡ names.is_misnamed bytes.now }
 {
-    !is_identifier(bytes) || (is_reserved(bytes) || is_among(&RESERVED_WORDS, bytes))
+    !is_identifier(bytes) || (is_reserved(bytes) || is_reserved_word(bytes))
 }

@@ -1,6 +1,6 @@
 use Rattle.std.proofs.Common.{◌≡◌, drop}
 use Rattle.std.specs.Prelude.{map}
-use Rattle.feature_model.specs.Names.{is_among}
+use Rattle.c_words.specs.Keywords.{is_among}
 use Rattle.feature_model.proofs.names.is_among.Given as goal
 
 abbrev pub invariant-loop-other : goal.invariant-loop-other
