@@ -6,7 +6,7 @@ ghost use Rattle.std.specs.List.{list_all};
 ghost use Rattle.std.specs.Str.{bytes_eq};
 ghost use Rattle.cpp_conditions.specs.Grammar.{is_reserved};
 ghost use Rattle.cpp_conditions.specs.Tokens.{is_first, is_word, is_identifier};
-ghost use Rattle.c_words.specs.Keywords as words;
+ghost use Rattle.c_words.specs.Keywords as tables;
 ghost use Rattle.feature_model.specs.Names as names;
 
 use c_words::is_reserved as is_reserved_word;
@@ -20,7 +20,7 @@ fn is(word: &[u8], text: &str) -> bool
 
 /// Whether a word is one of these.
 pub(crate) fn is_among(words: &[&str], word: &[u8]) -> bool
-    ensures { result ≡ words.is_among (map (λ w. w.now) words.now) word.now }
+    ensures { result ≡ tables.is_among (map (λ w. w.now) words.now) word.now }
 {
     for other in words {
         if is(word, *other) {
