@@ -6,8 +6,8 @@ ghost use Rattle.std.specs.Str.{bytes_eq};
 ghost use Rattle.cpp_lines.specs.Directives as specs;
 
 use crate::bytes::{behind_gap, has_first, split_word};
-use c_words::is_gap;
 use crate::line::LineKind;
+use c_words::is_gap;
 use fam_outer::FileCode;
 
 /// A known directive.
