@@ -7,11 +7,26 @@ program=$top/crates/famlint/out/famlint
 if [ -x "$program" ]; then
     exec "$program" "$@"
 fi
-echo "famlint.sh: not built yet (rt ci builds and proves it): this is an unproved quick run" >&2
+echo "famlint.sh: an unproved quick run; to prove and build the program: cd $top/crates/famlint && rt run -- plain FILE" >&2
+
+# The quick run works in another folder, so FILE, the second positional word, is given by its whole path. An option
+# without `=` has its value in the next word, and behind the first `--` each word is positional.
 words=()
+positional=0
+is_value=no
+has_options=yes
 for word in "$@"; do
-    if [ -f "$word" ]; then word=$(realpath "$word"); fi
+    if [ $is_value = yes ]; then
+        is_value=no
+    elif [ $has_options = yes ] && [ "$word" = -- ]; then
+        has_options=no
+    elif [ $has_options = yes ] && [[ $word == -?* ]]; then
+        [[ $word == *=* ]] || is_value=yes
+    else
+        positional=$((positional + 1))
+        if [ $positional = 2 ] && [[ $word != /* ]]; then word=$PWD/$word; fi
+    fi
     words+=("$word")
 done
 cd "$top/crates/famlint" || exit 10
-exec rt try -- "${words[@]}"
+exec rt try -- ${words[@]+"${words[@]}"}

@@ -1,0 +1,5 @@
+int x;
+int main(void)
+{
+    x = 1; /* set it
+}

@@ -1,0 +1,4 @@
+int main(void)
+{
+    assert("level" == 0);
+}

@@ -1,0 +1,5 @@
+int mask;
+int main(void)
+{
+    mask = 0xFF;
+}

@@ -1,0 +1,5 @@
+int level;
+int main(void)
+{
+    level = limit - 1;
+}

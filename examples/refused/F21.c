@@ -1,0 +1,7 @@
+int level;
+int main(void)
+{
+#ifdef FAST
+    level = 1;
+#endif
+}

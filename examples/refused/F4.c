@@ -1,0 +1,6 @@
+#define LIMIT 100
+int level;
+int main(void)
+{
+    assert(level < LIMIT);
+}
