@@ -1,6 +1,6 @@
 #include <assert.h>
-/* A data logger. Each tick of one millisecond takes a sample and puts it into a
-   ring buffer with 16 places. A sample is 0 to 4095, for 0 to 3300 millivolts. */
+/* The data logger of logger.c, mended: the count of ticks starts anew at 0 before it
+   leaves int. As 16 divides 2147483648, the ring buffer goes on where it was. */
 extern int input(void);
 
 static int tick, head;
