@@ -3,7 +3,7 @@
 
 ghost use Rattle.std.specs.Prelude.{◌≡◌, IfOk, [], ◌∷◌};
 
-use crate::{read_plain, read_plain_with};
+use c_parser::{read_plain, read_plain_with};
 use c_tree::Names;
 use fam_outer::{FileRefusal, NoMemory, Place, Text};
 use std::alloc::{AllocError, Global};
