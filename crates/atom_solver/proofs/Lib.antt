@@ -1,6 +1,7 @@
 pub mod Below
 pub mod Cutting
 pub mod EqualTerms
+pub mod Freed
 pub mod Known
 pub mod Narrowed
 pub mod Ordered

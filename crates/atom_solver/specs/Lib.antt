@@ -1,3 +1,4 @@
+pub mod Free
 pub mod Narrowing
 pub mod Plausible
 pub mod Solutions

@@ -4,6 +4,7 @@
 mod clashing;
 mod deciding;
 mod ends;
+mod freeing;
 mod narrowing;
 pub mod plausibility;
 mod points;

@@ -11,7 +11,7 @@ ghost use Rattle.atom_solver.specs.Spans.{ranges, meets, FindsIn};
 
 use crate::clashing::are_contrary;
 use crate::deciding::is_ruled_out;
-use crate::narrowing::narrowed;
+use crate::freeing::prepared;
 use crate::points::at_point;
 use crate::spans::{cut_box, spans_of};
 use cpp_conditions::{Condition, Model};
@@ -34,7 +34,7 @@ fn search(
     if is_ruled_out(spans, constraints, wanted) {
         return Ok(None);
     }
-    let narrower = narrowed(alloc, spans, constraints, wanted)?;
+    let narrower = prepared(alloc, spans, constraints, wanted)?;
     let inner = narrower.as_slice();
     match cut_box(alloc, inner)? {
         None => at_point(alloc, inner, constraints, wanted),
