@@ -4,10 +4,12 @@
 mod clashing;
 mod deciding;
 mod ends;
+mod facts;
 mod freeing;
 mod narrowing;
 pub mod plausibility;
 mod points;
+mod refuting;
 mod searching;
 pub mod solving;
 mod spans;

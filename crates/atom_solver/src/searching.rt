@@ -13,6 +13,7 @@ use crate::clashing::are_contrary;
 use crate::deciding::is_ruled_out;
 use crate::freeing::prepared;
 use crate::points::at_point;
+use crate::refuting::are_opposed;
 use crate::spans::{cut_box, spans_of};
 use cpp_conditions::{Condition, Model};
 use fam_outer::NoMemory;
@@ -59,6 +60,9 @@ pub(crate) fn first_valid(
 {
     let constraints = model.constraints.items();
     if are_contrary(constraints, wanted) {
+        return Ok(None);
+    }
+    if are_opposed(alloc, constraints, wanted)? {
         return Ok(None);
     }
     let spans = spans_of(alloc, model.features.items())?;
