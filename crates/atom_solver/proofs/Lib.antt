@@ -10,4 +10,5 @@ pub mod Pointing
 pub mod Refuted
 pub mod Splitting
 pub mod Stated
+pub mod Tested
 pub mod Wants

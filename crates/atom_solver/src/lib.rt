@@ -20,3 +20,5 @@ pub use solving::{implied, least, least_where};
 
 #[cfg(test)]
 mod tests;
+#[cfg(test)]
+mod void_tests;
