@@ -1,5 +1,5 @@
 -- What holds where a feature's value changes no truth.
-use Rattle.std.proofs.Common.{◌≡◌, ℕ, zero, suc, ◌<◌, ◌≤◌, ℤ, pos, ◌-ℤ◌, ◌≤ℤ◌, unsigned_abs, Bool, ◌&&◌, ◌||◌, inl, inr, List, [], ◌∷◌, length, get_or, set, Option, Some, None, sym, ap, subst, refl, ◌∙◌, arith}
+use Rattle.std.proofs.Common.{◌≡◌, ℕ, zero, suc, ◌<◌, ◌≤◌, ℤ, pos, ◌-ℤ◌, ◌≤ℤ◌, unsigned_abs, Bool, inl, inr, List, [], ◌∷◌, length, get_or, set, Option, Some, None, sym, ap, subst, refl, ◌∙◌, arith}
 use Rattle.std.specs.Prelude.{slice_index_or}
 use Rattle.std.proofs.lemmas.Int.{ints}
 use Rattle.linear_atoms.specs.declared.atoms.Config.{Config}
@@ -43,12 +43,6 @@ agree said b p q e h k =
 
 pub known_same : (fs : List Feature) (n : ℕ) (p : Proposition Atom) (said : Option Bool) (b : Bool) → said ≡ Some b → IsKnown fs p said → IsSame fs n (λ (values : List ℤ). true_at values p)
 known_same fs n p said b e h = λ vs x v w. agree said b (true_at (put n x vs) p) (true_at vs p) e (h (put n x vs) w) (h vs v)
-
-pub both_same : (a b c d : Bool) → a ≡ b → c ≡ d → (a && c) ≡ (b && d)
-both_same a b c d e f = rw (e, f) refl
-
-pub either_same : (a b c d : Bool) → a ≡ b → c ≡ d → (a || c) ≡ (b || d)
-either_same a b c d e f = rw (e, f) refl
 
 -- ---- one range is put at its low
 

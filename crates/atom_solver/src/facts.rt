@@ -142,7 +142,17 @@ fn of_atom(alloc: Global, atom: &Atom, positive: bool) -> Result<Option<Linear>,
     }
 }
 
-/// Adds the form of an atom with a truth, if there is one.
+/// Whether one of the forms has the same terms and no greater constant, so that this one tells nothing more.
+fn is_known(facts: &[Linear], form: &Linear) -> bool {
+    for fact in facts {
+        if fact.terms == form.terms && fact.constant <= form.constant {
+            return true;
+        }
+    }
+    false
+}
+
+/// Adds the form of an atom with a truth, if there is one that tells more.
 #[tactic(auto, using(crate::proofs::Gathered::adds_none, crate::proofs::Gathered::adds_fact))]
 fn note(alloc: Global, atom: &Atom, truth: bool, facts: &mut Vec<Linear>) -> Result<(), NoMemory>
     ensures { IfOk result (λ _. Adds (Test atom.now) truth facts.old.items facts.new.items) }
@@ -150,8 +160,12 @@ fn note(alloc: Global, atom: &Atom, truth: bool, facts: &mut Vec<Linear>) -> Res
     match of_atom(alloc, atom, truth)? {
         None => Ok(()),
         Some(form) => {
-            facts.push(form)?;
-            Ok(())
+            if is_known(facts.as_slice(), &form) {
+                Ok(())
+            } else {
+                facts.push(form)?;
+                Ok(())
+            }
         }
     }
 }

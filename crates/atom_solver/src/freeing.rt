@@ -6,7 +6,7 @@ ghost use Rattle.linear_atoms.specs.Atoms.{AreRanges};
 ghost use Rattle.cpp_conditions.specs.Propositions.{IsFit, true_at};
 ghost use Rattle.cpp_conditions.specs.Validity.{AreFit};
 ghost use Rattle.cpp_conditions.specs.View.{proposition};
-ghost use Rattle.atom_solver.specs.Free.{IsUnread, IsSame, Serves};
+ghost use Rattle.atom_solver.specs.Free.{put, IsUnread, IsSame, Serves};
 ghost use Rattle.atom_solver.specs.Spans.{ranges, meets};
 
 use crate::deciding::decided;
@@ -35,6 +35,19 @@ fn is_unread(terms: &[(u32, i64)], place: usize) -> bool
     }
 }
 
+/// Whether no test of a condition names a feature.
+fn is_unnamed(condition: &Condition, place: usize) -> bool
+    ensures { result ≡ true → (values : List ℤ) (x : ℤ) → true_at (put place x values) (proposition condition.now) ≡ true_at values (proposition condition.now) }
+{
+    match condition {
+        Condition::Const(_truth) => true,
+        Condition::Test(atom) => is_unread(atom.terms.items(), place),
+        Condition::Not(inner) => is_unnamed(inner, place),
+        Condition::And(left, right) => is_unnamed(left, place) && is_unnamed(right, place),
+        Condition::Or(left, right) => is_unnamed(left, place) && is_unnamed(right, place),
+    }
+}
+
 /// Whether a condition is decided on the box.
 fn is_decided(condition: &Condition, spans: &[Span], place: usize) -> bool
     requires fit { IsFit (length spans.now) (proposition condition.now) }
@@ -54,12 +67,15 @@ fn is_free(condition: &Condition, spans: &[Span], place: usize) -> bool
     requires ranges { AreRanges (ranges spans.now) }
     ensures { result ≡ true → IsSame (ranges spans.now) place (λ (values : List ℤ). true_at values (proposition condition.now)) }
 {
+    if is_unnamed(condition, place) {
+        return true;
+    }
     if is_decided(condition, spans, place) {
         return true;
     }
     match condition {
         Condition::Const(_truth) => true,
-        Condition::Test(atom) => is_unread(atom.terms.items(), place),
+        Condition::Test(_atom) => false,
         Condition::Not(inner) => is_free(inner, spans, place),
         Condition::And(left, right) => {
             is_free(left, spans, place) && is_free(right, spans, place)
