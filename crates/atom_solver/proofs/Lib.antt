@@ -1,9 +1,14 @@
 pub mod Below
 pub mod Cutting
 pub mod EqualTerms
+pub mod Freed
+pub mod Gathered
 pub mod Known
 pub mod Narrowed
 pub mod Ordered
 pub mod Pointing
+pub mod Refuted
 pub mod Splitting
+pub mod Stated
+pub mod Tested
 pub mod Wants

@@ -1,3 +1,5 @@
+pub mod Facts
+pub mod Free
 pub mod Narrowing
 pub mod Plausible
 pub mod Solutions

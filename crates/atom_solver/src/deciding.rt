@@ -47,7 +47,7 @@ fn either(left: Option<bool>, right: Option<bool>) -> Option<bool>
 }
 
 /// What is known of a condition: a truth that it has at every configuration of the box, or None.
-fn decided(condition: &Condition, spans: &[Span]) -> Option<bool>
+pub(crate) fn decided(condition: &Condition, spans: &[Span]) -> Option<bool>
     requires fit { IsFit (length spans.now) (proposition condition.now) }
     requires ranges { AreRanges (ranges spans.now) }
     ensures { IsKnown (ranges spans.now) (proposition condition.now) result }

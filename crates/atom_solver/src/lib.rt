@@ -4,9 +4,12 @@
 mod clashing;
 mod deciding;
 mod ends;
+mod facts;
+mod freeing;
 mod narrowing;
 pub mod plausibility;
 mod points;
+mod refuting;
 mod searching;
 pub mod solving;
 mod spans;
@@ -17,3 +20,5 @@ pub use solving::{implied, least, least_where};
 
 #[cfg(test)]
 mod tests;
+#[cfg(test)]
+mod void_tests;

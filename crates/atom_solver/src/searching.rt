@@ -11,8 +11,9 @@ ghost use Rattle.atom_solver.specs.Spans.{ranges, meets, FindsIn};
 
 use crate::clashing::are_contrary;
 use crate::deciding::is_ruled_out;
-use crate::narrowing::narrowed;
+use crate::freeing::prepared;
 use crate::points::at_point;
+use crate::refuting::are_opposed;
 use crate::spans::{cut_box, spans_of};
 use cpp_conditions::{Condition, Model};
 use fam_outer::NoMemory;
@@ -34,7 +35,7 @@ fn search(
     if is_ruled_out(spans, constraints, wanted) {
         return Ok(None);
     }
-    let narrower = narrowed(alloc, spans, constraints, wanted)?;
+    let narrower = prepared(alloc, spans, constraints, wanted)?;
     let inner = narrower.as_slice();
     match cut_box(alloc, inner)? {
         None => at_point(alloc, inner, constraints, wanted),
@@ -59,6 +60,9 @@ pub(crate) fn first_valid(
 {
     let constraints = model.constraints.items();
     if are_contrary(constraints, wanted) {
+        return Ok(None);
+    }
+    if are_opposed(alloc, constraints, wanted)? {
         return Ok(None);
     }
     let spans = spans_of(alloc, model.features.items())?;

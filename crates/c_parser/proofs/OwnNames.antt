@@ -1,5 +1,5 @@
 -- The names of a program that is read over no given names are those that its file declares.
-use Rattle.std.proofs.Common.{◌≡◌, ℕ, zero, suc, ◌+◌, ◌<◌, Bool, true, false, List, [], ◌∷◌, ◌++◌, length, get_or, Result, Ok, Err, refl, sym, ap, subst, ◌∙◌, append_assoc, append-nil, arith}
+use Rattle.std.proofs.Common.{◌≡◌, ℕ, ◌+◌, Bool, true, false, List, [], ◌∷◌, ◌++◌, length, get_or, Result, Ok, Err, refl, sym, ap, subst, ◌∙◌, append_assoc, append-nil, arith}
 use Rattle.std.specs.Prelude.{if◌then◌else◌, IfOk}
 use Rattle.fam_outer.specs.declared.faults.FileRefusal.{FileRefusal}
 use Rattle.c_tree.specs.View.{whole}
@@ -16,7 +16,7 @@ use Rattle.c_grammar.specs.declared.items.Sign.{Sign}
 use Rattle.std.specs.Prelude.{Option, Some, None}
 use Rattle.c_parser.specs.Signs.{keyword_of}
 use Rattle.c_parser.specs.Items.{Listed, listed, with_name, names_with_word, names_with, names_from, lexeme_in, AreNewBehind, AreDistinct}
-use Rattle.c_parser.specs.Names.{declared_by, targets, names_at, each_once}
+use Rattle.c_parser.specs.Names.{targets, names_at, each_once}
 use Rattle.c_parser.specs.Reading.{items_of, IsAccepted, IsReadOver, AreDeclaredNames}
 use Rattle.c_parser.proofs.Declarations.{declared_forms}
 use Rattle.c_parser.proofs.Overs.{names_declared, stands_for}

@@ -1,6 +1,6 @@
 -- The number of a name stays while names are added behind it, so that items may be numbered one by one.
-use Rattle.std.proofs.Common.{◌≡◌, ℕ, suc, ◌+◌, ◌<◌, cond, Bool, true, false, List, [], ◌∷◌, ◌++◌, length, Option, Some, None, Ok, refl, sym, ap, subst, ◌∙◌, append_assoc, append-nil, arith, inl, inr}
-use Rattle.std.specs.Prelude.{◌||◌, not, map, if◌then◌else◌}
+use Rattle.std.proofs.Common.{◌≡◌, ℕ, suc, ◌+◌, cond, true, false, List, [], ◌∷◌, ◌++◌, length, Option, Some, None, Ok, refl, sym, ap, ◌∙◌, append_assoc, append-nil, arith, inl, inr}
+use Rattle.std.specs.Prelude.{◌||◌, not}
 use Rattle.std.specs.List.{list_any}
 use Rattle.std.specs.Str.{bytes_eq}
 use Rattle.std.proofs.lemmas.Slice.Eq.{bytes_eq-Decides}
@@ -14,7 +14,7 @@ use Rattle.c_grammar.specs.declared.items.Sign.{Sign}
 use Rattle.c_grammar.specs.declared.items.Sign.TheVariants as signs
 use Rattle.c_grammar.specs.Grammar.{at}
 use Rattle.c_parser.specs.Signs.{keyword_of}
-use Rattle.c_parser.specs.Items.{Listed, number_in, with_name, word_sign, sign_of, names_with_word, names_with, lexeme_in, names_from, items_over, listed}
+use Rattle.c_parser.specs.Items.{number_in, with_name, word_sign, sign_of, names_with_word, names_with, lexeme_in, names_from, items_over, listed}
 use Rattle.c_parser.specs.Signing.{AreListed, IsListed, items_from}
 use Rattle.c_parser.proofs.Lexical.{TokenLaws, new_or_old, items_fit, items_rise, items_plain}
 use Rattle.c_parser.specs.declared.numbering.Numbered.{Numbered}

@@ -8,6 +8,3 @@ pub mod plain;
 mod signs;
 
 pub use plain::{read_plain, read_plain_with};
-
-#[cfg(test)]
-mod tests;

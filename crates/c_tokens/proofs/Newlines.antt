@@ -1,11 +1,8 @@
 -- No newline stands in a lexeme.
-use Rattle.std.proofs.Common.{◌≡◌, ℕ, ◌+◌, inl, inr, Bool, true, false, cond, eqb, List, [], ◌∷◌, ◌++◌, length, refl, sym, ap, subst, ◌∙◌, arith}
-use Rattle.std.specs.Prelude.{◌||◌, ◌&&◌, count_by, codes}
+use Rattle.std.proofs.Common.{◌≡◌, ℕ, ◌+◌, inl, inr, true, false, eqb, List, [], ◌∷◌, refl, sym, subst, ◌∙◌, arith}
+use Rattle.std.specs.Prelude.{◌||◌, ◌&&◌, codes}
 use Rattle.std.specs.List.{list_all, list_any}
-use Rattle.std.proofs.lemmas.Bool.{and_parts, and_right, or_from, or_parts, or_right, or_cases, ne_eqb, both_ways}
-use Rattle.std.proofs.lemmas.List.{length-append}
-use Rattle.std.proofs.lemmas.List.Sums.{sum_by-append}
-use Rattle.std.proofs.lemmas.List.Folds.{list_any-append}
+use Rattle.std.proofs.lemmas.Bool.{and_parts, and_right, or_from, or_cases, ne_eqb, both_ways}
 use Rattle.c_words.specs.Bytes.{is_word_byte}
 use Rattle.c_tokens.specs.Lexemes.{is_one_of}
 use Rattle.c_tokens.specs.Lexemes.{is_lexeme, is_run, is_mark, is_single, is_pair}

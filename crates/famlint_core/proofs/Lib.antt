@@ -1,3 +1,3 @@
-pub mod Endings
-pub mod Readings
-pub mod Stops
+pub mod Answering
+pub mod Ending
+pub mod Reporting

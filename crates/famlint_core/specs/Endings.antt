@@ -1,20 +1,19 @@
 -- How the program ends.
-use Rattle.std.specs.Prelude.{ℕ, false, ◌≡◌, ◌≢◌, ◌≤◌, ◌==◌, ⊤, List, [], if◌then◌else◌, Option, Result, Ok, Err}
+use Rattle.std.specs.Prelude.{ℕ, false, ◌≡◌, ◌≢◌, ◌≤◌, ◌==◌, List, [], if◌then◌else◌, Option, Result, Ok, Err}
 use Rattle.std.specs.Io.KnownBytes.{append_known}
 use Rattle.fam_outer.specs.Causes.{Rose}
 use Rattle.fam_outer.specs.Writing.{Delivers, Reports}
 use Rattle.famlint_core.specs.declared.fault.Done.{Done}
 use Rattle.famlint_core.specs.declared.fault.Fault.{Fault}
-use Rattle.famlint_core.specs.declared.fault.Fault.TheVariants.{Usage}
 use Rattle.famlint_core.specs.declared.fault.Stop.{Stop}
 use Rattle.famlint_core.specs.declared.fault.Stop.TheVariants as stop
 use Rattle.famlint_core.specs.declared.words.Role.{Role}
 use Rattle.famlint_core.specs.Faults.{status_of, line_of, read_fault_line, write_fault_line, memory_line}
-use Rattle.famlint_core.specs.Stages.{IsUsage, IsReadFault}
+use Rattle.famlint_core.specs.Loads.{IsReadFault}
 
 -- the status of an answer
 abbrev pub status_at : Result Done Fault → ℕ
-status_at (Ok done) = if done.has_alarms then 1 else 0
+status_at (Ok done) = done.status
 status_at (Err fault) = status_of fault
 
 -- the output of an answer
@@ -42,28 +41,31 @@ pub record Ends (answer : Result Done Fault) (failed : Role) (status : ℕ) (out
   pub part : status ≡ 7 → Delivers out out' (output_of answer) false
   pub line : 2 ≤ status → Reports err err' (line_at status failed answer) errs errs'
 
--- ---- by what the stages came to
+-- ---- by what the work came to
 
--- the answer that was reached; where a load failed or memory ran out, any answer serves
-abbrev pub answer_at : Result Done Stop → Result Done Fault
-answer_at (Ok done) = Ok done
-answer_at (Err (stop.Refused fault)) = Err fault
-answer_at (Err stop.ReadFault) = Err Usage
-answer_at (Err stop.NoMemory) = Err Usage
+-- what holds of the status by what the work came to: a failed load is 6 and want of memory 8, and what was done or refused ends
+-- with that answer
+abbrev pub EndsAs : Result Done Stop → Role → ℕ → Option (List ℕ) → Option (List ℕ) → Option (List ℕ) → Option (List ℕ) → ℕ → ℕ → Type 0
+EndsAs (Ok done) failed status out out' err err' errs errs' = Ends (Ok done) failed status out out' err err' errs errs'
+EndsAs (Err (stop.Refused fault)) failed status out out' err err' errs errs' = Ends (Err fault) failed status out out' err err' errs errs'
+EndsAs (Err stop.ReadFault) failed status out out' err err' errs errs' = (status ≡ 6) × Reports err err' (read_fault_line failed) errs errs'
+EndsAs (Err stop.NoMemory) failed status out out' err err' errs errs' = (status ≡ 8) × Reports err err' memory_line errs errs'
 
--- the status after a failed load, and after want of memory
-abbrev pub HasFixedStatus : Result Done Stop → ℕ → Type 0
-HasFixedStatus (Err stop.ReadFault) status = status ≡ 6
-HasFixedStatus (Err stop.NoMemory) status = status ≡ 8
-HasFixedStatus other status = ⊤
+-- the line that tells a failed load, a failed write or want of memory
+pub record HasLines (failed : Role) (status : ℕ) (err err' : Option (List ℕ)) (errs errs' : ℕ) : Type 0 where
+  pub read : status ≡ 6 → Reports err err' (read_fault_line failed) errs errs'
+  pub write : status ≡ 7 → Reports err err' write_fault_line errs errs'
+  pub memory : status ≡ 8 → Reports err err' memory_line errs errs'
 
--- the run ended with what the stages came to
+-- the run ended with what the work came to
 pub record IsEnded (came : Result Done Stop) (failed : Role) (status : ℕ) (out out' err err' : Option (List ℕ)) (outs outs' errs errs' : ℕ) : Type 0 where
   pub known : status ≤ 9
-  pub fixed : HasFixedStatus came status
+  pub no_usage : status ≢ 2
   pub read : status ≡ 6 → IsReadFault came
-  pub usage : status ≡ 2 → IsUsage came
-  pub ends : Ends (answer_at came) failed status out out' err err' errs errs'
+  pub ends : EndsAs came failed status out out' err err' errs errs'
+  pub lines : HasLines failed status err err' errs errs'
   pub write : status ≡ 7 → Rose outs outs'
   pub quiet : 2 ≤ status → status ≢ 7 → out' ≡ out
   pub silent : status ≤ 1 → err' ≡ err
+  pub outs_later : outs ≤ outs'
+  pub errs_later : errs ≤ errs'

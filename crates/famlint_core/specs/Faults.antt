@@ -7,7 +7,7 @@ use Rattle.fam_outer.specs.declared.faults.FileCode.{FileCode}
 use Rattle.fam_outer.specs.declared.faults.FileCode.TheVariants as code
 use Rattle.fam_outer.specs.declared.faults.Place.{Place}
 use Rattle.famlint_core.specs.declared.fault.Fault.{Fault}
-use Rattle.famlint_core.specs.declared.fault.Fault.TheVariants.{Usage, File}
+use Rattle.famlint_core.specs.declared.fault.Fault.TheVariants.{File}
 use Rattle.famlint_core.specs.declared.words.Role.{Role}
 use Rattle.famlint_core.specs.declared.words.Role.TheVariants as role
 
@@ -54,12 +54,10 @@ usage_line = codes "usage: famlint plain FILE, project MODEL FILE SETTINGS, vari
 
 -- the status with which a fault ends the program
 abbrev pub status_of : Fault → ℕ
-status_of Usage = 2
 status_of (File code place) = 4
 
 -- the line that tells a fault
 abbrev pub line_of : Fault → List ℕ
-line_of Usage = usage_line
 line_of (File code place) = file_line code place
 
 -- the line that tells a failed load

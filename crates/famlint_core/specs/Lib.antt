@@ -1,5 +1,6 @@
+pub mod Answers
 pub mod Endings
 pub mod Faults
+pub mod Loads
 pub mod Report
-pub mod Stages
 pub mod Words

@@ -1,5 +1,5 @@
 -- The report on one program, and the stops of its runs.
-use Rattle.std.specs.Prelude.{ℕ, ℤ, Bool, ◌≡◌, List, ◌++◌, codes, length, nat_lt, flat_map, Contains}
+use Rattle.std.specs.Prelude.{ℕ, ℤ, Bool, ◌≡◌, List, ◌++◌, codes, length, nat_lt, flat_map, Contains, if◌then◌else◌}
 use Rattle.std.specs.Fmt.{decimal}
 use Rattle.c_tree.specs.declared.tree.Kind.{Kind}
 use Rattle.c_tree.specs.declared.tree.Kind.TheVariants.{Overflow, ZeroDivisor, Assertion}
@@ -34,6 +34,18 @@ abbrev pub HasStops : Mode → Whole → List Alarm → Type 0
 HasStops mode p alarms = (inputs : List ℤ) (n : ℕ) (place : Place) (kind : Kind)
     → All IsInt inputs → run_of p inputs n mode ≡ StoppedEnd place kind → Contains alarms (record { place = place; kind = kind })
 
--- the text reports a list of alarms, in which each stop of each run of the program in this mode is listed
-abbrev pub ReportsStops : Mode → Whole → List ℕ → Type 0
-ReportsStops mode p text = (alarms : List Alarm) × (text ≡ variant_text alarms) × HasStops mode p alarms
+-- no run of the program in this mode stops
+abbrev pub NeverStops : Mode → Whole → Type 0
+NeverStops mode p = (inputs : List ℤ) (n : ℕ) (place : Place) (kind : Kind) → All IsInt inputs → run_of p inputs n mode ≡ StoppedEnd place kind → ⊥
+
+-- the status of a report on these alarms
+abbrev pub report_status : List Alarm → ℕ
+report_status alarms = if some_alarm alarms then 1 else 0
+
+-- what is promised of a report: its text reports a list of alarms, in which each stop of each run of the program in this mode is
+-- listed, and at status 0 no run stops
+pub record IsReport (mode : Mode) (p : Whole) (status : ℕ) (text : List ℕ) : Type 0 where
+  pub alarms : List Alarm
+  pub text_is : text ≡ variant_text alarms
+  pub stops : HasStops mode p alarms
+  pub safe : status ≡ 0 → NeverStops mode p

@@ -1,13 +1,11 @@
 -- What the words ask for.
-use Rattle.std.specs.Prelude.{ℕ, Bool, true, false, not, ◌&&◌, ◌≡◌, ⊤, List, [], ◌∷◌, codes, if◌then◌else◌, Option, Some, None, Result, Ok, Err}
+use Rattle.std.specs.Prelude.{ℕ, Bool, true, false, not, ◌&&◌, List, [], ◌∷◌, codes, if◌then◌else◌, Option, Some, None}
+use Rattle.std.specs.Option.{option_and_then}
 use Rattle.std.specs.Str.{bytes_eq}
 use Rattle.c_tree.specs.declared.tree.Mode.{Mode}
 use Rattle.c_tree.specs.declared.tree.Mode.TheVariants as modes
 use Rattle.command_words.specs.Arguments.{arguments_of}
 use Rattle.command_words.specs.declared.reading.Arguments.{Arguments}
-use Rattle.command_words.specs.declared.refusal.Usage.{Usage as WordsUsage}
-use Rattle.fam_outer.specs.declared.refusal.Refusal.{Refusal}
-use Rattle.fam_outer.specs.declared.refusal.Refusal.TheVariants as refusal
 use Rattle.command_words.specs.declared.settings.Domain.{Domain}
 use Rattle.command_words.specs.declared.settings.Domain.TheVariants as domains
 use Rattle.command_words.specs.declared.settings.Given.{Given}
@@ -15,8 +13,6 @@ use Rattle.command_words.specs.declared.settings.Overflow.{Overflow}
 use Rattle.command_words.specs.declared.settings.Overflow.TheVariants as overflows
 use Rattle.command_words.specs.declared.settings.Settings.{Settings}
 use Rattle.plain_analysis.specs.declared.options.Options.{Options}
-use Rattle.famlint_core.specs.declared.fault.Fault.{Fault}
-use Rattle.famlint_core.specs.declared.fault.Fault.TheVariants.{Usage}
 use Rattle.famlint_core.specs.declared.words.Command.{Command}
 use Rattle.famlint_core.specs.declared.words.Command.TheVariants as command
 use Rattle.famlint_core.specs.declared.words.Request.{Request}
@@ -54,38 +50,28 @@ options_of settings = record { delay = settings.delay; narrow = settings.narrow;
 abbrev pub command_of : List ℕ → Option Command
 command_of word = if bytes_eq word (codes "plain") then Some command.Plain else None
 
--- what `plain` asks for with these words
-abbrev pub plain_request : Arguments → List (List ℕ) → Result Request Fault
-plain_request arguments [] = Err Usage
-plain_request arguments (file ∷ []) = if suits_analysis arguments then Ok (request.Plain file (options_of arguments.settings)) else Err Usage
-plain_request arguments (file ∷ more ∷ words) = Err Usage
+-- what `plain` asks for with these words; nothing, where they are refused
+abbrev pub plain_request : Arguments → List (List ℕ) → Option Request
+plain_request arguments [] = None
+plain_request arguments (file ∷ []) = if suits_analysis arguments then Some (request.Plain file (options_of arguments.settings)) else None
+plain_request arguments (file ∷ more ∷ words) = None
 
 -- what the words after the first ask for, where that is the name of this command, or of none
-abbrev pub request_by : Option Command → Arguments → List (List ℕ) → Result Request Fault
+abbrev pub request_by : Option Command → Arguments → List (List ℕ) → Option Request
 request_by (Some command.Plain) arguments words = plain_request arguments words
-request_by None arguments words = Err Usage
+request_by None arguments words = None
 
 -- what the positional words ask for
-abbrev pub request_with : Arguments → List (List ℕ) → Result Request Fault
-request_with arguments [] = Err Usage
+abbrev pub request_with : Arguments → List (List ℕ) → Option Request
+request_with arguments [] = None
 request_with arguments (first ∷ words) = request_by (command_of first) arguments words
 
-abbrev pub request_of : Arguments → Result Request Fault
+abbrev pub request_of : Arguments → Option Request
 request_of arguments = request_with arguments arguments.positional
 
-abbrev pub request_for : Option Arguments → Result Request Fault
-request_for (Some arguments) = request_of arguments
-request_for None = Err Usage
-
--- what the words after the program's name ask for
-abbrev pub reading : List (List ℕ) → Result Request Fault
-reading words = request_for (arguments_of words)
-
--- a call that reads words answers this; want of memory is free
-abbrev pub ReadsWords : Result Request Fault → Result Request (Refusal WordsUsage) → Type 0
-ReadsWords expected (Ok request) = expected ≡ Ok request
-ReadsWords expected (Err (refusal.Fault usage)) = expected ≡ Err Usage
-ReadsWords expected (Err refusal.NoMemory) = ⊤
+-- what the words after the program's name ask for; nothing, where they are refused
+abbrev pub reading : List (List ℕ) → Option Request
+reading words = option_and_then request_of (arguments_of words)
 
 -- ---- paths
 
@@ -93,36 +79,12 @@ ReadsWords expected (Err refusal.NoMemory) = ⊤
 abbrev pub paths_of : Request → List (List ℕ)
 paths_of (request.Plain file options) = file ∷ []
 
-abbrev pub paths_for : Result Request Fault → List (List ℕ)
-paths_for (Ok request) = paths_of request
-paths_for (Err fault) = []
-
--- the paths that the words name
-abbrev pub named_paths : List (List ℕ) → List (List ℕ)
-named_paths words = paths_for (reading words)
-
 -- what the path of a failed load is to a request
 abbrev pub role_of : Request → Option (List ℕ) → Role
 role_of (request.Plain file options) failed = role.File
-
-abbrev pub role_for : Result Request Fault → Option (List ℕ) → Role
-role_for (Ok request) failed = role_of request failed
-role_for (Err fault) failed = role.File
-
--- what the path of a failed load is to the words
-abbrev pub failed_role : List (List ℕ) → Option (List ℕ) → Role
-failed_role words failed = role_for (reading words) failed
 
 -- ---- modes
 
 -- the mode of the runs that a request is about
 abbrev pub mode_in : Request → Mode
 mode_in (request.Plain file options) = options.mode
-
-abbrev pub mode_for : Result Request Fault → Mode
-mode_for (Ok request) = mode_in request
-mode_for (Err fault) = modes.Stop
-
--- the mode of the runs that the words ask about
-abbrev pub mode_asked : List (List ℕ) → Mode
-mode_asked words = mode_for (reading words)

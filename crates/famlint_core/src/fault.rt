@@ -1,21 +1,19 @@
-//! Faults, their statuses and their lines.
+//! Faults of what was loaded, their statuses and their lines.
 #![tactic(auto)]
 
-ghost use Rattle.std.specs.Prelude.{◌≡◌, ◌≢◌, ◌≤◌, IfOk};
-ghost use Rattle.famlint_core.specs.Stages.{IsUsageFault};
+ghost use Rattle.std.specs.Prelude.{◌≡◌, ◌≤◌, IfOk};
 ghost use Rattle.famlint_core.specs.Faults.{status_of, line_of, file_line as line_of_file, condition_code as code_of_condition, file_code as code_of_file};
 
 use fam_outer::{ConditionFault, FileCode, NoMemory, Place, Text};
 use std::alloc::Global;
 
-/// Why the words, or the bytes of a file, are refused.
+/// Why the bytes of a path are refused.
 #[derive(Debug, Drop)]
 pub enum Fault {
-    Usage,
     File { code: FileCode, place: Place },
 }
 
-/// Why a run stops before its output.
+/// Why the work stops before its output.
 #[derive(Debug, Drop)]
 pub enum Stop {
     Refused(Fault),
@@ -34,11 +32,11 @@ impl From<NoMemory> for Stop {
     }
 }
 
-/// What a command came to: its whole output, and whether that has an alarm.
+/// What a command came to: its whole output, and its status.
 #[derive(Debug, Drop)]
 pub struct Done {
     pub text: Text,
-    pub has_alarms: bool,
+    pub status: u8,
 }
 
 /// A file's code, where its condition is refused.
@@ -92,20 +90,14 @@ fn file_line(alloc: Global, code: &FileCode, place: Place) -> Result<Text, NoMem
     Ok(Text::from_vec(text.into_bytes()))
 }
 
-/// The usage of the program.
-const USAGE: &str =
-    "usage: famlint plain FILE, project MODEL FILE SETTINGS, variant MODEL FILE SETTINGS, run MODEL FILE SETTINGS, analyse MODEL FILE, invariants MODEL FILE, generate NUMBER, certify MODEL FILE, check MODEL FILE CERTIFICATE, advise MODEL FILE SETTINGS, features MODEL\n";
-
 impl Fault {
     /// The status with which the fault ends the program.
     pub fn status(&self) -> u8
         ensures status { result ≡ status_of self.now }
-        ensures known { result ≤ 9 }
-        ensures usage { result ≡ 2 → IsUsageFault self.now }
-        ensures read { result ≢ 6 }
+        ensures low { 3 ≤ result }
+        ensures high { result ≤ 5 }
     {
         match self {
-            Fault::Usage => 2,
             Fault::File { code: _, place: _ } => 4,
         }
     }
@@ -115,7 +107,6 @@ impl Fault {
         ensures { IfOk result (λ line. line ≡ line_of self.now) }
     {
         match self {
-            Fault::Usage => Text::from_bytes(alloc, USAGE.as_bytes()),
             Fault::File { code, place } => file_line(alloc, code, *place),
         }
     }

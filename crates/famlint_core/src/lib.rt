@@ -4,9 +4,10 @@
 mod commands;
 mod ends;
 mod fault;
+pub mod laws;
+mod load;
 mod program;
 mod report;
-mod stages;
 mod steady;
 mod words;
 

@@ -1,20 +1,26 @@
 //! The top call.
 #![tactic(auto)]
 
-ghost use Rattle.std.specs.Prelude.{◌≡◌, ◌≢◌, ◌≤◌, ◌⊎◌, ℕ, List, IsErr};
+ghost use Rattle.std.specs.Prelude.{◌≡◌, ◌≢◌, ◌≤◌, ◌⊎◌, ℕ, List, Some, None, Result};
 ghost use Rattle.std.specs.Io.KnownBytes.{append_known};
 ghost use Rattle.fam_outer.specs.Causes.{Rose};
+ghost use Rattle.fam_outer.specs.Writing.{Reports};
 ghost use Rattle.c_tree.specs.Tree.{Whole};
 ghost use Rattle.command_words.specs.Arguments.{texts_of};
-ghost use Rattle.famlint_core.specs.Words.{mode_asked, reading, named_paths, failed_role};
-ghost use Rattle.famlint_core.specs.Stages.{Contents, IsTold, IsAccepted, IsReportOn, IsOneOf, answer, loads};
-ghost use Rattle.famlint_core.specs.Report.{ReportsStops};
-ghost use Rattle.famlint_core.specs.Endings.{Ends};
+ghost use Rattle.famlint_core.specs.declared.fault.Done.{Done as Work};
+ghost use Rattle.famlint_core.specs.declared.fault.Fault.{Fault};
+ghost use Rattle.famlint_core.specs.declared.words.Request.{Request};
+ghost use Rattle.famlint_core.specs.Answers.{Contents, IsTold, IsAccepted, IsReportOn, Answers, loads_of};
+ghost use Rattle.famlint_core.specs.Endings.{Ends, HasLines};
+ghost use Rattle.famlint_core.specs.Faults.{usage_line, memory_line};
+ghost use Rattle.famlint_core.specs.Loads.{IsOneOf};
+ghost use Rattle.famlint_core.specs.Report.{IsReport};
+ghost use Rattle.famlint_core.specs.Words.{mode_in, reading, paths_of, role_of};
 
 use crate::commands::run;
-use crate::ends::end;
-use crate::fault::{Fault, Stop};
-use crate::words::{Role, read_request};
+use crate::ends::{end, give_up, refuse};
+use crate::words::read_request;
+use c_parser::laws::reads_at_most_once;
 use command_words::WordsRefusal;
 use fam_outer::{Files, Sink};
 use std::alloc::Global;
@@ -32,42 +38,50 @@ pub fn famlint<F: Files, S: Sink, E: Sink>(
     out: &mut S,
     err: &mut E,
 ) -> u8
-    // Where the contents of the paths are told, what they read as and the words decide the status, the output and the line.
-    ensures answer { (told : Contents) → IsTold (texts_of words.now) (F.content files.old) told
-        → Ends (answer (texts_of words.now) told) (failed_role (texts_of words.now) (F.failed files.new)) result
+    // Where the contents of the paths are told, they and the request decide the status, the output and the line.
+    ensures answer { (request : Request) → reading (texts_of words.now) ≡ Some request
+        → (told : Contents) → IsTold request (F.content files.old) told
+        → (answer : Result Work Fault) → Answers request told answer
+        → Ends answer (role_of request (F.failed files.new)) result
         (S.written out.old) (S.written out.new) (E.written err.old) (E.written err.new) (E.faults err.old) (E.faults err.new) }
-    // Each stop of each run of an accepted program, in the mode of the options, is printed.
-    ensures stops { (told : Contents) → IsTold (texts_of words.now) (F.content files.old) told
-        → (p : Whole) → IsReportOn (texts_of words.now) told p → result ≤ 1
-        → (text : List ℕ) × (S.written out.new ≡ append_known (S.written out.old) text) × ReportsStops (mode_asked (texts_of words.now)) p text }
+    // Each stop of each run of an accepted program, in the mode of the options, is printed; at status 0 no run stops.
+    ensures report { (request : Request) → reading (texts_of words.now) ≡ Some request
+        → (told : Contents) → IsTold request (F.content files.old) told
+        → (p : Whole) → IsReportOn request told p → result ≤ 1
+        → (text : List ℕ) × (S.written out.new ≡ append_known (S.written out.old) text) × IsReport (mode_in request) p result text }
     // What is accepted is answered, unless memory runs out, a load fails or a write fails.
-    ensures complete { (told : Contents) → IsTold (texts_of words.now) (F.content files.old) told
-        → IsAccepted (texts_of words.now) told
+    ensures complete { (request : Request) → reading (texts_of words.now) ≡ Some request
+        → (told : Contents) → IsTold request (F.content files.old) told → IsAccepted request told
         → ¬ Rose (F.faults files.old) (F.faults files.new) → ¬ Rose (S.faults out.old) (S.faults out.new)
         → (result ≤ 1) ⊎ (result ≡ 8) }
     // A refusal of what was loaded earlier comes before a failed load.
-    ensures order { (told : Contents) → IsTold (texts_of words.now) (F.content files.old) told
-        → result ≡ 6 → IsOneOf (F.failed files.new) (loads (texts_of words.now) told) }
+    ensures order { (request : Request) → reading (texts_of words.now) ≡ Some request
+        → (told : Contents) → IsTold request (F.content files.old) told
+        → result ≡ 6 → IsOneOf (F.failed files.new) (loads_of request told) }
+    // The line of a failed load, a failed write and want of memory, whatever is told.
+    ensures lines { (request : Request) → reading (texts_of words.now) ≡ Some request
+        → HasLines (role_of request (F.failed files.new)) result (E.written err.old) (E.written err.new) (E.faults err.old) (E.faults err.new) }
+    ensures usage_told { result ≡ 2 → Reports (E.written err.old) (E.written err.new) usage_line (E.faults err.old) (E.faults err.new) }
+    ensures memory_told { result ≡ 8 → Reports (E.written err.old) (E.written err.new) memory_line (E.faults err.old) (E.faults err.new) }
     ensures known { result ≤ 9 }
-    ensures usage { result ≡ 2 → IsErr (reading (texts_of words.now)) }
-    ensures refused { IsErr (reading (texts_of words.now)) → (result ≡ 2) ⊎ (result ≡ 8) }
+    ensures usage { result ≡ 2 → reading (texts_of words.now) ≡ None }
+    ensures refused { reading (texts_of words.now) ≡ None → (result ≡ 2) ⊎ (result ≡ 8) }
     ensures read { result ≡ 6 → Rose (F.faults files.old) (F.faults files.new) }
-    ensures path { result ≡ 6 → IsOneOf (F.failed files.new) (named_paths (texts_of words.now)) }
+    ensures path { (request : Request) → reading (texts_of words.now) ≡ Some request
+        → result ≡ 6 → IsOneOf (F.failed files.new) (paths_of request) }
     ensures write { result ≡ 7 → Rose (S.faults out.old) (S.faults out.new) }
     ensures quiet { 2 ≤ result → result ≢ 7 → S.written out.new ≡ S.written out.old }
     ensures silent { result ≤ 1 → E.written err.new ≡ E.written err.old }
+    // Contents stay, and no count falls, so that calls can be chained.
+    ensures kept { F.content files.new ≡ F.content files.old }
+    ensures files_later { F.faults files.old ≤ F.faults files.new }
+    ensures out_later { S.faults out.old ≤ S.faults out.new }
+    ensures err_later { E.faults err.old ≤ E.faults err.new }
 {
+    reads_at_most_once();
     match read_request(alloc, words) {
-        Err(WordsRefusal::NoMemory) => end(alloc, &Err(Stop::NoMemory), Role::File, out, err),
-        Err(WordsRefusal::Fault(_)) => {
-            end(
-                alloc,
-                &Err(Stop::Refused(Fault::Usage)),
-                Role::File,
-                out,
-                err,
-            )
-        }
+        Err(WordsRefusal::NoMemory) => give_up(err),
+        Err(WordsRefusal::Fault(_)) => refuse(err),
         Ok(request) => {
             let came = run(alloc, &request, files);
             let failed = request.role(files.failed());

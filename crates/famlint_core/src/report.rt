@@ -2,7 +2,7 @@
 #![tactic(auto)]
 
 ghost use Rattle.std.specs.Prelude.{◌≡◌, ◌++◌, string_bytes, IfOk};
-ghost use Rattle.famlint_core.specs.Report.{kind_text as text_of_kind, alarm_line, variant_text};
+ghost use Rattle.famlint_core.specs.Report.{kind_text as text_of_kind, alarm_line, report_status as status_of, variant_text};
 
 use c_tree::Kind;
 use fam_outer::{NoMemory, Text};
@@ -28,6 +28,13 @@ fn push_alarm(text: &mut String, alarm: &Alarm) -> Result<(), NoMemory>
     let column = alarm.place.column;
     write!(text, "{line}:{column}: {kind}\n")?;
     Ok(())
+}
+
+/// The status of a report: 1 where there is an alarm.
+pub fn report_status(alarms: &[Alarm]) -> u8
+    ensures { result ≡ status_of alarms.now }
+{
+    if alarms.is_empty() { 0 } else { 1 }
 }
 
 /// The lines of the alarms, and how many they are.

@@ -1,11 +1,15 @@
 //! The program where nothing outside fails.
 #![tactic(auto)]
 
-ghost use Rattle.std.specs.Prelude.{◌≡◌, ◌≢◌, [], unwrap_or};
+ghost use Rattle.std.specs.Prelude.{◌≡◌, ◌≢◌, [], Some, Result, unwrap_or};
 ghost use Rattle.fam_outer.specs.Memory.{entry_of};
 ghost use Rattle.command_words.specs.Arguments.{texts_of};
-ghost use Rattle.famlint_core.specs.Stages.{Contents, IsTold, answer};
+ghost use Rattle.famlint_core.specs.declared.fault.Done.{Done};
+ghost use Rattle.famlint_core.specs.declared.fault.Fault.{Fault};
+ghost use Rattle.famlint_core.specs.declared.words.Request.{Request};
+ghost use Rattle.famlint_core.specs.Answers.{Contents, IsTold, Answers};
 ghost use Rattle.famlint_core.specs.Endings.{status_at};
+ghost use Rattle.famlint_core.specs.Words.{reading};
 
 use crate::program::famlint;
 use fam_outer::{SteadyFiles, SteadySink};
@@ -20,8 +24,9 @@ pub fn famlint_over_steady(
     out: &mut SteadySink,
     err: &mut SteadySink,
 ) -> u8
-    ensures exact { (told : Contents) → IsTold (texts_of words.now) (λ path. Some (unwrap_or (entry_of files.old.entries path) [])) told
-        → result ≢ 8 → result ≡ status_at (answer (texts_of words.now) told) }
+    ensures exact { (request : Request) → reading (texts_of words.now) ≡ Some request
+        → (told : Contents) → IsTold request (λ path. Some (unwrap_or (entry_of files.old.entries path) [])) told
+        → (answer : Result Done Fault) → Answers request told answer → result ≢ 8 → result ≡ status_at answer }
     ensures read { result ≢ 6 }
     ensures write { result ≢ 7 }
 {

@@ -343,3 +343,18 @@ fn tells_a_write_fault(rt: HostRuntime) -> Result<(), Fail> {
     assert_eq!(rt; err.taken.as_slice(), b"write fault\n".as_slice());
     Ok(())
 }
+
+#[test]
+fn a_failing_error_stream_keeps_the_status(rt: HostRuntime) -> Result<(), Fail> {
+    let alloc = rt.alloc();
+    let words = words_of(alloc, "plain")?;
+    let mut files = one_file(alloc, "f", ROW_1)?;
+    let mut out = ample_sink(alloc)?;
+    let mut err = MemorySink::new(alloc, 1000, 6, vec![in alloc; 2u64]?)?;
+    let answered = famlint(alloc, words.as_slice(), &mut files, &mut out, &mut err);
+    assert_eq!(rt; answered, 2);
+    assert_eq!(rt; out.taken.as_slice(), b"".as_slice());
+    assert_eq!(rt; err.taken.as_slice(), b"usage:".as_slice());
+    assert_eq!(rt; err.faults, 1);
+    Ok(())
+}

@@ -3,9 +3,9 @@
 
 ghost use Rattle.std.specs.Option.{option_copied};
 ghost use Rattle.std.specs.Prelude.{◌≡◌};
-ghost use Rattle.command_words.specs.Arguments.{texts_of};
+ghost use Rattle.command_words.specs.Arguments.{texts_of, Reads};
 ghost use Rattle.famlint_core.specs.Words as specs;
-ghost use Rattle.famlint_core.specs.Words.{reading, role_of, ReadsWords};
+ghost use Rattle.famlint_core.specs.Words.{reading, role_of};
 
 use c_tree::Mode;
 use command_words::{
@@ -108,7 +108,7 @@ fn plain_request(
     arguments: &Arguments,
     words: &[Word],
 ) -> Result<Request, WordsRefusal>
-    ensures { ReadsWords (specs.plain_request arguments.now words.now) result }
+    ensures { Reads (specs.plain_request arguments.now words.now) result }
 {
     match words {
         [file] => {
@@ -126,7 +126,7 @@ fn plain_request(
 
 /// What the positional words ask for.
 fn request_of(alloc: Global, arguments: &Arguments) -> Result<Request, WordsRefusal>
-    ensures { ReadsWords (specs.request_of arguments.now) result }
+    ensures { Reads (specs.request_of arguments.now) result }
 {
     match arguments.positional.items() {
         [] => Err(WordsRefusal::Fault(Usage)),
@@ -139,7 +139,7 @@ fn request_of(alloc: Global, arguments: &Arguments) -> Result<Request, WordsRefu
 
 /// What the words ask for.
 pub fn read_request(alloc: Global, words: &[String]) -> Result<Request, WordsRefusal>
-    ensures { ReadsWords (reading (texts_of words.now)) result }
+    ensures { Reads (reading (texts_of words.now)) result }
 {
     let arguments = read_words(alloc, words)?;
     request_of(alloc, &arguments)

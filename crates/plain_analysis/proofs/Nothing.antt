@@ -1,7 +1,6 @@
 -- Nothing goes through statements as Nothing.
-use Rattle.std.proofs.Common.{◌≡◌, ℕ, ◌≤◌, ◌+◌, true, List, Option, Some, None, refl, ap, sym, ◌∙◌, subst, ℤ}
+use Rattle.std.proofs.Common.{◌≡◌, ℕ, ◌≤◌, ◌+◌, true, List, Option, Some, None, refl, ap, sym, ◌∙◌, ℤ}
 use Rattle.std.specs.Prelude.{is_none, if◌then◌else◌, Bool, false}
-use Rattle.c_tree.specs.declared.tree.Mode.{Mode}
 use Rattle.c_tree.specs.Tree.{Term, Code, Done, Assign, Input, Assert, If, While, Block, Skip, Cond}
 use Rattle.leaf_domain.specs.declared.form.Form.{Form}
 use Rattle.leaf_domain.specs.declared.range.Range.{Range}
@@ -9,7 +8,7 @@ use Rattle.leaf_domain.specs.Forms.{form_of_term}
 use Rattle.leaf_domain.specs.Ranges.{is_empty_range, whole_int}
 use Rattle.leaf_domain.specs.Leaves.{LeafValue, LeafMeaning, LeafLaws, Alike, nothing_of, is_nothing_of}
 use Rattle.leaf_domain.specs.Soundness.{TransferAnswers}
-use Rattle.leaf_domain.specs.Transfer.{assumed, assigned, forgotten, form_set, form_where, fits_term, range_of_term}
+use Rattle.leaf_domain.specs.Transfer.{assumed, assigned, form_set, form_where, fits_term, range_of_term}
 use Rattle.plain_analysis.specs.declared.options.Options.{Options}
 use Rattle.plain_analysis.specs.Loops.{turn_of, widened_leaf, narrowing_of, narrowings_of, final_leaf}
 use Rattle.plain_analysis.specs.Statements.{after_of}

@@ -32,3 +32,6 @@ returns-clause-config c =
     (λ found f. found_config c.args.model.now (λ (values : List ℤ). true_at values p) found c.requires.ranges
     (found_model c.args.model.now p c.deref.result.now c.items-constraints.result.now found (c.deref.ensures.value ∙ c.in_ok-spans.ensures ∙ ap (map span_of) c.items.ensures) c.items-constraints.ensures f))
     c.search.ensures
+
+pub returns-then-branch-clause-first : goal.returns-then-branch-clause-first
+returns-then-branch-clause-first c = none_meets c.args.model.now (proposition c.args.wanted.now) c.items-constraints.result.now c.items-constraints.ensures (c.in_ok-are_opposed.ensures c.if-branch.true)

@@ -1,7 +1,5 @@
 use Rattle.std.proofs.Common.{◌≡◌, ℕ, ◌+◌, ◌<◌, ◌≤◌, List, [], ◌∷◌, ◌++◌, length, take, drop, Ok, Err, sym, ap, subst, ◌∙◌, arith}
-use Rattle.std.specs.Result.{is_ok}
 use Rattle.std.proofs.lemmas.List.{length-drop, length-take-le}
-use Rattle.std.proofs.lemmas.Bool.{cond-true}
 use Rattle.fam_outer.specs.declared.faults.Place.{Place}
 use Rattle.c_tokens.specs.declared.token.Token.{Token}
 use Rattle.fam_outer.specs.Places.{end_place, place_at}

@@ -1,0 +1,162 @@
+//! Features that nothing undecided on a box names: their least value serves.
+#![tactic(auto)]
+
+ghost use Rattle.std.specs.Prelude.{◌≡◌, ◌<◌, ℤ, List, true, length, IfOk};
+ghost use Rattle.linear_atoms.specs.Atoms.{AreRanges};
+ghost use Rattle.cpp_conditions.specs.Propositions.{IsFit, true_at};
+ghost use Rattle.cpp_conditions.specs.Validity.{AreFit};
+ghost use Rattle.cpp_conditions.specs.View.{proposition};
+ghost use Rattle.atom_solver.specs.Free.{put, IsUnread, IsSame, Serves};
+ghost use Rattle.atom_solver.specs.Spans.{ranges, meets};
+
+use crate::deciding::decided;
+use crate::ends::range_at;
+use crate::narrowing::narrowed;
+use cpp_conditions::Condition;
+use fam_outer::NoMemory;
+use linear_atoms::Span;
+use linear_atoms::slices::cut;
+use std::alloc::Global;
+
+/// Whether no term names a feature.
+#[tactic(auto, using(crate::proofs::Freed::unread_none, crate::proofs::Freed::unread_more))]
+fn is_unread(terms: &[(u32, i64)], place: usize) -> bool
+    ensures { result ≡ true → IsUnread place terms.now }
+{
+    match cut(terms) {
+        None => true,
+        Some((term, behind)) => {
+            if term.0 as usize == place {
+                false
+            } else {
+                is_unread(behind, place)
+            }
+        }
+    }
+}
+
+/// Whether no test of a condition names a feature.
+fn is_unnamed(condition: &Condition, place: usize) -> bool
+    ensures { result ≡ true → (values : List ℤ) (x : ℤ) → true_at (put place x values) (proposition condition.now) ≡ true_at values (proposition condition.now) }
+{
+    match condition {
+        Condition::Const(_truth) => true,
+        Condition::Test(atom) => is_unread(atom.terms.items(), place),
+        Condition::Not(inner) => is_unnamed(inner, place),
+        Condition::And(left, right) => is_unnamed(left, place) && is_unnamed(right, place),
+        Condition::Or(left, right) => is_unnamed(left, place) && is_unnamed(right, place),
+    }
+}
+
+/// Whether a condition is decided on the box.
+fn is_decided(condition: &Condition, spans: &[Span], place: usize) -> bool
+    requires fit { IsFit (length spans.now) (proposition condition.now) }
+    requires ranges { AreRanges (ranges spans.now) }
+    ensures { result ≡ true → IsSame (ranges spans.now) place (λ (values : List ℤ). true_at values (proposition condition.now)) }
+{
+    match decided(condition, spans) {
+        None => false,
+        Some(_truth) => true,
+    }
+}
+
+/// Whether a condition has the same truth at each configuration of the box, whatever the value of a feature: it is
+/// decided, or what is undecided of it does not name the feature.
+fn is_free(condition: &Condition, spans: &[Span], place: usize) -> bool
+    requires fit { IsFit (length spans.now) (proposition condition.now) }
+    requires ranges { AreRanges (ranges spans.now) }
+    ensures { result ≡ true → IsSame (ranges spans.now) place (λ (values : List ℤ). true_at values (proposition condition.now)) }
+{
+    if is_unnamed(condition, place) {
+        return true;
+    }
+    if is_decided(condition, spans, place) {
+        return true;
+    }
+    match condition {
+        Condition::Const(_truth) => true,
+        Condition::Test(_atom) => false,
+        Condition::Not(inner) => is_free(inner, spans, place),
+        Condition::And(left, right) => {
+            is_free(left, spans, place) && is_free(right, spans, place)
+        }
+        Condition::Or(left, right) => {
+            is_free(left, spans, place) && is_free(right, spans, place)
+        }
+    }
+}
+
+/// Whether all conditions are so.
+fn are_free(spans: &[Span], place: usize, constraints: &[Condition], wanted: &Condition) -> bool
+    requires constraints { AreFit (length spans.now) constraints.now }
+    requires wanted { IsFit (length spans.now) (proposition wanted.now) }
+    requires ranges { AreRanges (ranges spans.now) }
+    ensures { result ≡ true → IsSame (ranges spans.now) place (meets constraints.now (proposition wanted.now)) }
+{
+    match cut(constraints) {
+        None => is_free(wanted, spans, place),
+        Some((first, behind)) => {
+            if is_free(first, spans, place) {
+                are_free(spans, place, behind, wanted)
+            } else {
+                false
+            }
+        }
+    }
+}
+
+/// The least value of a range alone.
+fn low_alone(span: Span) -> Span
+    ensures low { result.low ≡ span.low }
+    ensures high { result.high ≡ span.low }
+{
+    Span {
+        low: span.low,
+        high: span.low,
+    }
+}
+
+/// Leaves a feature only its least value where no condition that is undecided names it.
+fn pin(spans: &mut [Span], place: usize, constraints: &[Condition], wanted: &Condition)
+    requires place { place < length spans.old }
+    requires constraints { AreFit (length spans.old) constraints.now }
+    requires wanted { IsFit (length spans.old) (proposition wanted.now) }
+    requires ranges { AreRanges (ranges spans.old) }
+    ensures { Serves (meets constraints.now (proposition wanted.now)) spans.old spans.new }
+{
+    let span = range_at(spans, place);
+    if are_free(spans, place, constraints, wanted) {
+        spans[place] = low_alone(span);
+    }
+}
+
+/// The same for each feature from a place on.
+fn pin_from(spans: &mut [Span], place: usize, constraints: &[Condition], wanted: &Condition)
+    requires constraints { AreFit (length spans.old) constraints.now }
+    requires wanted { IsFit (length spans.old) (proposition wanted.now) }
+    requires ranges { AreRanges (ranges spans.old) }
+    ensures { Serves (meets constraints.now (proposition wanted.now)) spans.old spans.new }
+{
+    if place >= spans.len() {
+        return;
+    }
+    pin(spans, place, constraints, wanted);
+    pin_from(spans, place + 1, constraints, wanted);
+}
+
+/// The box narrowed by bounds, with the least value alone of each feature that nothing undecided names.
+pub(crate) fn prepared(
+    alloc: Global,
+    spans: &[Span],
+    constraints: &[Condition],
+    wanted: &Condition,
+) -> Result<Vec<Span>, NoMemory>
+    requires constraints { AreFit (length spans.now) constraints.now }
+    requires wanted { IsFit (length spans.now) (proposition wanted.now) }
+    requires ranges { AreRanges (ranges spans.now) }
+    ensures { IfOk result (λ made. Serves (meets constraints.now (proposition wanted.now)) spans.now made.items) }
+{
+    let mut inner = narrowed(alloc, spans, constraints, wanted)?;
+    pin_from(&mut inner, 0, constraints, wanted);
+    Ok(inner)
+}

@@ -1,0 +1,132 @@
+//! Sums of linear forms that are at least 0: where one is a number below 0, the forms clash.
+#![tactic(auto)]
+
+ghost use Rattle.std.specs.Prelude.{◌≡◌, ℤ, pos, ◌≤ℤ◌, ◌<ℤ◌, List, [], ◌∷◌, true, false, IfOk, MatchOption};
+ghost use Rattle.linear_atoms.specs.Forms.{IsRising, form_at};
+ghost use Rattle.cpp_conditions.specs.View.{proposition};
+ghost use Rattle.atom_solver.specs.Spans.{meets};
+ghost use Rattle.atom_solver.specs.Facts.{AreMet, AreRising, IsSum};
+
+use crate::facts::gather_all;
+use cpp_conditions::Condition;
+use fam_outer::NoMemory;
+use linear_atoms::slices::cut;
+use linear_atoms::{Linear, LinearFault};
+use std::alloc::Global;
+
+/// The sum of two forms; None where a number becomes too large.
+#[tactic(auto, using(crate::proofs::Refuted::sum_is))]
+pub(crate) fn sum(alloc: Global, left: &Linear, right: &Linear) -> Result<Option<Linear>, NoMemory>
+    requires left { IsRising left.now.terms }
+    requires right { IsRising right.now.terms }
+    ensures { IfOk result (λ made. MatchOption made (Unit {0}) (λ f. IsSum left.now right.now f)) }
+{
+    match left.add(alloc, right) {
+        Ok(made) => Ok(Some(made)),
+        Err(LinearFault::TooLarge) => Ok(None),
+        Err(LinearFault::NoMemory) => Err(NoMemory),
+    }
+}
+
+/// Whether the form is a number below 0.
+#[tactic(auto, using(crate::proofs::Refuted::negative))]
+fn is_negative(form: &Linear) -> bool
+    ensures { result ≡ true → (values : List ℤ) → form_at form.now values <ℤ pos 0 }
+{
+    match form.terms.items() {
+        [] => form.constant < 0,
+        _ => false,
+    }
+}
+
+/// Whether a form has the opposite of another's first term.
+fn cancels(terms: &[(u32, i64)], form: &[(u32, i64)]) -> bool {
+    match terms {
+        [] => false,
+        [(number, coefficient), ..] => {
+            for (other, by) in form {
+                if *other == *number && coefficient.checked_add(*by) == Some(0) {
+                    return true;
+                }
+            }
+            false
+        }
+    }
+}
+
+/// One of the forms, which has the opposite of a form's first term.
+#[tactic(auto, using(crate::proofs::Refuted::first_met, crate::proofs::Refuted::later_met))]
+fn partner<'a>(sum: &Linear, forms: &'a [Linear]) -> Option<&'a Linear>
+    requires { AreRising forms.now }
+    ensures rising { MatchOption result (Unit {0}) (λ f. IsRising f.now.terms) }
+    ensures met { MatchOption result (Unit {0}) (λ f. (values : List ℤ) → AreMet values forms.now → pos 0 ≤ℤ form_at f.now values) }
+{
+    match cut(forms) {
+        None => None,
+        Some((first, behind)) => {
+            if cancels(sum.terms.items(), first.terms.items()) {
+                Some(first)
+            } else {
+                partner(sum, behind)
+            }
+        }
+    }
+}
+
+/// Whether a form, with others of a list added to it, becomes a number below 0: then they clash.
+fn clashes_with(
+    alloc: Global,
+    start: &Linear,
+    forms: &[Linear],
+    fuel: usize,
+) -> Result<bool, NoMemory>
+    requires start { IsRising start.now.terms }
+    requires rising { AreRising forms.now }
+    ensures { IfOk result (λ answer. answer ≡ true → (values : List ℤ) → AreMet values forms.now → pos 0 ≤ℤ form_at start.now values → ⊥) }
+{
+    if is_negative(start) {
+        return Ok(true);
+    }
+    if fuel == 0 {
+        return Ok(false);
+    }
+    match partner(start, forms) {
+        None => Ok(false),
+        Some(other) => match sum(alloc, start, other)? {
+            None => Ok(false),
+            Some(more) => clashes_with(alloc, &more, forms, fuel - 1),
+        },
+    }
+}
+
+/// Whether one of some forms, with others of a list added to it, becomes a number below 0.
+#[tactic(auto, using(crate::proofs::Refuted::first_met, crate::proofs::Refuted::later_met))]
+fn any_clashes(alloc: Global, starts: &[Linear], forms: &[Linear]) -> Result<bool, NoMemory>
+    requires starts { AreRising starts.now }
+    requires rising { AreRising forms.now }
+    ensures { IfOk result (λ answer. answer ≡ true → (values : List ℤ) → AreMet values starts.now → AreMet values forms.now → ⊥) }
+{
+    match cut(starts) {
+        None => Ok(false),
+        Some((first, behind)) => {
+            if clashes_with(alloc, first, forms, forms.len())? {
+                Ok(true)
+            } else {
+                any_clashes(alloc, behind, forms)
+            }
+        }
+    }
+}
+
+/// Whether a sum of tests that must hold or fail shows that the constraints and what is wanted are never true together.
+pub(crate) fn are_opposed(
+    alloc: Global,
+    constraints: &[Condition],
+    wanted: &Condition,
+) -> Result<bool, NoMemory>
+    ensures { IfOk result (λ answer. answer ≡ true → (values : List ℤ) → meets constraints.now (proposition wanted.now) values ≡ false) }
+{
+    let mut facts = Vec::new(alloc);
+    gather_all(alloc, constraints, wanted, &mut facts)?;
+    any_clashes(alloc, &facts, &facts)
+}

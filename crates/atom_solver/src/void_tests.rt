@@ -1,0 +1,155 @@
+//! Models without a valid configuration, behind features that no constraint names, with ample memory.
+
+ghost use Rattle.std.specs.Prelude.{◌≡◌, ◌+◌, ◌<◌, ◌≤◌, ◌∷◌, [], pos, negsuc, ◌≤ℤ◌, length, unsigned_abs, IfOk};
+ghost use Rattle.linear_atoms.specs.Atoms.{AreRanges};
+ghost use Rattle.linear_atoms.specs.Forms.{IsRising};
+ghost use Rattle.cpp_conditions.specs.Propositions.{IsFit};
+ghost use Rattle.cpp_conditions.specs.Validity.{AreFit};
+ghost use Rattle.cpp_conditions.specs.View.{proposition};
+
+use crate::least;
+use cpp_conditions::conditions::{both, either, negation};
+use cpp_conditions::{Condition, Conditions, Features, Model};
+use fam_outer::Text;
+use linear_atoms::{Atom, Feature, Linear};
+use std::alloc::Global;
+use std::test::Fail;
+
+/// Features of 0 to a number, so many, before others.
+fn before(
+    alloc: Global,
+    count: u32,
+    high: i64,
+    mut others: Vec<Feature>,
+) -> Result<Vec<Feature>, Fail>
+    requires some { pos 0 ≤ℤ high }
+    requires high { unsigned_abs high ≤ 1048576 }
+    requires ranges { AreRanges others.items }
+    ensures ranges { IfOk result (λ made. AreRanges made.items) }
+    ensures count { IfOk result (λ made. length made.items ≡ count + length others.items) }
+{
+    if count == 0 {
+        return Ok(others);
+    }
+    let feature = Feature {
+        name: Text::from_bytes(alloc, b"F")?,
+        boolean: false,
+        low: 0,
+        high,
+    };
+    others.insert(0, feature)?;
+    before(alloc, count - 1, high, others)
+}
+
+/// The test that one of three Boolean features behind others is on.
+fn is_on(alloc: Global, free: u32, place: u32) -> Result<Condition, Fail>
+    requires few { free ≤ 20 }
+    requires place { place < 3 }
+    ensures { IfOk result (λ made. IsFit (free + 3) (proposition made)) }
+{
+    let form = Linear::feature(alloc, free + place)?;
+    let terms = form.terms.copy(alloc)?;
+    Ok(Condition::Test(Atom { terms, bound: 1 }))
+}
+
+/// Of two of them exactly one is on.
+fn differ(alloc: Global, free: u32, left: u32, right: u32) -> Result<Condition, Fail>
+    requires few { free ≤ 20 }
+    requires left { left < 3 }
+    requires right { right < 3 }
+    ensures { IfOk result (λ made. IsFit (free + 3) (proposition made)) }
+{
+    let off = negation(alloc, is_on(alloc, free, right)?)?;
+    let first = both(alloc, is_on(alloc, free, left)?, off)?;
+    let off = negation(alloc, is_on(alloc, free, left)?)?;
+    let second = both(alloc, off, is_on(alloc, free, right)?)?;
+    Ok(either(alloc, first, second)?)
+}
+
+/// So many features of 0 to a number, and three Boolean ones that must differ pairwise.
+fn three(alloc: Global, free: u32, high: i64) -> Result<Model, Fail>
+    requires few { free ≤ 20 }
+    requires some { pos 0 ≤ℤ high }
+    requires high { unsigned_abs high ≤ 1048576 }
+    ensures count { IfOk result (λ made. length made.features ≡ free + 3) }
+    ensures ranges { IfOk result (λ made. AreRanges made.features) }
+    ensures fit { IfOk result (λ made. AreFit (free + 3) made.constraints) }
+{
+    let switches = before(alloc, 3, 1, Vec::new(alloc))?;
+    let features = before(alloc, free, high, switches)?;
+    let first = differ(alloc, free, 0, 1)?;
+    let second = differ(alloc, free, 1, 2)?;
+    let third = differ(alloc, free, 0, 2)?;
+    Ok(Model {
+        features: Features::from_vec(features),
+        constraints: Conditions::from_vec(vec![in alloc; first, second, third]?),
+    })
+}
+
+/// A feature times -1.
+fn turned(alloc: Global, number: u32) -> Result<Linear, Fail>
+    ensures terms { IfOk result (λ made. made.terms ≡ (number, negsuc 0) ∷ []) }
+    ensures rising { IfOk result (λ made. IsRising made.terms) }
+{
+    match Linear::feature(alloc, number)?.scale(alloc, -1) {
+        Ok(made) => Ok(made),
+        Err(_) => Err("too large")?,
+    }
+}
+
+/// A feature less another that is behind it.
+fn difference(alloc: Global, left: u32, right: u32) -> Result<Linear, Fail>
+    requires { left < right }
+    ensures { IfOk result (λ made. made.terms ≡ (left, pos 1) ∷ (right, negsuc 0) ∷ []) }
+{
+    let right = turned(alloc, right)?;
+    match Linear::feature(alloc, left)?.add(alloc, &right) {
+        Ok(made) => Ok(made),
+        Err(_) => Err("too large")?,
+    }
+}
+
+/// A feature is greater than another that is behind it.
+fn exceeds(alloc: Global, left: u32, right: u32) -> Result<Condition, Fail>
+    requires order { left < right }
+    requires right { right < 3 }
+    ensures { IfOk result (λ made. IsFit 3 (proposition made)) }
+{
+    let form = difference(alloc, left, right)?;
+    let terms = form.terms.copy(alloc)?;
+    Ok(Condition::Test(Atom { terms, bound: 1 }))
+}
+
+/// Three features of 0 to 2^20, each at most the next one, and the first greater than the last.
+fn ring(alloc: Global) -> Result<Model, Fail>
+    ensures count { IfOk result (λ made. length made.features ≡ 3) }
+    ensures ranges { IfOk result (λ made. AreRanges made.features) }
+    ensures fit { IfOk result (λ made. AreFit 3 made.constraints) }
+{
+    let features = before(alloc, 3, 1_048_576, Vec::new(alloc))?;
+    let first = negation(alloc, exceeds(alloc, 0, 1)?)?;
+    let second = negation(alloc, exceeds(alloc, 1, 2)?)?;
+    let third = exceeds(alloc, 0, 2)?;
+    Ok(Model {
+        features: Features::from_vec(features),
+        constraints: Conditions::from_vec(vec![in alloc; first, second, third]?),
+    })
+}
+
+#[test]
+fn switches_that_must_differ_are_refuted(rt: HostRuntime) -> Result<(), Fail> {
+    let alloc = rt.alloc();
+    for (free, high) in [(20, 1), (2, 1_048_576)] {
+        let model = three(alloc, free, high)?;
+        assert!(rt; least(alloc, &model, &[])?.is_none());
+    }
+    Ok(())
+}
+
+#[test]
+fn rings_are_refuted(rt: HostRuntime) -> Result<(), Fail> {
+    let alloc = rt.alloc();
+    let model = ring(alloc)?;
+    assert!(rt; least(alloc, &model, &[])?.is_none());
+    Ok(())
+}
