@@ -46,10 +46,10 @@ pub record Ends (answer : Result Done Fault) (failed : Role) (status : ℕ) (out
 -- what holds of the status by what the work came to: a failed load is 6 and want of memory 8, and what was done or refused ends
 -- with that answer
 abbrev pub EndsAs : Result Done Stop → Role → ℕ → Option (List ℕ) → Option (List ℕ) → Option (List ℕ) → Option (List ℕ) → ℕ → ℕ → Type 0
-EndsAs (Ok done) failed status out out' err err' errs errs' = Ends (Ok done) failed status out out' err err' errs errs'
-EndsAs (Err (stop.Refused fault)) failed status out out' err err' errs errs' = Ends (Err fault) failed status out out' err err' errs errs'
-EndsAs (Err stop.ReadFault) failed status out out' err err' errs errs' = (status ≡ 6) × Reports err err' (read_fault_line failed) errs errs'
-EndsAs (Err stop.NoMemory) failed status out out' err err' errs errs' = (status ≡ 8) × Reports err err' memory_line errs errs'
+EndsAs (Ok done) role status out out' err err' errs errs' = Ends (Ok done) role status out out' err err' errs errs'
+EndsAs (Err (stop.Refused fault)) role status out out' err err' errs errs' = Ends (Err fault) role status out out' err err' errs errs'
+EndsAs (Err stop.ReadFault) role status out out' err err' errs errs' = (status ≡ 6) × Reports err err' (read_fault_line role) errs errs'
+EndsAs (Err stop.NoMemory) role status out out' err err' errs errs' = (status ≡ 8) × Reports err err' memory_line errs errs'
 
 -- the line that tells a failed load, a failed write or want of memory
 pub record HasLines (failed : Role) (status : ℕ) (err err' : Option (List ℕ)) (errs errs' : ℕ) : Type 0 where
