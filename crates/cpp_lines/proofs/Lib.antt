@@ -1,3 +1,4 @@
+pub mod Adding
 pub mod Blanking
 pub mod Faulting
 pub mod Piecing

@@ -1,7 +1,13 @@
+pub mod Around
 pub mod Bytes
 pub mod Code
 pub mod Comments
 pub mod Directives
 pub mod Faults
+pub mod GroupConditions
 pub mod Lines
+pub mod Nesting
+pub mod Opens
 pub mod Pieces
+pub mod Sections
+pub mod Taking

@@ -41,7 +41,7 @@ pub(crate) fn begins_directive(bytes: &[u8]) -> bool
 }
 
 /// Whether the bytes are this text.
-fn is(bytes: &[u8], text: &str) -> bool
+pub(crate) fn is(bytes: &[u8], text: &str) -> bool
     ensures { result ≡ bytes_eq bytes.now text.now }
 {
     bytes == text.as_bytes()
@@ -60,14 +60,14 @@ fn directive_in(table: &[(&str, Directive)], word: &[u8]) -> Option<Directive>
 }
 
 /// The directive with this name.
-fn directive_named(word: &[u8]) -> Option<Directive>
+pub(crate) fn directive_named(word: &[u8]) -> Option<Directive>
     ensures { result ≡ specs.directive_named word.now }
 {
     directive_in(&NAMES, word)
 }
 
 /// Nothing but white space.
-fn is_gap_only(bytes: &[u8]) -> bool
+pub(crate) fn is_gap_only(bytes: &[u8]) -> bool
     ensures { result ≡ specs.is_gap_only bytes.now }
 {
     bytes.iter().all(|b| is_gap(*b))

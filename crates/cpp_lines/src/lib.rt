@@ -1,6 +1,7 @@
 //! Comments, lines and the code between directives (ISO/IEC 9899:2011, 5.1.1.2 and 6.10).
 #![tactic(auto)]
 
+mod asked;
 mod bytes;
 pub mod code;
 mod comments;
@@ -10,12 +11,18 @@ pub mod faults;
 pub mod laws;
 pub mod line;
 pub mod lines;
+pub mod lists;
+mod nesting;
+mod opens;
+pub mod sections;
 
 pub use code::code_text;
 pub use ends::end_place;
 pub use faults::blank_comments;
 pub use line::{Line, LineKind, Lines};
 pub use lines::plain_lines;
+pub use lists::{Atoms, Formulas};
+pub use sections::Sections;
 
 #[cfg(test)]
 mod tests;

@@ -14,7 +14,7 @@ use fam_outer::{FILE_BYTES, FileRefusal, Place};
 use std::alloc::Global;
 
 /// The first line, and what stands behind its newline; none where no newline comes.
-fn cut_line(bytes: &[u8]) -> Option<(&[u8], &[u8])>
+pub(crate) fn cut_line(bytes: &[u8]) -> Option<(&[u8], &[u8])>
     ensures { MatchOption result (specs.pieces bytes.now ≡ bytes.now ∷ []) (λ x. (specs.pieces bytes.now ≡ x.0.now ∷ specs.pieces x.1.now)
         × (bytes.now ≡ x.0.now ++ 10 ∷ x.1.now) × (list_any is_newline x.0.now ≡ false)) }
 {
@@ -26,7 +26,7 @@ fn cut_line(bytes: &[u8]) -> Option<(&[u8], &[u8])>
 }
 
 /// The place of `#` in a directive line, and of the first byte of another line.
-fn line_place(first: Place, line: &[u8]) -> Place
+pub(crate) fn line_place(first: Place, line: &[u8]) -> Place
     requires short { length line.now ≤ FILE_BYTES }
     requires column { first.column ≤ 1 }
     ensures { result ≡ specs.line_place first line.now }

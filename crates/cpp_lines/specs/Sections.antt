@@ -1,0 +1,117 @@
+-- The lines of a blanked text with groups, and its first fault (ISO/IEC 9899:2011, 6.10.1).
+use Rattle.std.specs.Prelude.{◌≡◌, ⊤, ℕ, ℤ, ◌+◌, Bool, true, false, if◌then◌else◌, List, [], ◌∷◌, ◌++◌, length, map, Option, Some, None, Result, Ok, Err}
+use Rattle.fam_outer.specs.declared.faults.Place.{Place}
+use Rattle.fam_outer.specs.declared.faults.ConditionFault.{ConditionFault}
+use Rattle.fam_outer.specs.declared.faults.FileCode.{FileCode}
+use Rattle.fam_outer.specs.declared.faults.FileCode.TheVariants as codes_of
+use Rattle.fam_outer.specs.declared.faults.FileRefusal.{FileRefusal}
+use Rattle.fam_outer.specs.declared.faults.FileRefusal.TheVariants as refusals
+use Rattle.fam_outer.specs.Places.{place_at}
+use Rattle.linear_atoms.specs.declared.atoms.Atom.{Atom}
+use Rattle.cpp_conditions.specs.declared.formulas.Formula.{Formula}
+use Rattle.cpp_conditions.specs.Distinct.{AreAtomsOf, HaveFewAtoms, HaveMoreAtoms}
+use Rattle.cpp_conditions.specs.Numbering.{IsNumbered, vector_at}
+use Rattle.cpp_conditions.specs.Propositions.{Proposition, true_at, true_on}
+use Rattle.cpp_conditions.specs.Validity.{Plain}
+use Rattle.cpp_conditions.specs.View.{formula}
+use Rattle.cpp_lines.specs.declared.directives.Directive.{Directive}
+use Rattle.cpp_lines.specs.declared.directives.Directive.TheVariants as named
+use Rattle.cpp_lines.specs.declared.line.Line.{Line}
+use Rattle.cpp_lines.specs.declared.line.LineKind.{LineKind}
+use Rattle.cpp_lines.specs.declared.line.LineKind.TheVariants as kinds
+use Rattle.cpp_lines.specs.declared.sections.Sections.{Sections}
+use Rattle.cpp_lines.specs.Directives.{begins_directive, behind_hash, directive_of}
+use Rattle.cpp_lines.specs.GroupConditions.{condition_in, IsReadAs}
+use Rattle.cpp_lines.specs.Lines.{line_place, pieces}
+use Rattle.cpp_lines.specs.Nesting.{named_in, opened_by, is_unclosed, line_fault}
+
+-- the kind of a line with this directive, where so many conditions stand before it
+abbrev pub kind_of : ℕ → Option Directive → LineKind
+kind_of n None = kinds.Code
+kind_of n (Some named.Include) = kinds.Include
+kind_of n (Some named.If) = kinds.If n
+kind_of n (Some named.Ifdef) = kinds.If n
+kind_of n (Some named.Ifndef) = kinds.If n
+kind_of n (Some named.Elif) = kinds.Elif n
+kind_of n (Some named.Else) = kinds.Else
+kind_of n (Some named.Endif) = kinds.Endif
+
+-- the line at this offset and place
+abbrev pub line_at : ℕ → ℕ → Place → List ℕ → Line
+line_at n start first line = record {
+  kind = if begins_directive line then kind_of n (directive_of (behind_hash line)) else kinds.Code;
+  start = start;
+  end = start + length line;
+  place = line_place first line;
+}
+
+-- ---- one line, behind these open sections and conditions
+
+-- the line has this fault; that nothing ends its section is a matter of the lines behind it
+pub data HasFault (model : Plain) (opens : List Bool) (ps : List (Proposition Atom)) (line : List ℕ) : FileCode → Type 0 where
+  misplaced : (code : FileCode) → line_fault opens line ≡ Some code → HasFault model opens ps line code
+  refused : (text : Result (List ℕ) ConditionFault) (fault : ConditionFault) → line_fault opens line ≡ None → condition_in line ≡ Some text
+      → IsReadAs model.features text (Err fault) → HasFault model opens ps line (codes_of.Condition fault)
+  crowded : (text : Result (List ℕ) ConditionFault) (p : Proposition Atom) → line_fault opens line ≡ None → condition_in line ≡ Some text
+      → IsReadAs model.features text (Ok p) → HaveMoreAtoms 64 (model.constraints ++ (ps ++ p ∷ [])) → HasFault model opens ps line codes_of.TooManyTests
+
+-- the line has no fault, and this condition or none
+pub data IsRead (model : Plain) (opens : List Bool) (ps : List (Proposition Atom)) (line : List ℕ) : List (Proposition Atom) → Type 0 where
+  untested : line_fault opens line ≡ None → condition_in line ≡ None → IsRead model opens ps line []
+  tested : (text : Result (List ℕ) ConditionFault) (p : Proposition Atom) → line_fault opens line ≡ None → condition_in line ≡ Some text
+      → IsReadAs model.features text (Ok p) → HaveFewAtoms 64 (model.constraints ++ (ps ++ p ∷ [])) → IsRead model opens ps line (p ∷ [])
+
+-- ---- all lines
+
+-- lines, and what the conditions of their directives mean, in their order
+pub record Told : Type 0 where
+  pub lines : List Line
+  pub conditions : List (Proposition Atom)
+
+-- these in front of what is read behind them
+abbrev pub in_front : List Line → List (Proposition Atom) → Result Told (FileCode × Place) → Result Told (FileCode × Place)
+in_front lines ps (Ok told) = Ok (record { lines = lines ++ told.lines; conditions = ps ++ told.conditions })
+in_front lines ps (Err fault) = Err fault
+
+-- what the lines from an offset on are read as: the first line with a fault decides, and in it the lowest code
+pub data AreRead (model : Plain) (text : List ℕ) : List Bool → List (Proposition Atom) → ℕ → List (List ℕ) → Result Told (FileCode × Place) → Type 0 where
+  none : (opens : List Bool) (ps : List (Proposition Atom)) (start : ℕ) → AreRead model text opens ps start [] (Ok (record { lines = []; conditions = [] }))
+  unclosed : (opens : List Bool) (ps : List (Proposition Atom)) (start : ℕ) (line : List ℕ) (lines : List (List ℕ)) → is_unclosed line lines ≡ true
+      → AreRead model text opens ps start (line ∷ lines) (Err (codes_of.NoEndif, line_place (place_at text start) line))
+  faulty : (opens : List Bool) (ps : List (Proposition Atom)) (start : ℕ) (line : List ℕ) (lines : List (List ℕ)) (code : FileCode) → is_unclosed line lines ≡ false
+      → HasFault model opens ps line code → AreRead model text opens ps start (line ∷ lines) (Err (code, line_place (place_at text start) line))
+  goes_on : (opens : List Bool) (ps : List (Proposition Atom)) (start : ℕ) (line : List ℕ) (lines : List (List ℕ)) (qs : List (Proposition Atom)) (r : Result Told (FileCode × Place)) → is_unclosed line lines ≡ false
+      → IsRead model opens ps line qs → AreRead model text (opened_by (named_in line) opens) (ps ++ qs) (start + length line + 1) lines r
+      → AreRead model text opens ps start (line ∷ lines) (in_front (line_at (length ps) start (place_at text start) line ∷ []) qs r)
+
+-- what a text is read as
+abbrev pub TextIsRead : Plain → List ℕ → Result Told (FileCode × Place) → Type 0
+TextIsRead model text r = AreRead model text [] [] 0 (pieces text) r
+
+-- each formula is its condition with the numbers of its atoms
+abbrev pub AreNumbered : List Atom → List (Proposition Atom) → List Formula → Type 0
+AreNumbered atoms [] [] = ⊤
+AreNumbered atoms [] (f ∷ fs) = ⊥
+AreNumbered atoms (p ∷ ps) [] = ⊥
+AreNumbered atoms (p ∷ ps) (f ∷ fs) = IsNumbered atoms p (formula f) × AreNumbered atoms ps fs
+
+-- the truths of conditions at a configuration, and of formulas at the vector of its atoms' truths
+abbrev pub truths_at : List ℤ → List (Proposition Atom) → List Bool
+truths_at values ps = map (λ p. true_at values p) ps
+
+abbrev pub truths_on : List Atom → List ℤ → List Formula → List Bool
+truths_on atoms values fs = map (λ f. true_on (vector_at atoms values) (formula f)) fs
+
+-- the text is read as these sections: their lines, and their conditions over the atoms of the model and of all conditions
+pub record AreSectionsOf (model : Plain) (text : List ℕ) (s : Sections) : Type 0 where
+  pub conditions : List (Proposition Atom)
+  pub read : TextIsRead model text (Ok (record { lines = s.lines; conditions = conditions }))
+  pub atoms : AreAtomsOf (model.constraints ++ conditions) s.atoms
+  pub numbered : AreNumbered s.atoms conditions s.conditions
+  pub truths : (values : List ℤ) → truths_on s.atoms values s.conditions ≡ truths_at values conditions
+
+-- what a call that reads sections answers; want of memory is free
+abbrev pub ReadsSections : Plain → List ℕ → Result Sections FileRefusal → Type 0
+ReadsSections model text (Ok s) = AreSectionsOf model text s
+ReadsSections model text (Err (refusals.Fault code place)) = TextIsRead model text (Err (code, place))
+ReadsSections model text (Err refusals.NoMemory) = ⊤

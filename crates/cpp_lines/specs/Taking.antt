@@ -1,0 +1,88 @@
+-- What the code makes of one line, and how it keeps what is read so far.
+use Rattle.std.specs.Prelude.{◌≡◌, ⊤, ℕ, ◌≤◌, List, [], ◌∷◌, ◌++◌, length, map, Option, Result, Ok, Err}
+use Rattle.fam_outer.specs.declared.faults.Place.{Place}
+use Rattle.fam_outer.specs.declared.faults.ConditionFault.{ConditionFault}
+use Rattle.fam_outer.specs.declared.faults.FileCode.{FileCode}
+use Rattle.fam_outer.specs.declared.faults.FileCode.TheVariants as codes_of
+use Rattle.fam_outer.specs.declared.faults.FileRefusal.{FileRefusal}
+use Rattle.fam_outer.specs.declared.faults.FileRefusal.TheVariants as files
+use Rattle.fam_outer.specs.declared.refusal.Refusal.{Refusal}
+use Rattle.fam_outer.specs.declared.refusal.Refusal.TheVariants as refusals
+use Rattle.linear_atoms.specs.declared.atoms.Atom.{Atom}
+use Rattle.linear_atoms.specs.declared.atoms.Feature.{Feature}
+use Rattle.cpp_conditions.specs.declared.conditions.Condition.{Condition}
+use Rattle.cpp_conditions.specs.declared.reading.ConditionRefusal.{ConditionRefusal}
+use Rattle.cpp_conditions.specs.declared.reading.ConditionRefusal.TheVariants as conditions
+use Rattle.cpp_conditions.specs.Distinct.{AreAtomsOf, HaveFewAtoms, HaveMoreAtoms}
+use Rattle.cpp_conditions.specs.Propositions.{Proposition, IsFit}
+use Rattle.cpp_conditions.specs.Validity.{Plain, AreFit}
+use Rattle.cpp_conditions.specs.View.{proposition}
+use Rattle.cpp_lines.specs.declared.line.Line.{Line}
+use Rattle.cpp_lines.specs.declared.sections.Reading.{Reading}
+use Rattle.cpp_lines.specs.GroupConditions.{IsReadAs}
+use Rattle.cpp_lines.specs.Lines.{line_place}
+use Rattle.cpp_lines.specs.Nesting.{named_in, opened_by}
+use Rattle.cpp_lines.specs.Opens.{flags, first_after}
+use Rattle.cpp_lines.specs.Sections.{HasFault, IsRead, line_at}
+
+-- what the text of a condition is read as; want of memory is free
+abbrev pub ReadsText : List Feature → Result (List ℕ) ConditionFault → Result Condition ConditionRefusal → Type 0
+ReadsText features text (Ok made) = IsReadAs features text (Ok (proposition made)) × IsFit (length features) (proposition made)
+ReadsText features text (Err (conditions.Fault fault)) = IsReadAs features text (Err fault)
+ReadsText features text (Err conditions.NoMemory) = ⊤
+
+-- the code of a refused condition
+abbrev pub condition_refusal : ConditionRefusal → Refusal FileCode
+condition_refusal conditions.NoMemory = refusals.NoMemory
+condition_refusal (conditions.Fault fault) = refusals.Fault (codes_of.Condition fault)
+
+-- what the conditions that are read so far mean
+abbrev pub meant : Reading → List (Proposition Atom)
+meant reading = map proposition reading.conditions.items
+
+-- the atoms are those of the model and of the conditions so far, at most 64, and all conditions are over the model's features
+pub record IsKept (model : Plain) (reading : Reading) : Type 0 where
+  pub atoms : AreAtomsOf (model.constraints ++ meant reading) reading.atoms.items
+  pub few : length reading.atoms.items ≤ 64
+  pub fit : AreFit (length model.features) reading.conditions.items
+
+-- a condition that is added
+pub record IsAdded (model : Plain) (text : Result (List ℕ) ConditionFault) (old new : Reading) : Type 0 where
+  pub added : Proposition Atom
+  pub is_read : IsReadAs model.features text (Ok added)
+  pub few : HaveFewAtoms 64 (model.constraints ++ (meant old ++ added ∷ []))
+  pub meant_now : meant new ≡ meant old ++ added ∷ []
+  pub kept : IsKept model new
+
+-- why a condition is not added
+pub data IsRefused (model : Plain) (text : Result (List ℕ) ConditionFault) (old : Reading) : FileCode → Type 0 where
+  unread : (fault : ConditionFault) → IsReadAs model.features text (Err fault) → IsRefused model text old (codes_of.Condition fault)
+  crowded : (p : Proposition Atom) → IsReadAs model.features text (Ok p) → HaveMoreAtoms 64 (model.constraints ++ (meant old ++ p ∷ [])) → IsRefused model text old codes_of.TooManyTests
+
+abbrev pub Adds : Plain → Result (List ℕ) ConditionFault → Reading → Reading → Result ⊤ (Refusal FileCode) → Type 0
+Adds model text old new (Ok _) = IsAdded model text old new
+Adds model text old new (Err (refusals.Fault code)) = IsRefused model text old code
+Adds model text old new (Err refusals.NoMemory) = ⊤
+
+-- a line that is added, behind which these sections are open
+pub record IsTaken (model : Plain) (start : ℕ) (first : Place) (line : List ℕ) (old new : Reading) : Type 0 where
+  pub conditions : List (Proposition Atom)
+  pub is_read : IsRead model (flags old.opens) (meant old) line conditions
+  pub meant_now : meant new ≡ meant old ++ conditions
+  pub lines : new.lines.items ≡ old.lines.items ++ line_at (length (meant old)) start first line ∷ []
+  pub kept : IsKept model new
+
+-- a line that has this fault
+pub record IsFaulty (model : Plain) (first : Place) (line : List ℕ) (old : Reading) (code : FileCode) (place : Place) : Type 0 where
+  pub fault : HasFault model (flags old.opens) (meant old) line code
+  pub place_is : place ≡ line_place first line
+
+-- the sections that are open behind the line
+pub record IsFollowed (place : Place) (line : List ℕ) (old new : Reading) : Type 0 where
+  pub opened : flags new.opens ≡ opened_by (named_in line) (flags old.opens)
+  pub first : new.opens.first ≡ first_after (named_in line) place (flags old.opens) old.opens.first
+
+abbrev pub Takes : Plain → ℕ → Place → List ℕ → Reading → Reading → Result ⊤ FileRefusal → Type 0
+Takes model start first line old new (Ok _) = IsTaken model start first line old new × IsFollowed (line_place first line) line old new
+Takes model start first line old new (Err (files.Fault code place)) = IsFaulty model first line old code place × IsFollowed (line_place first line) line old new
+Takes model start first line old new (Err files.NoMemory) = ⊤
