@@ -1,3 +1,5 @@
+pub mod Numbering
+pub mod Standing
 pub mod Adding
 pub mod Blanking
 pub mod Faulting

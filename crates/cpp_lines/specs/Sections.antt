@@ -1,5 +1,5 @@
 -- The lines of a blanked text with groups, and its first fault (ISO/IEC 9899:2011, 6.10.1).
-use Rattle.std.specs.Prelude.{◌≡◌, ⊤, ℕ, ℤ, ◌+◌, Bool, true, false, if◌then◌else◌, List, [], ◌∷◌, ◌++◌, length, map, Option, Some, None, Result, Ok, Err}
+use Rattle.std.specs.Prelude.{◌≡◌, ⊤, ℕ, ℤ, ◌+◌, ◌<◌, Bool, true, false, if◌then◌else◌, List, [], ◌∷◌, ◌++◌, length, map, Option, Some, None, Result, Ok, Err}
 use Rattle.fam_outer.specs.declared.faults.Place.{Place}
 use Rattle.fam_outer.specs.declared.faults.ConditionFault.{ConditionFault}
 use Rattle.fam_outer.specs.declared.faults.FileCode.{FileCode}
@@ -109,6 +109,16 @@ pub record AreSectionsOf (model : Plain) (text : List ℕ) (s : Sections) : Type
   pub atoms : AreAtomsOf (model.constraints ++ conditions) s.atoms
   pub numbered : AreNumbered s.atoms conditions s.conditions
   pub truths : (values : List ℤ) → truths_on s.atoms values s.conditions ≡ truths_at values conditions
+
+-- each condition that a line names is one of so many
+abbrev pub IsNumberedBelow : ℕ → LineKind → Type 0
+IsNumberedBelow count (kinds.If n) = n < count
+IsNumberedBelow count (kinds.Elif n) = n < count
+IsNumberedBelow count _ = ⊤
+
+abbrev pub AreNumberedBelow : ℕ → List Line → Type 0
+AreNumberedBelow count [] = ⊤
+AreNumberedBelow count (l ∷ ls) = IsNumberedBelow count l.kind × AreNumberedBelow count ls
 
 -- what a call that reads sections answers; want of memory is free
 abbrev pub ReadsSections : Plain → List ℕ → Result Sections FileRefusal → Type 0

@@ -1,5 +1,5 @@
 -- What the code makes of one line, and how it keeps what is read so far.
-use Rattle.std.specs.Prelude.{◌≡◌, ⊤, ℕ, ◌≤◌, List, [], ◌∷◌, ◌++◌, length, map, Option, Result, Ok, Err}
+use Rattle.std.specs.Prelude.{◌≡◌, ⊤, ℕ, nat_lt, ◌≤◌, Bool, if◌then◌else◌, List, [], ◌∷◌, ◌++◌, length, map, Option, Result, Ok, Err}
 use Rattle.fam_outer.specs.declared.faults.Place.{Place}
 use Rattle.fam_outer.specs.declared.faults.ConditionFault.{ConditionFault}
 use Rattle.fam_outer.specs.declared.faults.FileCode.{FileCode}
@@ -18,12 +18,13 @@ use Rattle.cpp_conditions.specs.Propositions.{Proposition, IsFit}
 use Rattle.cpp_conditions.specs.Validity.{Plain, AreFit}
 use Rattle.cpp_conditions.specs.View.{proposition}
 use Rattle.cpp_lines.specs.declared.line.Line.{Line}
+use Rattle.cpp_lines.specs.declared.opens.Opens.{Opens}
 use Rattle.cpp_lines.specs.declared.sections.Reading.{Reading}
 use Rattle.cpp_lines.specs.GroupConditions.{IsReadAs}
 use Rattle.cpp_lines.specs.Lines.{line_place}
 use Rattle.cpp_lines.specs.Nesting.{named_in, opened_by}
 use Rattle.cpp_lines.specs.Opens.{flags, first_after}
-use Rattle.cpp_lines.specs.Sections.{HasFault, IsRead, line_at}
+use Rattle.cpp_lines.specs.Sections.{HasFault, IsRead, TextIsRead, line_at}
 
 -- what the text of a condition is read as; want of memory is free
 abbrev pub ReadsText : List Feature → Result (List ℕ) ConditionFault → Result Condition ConditionRefusal → Type 0
@@ -35,6 +36,11 @@ ReadsText features text (Err conditions.NoMemory) = ⊤
 abbrev pub condition_refusal : ConditionRefusal → Refusal FileCode
 condition_refusal conditions.NoMemory = refusals.NoMemory
 condition_refusal (conditions.Fault fault) = refusals.Fault (codes_of.Condition fault)
+
+-- the refusal of a file with this fault at a place
+abbrev pub at_place : Refusal FileCode → Place → FileRefusal
+at_place refusals.NoMemory place = files.NoMemory
+at_place (refusals.Fault code) place = files.Fault code place
 
 -- what the conditions that are read so far mean
 abbrev pub meant : Reading → List (Proposition Atom)
@@ -64,25 +70,57 @@ Adds model text old new (Ok _) = IsAdded model text old new
 Adds model text old new (Err (refusals.Fault code)) = IsRefused model text old code
 Adds model text old new (Err refusals.NoMemory) = ⊤
 
--- a line that is added, behind which these sections are open
-pub record IsTaken (model : Plain) (start : ℕ) (first : Place) (line : List ℕ) (old new : Reading) : Type 0 where
+-- a line without a fault, with its condition added
+pub record IsJudged (model : Plain) (line : List ℕ) (old new : Reading) : Type 0 where
   pub conditions : List (Proposition Atom)
   pub is_read : IsRead model (flags old.opens) (meant old) line conditions
   pub meant_now : meant new ≡ meant old ++ conditions
-  pub lines : new.lines.items ≡ old.lines.items ++ line_at (length (meant old)) start first line ∷ []
   pub kept : IsKept model new
 
--- a line that has this fault
-pub record IsFaulty (model : Plain) (first : Place) (line : List ℕ) (old : Reading) (code : FileCode) (place : Place) : Type 0 where
-  pub fault : HasFault model (flags old.opens) (meant old) line code
-  pub place_is : place ≡ line_place first line
+abbrev pub Judges : Plain → List ℕ → Reading → Reading → Result ⊤ (Refusal FileCode) → Type 0
+Judges model line old new (Ok _) = IsJudged model line old new
+Judges model line old new (Err (refusals.Fault code)) = HasFault model (flags old.opens) (meant old) line code
+Judges model line old new (Err refusals.NoMemory) = ⊤
 
--- the sections that are open behind the line
+-- the sections that are open behind the line, whose directive stands at this place
 pub record IsFollowed (place : Place) (line : List ℕ) (old new : Reading) : Type 0 where
   pub opened : flags new.opens ≡ opened_by (named_in line) (flags old.opens)
   pub first : new.opens.first ≡ first_after (named_in line) place (flags old.opens) old.opens.first
 
+-- a line that is added
+pub record IsTaken (model : Plain) (start : ℕ) (first : Place) (line : List ℕ) (old new : Reading) : Type 0 where
+  pub judged : IsJudged model line old new
+  pub lines : new.lines.items ≡ old.lines.items ++ line_at (length (meant old)) start first line ∷ []
+  pub followed : IsFollowed (line_place first line) line old new
+
+-- a line that has this fault
+pub record IsFaulty (model : Plain) (first : Place) (line : List ℕ) (old new : Reading) (code : FileCode) (place : Place) : Type 0 where
+  pub fault : HasFault model (flags old.opens) (meant old) line code
+  pub place_is : place ≡ line_place first line
+  pub followed : IsFollowed (line_place first line) line old new
+
 abbrev pub Takes : Plain → ℕ → Place → List ℕ → Reading → Reading → Result ⊤ FileRefusal → Type 0
-Takes model start first line old new (Ok _) = IsTaken model start first line old new × IsFollowed (line_place first line) line old new
-Takes model start first line old new (Err (files.Fault code place)) = IsFaulty model first line old code place × IsFollowed (line_place first line) line old new
+Takes model start first line old new (Ok _) = IsTaken model start first line old new
+Takes model start first line old new (Err (files.Fault code place)) = IsFaulty model first line old new code place
 Takes model start first line old new (Err files.NoMemory) = ⊤
+
+-- nothing is read yet
+pub record IsBegun (reading : Reading) : Type 0 where
+  pub lines : reading.lines.items ≡ []
+  pub conditions : reading.conditions.items ≡ []
+  pub opens : flags reading.opens ≡ []
+
+-- the lines behind end fewer sections than are open
+abbrev pub is_short : ℕ → Opens → Bool
+is_short ends opens = nat_lt ends (length (flags opens))
+
+-- the fault of the outermost open section in place of a later one
+abbrev pub earlier : FileRefusal → Bool → Place → FileRefusal
+earlier files.NoMemory b first = files.NoMemory
+earlier (files.Fault code place) b first = if b then files.Fault codes_of.NoEndif first else files.Fault code place
+
+-- what the lines of a text are read as
+abbrev pub ReadsLines : Plain → List ℕ → Result Reading FileRefusal → Type 0
+ReadsLines model text (Ok reading) = TextIsRead model text (Ok (record { lines = reading.lines.items; conditions = meant reading }))
+ReadsLines model text (Err (files.Fault code place)) = TextIsRead model text (Err (code, place))
+ReadsLines model text (Err files.NoMemory) = ⊤

@@ -22,7 +22,7 @@ pub use faults::blank_comments;
 pub use line::{Line, LineKind, Lines};
 pub use lines::plain_lines;
 pub use lists::{Atoms, Formulas};
-pub use sections::Sections;
+pub use sections::{Sections, read_sections};
 
 #[cfg(test)]
 mod tests;

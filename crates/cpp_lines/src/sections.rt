@@ -1,12 +1,15 @@
 //! The lines, conditions and atoms of a blanked text with groups (ISO/IEC 9899:2011, 6.10.1).
 #![tactic(auto)]
 
-ghost use Rattle.std.specs.Prelude.{◌≡◌, ⊤, ◌<◌, ◌≤◌, ◌+◌, ◌^◌, [], ◌∷◌, ◌++◌, length, map, IfOk, OnOk, Ok, Err};
+ghost use Rattle.std.specs.Prelude.{◌≡◌, ℤ, ◌≤◌, ◌+◌, List, length, map, IfOk};
 ghost use Rattle.linear_atoms.specs.Atoms.{AreAtoms};
-ghost use Rattle.cpp_conditions.specs.Distinct.{AreAtomsOf, HaveFewAtoms};
+ghost use Rattle.std.specs.List.{All};
+ghost use Rattle.cpp_conditions.specs.Distinct.{HaveFewAtoms};
 ghost use Rattle.cpp_conditions.specs.Naming.{AreFeatures};
+ghost use Rattle.cpp_conditions.specs.Numbering.{AreAllAmong};
+ghost use Rattle.cpp_conditions.specs.Propositions.{IsBelow};
 ghost use Rattle.cpp_conditions.specs.Validity.{plain, AreFit};
-ghost use Rattle.cpp_conditions.specs.View.{proposition};
+ghost use Rattle.cpp_conditions.specs.View.{proposition, formula};
 ghost use Rattle.cpp_lines.specs.Lines as lists;
 ghost use Rattle.cpp_lines.specs.Sections as sections;
 ghost use Rattle.cpp_lines.specs.Taking as taking;
@@ -16,11 +19,12 @@ use crate::directives::{Directive, begins_directive, behind_hash, directive_of};
 use crate::line::{Line, LineKind, Lines};
 use crate::lines::{cut_line, line_place};
 use crate::lists::{Atoms, Formulas};
+use crate::nesting::ends_of;
 use crate::opens::Opens;
 use cpp_conditions::{
-    Condition, ConditionRefusal, Model, add_atoms,
+    Condition, ConditionRefusal, Formula, Model, add_atoms, number,
 };
-use fam_outer::{FILE_BYTES, FileCode, Place, Refusal};
+use fam_outer::{FILE_BYTES, FileCode, FileRefusal, NoMemory, Place, Refusal};
 use linear_atoms::Atom;
 use std::alloc::Global;
 
@@ -113,4 +117,198 @@ fn line_at(number: u32, start: u32, first: Place, line: &[u8]) -> Line
         end: start + line.len() as u32,
         place: line_place(first, line),
     }
+}
+
+/// Adds the condition of a line, where it has one. Of the line's faults it answers all but that of a section that nothing
+/// ends.
+fn judge_line(
+    alloc: Global,
+    model: &Model,
+    reading: &mut Reading,
+    line: &[u8],
+) -> Result<(), Refusal<FileCode>>
+    requires features { AreFeatures model.now.features }
+    requires kept { taking.IsKept (plain model.now) reading.old }
+    ensures judges { taking.Judges (plain model.now) line.now reading.old reading.new result }
+    ensures lines { reading.new.lines ≡ reading.old.lines }
+    ensures opens { reading.new.opens ≡ reading.old.opens }
+{
+    if let Some(code) = reading.opens.line_fault(line) {
+        return Err(Refusal::Fault(code));
+    }
+    match condition_in(alloc, line)? {
+        None => Ok(()),
+        Some(text) => add_condition(alloc, model, reading, &text),
+    }
+}
+
+/// The refusal of a file with this fault at a place.
+fn at_place(refusal: Refusal<FileCode>, place: Place) -> FileRefusal
+    ensures { result ≡ taking.at_place refusal place }
+{
+    match refusal {
+        Refusal::NoMemory => FileRefusal::NoMemory,
+        Refusal::Fault(code) => FileRefusal::Fault { code, place },
+    }
+}
+
+/// Adds a line, whose first byte stands at this offset and place, and goes on behind it. Of the line's faults it answers
+/// all but that of a section that nothing ends.
+fn take_line(
+    alloc: Global,
+    model: &Model,
+    reading: &mut Reading,
+    start: u32,
+    first: Place,
+    line: &[u8],
+) -> Result<(), FileRefusal>
+    requires features { AreFeatures model.now.features }
+    requires kept { taking.IsKept (plain model.now) reading.old }
+    requires short { start + length line.now ≤ FILE_BYTES }
+    requires column { first.column ≤ 1 }
+    requires few { length reading.old.conditions.items ≤ start }
+    ensures { taking.Takes (plain model.now) start first line.now reading.old reading.new result }
+{
+    let place = line_place(first, line);
+    let made = line_at(reading.conditions.len() as u32, start, first, line);
+    let judged = judge_line(alloc, model, reading, line);
+    reading.opens.follow(line, place)?;
+    if let Err(refusal) = judged {
+        return Err(at_place(refusal, place));
+    }
+    reading.lines.push(made)?;
+    Ok(())
+}
+
+/// Nothing is read of a file yet: there are the atoms of the model alone.
+fn begin(alloc: Global, model: &Model) -> Result<Reading, NoMemory>
+    requires few { HaveFewAtoms 64 (plain model.now).constraints }
+    ensures kept { IfOk result (λ reading. taking.IsKept (plain model.now) reading) }
+    ensures nothing { IfOk result (λ reading. taking.IsBegun reading) }
+{
+    let mut atoms = Vec::new(alloc);
+    for constraint in model.constraints.items() {
+        add_atoms(alloc, &mut atoms, constraint)?;
+    }
+    Ok(Reading {
+        lines: Vec::new(alloc),
+        conditions: Vec::new(alloc),
+        atoms,
+        opens: Opens::new(alloc),
+    })
+}
+
+/// The earlier of two faults: that of the outermost open section, where the lines behind end fewer sections than are open,
+/// and else the given one.
+fn earlier(refusal: FileRefusal, opens: &Opens, ends: usize) -> FileRefusal
+    ensures { result ≡ taking.earlier refusal (taking.is_short ends opens.now) opens.now.first }
+{
+    match refusal {
+        FileRefusal::NoMemory => FileRefusal::NoMemory,
+        FileRefusal::Fault { code, place } => {
+            if ends < opens.depth() {
+                FileRefusal::Fault {
+                    code: FileCode::NoEndif,
+                    place: opens.first,
+                }
+            } else {
+                FileRefusal::Fault { code, place }
+            }
+        }
+    }
+}
+
+/// The lines of a text and their conditions.
+fn read_lines(alloc: Global, model: &Model, blanked: &[u8]) -> Result<Reading, FileRefusal>
+    requires short { length blanked.now ≤ FILE_BYTES }
+    requires features { AreFeatures model.now.features }
+    requires few { HaveFewAtoms 64 (plain model.now).constraints }
+    ensures read { taking.ReadsLines (plain model.now) blanked.now result }
+    ensures kept { IfOk result (λ reading. taking.IsKept (plain model.now) reading) }
+{
+    let mut reading = begin(alloc, model)?;
+    let mut first = Place { line: 1, column: 1 };
+    let mut start: u32 = 0;
+    let mut rest = blanked;
+    'lines: while let Some((line, behind)) = cut_line(rest) {
+        if let Err(refusal) = take_line(alloc, model, &mut reading, start, first, line) {
+            return Err(earlier(refusal, &reading.opens, ends_of(behind)));
+        }
+        first.line += 1;
+        start += line.len() as u32 + 1;
+        rest = behind;
+    }
+    if let Err(refusal) = take_line(alloc, model, &mut reading, start, first, rest) {
+        return Err(earlier(refusal, &reading.opens, 0));
+    }
+    if reading.opens.depth() > 0 {
+        return Err(FileRefusal::Fault {
+            code: FileCode::NoEndif,
+            place: reading.opens.first,
+        });
+    }
+    Ok(reading)
+}
+
+/// The formulas of conditions over a list that has their atoms.
+fn formulas_of(
+    alloc: Global,
+    conditions: &[Condition],
+    atoms: &[Atom],
+) -> Result<Vec<Formula>, NoMemory>
+    requires among { AreAllAmong atoms.now (map proposition conditions.now) }
+    requires few { length atoms.now ≤ 64 }
+    ensures numbered { IfOk result (λ made. sections.AreNumbered atoms.now (map proposition conditions.now) made.items) }
+    ensures truths { IfOk result (λ made. (values : List ℤ) → sections.truths_on atoms.now values made.items ≡ sections.truths_at values (map proposition conditions.now)) }
+    ensures below { IfOk result (λ made. All (λ f. IsBelow (length atoms.now) (formula f)) made.items) }
+{
+    let mut made = Vec::new(alloc);
+    for condition in conditions {
+        made.push(number(alloc, condition, atoms)?)?;
+    }
+    Ok(made)
+}
+
+/// The lines, conditions and atoms of a blanked text with groups, over a model.
+///
+/// Its lines are the pieces between its newlines, so there is one more than there are newlines. `#ifdef X` means
+/// `#if defined X`, and `#ifndef X` means `#if !defined X`. The conditions are numbered as they stand. The atoms are the
+/// distinct ones of the model's constraints and of all conditions, at most 64, in their order; at each configuration the
+/// formulas have, at the vector of the atoms' truths, the truths of the conditions.
+///
+/// Its faults, each at the `#` of its line; the first line with one decides, and in a line the lowest code:
+/// - `Directive`, where the directive is none of the six group directives `if`, `ifdef`, `ifndef`, `elif`, `else` and
+///   `endif`, nor `include` with exactly `<assert.h>`, and at `else` or `endif` with text behind it. Sections are
+///   matched by the names of directives alone, so such a line still ends its section, or is its `#else`;
+/// - `NoIf`, at `#elif`, `#else` or `#endif` outside every section;
+/// - `NoEndif`, at the directive that opens a section without its end;
+/// - `SecondElse`, at `#elif` or `#else` after the section's `#else`;
+/// - `Condition`, where the condition has a fault; `#ifdef` and `#ifndef` without exactly one identifier, or with
+///   `defined`, have the fault `Syntax`;
+/// - `TooManyTests`, at the condition with which the atoms of the model and of the conditions so far pass 64.
+///
+/// It answers `NoMemory` for want of memory.
+pub fn read_sections(
+    alloc: Global,
+    model: &Model,
+    blanked: &[u8],
+) -> Result<Sections, FileRefusal>
+    requires short { length blanked.now ≤ FILE_BYTES }
+    requires features { AreFeatures model.now.features }
+    requires fit { AreFit (length model.now.features) model.now.constraints }
+    requires few { HaveFewAtoms 64 (plain model.now).constraints }
+    ensures read { sections.ReadsSections (plain model.now) blanked.now result }
+    ensures lines { IfOk result (λ made. lists.AreLinesOf blanked.now made.lines) }
+    ensures few { IfOk result (λ made. length made.atoms ≤ 64) }
+    ensures atoms { IfOk result (λ made. AreAtoms (length model.now.features) made.atoms) }
+    ensures below { IfOk result (λ made. All (λ f. IsBelow (length made.atoms) (formula f)) made.conditions) }
+    ensures numbered { IfOk result (λ made. sections.AreNumberedBelow (length made.conditions) made.lines) }
+{
+    let reading = read_lines(alloc, model, blanked)?;
+    let conditions = formulas_of(alloc, &reading.conditions, &reading.atoms)?;
+    Ok(Sections {
+        lines: Lines::from_vec(reading.lines),
+        conditions: Formulas::from_vec(conditions),
+        atoms: Atoms::from_vec(reading.atoms),
+    })
 }
