@@ -1,3 +1,4 @@
+pub mod KeptLines
 pub mod Numbering
 pub mod Standing
 pub mod Adding

@@ -9,5 +9,6 @@ pub mod Lines
 pub mod Nesting
 pub mod Opens
 pub mod Pieces
+pub mod Preprocessed
 pub mod Sections
 pub mod Taking

@@ -10,7 +10,7 @@ use fam_outer::{FILE_BYTES, NoMemory, Text};
 use std::alloc::Global;
 
 /// The first line and those behind it.
-fn cut(lines: &[Line]) -> Option<(Line, &[Line])>
+pub(crate) fn cut(lines: &[Line]) -> Option<(Line, &[Line])>
     ensures { MatchOption result (lines.now ≡ []) (λ x. lines.now ≡ x.0 ∷ x.1.now) }
 {
     match lines {
@@ -20,7 +20,7 @@ fn cut(lines: &[Line]) -> Option<(Line, &[Line])>
 }
 
 /// Whether a line of this kind is code.
-fn is_code(kind: LineKind) -> bool
+pub(crate) fn is_code(kind: LineKind) -> bool
     ensures { result ≡ lists.is_code kind }
 {
     match kind {

@@ -14,6 +14,7 @@ pub mod lines;
 pub mod lists;
 mod nesting;
 mod opens;
+pub mod preprocessing;
 pub mod sections;
 
 pub use code::code_text;
@@ -21,8 +22,7 @@ pub use ends::end_place;
 pub use faults::blank_comments;
 pub use line::{Line, LineKind, Lines};
 pub use lines::plain_lines;
+pub use preprocessing::preprocessed_text;
 pub use lists::{Atoms, Formulas};
 pub use sections::{Sections, read_sections};
 
-#[cfg(test)]
-mod tests;
