@@ -9,3 +9,5 @@ pub use directive::GroupDirective;
 pub use open::OpenSections;
 pub use section::{Section, next_group};
 
+#[cfg(test)]
+mod tests;

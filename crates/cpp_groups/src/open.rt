@@ -78,11 +78,7 @@ impl OpenSections {
     /// Goes on behind a group directive, where the conditions have these truths. `#else` is the group of a condition that
     /// is true. Outside every section a directive that opens none changes nothing. It answers an error only for want of
     /// memory, and then nothing has changed.
-    pub fn follow(
-        &mut self,
-        truths: &[bool],
-        directive: GroupDirective,
-    ) -> Result<(), NoMemory>
+    pub fn follow(&mut self, truths: &[bool], directive: GroupDirective) -> Result<(), NoMemory>
         ensures ok { OnOk result (self.new ≡ kept.sections_after truths.now self.old (Some directive)) }
         ensures err { OnErr result (self.new ≡ self.old) }
     {

@@ -108,11 +108,11 @@ pub unclosed_on : (m : Plain) (text : List ℕ) (start : ℕ) (first : Place) (l
 unclosed_on m text start first line lines old new ef s f h =
     let k : ends_of lines < length (opened_by (named_in line) (flags old.opens)) = subst (λ (os : List Bool). ends_of lines < length os) f.opened h in
     elim (nest_off (named_in line) (flags old.opens) (ends_of lines) k) [
-    | inl o ↦ subst (λ (p : Place). TextIsRead m text (Err (NoEndif, p))) (sym (f.first ∙ same_first (named_in line) (line_place first line) (flags old.opens) old.opens.first (ends_of (line ∷ lines)) o)) (s.unclosed o)
-    | inr o ↦ subst (λ (p : Place). TextIsRead m text (Err (NoEndif, p)))
-        (sym (f.first ∙ new_first (named_in line) (line_place first line) (flags old.opens) old.opens.first o.0 o.1 ∙ ap (λ (p : Place). line_place p line) ef))
-        (s.goes_on (Err (NoEndif, line_place (place_at text start) line)) (subst (λ (os : List Bool). length os ≤ ends_of (line ∷ lines)) (sym o.0) (omega arith))
-        (sections.unclosed (flags old.opens) (meant old) start line lines o.2))
+      | inl o ↦ subst (λ (p : Place). TextIsRead m text (Err (NoEndif, p))) (sym (f.first ∙ same_first (named_in line) (line_place first line) (flags old.opens) old.opens.first (ends_of (line ∷ lines)) o)) (s.unclosed o)
+      | inr o ↦ subst (λ (p : Place). TextIsRead m text (Err (NoEndif, p)))
+          (sym (f.first ∙ new_first (named_in line) (line_place first line) (flags old.opens) old.opens.first o.0 o.1 ∙ ap (λ (p : Place). line_place p line) ef))
+          (s.goes_on (Err (NoEndif, line_place (place_at text start) line)) (subst (λ (os : List Bool). length os ≤ ends_of (line ∷ lines)) (sym o.0) (omega arith))
+          (sections.unclosed (flags old.opens) (meant old) start line lines o.2))
     ]
 
 goes_on_read : (m : Plain) (text : List ℕ) (start : ℕ) (first : Place) (line : List ℕ) (lines : List (List ℕ)) (old new : Reading) → first ≡ place_at text start → Stands m text start old (line ∷ lines) → (t : IsTaken m start first line old new)
@@ -156,8 +156,8 @@ pub fault_read : (m : Plain) (text : List ℕ) (start : ℕ) (first : Place) (li
 fault_read m text start first line lines old new NoMemory ef s f = tt
 fault_read m text start first line lines old new (Fault code place) ef s f =
     elim (nat_lt (ends_of lines) (length (flags new.opens))) as (λ t. nat_lt (ends_of lines) (length (flags new.opens)) ≡ t → ReadsLines m text (Err (cond t (Fault NoEndif new.opens.first) (Fault code place)))) [
-    | true ↦ λ e. unclosed_on m text start first line lines old new ef s f.followed (fewer (ends_of lines) (length (flags new.opens)) e)
-    | false ↦ λ e. fault_on m text start first line lines old new code place ef s f (not_fewer (ends_of lines) (length (flags new.opens)) e)
+      | true ↦ λ e. unclosed_on m text start first line lines old new ef s f.followed (fewer (ends_of lines) (length (flags new.opens)) e)
+      | false ↦ λ e. fault_on m text start first line lines old new code place ef s f (not_fewer (ends_of lines) (length (flags new.opens)) e)
     ] refl
 
 one_at_most : (m : Plain) (opens : List Bool) (ps : List (Proposition Atom)) (line : List ℕ) (qs : List (Proposition Atom)) → IsRead m opens ps line qs → length qs ≤ 1
@@ -168,8 +168,14 @@ one_at_most m opens ps line (q ∷ (_ ∷ _)) x5 = elim x5 [ ]
 -- at most one more condition
 pub one_more_at_most : (m : Plain) (start : ℕ) (first : Place) (line : List ℕ) (old new : Reading) → IsTaken m start first line old new → length new.conditions.items ≤ length old.conditions.items + 1
 one_more_at_most m start first line old new t =
-    omega (arith, one_at_most m (flags old.opens) (meant old) line t.judged.conditions t.judged.is_read, ap length t.judged.meant_now, length-append (meant old) t.judged.conditions,
-    length-map new.conditions.items proposition, length-map old.conditions.items proposition)
+    omega (
+      arith,
+      one_at_most m (flags old.opens) (meant old) line t.judged.conditions t.judged.is_read,
+      ap length t.judged.meant_now,
+      length-append (meant old) t.judged.conditions,
+      length-map new.conditions.items proposition,
+      length-map old.conditions.items proposition,
+    )
 
 -- ---- the beginning and the end
 

@@ -12,3 +12,4 @@ pub mod Pieces
 pub mod Preprocessed
 pub mod Sections
 pub mod Taking
+pub mod Whole

@@ -79,10 +79,7 @@ fn condition_text(
 }
 
 /// The text of a line's condition, where it has one. It answers an error only for want of memory.
-pub(crate) fn condition_in(
-    alloc: Global,
-    line: &[u8],
-) -> Result<Option<ConditionText>, NoMemory>
+pub(crate) fn condition_in(alloc: Global, line: &[u8]) -> Result<Option<ConditionText>, NoMemory>
     ensures { IfOk result (λ found. found ≡ asked.condition_in line.now) }
 {
     if !begins_directive(line) {

@@ -16,13 +16,14 @@ mod nesting;
 mod opens;
 pub mod preprocessing;
 pub mod sections;
+pub mod whole;
 
 pub use code::code_text;
 pub use ends::end_place;
 pub use faults::blank_comments;
 pub use line::{Line, LineKind, Lines};
 pub use lines::plain_lines;
-pub use preprocessing::preprocessed_text;
 pub use lists::{Atoms, Formulas};
+pub use preprocessing::preprocessed_text;
 pub use sections::{Sections, read_sections};
-
+pub use whole::blanked_file;

@@ -6,10 +6,8 @@ ghost use Rattle.cpp_lines.specs.Lines as lists;
 ghost use Rattle.cpp_lines.specs.Nesting as nesting;
 ghost use Rattle.cpp_lines.specs.Opens as opens;
 
-use crate::directives::{
-    Directive, begins_directive, behind_hash, directive_named, directive_of,
-};
 use crate::bytes::split_word;
+use crate::directives::{Directive, begins_directive, behind_hash, directive_named, directive_of};
 use crate::lines::cut_line;
 use crate::opens::Opens;
 use fam_outer::{FILE_BYTES, FileCode, NoMemory, Place};

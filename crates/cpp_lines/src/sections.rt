@@ -21,9 +21,7 @@ use crate::lines::{cut_line, line_place};
 use crate::lists::{Atoms, Formulas};
 use crate::nesting::ends_of;
 use crate::opens::Opens;
-use cpp_conditions::{
-    Condition, ConditionRefusal, Formula, Model, add_atoms, number,
-};
+use cpp_conditions::{Condition, ConditionRefusal, Formula, Model, add_atoms, number};
 use fam_outer::{FILE_BYTES, FileCode, FileRefusal, NoMemory, Place, Refusal};
 use linear_atoms::Atom;
 use std::alloc::Global;
@@ -288,11 +286,7 @@ fn formulas_of(
 /// - `TooManyTests`, at the condition with which the atoms of the model and of the conditions so far pass 64.
 ///
 /// It answers `NoMemory` for want of memory.
-pub fn read_sections(
-    alloc: Global,
-    model: &Model,
-    blanked: &[u8],
-) -> Result<Sections, FileRefusal>
+pub fn read_sections(alloc: Global, model: &Model, blanked: &[u8]) -> Result<Sections, FileRefusal>
     requires short { length blanked.now ≤ FILE_BYTES }
     requires features { AreFeatures model.now.features }
     requires fit { AreFit (length model.now.features) model.now.constraints }

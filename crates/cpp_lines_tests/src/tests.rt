@@ -1,6 +1,6 @@
 //! Texts by hand, with their blanked text or refusal, their lines and their code.
 
-use crate::*;
+use cpp_lines::*;
 use fam_outer::{FileCode, FileRefusal, Place, Text};
 use std::alloc::Global;
 use std::process::Abort;

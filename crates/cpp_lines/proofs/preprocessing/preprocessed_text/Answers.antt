@@ -24,7 +24,7 @@ lines-preserved c =
     subst (λ (xs : List Line). AreLeft (c.in-Some.piece.now ∷ pieces c.in-Some.more.now) xs) c.in-Some-cut.ensures
     (subst (λ (ps : List (List ℕ)). AreLeft ps c.lines.left.now) c.in-Some.ensures.0 c.lines.invariant.lines) in
     let before : c.lines.out.items ++ with_newlines (kept_lines c.args.truths.now c.lines.sections (c.in-Some-cut.line ∷ c.in-Some-cut.behind.now) (c.in-Some.piece.now ∷ pieces c.in-Some.more.now))
-        ≡ with_newlines (kept_lines c.args.truths.now [] c.args.lines.now (pieces c.args.blanked.now)) =
+    ≡ with_newlines (kept_lines c.args.truths.now [] c.args.lines.now (pieces c.args.blanked.now)) =
     ap (λ (xs : List Line). c.lines.out.items ++ with_newlines (kept_lines c.args.truths.now c.lines.sections xs (c.in-Some.piece.now ∷ pieces c.in-Some.more.now))) (sym c.in-Some-cut.ensures)
     ∙ ap (λ (ps : List (List ℕ)). c.lines.out.items ++ with_newlines (kept_lines c.args.truths.now c.lines.sections c.lines.left.now ps)) (sym c.in-Some.ensures.0)
     ∙ c.lines.invariant.text in
@@ -42,7 +42,7 @@ pub returns : goal.returns
 unfolding preprocessed
 returns c =
     let before : c.lines.out.items ++ with_newlines (kept_lines c.args.truths.now c.lines.sections (c.in-Some-cut-2.line ∷ c.in-Some-cut-2.field-0-1.now) (c.lines.rest.now ∷ []))
-        ≡ with_newlines (kept_lines c.args.truths.now [] c.args.lines.now (pieces c.args.blanked.now)) =
+    ≡ with_newlines (kept_lines c.args.truths.now [] c.args.lines.now (pieces c.args.blanked.now)) =
     ap (λ (xs : List Line). c.lines.out.items ++ with_newlines (kept_lines c.args.truths.now c.lines.sections xs (c.lines.rest.now ∷ []))) (sym c.in-Some-cut-2.ensures)
     ∙ ap (λ (ps : List (List ℕ)). c.lines.out.items ++ with_newlines (kept_lines c.args.truths.now c.lines.sections c.lines.left.now ps)) (sym c.in_default.ensures)
     ∙ c.lines.invariant.text in

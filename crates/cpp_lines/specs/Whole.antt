@@ -1,0 +1,19 @@
+-- A whole file without its comments, or its first fault before its lines are read.
+use Rattle.std.specs.Prelude.{ℕ, nat_lt, List, length, Result, Ok, Err, if◌then◌else◌}
+use Rattle.fam_outer.specs.declared.faults.Place.{Place}
+use Rattle.fam_outer.specs.declared.faults.FileCode.{FileCode}
+use Rattle.fam_outer.specs.declared.faults.FileCode.TheVariants.{TooLong}
+use Rattle.fam_outer.specs.Limits.{file_bytes}
+use Rattle.fam_outer.specs.Results.{and_then}
+use Rattle.cpp_lines.specs.Faults.{without_comments}
+
+-- where a file is refused whole
+abbrev pub file_place : Place
+file_place = record { line = 1; column = 1 }
+
+abbrev pub within_limit : List ℕ → Result (List ℕ) (FileCode × Place)
+within_limit bytes = if nat_lt file_bytes (length bytes) then Err (TooLong, file_place) else Ok bytes
+
+-- the file with its comments blanked
+abbrev pub blanked_file : List ℕ → Result (List ℕ) (FileCode × Place)
+blanked_file bytes = and_then (within_limit bytes) without_comments
