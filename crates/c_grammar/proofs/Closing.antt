@@ -10,10 +10,10 @@ use Rattle.c_grammar.specs.Ahead.{Loose, NoElse}
 use Rattle.c_grammar.specs.Machine.{Tailing, Another, Final, Frame, Paren, Pre, Left, Stack, Top, Braces, Yes, No, ThenOf, ElseOf, LoopOf, Use, ToAssign, ToUpdate, ToAssert, ToChoose, ToLoop, Sections, Outermost, InPart, InLast, Aim, ToPrototype, ToMain, State, Outside, AfterStatic, AfterExtern, AfterInt, AfterExternInt, Declaring, Bare, Starting, Negating, Started, Parameters, InParameters, AfterVoid, AfterParameters, Ready, Ended, Wants, Has, Named, Opens, InputOpens, InputCloses, Finishing, Returning, Returned, Closing, Over, with_declared, linked, run}
 use Rattle.c_grammar.proofs.Complete.{pre_absorbs, left_absorbs, loop_absorbs, else_absorbs, then_absorbs}
 
-nowhere : Place
+pub nowhere : Place
 nowhere = record { line = 0; column = 0 }
 
-closers : Stack → List Item
+unfoldable pub closers : Stack → List Item
 closers (Top ds made) = at nowhere signs.RightBrace ∷ []
 closers (Braces p made outer) = at nowhere signs.RightBrace ∷ closers outer
 closers (Yes links n made outer) = at nowhere signs.GroupEnd ∷ closers outer
@@ -22,7 +22,7 @@ closers (ThenOf p e outer) = closers outer
 closers (ElseOf p e first outer) = closers outer
 closers (LoopOf p e outer) = closers outer
 
-closers_no_else : (outer : Stack) → NoElse (closers outer)
+pub closers_no_else : (outer : Stack) → NoElse (closers outer)
 unfolding closers
 closers_no_else (Top ds made) = tt
 closers_no_else (Braces p made outer) = tt

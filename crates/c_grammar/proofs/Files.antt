@@ -16,15 +16,15 @@ use Rattle.c_grammar.proofs.Complete.{accepted, followed-none}
 -- ---- declarations
 
 -- a name stands first
-abbrev IsName : Sign → Type 0
+abbrev pub IsName : Sign → Type 0
 IsName (signs.Name x) = Unit {0}
 IsName _ = ⊥
 
-abbrev NameFirst : List Item → Type 0
+abbrev pub NameFirst : List Item → Type 0
 NameFirst [] = ⊥
 NameFirst (x ∷ w) = IsName x.sign
 
-vars_first : {gs : List Guard} {ts : List Item} {ds : List Declared} → Declares (Vars gs) ts ds → (w : List Item) → NameFirst (ts ++ w)
+pub vars_first : {gs : List Guard} {ts : List Item} {ds : List Declared} → Declares (Vars gs) ts ds → (w : List Item) → NameFirst (ts ++ w)
 vars_first (last_var p gs (bare q x)) w = tt
 vars_first (last_var p gs (positive q r s x n)) w = tt
 vars_first (last_var p gs (negative q r s t x n)) w = tt
@@ -143,7 +143,7 @@ passes (empty_elif p n {us} {vs} a b) = λ f k parts w.
     ∙ passes a f (Another (suc k) ∷ parts) (vs ++ w)
     ∙ passes b f (suc k) parts w
 
-return_no_else : {vs : List Item} {d : Code} (p : Place) (w : List Item) → Returns vs d → NoElse (vs ++ at p signs.RightBrace ∷ w)
+pub return_no_else : {vs : List Item} {d : Code} (p : Place) (w : List Item) → Returns vs d → NoElse (vs ++ at p signs.RightBrace ∷ w)
 return_no_else p w no_return = tt
 return_no_else p w (return q r s n) = tt
 

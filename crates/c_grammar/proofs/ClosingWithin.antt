@@ -1,0 +1,125 @@
+-- Whatever is open within the limits can be closed within them: the text that closes it opens nothing more, and has no
+-- operator.
+use Rattle.std.proofs.Common.{◌≡◌, ℕ, ℤ, pos, neg_ℤ, suc, ◌≤◌, List, [], ◌∷◌, Ok, refl, subst, ◌∙◌, arith}
+use Rattle.c_tree.specs.declared.tree.Declared.{Declared}
+use Rattle.c_tree.specs.Tree.{Term, Var, Binary, Code, Done, Assign, Input, Assert, If, While, Block, Skip, Cond, followed}
+use Rattle.c_grammar.specs.declared.items.Sign.TheVariants as signs
+use Rattle.c_grammar.specs.declared.items.Item.{Item}
+use Rattle.c_grammar.specs.Grammar.{at, tighter, applied, updated, File, file_of}
+use Rattle.c_grammar.specs.Ahead.{Loose, NoElse}
+use Rattle.c_grammar.specs.Machine.{Tailing, Another, Final, Frame, Paren, Pre, Left, Stack, Top, Braces, Yes, No, ThenOf, ElseOf, LoopOf, Use, ToAssign, ToUpdate, ToAssert, ToChoose, ToLoop, Sections, Outermost, InPart, InLast, Aim, ToPrototype, ToMain, State, Outside, AfterStatic, AfterExtern, AfterInt, AfterExternInt, Declaring, Bare, Starting, Negating, Started, Parameters, InParameters, AfterVoid, AfterParameters, Ready, Ended, Wants, Has, Named, Opens, InputOpens, InputCloses, Finishing, Returning, Returned, Closing, Over, with_declared, linked}
+use Rattle.c_grammar.specs.Deep.{guarded}
+use Rattle.c_grammar.proofs.Complete.{pre_step, left_step, loop_step, else_step, then_step}
+use Rattle.c_grammar.proofs.Closing.{nowhere, closers, closers_no_else}
+use Rattle.c_grammar.proofs.CompleteWithin.{takes, same_within}
+
+closes : (outer : Stack) (c : Code) (n : ℕ) → (made : File) × (guarded (Ended outer c) n (closers outer) ≡ Ok made)
+unfolding closers guarded
+closes (Top ds made) c n = (file_of ds (followed made c) nowhere, refl)
+closes (Braces p made outer) c n = closes outer (Block p (followed made c) Done) 0
+closes (Yes links i made outer) c n = closes outer (linked links (Cond i (followed made c) Done Done)) 0
+closes (No links i first made outer) c n = closes outer (linked links (Cond i first (followed made c) Done)) 0
+closes (ThenOf p e outer) c n =
+    let h = closes outer (If p e c Done Done) n in
+    (h.0, same_within (Ended (ThenOf p e outer) c) (Ended outer (If p e c Done Done)) n refl refl refl (closers outer) (λ x y is. then_step p e outer c x.place x.sign (subst NoElse is (closers_no_else outer))) ∙ h.1)
+closes (ElseOf p e first outer) c n =
+    let h = closes outer (If p e first c Done) n in
+    (h.0, same_within (Ended (ElseOf p e first outer) c) (Ended outer (If p e first c Done)) n refl refl refl (closers outer) (λ x y is. else_step p e first outer c x.place x.sign) ∙ h.1)
+closes (LoopOf p e outer) c n =
+    let h = closes outer (While p e c Done) n in
+    (h.0, same_within (Ended (LoopOf p e outer) c) (Ended outer (While p e c Done)) n refl refl refl (closers outer) (λ x y is. loop_step p e outer c x.place x.sign) ∙ h.1)
+
+record CanEnd (state : State) (n : ℕ) : Type 0 where
+  pub tail : List Item
+  pub made : File
+  pub reads : guarded state n tail ≡ Ok made
+  pub tight : (k : ℕ) → Loose k tail
+
+ends_use : (u : Use) (e : Term) (n : ℕ) → n ≤ 64 → CanEnd (Has [] u e) n
+unfolding guarded
+ends_use (ToAssign p x outer) e n few =
+    let h = closes outer (Assign p x e Done) n in
+    record { tail = at nowhere signs.Semicolon ∷ closers outer; made = h.0; reads = takes (Has [] (ToAssign p x outer) e) (Ended outer (Assign p x e Done)) nowhere signs.Semicolon n n (closers outer) refl refl refl few ∙ h.1; tight = λ k. tt }
+ends_use (ToUpdate p x u outer) e n few =
+    let h = closes outer (updated p x u e) n in
+    record { tail = at nowhere signs.Semicolon ∷ closers outer; made = h.0; reads = takes (Has [] (ToUpdate p x u outer) e) (Ended outer (updated p x u e)) nowhere signs.Semicolon n n (closers outer) refl refl refl few ∙ h.1; tight = λ k. tt }
+ends_use (ToAssert p outer) e n few =
+    let h = closes outer (Assert p e Done) 0 in
+    let text : List Item = at nowhere signs.Semicolon ∷ closers outer in
+    record { tail = at nowhere signs.Close ∷ text; made = h.0; reads = takes (Has [] (ToAssert p outer) e) (Finishing outer (Assert p e Done)) nowhere signs.Close n n text refl refl refl few ∙ h.1; tight = λ k. tt }
+ends_use (ToChoose p outer) e n few =
+    let h = closes (ThenOf p e outer) (Skip nowhere Done) 0 in
+    let text : List Item = at nowhere signs.Semicolon ∷ closers (ThenOf p e outer) in
+    record { tail = at nowhere signs.Close ∷ text; made = h.0; reads = takes (Has [] (ToChoose p outer) e) (Ready (ThenOf p e outer)) nowhere signs.Close n n text refl refl refl few ∙ h.1; tight = λ k. tt }
+ends_use (ToLoop p outer) e n few =
+    let h = closes (LoopOf p e outer) (Skip nowhere Done) 0 in
+    let text : List Item = at nowhere signs.Semicolon ∷ closers (LoopOf p e outer) in
+    record { tail = at nowhere signs.Close ∷ text; made = h.0; reads = takes (Has [] (ToLoop p outer) e) (Ready (LoopOf p e outer)) nowhere signs.Close n n text refl refl refl few ∙ h.1; tight = λ k. tt }
+
+ends_expr : (fs : List Frame) (u : Use) (e : Term) (n : ℕ) → n ≤ 64 → CanEnd (Has fs u e) n
+ends_expr [] u e n few = ends_use u e n few
+ends_expr (Paren ∷ fs) u e n few =
+    let h = ends_expr fs u e n few in
+    record { tail = at nowhere signs.Close ∷ h.tail; made = h.made; reads = takes (Has (Paren ∷ fs) u e) (Has fs u e) nowhere signs.Close n n h.tail refl refl refl few ∙ h.reads; tight = λ k. tt }
+ends_expr (Pre v ∷ fs) u e n few =
+    let h = ends_expr fs u (applied v e) n few in
+    record { tail = h.tail; made = h.made; reads = same_within (Has (Pre v ∷ fs) u e) (Has fs u (applied v e)) n refl refl refl h.tail (λ x y is. pre_step v fs u e x.sign) ∙ h.reads; tight = h.tight }
+ends_expr (Left op a ∷ fs) u e n few =
+    let h = ends_expr fs u (Binary op a e) n few in
+    record { tail = h.tail; made = h.made; reads = same_within (Has (Left op a ∷ fs) u e) (Has fs u (Binary op a e)) n refl refl refl h.tail (λ x y is. left_step op a fs u e x.sign (subst (Loose (suc (tighter op))) is (h.tight (suc (tighter op))))) ∙ h.reads; tight = h.tight }
+
+-- the rest of a file within the limits
+abbrev pub Rest : State → ℕ → Type 0
+Rest state n = (tail : List Item) × (made : File) × (guarded state n tail ≡ Ok made)
+
+after_declarations : (secs : Sections) (ds : List Declared) (n : ℕ) → Rest (Outside secs ds) n
+unfolding guarded
+after_declarations Outermost ds n = (at nowhere signs.Int ∷ at nowhere signs.Main ∷ at nowhere signs.Open ∷ at nowhere signs.Close ∷ at nowhere signs.LeftBrace ∷ at nowhere signs.RightBrace ∷ [], file_of ds Done nowhere, refl)
+after_declarations (InPart gs i outer) ds n = let h = after_declarations outer ds 0 in (at nowhere signs.GroupEnd ∷ h.0, h.1, h.2)
+after_declarations (InLast gs outer) ds n = let h = after_declarations outer ds 0 in (at nowhere signs.GroupEnd ∷ h.0, h.1, h.2)
+
+after_parameters : (aim : Aim) (n : ℕ) → Rest (AfterParameters aim) n
+unfolding guarded
+after_parameters (ToPrototype secs ds) n = let h = after_declarations secs ds 0 in (at nowhere signs.Semicolon ∷ h.0, h.1, h.2)
+after_parameters (ToMain ds) n = (at nowhere signs.LeftBrace ∷ at nowhere signs.RightBrace ∷ [], file_of ds Done nowhere, refl)
+
+after_groups : (f : File) (parts : List Tailing) (n : ℕ) → Rest (Over f parts) n
+unfolding guarded
+after_groups f [] n = ([], f, refl)
+after_groups f (Another k ∷ parts) n = let h = after_groups f parts 0 in (at nowhere signs.GroupEnd ∷ h.0, h.1, h.2)
+after_groups f (Final k ∷ parts) n = let h = after_groups f parts 0 in (at nowhere signs.GroupEnd ∷ h.0, h.1, h.2)
+
+after_declarator : (x : ℕ) (i : ℤ) (secs : Sections) (ds : List Declared) (n : ℕ) → Rest (Started x i secs ds) n
+unfolding guarded
+after_declarator x i secs ds n = let h = after_declarations secs (with_declared secs ds x i) 0 in (at nowhere signs.Semicolon ∷ h.0, h.1, h.2)
+
+-- each state that is reached within the limits goes on to a file within them
+pub goes_on_within : (state : State) (n : ℕ) → n ≤ 64 → Rest state n
+unfolding guarded after_declarator
+goes_on_within (Outside secs ds) n few = after_declarations secs ds n
+goes_on_within (AfterStatic secs ds) n few = let h = after_declarator 0 (pos 0) secs ds 0 in (at nowhere signs.Int ∷ at nowhere (signs.Name 0) ∷ h.0, h.1, h.2)
+goes_on_within (AfterExtern secs ds) n few = let h = after_parameters (ToPrototype secs ds) 0 in (at nowhere signs.Int ∷ at nowhere signs.Input ∷ at nowhere signs.Open ∷ at nowhere signs.Close ∷ h.0, h.1, h.2)
+goes_on_within (AfterInt secs ds) n few = let h = after_declarator 0 (pos 0) secs ds 0 in (at nowhere (signs.Name 0) ∷ h.0, h.1, h.2)
+goes_on_within (AfterExternInt secs ds) n few = let h = after_parameters (ToPrototype secs ds) 0 in (at nowhere signs.Input ∷ at nowhere signs.Open ∷ at nowhere signs.Close ∷ h.0, h.1, h.2)
+goes_on_within (Declaring secs ds) n few = let h = after_declarator 0 (pos 0) secs ds 0 in (at nowhere (signs.Name 0) ∷ h.0, h.1, h.2)
+goes_on_within (Bare x secs ds) n few = let h = after_declarations secs (with_declared secs ds x (pos 0)) 0 in (at nowhere signs.Semicolon ∷ h.0, h.1, h.2)
+goes_on_within (Starting x secs ds) n few = let h = after_declarator x (pos 0) secs ds 0 in (at nowhere (signs.Number (pos 0)) ∷ h.0, h.1, h.2)
+goes_on_within (Negating x secs ds) n few = let h = after_declarator x (neg_ℤ (pos 0)) secs ds 0 in (at nowhere (signs.Number (pos 0)) ∷ h.0, h.1, h.2)
+goes_on_within (Started x i secs ds) n few = after_declarator x i secs ds n
+goes_on_within (Parameters aim) n few = let h = after_parameters aim 0 in (at nowhere signs.Open ∷ at nowhere signs.Close ∷ h.0, h.1, h.2)
+goes_on_within (InParameters aim) n few = let h = after_parameters aim 0 in (at nowhere signs.Close ∷ h.0, h.1, h.2)
+goes_on_within (AfterVoid aim) n few = let h = after_parameters aim 0 in (at nowhere signs.Close ∷ h.0, h.1, h.2)
+goes_on_within (AfterParameters aim) n few = after_parameters aim n
+goes_on_within (Ready outer) n few = let h = closes outer (Skip nowhere Done) 0 in (at nowhere signs.Semicolon ∷ closers outer, h.0, h.1)
+goes_on_within (Ended outer c) n few = let h = closes outer c n in (closers outer, h.0, h.1)
+goes_on_within (Wants fs u) n few = let h = ends_expr fs u (Var 0) n few in (at nowhere (signs.Name 0) ∷ h.tail, h.made, takes (Wants fs u) (Has fs u (Var 0)) nowhere (signs.Name 0) n n h.tail refl refl refl few ∙ h.reads)
+goes_on_within (Has fs u e) n few = let h = ends_expr fs u e n few in (h.tail, h.made, h.reads)
+goes_on_within (Named p x outer) n few = let h = closes outer (Assign p x (Var 0) Done) 0 in (at nowhere signs.Equals ∷ at nowhere (signs.Name 0) ∷ at nowhere signs.Semicolon ∷ closers outer, h.0, h.1)
+goes_on_within (Opens u) n few = let h = ends_use u (Var 0) 0 (omega arith) in (at nowhere signs.Open ∷ at nowhere (signs.Name 0) ∷ h.tail, h.made, h.reads)
+goes_on_within (InputOpens p x outer) n few = let h = closes outer (Input p x Done) 0 in (at nowhere signs.Open ∷ at nowhere signs.Close ∷ at nowhere signs.Semicolon ∷ closers outer, h.0, h.1)
+goes_on_within (InputCloses p x outer) n few = let h = closes outer (Input p x Done) 0 in (at nowhere signs.Close ∷ at nowhere signs.Semicolon ∷ closers outer, h.0, h.1)
+goes_on_within (Finishing outer c) n few = let h = closes outer c 0 in (at nowhere signs.Semicolon ∷ closers outer, h.0, h.1)
+goes_on_within (Returning p ds made) n few = (at nowhere (signs.Number (pos 0)) ∷ at nowhere signs.Semicolon ∷ at nowhere signs.RightBrace ∷ [], file_of ds (followed made (Skip p Done)) nowhere, refl)
+goes_on_within (Returned ds made) n few = (at nowhere signs.Semicolon ∷ at nowhere signs.RightBrace ∷ [], file_of ds made nowhere, refl)
+goes_on_within (Closing ds made) n few = (at nowhere signs.RightBrace ∷ [], file_of ds made nowhere, refl)
+goes_on_within (Over f parts) n few = after_groups f parts n

@@ -1,0 +1,210 @@
+-- What is spelled within the limits is read within them: declarations and files.
+use Rattle.std.proofs.Common.{◌≡◌, ℕ, ℤ, pos, neg_ℤ, suc, ◌+◌, ◌≤◌, true, false, List, [], ◌∷◌, ◌++◌, length, Some, Ok, refl, sym, ap, subst, ◌∙◌, append_assoc, arith}
+use Rattle.std.proofs.lemmas.List.{append-nil, length-append}
+use Rattle.fam_outer.specs.declared.faults.Place.{Place}
+use Rattle.c_tree.specs.declared.tree.Op.TheVariants.{Sub}
+use Rattle.c_tree.specs.declared.tree.Guard.{Guard}
+use Rattle.c_tree.specs.declared.tree.Declared.{Declared}
+use Rattle.c_tree.specs.Tree.{Code, Done, Skip, followed}
+use Rattle.c_grammar.specs.declared.items.Sign.{Sign}
+use Rattle.c_grammar.specs.declared.items.Sign.TheVariants as signs
+use Rattle.c_grammar.specs.declared.items.Item.{Item}
+use Rattle.c_grammar.specs.Grammar.{at, Optional, absent, present, Declarator, bare, positive, negative, with_true, with_false, declared, Part, Outer, Vars, Later, Returns, no_return, return, Gap, Gaps, GapRest, File, file_of}
+use Rattle.c_grammar.specs.Machine.{Tailing, Another, Final, Top, Sections, Outermost, InPart, InLast, guards_of, Aim, ToPrototype, ToMain, State, Outside, AfterStatic, AfterExtern, AfterInt, AfterExternInt, Declaring, Bare, Starting, Negating, Started, Parameters, InParameters, AfterVoid, AfterParameters, Ready, Returning, Returned, Closing, Over, with_declared, step, start}
+use Rattle.c_grammar.specs.Deep.{opens_more, counted, section_depth, tail_depth, ended, guarded}
+use Rattle.c_grammar.specs.Within.{DeclaresIn, nothing, variables, prototype, section, last_var, next_var, end_part, else_part, elif_part, EmptyIn, no_more, empty_section, empty_end, empty_else, empty_elif, BodyWithin, body, MainWithin, main, FormsWithin, file}
+use Rattle.c_grammar.proofs.Complete.{followed-none}
+use Rattle.c_grammar.proofs.Files.{NameFirst, IsName, vars_first, return_no_else}
+use Rattle.c_grammar.proofs.Within.{declares_plain}
+use Rattle.c_grammar.proofs.CompleteWithin.{same_within}
+use Rattle.c_grammar.proofs.StatesWithin.{token, opens_in, accepted_in}
+
+-- ---- declarations
+
+after_int_same : (secs : Sections) (es : List Declared) (p : Place) (s : Sign) → IsName s → step (AfterInt secs es) p s ≡ step (Declaring secs es) p s
+after_int_same secs es p (signs.Name x) h = refl
+after_int_same secs es p _ h = absurd h
+
+name_at : (w : List Item) (x : Item) (v : List Item) → w ≡ x ∷ v → NameFirst w → IsName x.sign
+name_at w x v is h = subst NameFirst is h
+
+after_int : (secs : Sections) (es : List Declared) (w : List Item) → NameFirst w → guarded (AfterInt secs es) 0 w ≡ guarded (Declaring secs es) 0 w
+after_int secs es w h = same_within (AfterInt secs es) (Declaring secs es) 0 refl refl refl w (λ x v is. after_int_same secs es x.place x.sign (name_at w x v is h))
+
+pub int_then : {us : List Item} (p : Place) (secs : Sections) (es : List Declared) (w : List Item) → Optional signs.Static us → NameFirst w → guarded (Outside secs es) 0 (us ++ at p signs.Int ∷ w) ≡ guarded (Declaring secs es) 0 w
+int_then p secs es w (absent s) h = token (Outside secs es) (AfterInt secs es) p signs.Int 0 w refl refl refl ∙ after_int secs es w h
+int_then p secs es w (present q s) h = token (Outside secs es) (AfterStatic secs es) q signs.Static 0 (at p signs.Int ∷ w) refl refl refl ∙ token (AfterStatic secs es) (Declaring secs es) p signs.Int 0 w refl refl refl
+
+pub parameters : {us : List Item} (r s : Place) (aim : Aim) (w : List Item) → Optional signs.Void us → guarded (Parameters aim) 0 (at r signs.Open ∷ (us ++ at s signs.Close ∷ w)) ≡ guarded (AfterParameters aim) 0 w
+parameters {us} r s aim w (absent t) = token (Parameters aim) (InParameters aim) r signs.Open 0 (at s signs.Close ∷ w) refl refl refl ∙ token (InParameters aim) (AfterParameters aim) s signs.Close 0 w refl refl refl
+parameters {us} r s aim w (present q t) =
+    token (Parameters aim) (InParameters aim) r signs.Open 0 (at q signs.Void ∷ at s signs.Close ∷ w) refl refl refl
+    ∙ token (InParameters aim) (AfterVoid aim) q signs.Void 0 (at s signs.Close ∷ w) refl refl refl
+    ∙ token (AfterVoid aim) (AfterParameters aim) s signs.Close 0 w refl refl refl
+
+pub prototyped : {us : List Item} (p q : Place) (secs : Sections) (es : List Declared) (w : List Item) → Optional signs.Extern us → guarded (Outside secs es) 0 (us ++ at p signs.Int ∷ at q signs.Input ∷ w) ≡ guarded (Parameters (ToPrototype secs es)) 0 w
+prototyped p q secs es w (absent t) = token (Outside secs es) (AfterInt secs es) p signs.Int 0 (at q signs.Input ∷ w) refl refl refl ∙ token (AfterInt secs es) (Parameters (ToPrototype secs es)) q signs.Input 0 w refl refl refl
+prototyped p q secs es w (present r t) =
+    token (Outside secs es) (AfterExtern secs es) r signs.Extern 0 (at p signs.Int ∷ at q signs.Input ∷ w) refl refl refl
+    ∙ token (AfterExtern secs es) (AfterExternInt secs es) p signs.Int 0 (at q signs.Input ∷ w) refl refl refl
+    ∙ token (AfterExternInt secs es) (Parameters (ToPrototype secs es)) q signs.Input 0 w refl refl refl
+
+-- behind a declarator
+pub declarator : {us : List Item} {x : ℕ} {n : ℤ} (secs : Sections) (es : List Declared) (p : Place) (s : Sign) (next : State) (w : List Item) → step (Started x n secs es) p s ≡ Some next → step (Bare x secs es) p s ≡ step (Started x (pos 0) secs es) p s → opens_more s ≡ false → Declarator us x n
+    → guarded (Declaring secs es) 0 (us ++ at p s ∷ w) ≡ guarded next 0 w
+declarator secs es p s next w is same plain (bare q x) = token (Declaring secs es) (Bare x secs es) q (signs.Name x) 0 (at p s ∷ w) refl refl refl ∙ token (Bare x secs es) next p s 0 w (same ∙ is) plain refl
+declarator secs es p s next w is same plain (positive q r z x n) =
+    token (Declaring secs es) (Bare x secs es) q (signs.Name x) 0 (at r signs.Equals ∷ at z (signs.Number n) ∷ at p s ∷ w) refl refl refl
+    ∙ token (Bare x secs es) (Starting x secs es) r signs.Equals 0 (at z (signs.Number n) ∷ at p s ∷ w) refl refl refl
+    ∙ token (Starting x secs es) (Started x n secs es) z (signs.Number n) 0 (at p s ∷ w) refl refl refl
+    ∙ token (Started x n secs es) next p s 0 w is plain refl
+declarator secs es p s next w is same plain (negative q r z t x n) =
+    token (Declaring secs es) (Bare x secs es) q (signs.Name x) 0 (at r signs.Equals ∷ at z (signs.Oper Sub) ∷ at t (signs.Number n) ∷ at p s ∷ w) refl refl refl
+    ∙ token (Bare x secs es) (Starting x secs es) r signs.Equals 0 (at z (signs.Oper Sub) ∷ at t (signs.Number n) ∷ at p s ∷ w) refl refl refl
+    ∙ token (Starting x secs es) (Negating x secs es) z (signs.Oper Sub) 0 (at t (signs.Number n) ∷ at p s ∷ w) refl refl refl
+    ∙ token (Negating x secs es) (Started x (neg_ℤ n) secs es) t (signs.Number n) 0 (at p s ∷ w) refl refl refl
+    ∙ token (Started x (neg_ℤ n) secs es) next p s 0 w is plain refl
+
+pub at_comma : {us : List Item} {x : ℕ} {n : ℤ} (p : Place) (secs : Sections) (es : List Declared) (w : List Item) → Declarator us x n → guarded (Declaring secs es) 0 (us ++ at p signs.Comma ∷ w) ≡ guarded (Declaring secs (with_declared secs es x n)) 0 w
+at_comma {x = x} {n = n} p secs es w d = declarator secs es p signs.Comma (Declaring secs (with_declared secs es x n)) w refl refl refl d
+
+pub at_end_of : {us : List Item} {x : ℕ} {n : ℤ} (p : Place) (secs : Sections) (es : List Declared) (w : List Item) → Declarator us x n → guarded (Declaring secs es) 0 (us ++ at p signs.Semicolon ∷ w) ≡ guarded (Outside secs (with_declared secs es x n)) 0 w
+at_end_of {x = x} {n = n} p secs es w d = declarator secs es p signs.Semicolon (Outside secs (with_declared secs es x n)) w refl refl refl d
+
+-- one more guard
+pub guards_true : (gs : List Guard) (n : ℕ) → length (with_true gs n) ≡ suc (length gs)
+guards_true gs n = let h = length-append gs (record { number = n; positive = true } ∷ []) in h ∙ omega arith
+
+pub guards_false : (gs : List Guard) (n : ℕ) → length (with_false gs n) ≡ suc (length gs)
+guards_false gs n = let h = length-append gs (record { number = n; positive = false } ∷ []) in h ∙ omega arith
+
+regroup : (secs : Sections) (a b c : List Declared) (w : List Item) → guarded (Outside secs ((a ++ b) ++ c)) 0 w ≡ guarded (Outside secs (a ++ (b ++ c))) 0 w
+regroup secs a b c w = ap (λ (y : List Declared). guarded (Outside secs y) 0 w) (append_assoc a b c)
+
+abbrev pub GoesIn : ℕ → Part → List Item → List Declared → Type 0
+GoesIn k (Outer gs) ts ds = (secs : Sections) → guards_of secs ≡ gs → k + length gs ≤ 64 → (es : List Declared) (w : List Item) → guarded (Outside secs es) 0 (ts ++ w) ≡ guarded (Outside secs (es ++ ds)) 0 w
+GoesIn k (Vars gs) ts ds = (secs : Sections) → guards_of secs ≡ gs → k + length gs ≤ 64 → (es : List Declared) (w : List Item) → guarded (Declaring secs es) 0 (ts ++ w) ≡ guarded (Outside secs (es ++ ds)) 0 w
+GoesIn k (Later gs) ts ds = (hs : List Guard) (n : ℕ) (outer : Sections) → with_false hs n ≡ gs → k + length gs ≤ 64 → (es : List Declared) (w : List Item) → guarded (Outside (InPart hs n outer) es) 0 (ts ++ w) ≡ guarded (Outside outer (es ++ ds)) 0 w
+
+pub goes_in : {k : ℕ} {s : Part} {ts : List Item} {ds : List Declared} → DeclaresIn k s ts ds → GoesIn k s ts ds
+goes_in (nothing gs) = λ secs is h es w. ap (λ (y : List Declared). guarded (Outside secs y) 0 w) (sym (append-nil es))
+goes_in (variables p gs {us} {vs} {ws} {ds} {es = fs} o v d) = λ secs is h es w.
+    let re : (us ++ at p signs.Int ∷ (vs ++ ws)) ++ w ≡ us ++ at p signs.Int ∷ (vs ++ (ws ++ w)) = simp append_assoc in
+    ap (guarded (Outside secs es) 0) re
+    ∙ int_then p secs es (vs ++ (ws ++ w)) o (vars_first (declares_plain v) (ws ++ w))
+    ∙ goes_in v secs is h es (ws ++ w)
+    ∙ goes_in d secs is h (es ++ ds) w
+    ∙ regroup secs es ds fs w
+goes_in (prototype p q r s t gs {us} {vs} {ws} {es = fs} o v d) = λ secs is h es w.
+    let re : (us ++ at p signs.Int ∷ at q signs.Input ∷ at r signs.Open ∷ (vs ++ at s signs.Close ∷ at t signs.Semicolon ∷ ws)) ++ w ≡ us ++ at p signs.Int ∷ at q signs.Input ∷ at r signs.Open ∷ (vs ++ at s signs.Close ∷ at t signs.Semicolon ∷ (ws ++ w)) = simp append_assoc in
+    ap (guarded (Outside secs es) 0) re
+    ∙ prototyped p q secs es (at r signs.Open ∷ (vs ++ at s signs.Close ∷ at t signs.Semicolon ∷ (ws ++ w))) o
+    ∙ parameters r s (ToPrototype secs es) (at t signs.Semicolon ∷ (ws ++ w)) v
+    ∙ token (AfterParameters (ToPrototype secs es)) (Outside secs es) t signs.Semicolon 0 (ws ++ w) refl refl refl
+    ∙ goes_in d secs is h es w
+goes_in (section p n gs {us} {vs} {ws} {cs} {ds} {es = fs} {k = j} a b d) = λ secs is h es w.
+    let re : (us ++ (vs ++ ws)) ++ w ≡ us ++ (vs ++ (ws ++ w)) = simp append_assoc in
+    let g : suc j + length gs ≤ 64 = h in
+    let here : length (guards_of secs) ≡ length gs = ap length is in
+    opens_in (Outside secs es) (Outside (InPart (guards_of secs) n secs) es) p (signs.GroupIf n) 0 ((us ++ (vs ++ ws)) ++ w) refl refl (omega (arith, g, here))
+    ∙ ap (guarded (Outside (InPart (guards_of secs) n secs) es) 0) re
+    ∙ goes_in a (InPart (guards_of secs) n secs) (ap (λ (y : List Guard). with_true y n) is) (omega (arith, g, guards_true gs n)) es (vs ++ (ws ++ w))
+    ∙ goes_in b (guards_of secs) n secs (ap (λ (y : List Guard). with_false y n) is) (omega (arith, g, guards_false gs n)) (es ++ cs) (ws ++ w)
+    ∙ goes_in d secs is h ((es ++ cs) ++ ds) w
+    ∙ ap (λ (y : List Declared). guarded (Outside secs y) 0 w) (append_assoc (es ++ cs) ds fs ∙ append_assoc es cs (ds ++ fs))
+goes_in (last_var p gs {us} {x} {n} v) = λ secs is h es w.
+    ap (guarded (Declaring secs es) 0) (append_assoc us (at p signs.Semicolon ∷ []) w)
+    ∙ at_end_of p secs es w v
+    ∙ ap (λ (y : List Guard). guarded (Outside secs (es ++ declared x n y ∷ [])) 0 w) is
+goes_in (next_var p gs {us} {vs} {x} {n} {ds} v d) = λ secs is h es w.
+    ap (guarded (Declaring secs es) 0) (append_assoc us (at p signs.Comma ∷ vs) w)
+    ∙ at_comma p secs es (vs ++ w) v
+    ∙ goes_in d secs is h (with_declared secs es x n) w
+    ∙ regroup secs es (declared x n (guards_of secs) ∷ []) ds w
+    ∙ ap (λ (y : List Guard). guarded (Outside secs (es ++ declared x n y ∷ ds)) 0 w) is
+goes_in (end_part p gs) = λ hs n outer is h es w.
+    token (Outside (InPart hs n outer) es) (Outside outer es) p signs.GroupEnd 0 w refl refl refl
+    ∙ ap (λ (y : List Declared). guarded (Outside outer y) 0 w) (sym (append-nil es))
+goes_in (else_part p q gs {us} {ds} d) = λ hs n outer is h es w.
+    token (Outside (InPart hs n outer) es) (Outside (InLast (with_false hs n) outer) es) p signs.GroupElse 0 ((us ++ at q signs.GroupEnd ∷ []) ++ w) refl refl refl
+    ∙ ap (guarded (Outside (InLast (with_false hs n) outer) es) 0) (append_assoc us (at q signs.GroupEnd ∷ []) w)
+    ∙ goes_in d (InLast (with_false hs n) outer) is h es (at q signs.GroupEnd ∷ w)
+    ∙ token (Outside (InLast (with_false hs n) outer) (es ++ ds)) (Outside outer (es ++ ds)) q signs.GroupEnd 0 w refl refl refl
+goes_in (elif_part p m gs {us} {vs} {cs} {ds} {k = j} a b) = λ hs n outer is h es w.
+    let g : suc j + length gs ≤ 64 = h in
+    let here : length (with_false hs n) ≡ length gs = ap length is in
+    opens_in (Outside (InPart hs n outer) es) (Outside (InPart (with_false hs n) m outer) es) p (signs.GroupElif m) 0 ((us ++ vs) ++ w) refl refl (omega (arith, g, here, guards_true hs n, guards_false hs n))
+    ∙ ap (guarded (Outside (InPart (with_false hs n) m outer) es) 0) (append_assoc us vs w)
+    ∙ goes_in a (InPart (with_false hs n) m outer) (ap (λ (y : List Guard). with_true y m) is) (omega (arith, g, guards_true gs m)) es (vs ++ w)
+    ∙ goes_in b (with_false hs n) m outer (ap (λ (y : List Guard). with_false y m) is) (omega (arith, g, guards_false gs m)) (es ++ cs) w
+    ∙ regroup outer es cs ds w
+
+-- ---- files
+
+abbrev pub PassesIn : ℕ → Gap → List Item → Type 0
+PassesIn k Gaps ts = (f : File) (parts : List Tailing) → k + tail_depth parts ≤ 64 → (w : List Item) → guarded (Over f parts) 0 (ts ++ w) ≡ guarded (Over f parts) 0 w
+PassesIn k GapRest ts = (f : File) (i : ℕ) (parts : List Tailing) → k + (i + tail_depth parts) ≤ 64 → (w : List Item) → guarded (Over f (Another i ∷ parts)) 0 (ts ++ w) ≡ guarded (Over f parts) 0 w
+
+pub passes_in : {k : ℕ} {s : Gap} {ts : List Item} → EmptyIn k s ts → PassesIn k s ts
+passes_in no_more = λ f parts h w. refl
+passes_in (empty_section p n {us} {vs} {ws} {k = j} a b d) = λ f parts h w.
+    let re : (us ++ (vs ++ ws)) ++ w ≡ us ++ (vs ++ (ws ++ w)) = simp append_assoc in
+    let g : suc j + tail_depth parts ≤ 64 = h in
+    let one : j + (1 + tail_depth parts) ≤ 64 = omega (arith, g) in
+    opens_in (Over f parts) (Over f (Another 1 ∷ parts)) p (signs.GroupIf n) 0 ((us ++ (vs ++ ws)) ++ w) refl refl (omega (arith, g))
+    ∙ ap (guarded (Over f (Another 1 ∷ parts)) 0) re
+    ∙ passes_in a f (Another 1 ∷ parts) one (vs ++ (ws ++ w))
+    ∙ passes_in b f 1 parts one (ws ++ w)
+    ∙ passes_in d f parts h w
+passes_in (empty_end p) = λ f i parts h w. token (Over f (Another i ∷ parts)) (Over f parts) p signs.GroupEnd 0 w refl refl refl
+passes_in (empty_else p q {us} a) = λ f i parts h w.
+    token (Over f (Another i ∷ parts)) (Over f (Final i ∷ parts)) p signs.GroupElse 0 ((us ++ at q signs.GroupEnd ∷ []) ++ w) refl refl refl
+    ∙ ap (guarded (Over f (Final i ∷ parts)) 0) (append_assoc us (at q signs.GroupEnd ∷ []) w)
+    ∙ passes_in a f (Final i ∷ parts) h (at q signs.GroupEnd ∷ w)
+    ∙ token (Over f (Final i ∷ parts)) (Over f parts) q signs.GroupEnd 0 w refl refl refl
+passes_in (empty_elif p n {us} {vs} {k = j} a b) = λ f i parts h w.
+    let g : suc j + (i + tail_depth parts) ≤ 64 = h in
+    let one : j + (suc i + tail_depth parts) ≤ 64 = omega (arith, g) in
+    opens_in (Over f (Another i ∷ parts)) (Over f (Another (suc i) ∷ parts)) p (signs.GroupElif n) 0 ((us ++ vs) ++ w) refl refl (omega (arith, g))
+    ∙ ap (guarded (Over f (Another (suc i) ∷ parts)) 0) (append_assoc us vs w)
+    ∙ passes_in a f (Another (suc i) ∷ parts) one (vs ++ w)
+    ∙ passes_in b f (suc i) parts one w
+
+pub ends_main : {vs : List Item} {d : Code} (p : Place) (ds : List Declared) (c : Code) (w : List Item) → Returns vs d → guarded (Ready (Top ds c)) 0 (vs ++ at p signs.RightBrace ∷ w) ≡ guarded (Over (file_of ds (followed c d) p) []) 0 w
+ends_main p ds c w no_return =
+    token (Ready (Top ds c)) (Over (file_of ds c p) []) p signs.RightBrace 0 w refl refl refl
+    ∙ ap (λ (y : Code). guarded (Over (file_of ds y p) []) 0 w) (sym (followed-none c))
+ends_main p ds c w (return q r s n) =
+    let made : Code = followed c (Skip q Done) in
+    token (Ready (Top ds c)) (Returning q ds c) q signs.Return 0 (at r (signs.Number n) ∷ at s signs.Semicolon ∷ at p signs.RightBrace ∷ w) refl refl refl
+    ∙ token (Returning q ds c) (Returned ds made) r (signs.Number n) 0 (at s signs.Semicolon ∷ at p signs.RightBrace ∷ w) refl refl refl
+    ∙ token (Returned ds made) (Closing ds made) s signs.Semicolon 0 (at p signs.RightBrace ∷ w) refl refl refl
+    ∙ token (Closing ds made) (Over (file_of ds made p) []) p signs.RightBrace 0 w refl refl refl
+
+pub over_all : (f : File) → guarded (Over f []) 0 [] ≡ Ok f
+unfolding guarded
+over_all f = refl
+
+-- `main` up to its first statement
+pub enters_main : {us : List Item} (p q r s t : Place) (ds : List Declared) (w : List Item) → Optional signs.Void us
+    → guarded (Outside Outermost ds) 0 (at p signs.Int ∷ at q signs.Main ∷ at r signs.Open ∷ (us ++ at s signs.Close ∷ at t signs.LeftBrace ∷ w)) ≡ guarded (Ready (Top ds Done)) 0 w
+enters_main {us} p q r s t ds w o =
+    token (Outside Outermost ds) (AfterInt Outermost ds) p signs.Int 0 (at q signs.Main ∷ at r signs.Open ∷ (us ++ at s signs.Close ∷ at t signs.LeftBrace ∷ w)) refl refl refl
+    ∙ token (AfterInt Outermost ds) (Parameters (ToMain ds)) q signs.Main 0 (at r signs.Open ∷ (us ++ at s signs.Close ∷ at t signs.LeftBrace ∷ w)) refl refl refl
+    ∙ parameters r s (ToMain ds) (at t signs.LeftBrace ∷ w) o
+    ∙ opens_in (AfterParameters (ToMain ds)) (Ready (Top ds Done)) t signs.LeftBrace 0 w refl refl (omega arith)
+
+body_in : {ts : List Item} {c : Code} {p : Place} (ds : List Declared) → BodyWithin ts c p → guarded (Ready (Top ds Done)) 0 ts ≡ Ok (file_of ds c p)
+body_in ds (body p {us} {vs} {ws} {c} {d} s r e) =
+    accepted_in s (Top ds Done) tt (omega arith) 0 (vs ++ at p signs.RightBrace ∷ ws) (return_no_else p ws r)
+    ∙ ends_main p ds c ws r
+    ∙ ap (guarded (Over (file_of ds (followed c d) p) []) 0) (sym (append-nil ws))
+    ∙ passes_in e (file_of ds (followed c d) p) [] (omega arith) []
+    ∙ over_all (file_of ds (followed c d) p)
+
+main_in : {ts : List Item} {c : Code} {p : Place} (ds : List Declared) → MainWithin ts c p → guarded (Outside Outermost ds) 0 ts ≡ Ok (file_of ds c p)
+main_in ds (main p q r s t u {us} {vs} {c} o b) = enters_main p q r s t ds vs o ∙ body_in ds b
+
+-- a file within the limits is read within them
+pub read_within : (ts : List Item) (f : File) → FormsWithin ts f → guarded start 0 ts ≡ Ok f
+read_within _ _ (file {us} {vs} {ds} {c} {p} d m) = goes_in d Outermost refl (omega arith) [] vs ∙ main_in ds m

@@ -1,0 +1,212 @@
+-- What is read within the limits is spelled within them: expressions and statements. The text is spelled as it is
+-- without limits, and each item at which more is open shows that there is room for it.
+use Rattle.std.proofs.Common.{◌≡◌, ℕ, zero, suc, ◌+◌, ◌≤◌, Bool, true, false, ◌&&◌, ◌||◌, List, [], ◌∷◌, ◌++◌, length, Option, Some, None, Result, Ok, refl, sym, ap, subst, ◌∙◌, append_assoc, arith}
+use Rattle.std.specs.Prelude.{nat_le}
+use Rattle.std.proofs.lemmas.Bool.{leb-false, or_parts}
+use Rattle.fam_outer.specs.declared.faults.Place.{Place}
+use Rattle.c_tree.specs.Tree.{Term, Code, Done, Assign, Input, Assert, If, While, Block, Skip, Cond}
+use Rattle.c_grammar.specs.declared.items.Sign.{Sign}
+use Rattle.c_grammar.specs.declared.items.Sign.TheVariants as signs
+use Rattle.c_grammar.specs.declared.items.Item.{Item}
+use Rattle.c_grammar.specs.Ahead.{IsLooser, Loose, IsList, NoElse}
+use Rattle.c_grammar.specs.Grammar.{at, tighter, Prefix, Positive, Negative, Inverse, prefix_sign, applied, Expresses, number, name, group, prefix, loose, binary, update_sign, count_sign, updated, Shape, Listed, Stated, Chained, Writes, File}
+use Rattle.c_grammar.specs.Grammar as plain
+use Rattle.c_grammar.specs.Machine.{Frame, Paren, Pre, Left, room, Stack, Braces, Yes, No, ThenOf, ElseOf, LoopOf, Use, ToAssign, ToUpdate, ToAssert, ToChoose, ToLoop, State, Ready, Ended, Wants, Has, Named, Opens, Finishing, folded, step}
+use Rattle.c_grammar.specs.Deep.{depth, opens_more, around, counted, is_deep, is_nested, is_long, Fault, went, guarded}
+use Rattle.c_grammar.specs.Within.{operators_in, more_by, Full, WritesIn, none, more, choice, ends, otherwise, elif, assign, input, update, count, assert, skip, block, while, if_then, if_else}
+use Rattle.c_grammar.proofs.Complete.{Free, free_of, no_else, chain_no_else, looser, settled, folded-list, loop_step, else_step, then_step}
+use Rattle.c_grammar.proofs.CompleteWithin.{takes, same_within, prefix_takes, prefix_more, operators_both, expresses_within}
+use Rattle.c_grammar.proofs.StatesWithin.{token, opens_in, group_in, folds_in, depth_folded, full_in, last_token, updates_in, head_in, accepted_in}
+
+-- ---- an item that is read
+
+never_deep : (o : Option State) (go : State → Result File Fault) (n : ℕ) (f : File) → went o true go n ≡ Ok f → ⊥
+never_deep None go n f h = absurd cc
+never_deep (Some state) go n f h = absurd cc
+
+not_deep : (state : State) (n : ℕ) (x : Item) (w : List Item) (f : File) → guarded state n (x ∷ w) ≡ Ok f → is_deep state x.sign n ≡ false
+unfolding guarded
+not_deep state n x w f h =
+    let go : State → Result File Fault = λ next. guarded next (counted state x.sign n) w in
+    elim (is_deep state x.sign n) as (λ d. went (step state x.place x.sign) d go (suc (length w)) ≡ Ok f → d ≡ false) [
+      | true ↦ λ e. absurd (never_deep (step state x.place x.sign) go (suc (length w)) f e)
+      | false ↦ λ e. refl
+    ] h
+
+and_right : (a b : Bool) → a ≡ true → (a && b) ≡ false → b ≡ false
+and_right true b e h = h
+and_right false b e h = absurd cc
+
+-- one that opens more has fewer than 64 around it
+pub opens_few : (state : State) (n : ℕ) (x : Item) (w : List Item) (f : File) → opens_more x.sign ≡ true → guarded state n (x ∷ w) ≡ Ok f → suc (around state) ≤ 64
+opens_few state n x w f o h =
+    let d = (or_parts (is_nested state x.sign) (is_long state x.sign n) (not_deep state n x w f h)).0 in
+    let e : nat_le 64 (around state) ≡ false = and_right (opens_more x.sign) (nat_le 64 (around state)) o d in
+    leb-false 64 (around state) e
+
+-- there are at most 64 operators with it
+pub not_long : (state : State) (n m : ℕ) (x : Item) (w : List Item) (f : File) → counted state x.sign n ≡ m → guarded state n (x ∷ w) ≡ Ok f → m ≤ 64
+not_long state n m x w f c h =
+    let d = (or_parts (is_nested state x.sign) (is_long state x.sign n) (not_deep state n x w f h)).1 in
+    let lt = leb-false 65 (counted state x.sign n) d in
+    omega (arith, lt, c)
+
+-- ---- expressions
+
+prefix_counts : (u : Prefix) (fs : List Frame) (v : Use) (n : ℕ) → counted (Wants fs v) (prefix_sign u) n ≡ suc n
+prefix_counts Positive fs v n = refl
+prefix_counts Negative fs v n = refl
+prefix_counts Inverse fs v n = refl
+
+short_of : {k : ℕ} {ts : List Item} {e : Term} → Expresses k ts e → (fs : List Frame) (v : Use) → k ≤ room fs → (n : ℕ) → n ≤ 64 → (w : List Item) (f : File) → Loose k w → guarded (Wants fs v) n (ts ++ w) ≡ Ok f → operators_in ts + n ≤ 64
+short_of (number p z) fs v le n small w f l h = let e : 0 + n ≤ 64 = omega (arith, small) in e
+short_of (name p x) fs v le n small w f l h = let e : 0 + n ≤ 64 = omega (arith, small) in e
+short_of (group p q {ts} {e} s) fs v le n small w f l h =
+    let one : suc n ≤ 64 = not_long (Wants fs v) n (suc n) (at p signs.Open) ((ts ++ at q signs.Close ∷ []) ++ w) f refl h in
+    let next = takes (Wants fs v) (Wants (Paren ∷ fs) v) p signs.Open n (suc n) ((ts ++ at q signs.Close ∷ []) ++ w) refl refl refl one ∙ ap (guarded (Wants (Paren ∷ fs) v) (suc n)) (append_assoc ts (at q signs.Close ∷ []) w) in
+    let c = short_of s (Paren ∷ fs) v (omega arith) (suc n) one (at q signs.Close ∷ w) f tt (sym next ∙ h) in
+    let d : operators_in (ts ++ at q signs.Close ∷ []) ≡ operators_in ts + 0 = operators_both ts (at q signs.Close ∷ []) in
+    let made : suc (operators_in (ts ++ at q signs.Close ∷ [])) + n ≤ 64 = omega (arith, c, d) in
+    made
+short_of (prefix p u {ts} {e} s) fs v le n small w f l h =
+    let one = not_long (Wants fs v) n (suc n) (at p (prefix_sign u)) (ts ++ w) f (prefix_counts u fs v n) h in
+    let c = short_of s (Pre u ∷ fs) v (omega arith) (suc n) one w f (looser 0 0 w (omega arith) l) (sym (prefix_takes u p fs v n (ts ++ w) one) ∙ h) in
+    let d = prefix_more u (operators_in ts) in
+    let made : more_by (prefix_sign u) (operators_in ts) + n ≤ 64 = omega (arith, c, d) in
+    made
+short_of (loose {k} s) fs v le n small w f l h = short_of s fs v (omega arith) n small w f (looser k (suc k) w (omega arith) l) h
+short_of (binary p op {ts} {us} {a} {b} s t) fs v le n small w f l h =
+    let m : ℕ = operators_in ts + n in
+    let h1 = sym (ap (guarded (Wants fs v) n) (append_assoc ts (at p (signs.Oper op) ∷ us) w)) ∙ h in
+    let c : operators_in ts + n ≤ 64 = short_of s fs v le n small (at p (signs.Oper op) ∷ (us ++ w)) f (omega arith) h1 in
+    let h2 = sym (expresses_within s fs v le n (operators_in ts + n) refl c (at p (signs.Oper op) ∷ (us ++ w)) (omega arith)) ∙ h1 in
+    let one : suc (operators_in ts + n) ≤ 64 = not_long (Has fs v a) (operators_in ts + n) (suc (operators_in ts + n)) (at p (signs.Oper op)) (us ++ w) f refl h2 in
+    let next = takes (Has fs v a) (Wants (Left op a ∷ fs) v) p (signs.Oper op) (operators_in ts + n) (suc (operators_in ts + n)) (us ++ w) (ap (λ (y : List Frame × Term). Some (Wants (Left op y.1 ∷ y.0) v)) (settled (tighter op) fs a le)) refl refl one in
+    let d = short_of t (Left op a ∷ fs) v (omega arith) (suc (operators_in ts + n)) one w f (looser (tighter op) (suc (tighter op)) w (omega arith) l) (sym next ∙ h2) in
+    let both : operators_in (ts ++ at p (signs.Oper op) ∷ us) ≡ operators_in ts + suc (operators_in us) = operators_both ts (at p (signs.Oper op) ∷ us) in
+    omega (arith, d, both)
+
+full_back : {ts : List Item} {e : Term} → Expresses 6 ts e → (u : Use) (x : Item) (us w : List Item) (f : File) → IsLooser 6 x.sign → guarded (Wants [] u) 0 ((ts ++ x ∷ us) ++ w) ≡ Ok f → Full ts e
+full_back {ts} {e} s u x us w f l h =
+    let r = short_of s [] u (omega arith) 0 (omega arith) (x ∷ (us ++ w)) f l (sym (ap (guarded (Wants [] u) 0) (append_assoc ts (x ∷ us) w)) ∙ h) in
+    record { expresses = s; short = omega (arith, r) }
+
+-- ---- statements
+
+pub room_for : (k d : ℕ) → k + d ≡ 64 → suc d ≤ 64 → (j : ℕ) × (k ≡ suc j)
+room_for zero d e h = let bad : ⊥ = omega (arith, e, h) in absurd bad
+room_for (suc j) d e h = (j, refl)
+
+abbrev pub GoalBack : Shape → List Item → Code → Type 0
+GoalBack Listed ts c = (k : ℕ) (outer : Stack) → IsList outer → k + depth outer ≡ 64 → (n : ℕ) (w : List Item) (f : File) → NoElse w → guarded (Ready outer) n (ts ++ w) ≡ Ok f → WritesIn k Listed ts c
+GoalBack (Stated b) ts c = (k : ℕ) (outer : Stack) → k + depth outer ≡ 64 → (n : ℕ) (w : List Item) (f : File) → Free b w → guarded (Ready outer) n (ts ++ w) ≡ Ok f → WritesIn k (Stated b) ts c
+GoalBack Chained ts d = (k : ℕ) (links : List (ℕ × Code)) (n : ℕ) (c : Code) (outer : Stack) → k + (suc (length links) + depth outer) ≡ 64 → (m : ℕ) (w : List Item) (f : File) → guarded (Ready (Yes links n c outer)) m (ts ++ w) ≡ Ok f → WritesIn k Chained ts d
+
+pub writes_back : {s : Shape} {ts : List Item} {c : Code} → Writes s ts c → GoalBack s ts c
+writes_back plain.none = λ k outer is e m w f fr h. none
+writes_back (plain.more {b} {ts} {us} {c} {d} s l) = λ k outer is e m w f fr h.
+    let n = no_else l w fr in
+    let h1 = sym (ap (guarded (Ready outer) m) (append_assoc ts us w)) ∙ h in
+    let first = writes_back s k outer e m (us ++ w) f (free_of b (us ++ w) n) h1 in
+    let h2 = sym (accepted_in first outer (omega (arith, e)) m (us ++ w) (free_of b (us ++ w) n) ∙ folds_in outer c 0 (us ++ w) n) ∙ h1 in
+    more first (writes_back l k (folded outer c) (folded-list outer c is) (omega (arith, e, depth_folded outer c is)) 0 w f fr h2)
+writes_back (plain.choice p n {ts} {us} {vs} {c} {d} {e = g} s t l) = λ k outer is e m w f fr h.
+    let r = no_else l w fr in
+    let le : suc (depth outer) ≤ 64 = opens_few (Ready outer) m (at p (signs.GroupIf n)) ((ts ++ (us ++ vs)) ++ w) f refl h in
+    let j = room_for k (depth outer) e le in
+    let one : j.0 + (suc 0 + depth outer) ≡ 64 = omega (arith, e, j.1) in
+    let within : j.0 + (suc 0 + depth outer) ≤ 64 = omega (arith, one) in
+    let made : Code = Cond n c d Done in
+    let begins =
+        ap (λ (x : List Item). guarded (Ready outer) m (at p (signs.GroupIf n) ∷ x)) (append_assoc ts (us ++ vs) w ∙ ap (λ (x : List Item). ts ++ x) (append_assoc us vs w))
+        ∙ group_in p n outer m (ts ++ (us ++ (vs ++ w))) is le in
+    let h1 = sym begins ∙ h in
+    let first = writes_back s j.0 (Yes [] n Done outer) tt one 0 (us ++ (vs ++ w)) f (no_else t (vs ++ w) r) h1 in
+    let h2 = sym (accepted_in first (Yes [] n Done outer) tt within 0 (us ++ (vs ++ w)) (no_else t (vs ++ w) r)) ∙ h1 in
+    let second = writes_back t j.0 [] n c outer one 0 (vs ++ w) f h2 in
+    let h3 = sym (accepted_in second [] n c outer within 0 (vs ++ w) ∙ folds_in outer made 0 (vs ++ w) r) ∙ h2 in
+    let third = writes_back l k (folded outer made) (folded-list outer made is) (omega (arith, e, depth_folded outer made is)) 0 w f fr h3 in
+    subst (λ (y : ℕ). WritesIn y Listed (at p (signs.GroupIf n) ∷ (ts ++ (us ++ vs))) (Cond n c d g)) (sym j.1) (choice p n first second (subst (λ (y : ℕ). WritesIn y Listed vs g) j.1 third))
+writes_back (plain.ends p) = λ k links n c outer e m w f h. ends p
+writes_back (plain.otherwise p q {ts} {c} s) = λ k links n a outer e m w f h.
+    let begins =
+        token (Ready (Yes links n a outer)) (Ready (No links n a Done outer)) p signs.GroupElse m ((ts ++ at q signs.GroupEnd ∷ []) ++ w) refl refl refl
+        ∙ ap (guarded (Ready (No links n a Done outer)) 0) (append_assoc ts (at q signs.GroupEnd ∷ []) w) in
+    otherwise p q (writes_back s k (No links n a Done outer) tt e 0 (at q signs.GroupEnd ∷ w) f tt (sym begins ∙ h))
+writes_back (plain.elif p i {ts} {us} {c} {d} s t) = λ k links n a outer e m w f h.
+    let le : suc (suc (length links) + depth outer) ≤ 64 = opens_few (Ready (Yes links n a outer)) m (at p (signs.GroupElif i)) ((ts ++ us) ++ w) f refl h in
+    let j = room_for k (suc (length links) + depth outer) e le in
+    let one : j.0 + (suc (suc (length links)) + depth outer) ≡ 64 = omega (arith, e, j.1) in
+    let within : j.0 + (suc (suc (length links)) + depth outer) ≤ 64 = omega (arith, one) in
+    let begins =
+        opens_in (Ready (Yes links n a outer)) (Ready (Yes ((n, a) ∷ links) i Done outer)) p (signs.GroupElif i) m ((ts ++ us) ++ w) refl refl le
+        ∙ ap (guarded (Ready (Yes ((n, a) ∷ links) i Done outer)) 0) (append_assoc ts us w) in
+    let h1 = sym begins ∙ h in
+    let first = writes_back s j.0 (Yes ((n, a) ∷ links) i Done outer) tt one 0 (us ++ w) f (chain_no_else t w) h1 in
+    let h2 = sym (accepted_in first (Yes ((n, a) ∷ links) i Done outer) tt within 0 (us ++ w) (chain_no_else t w)) ∙ h1 in
+    let second = writes_back t j.0 ((n, a) ∷ links) i c outer one 0 w f h2 in
+    subst (λ (y : ℕ). WritesIn y Chained (at p (signs.GroupElif i) ∷ (ts ++ us)) (Cond i c d Done)) (sym j.1) (elif p i first second)
+writes_back (plain.assign p q r x {ts} {e} s) = λ k outer room_is m w f fr h.
+    let begins =
+        token (Ready outer) (Named p x outer) p (signs.Name x) m (at q signs.Equals ∷ ((ts ++ at r signs.Semicolon ∷ []) ++ w)) refl refl refl
+        ∙ token (Named p x outer) (Wants [] (ToAssign p x outer)) q signs.Equals 0 ((ts ++ at r signs.Semicolon ∷ []) ++ w) refl refl refl in
+    assign p q r x (full_back s (ToAssign p x outer) (at r signs.Semicolon) [] w f tt (sym begins ∙ h))
+writes_back (plain.input p q r s t u x) = λ k outer e m w f fr h. input p q r s t u x
+writes_back (plain.update p q r x u {ts} {e} s) = λ k outer room_is m w f fr h.
+    let begins =
+        token (Ready outer) (Named p x outer) p (signs.Name x) m (at q (update_sign u) ∷ ((ts ++ at r signs.Semicolon ∷ []) ++ w)) refl refl refl
+        ∙ updates_in p q x u outer ((ts ++ at r signs.Semicolon ∷ []) ++ w) in
+    update p q r x u (full_back s (ToUpdate p x u outer) (at r signs.Semicolon) [] w f tt (sym begins ∙ h))
+writes_back (plain.count p q r x u) = λ k outer e m w f fr h. count p q r x u
+writes_back (plain.assert p q r z {ts} {e} s) = λ k outer room_is m w f fr h.
+    let begins =
+        token (Ready outer) (Opens (ToAssert p outer)) p signs.Assert m (at q signs.Open ∷ ((ts ++ at r signs.Close ∷ at z signs.Semicolon ∷ []) ++ w)) refl refl refl
+        ∙ token (Opens (ToAssert p outer)) (Wants [] (ToAssert p outer)) q signs.Open 0 ((ts ++ at r signs.Close ∷ at z signs.Semicolon ∷ []) ++ w) refl refl refl in
+    assert p q r z (full_back s (ToAssert p outer) (at r signs.Close) (at z signs.Semicolon ∷ []) w f tt (sym begins ∙ h))
+writes_back (plain.skip p) = λ k outer e m w f fr h. skip p
+writes_back (plain.block p q {ts} {c} s) = λ k outer e m w f fr h.
+    let le : suc (depth outer) ≤ 64 = opens_few (Ready outer) m (at p signs.LeftBrace) ((ts ++ at q signs.RightBrace ∷ []) ++ w) f refl h in
+    let j = room_for k (depth outer) e le in
+    let one : j.0 + suc (depth outer) ≡ 64 = omega (arith, e, j.1) in
+    let begins =
+        opens_in (Ready outer) (Ready (Braces p Done outer)) p signs.LeftBrace m ((ts ++ at q signs.RightBrace ∷ []) ++ w) refl refl le
+        ∙ ap (guarded (Ready (Braces p Done outer)) 0) (append_assoc ts (at q signs.RightBrace ∷ []) w) in
+    let inner = writes_back s j.0 (Braces p Done outer) tt one 0 (at q signs.RightBrace ∷ w) f tt (sym begins ∙ h) in
+    subst (λ (y : ℕ). WritesIn y (Stated false) (at p signs.LeftBrace ∷ (ts ++ at q signs.RightBrace ∷ [])) (Block p c Done)) (sym j.1) (block p q inner)
+writes_back (plain.while p q r {b} {ts} {us} {e} {c} s t) = λ k outer room_is m w f fr h.
+    let le : suc (depth outer) ≤ 64 = opens_few (Ready outer) m (at p signs.While) (at q signs.Open ∷ ((ts ++ at r signs.Close ∷ us) ++ w)) f refl h in
+    let j = room_for k (depth outer) room_is le in
+    let one : j.0 + suc (depth outer) ≡ 64 = omega (arith, room_is, j.1) in
+    let h1 = sym (head_in (ToLoop p outer) outer p q signs.While m ((ts ++ at r signs.Close ∷ us) ++ w) refl le) ∙ h in
+    let full = full_back s (ToLoop p outer) (at r signs.Close) us w f tt h1 in
+    let h2 = sym (full_in full (ToLoop p outer) (at r signs.Close) us w tt ∙ last_token full (ToLoop p outer) (Ready (LoopOf p e outer)) r signs.Close (us ++ w) refl refl refl refl) ∙ h1 in
+    let inner = writes_back t j.0 (LoopOf p e outer) one 0 w f fr h2 in
+    subst (λ (y : ℕ). WritesIn y (Stated b) (at p signs.While ∷ at q signs.Open ∷ (ts ++ at r signs.Close ∷ us)) (While p e c Done)) (sym j.1) (while p q r full inner)
+writes_back (plain.if_then p q r {b} {ts} {us} {e} {c} s t) = λ k outer room_is m w f fr h.
+    let le : suc (depth outer) ≤ 64 = opens_few (Ready outer) m (at p signs.If) (at q signs.Open ∷ ((ts ++ at r signs.Close ∷ us) ++ w)) f refl h in
+    let j = room_for k (depth outer) room_is le in
+    let one : j.0 + suc (depth outer) ≡ 64 = omega (arith, room_is, j.1) in
+    let h1 = sym (head_in (ToChoose p outer) outer p q signs.If m ((ts ++ at r signs.Close ∷ us) ++ w) refl le) ∙ h in
+    let full = full_back s (ToChoose p outer) (at r signs.Close) us w f tt h1 in
+    let h2 = sym (full_in full (ToChoose p outer) (at r signs.Close) us w tt ∙ last_token full (ToChoose p outer) (Ready (ThenOf p e outer)) r signs.Close (us ++ w) refl refl refl refl) ∙ h1 in
+    let inner = writes_back t j.0 (ThenOf p e outer) one 0 w f (free_of b w fr) h2 in
+    subst (λ (y : ℕ). WritesIn y (Stated true) (at p signs.If ∷ at q signs.Open ∷ (ts ++ at r signs.Close ∷ us)) (If p e c Done Done)) (sym j.1) (if_then p q r full inner)
+writes_back (plain.if_else p q r z {b} {ts} {us} {vs} {e} {c} {d} s t v) = λ k outer room_is m w f fr h.
+    let text : List Item = us ++ at z signs.Else ∷ vs in
+    let le : suc (depth outer) ≤ 64 = opens_few (Ready outer) m (at p signs.If) (at q signs.Open ∷ ((ts ++ at r signs.Close ∷ text) ++ w)) f refl h in
+    let j = room_for k (depth outer) room_is le in
+    let one : j.0 + suc (depth outer) ≡ 64 = omega (arith, room_is, j.1) in
+    let within : j.0 + suc (depth outer) ≤ 64 = omega (arith, one) in
+    let h1 = sym (head_in (ToChoose p outer) outer p q signs.If m ((ts ++ at r signs.Close ∷ text) ++ w) refl le) ∙ h in
+    let full = full_back s (ToChoose p outer) (at r signs.Close) text w f tt h1 in
+    let head =
+        full_in full (ToChoose p outer) (at r signs.Close) text w tt
+        ∙ last_token full (ToChoose p outer) (Ready (ThenOf p e outer)) r signs.Close (text ++ w) refl refl refl refl
+        ∙ ap (guarded (Ready (ThenOf p e outer)) 0) (append_assoc us (at z signs.Else ∷ vs) w) in
+    let h2 = sym head ∙ h1 in
+    let first = writes_back t j.0 (ThenOf p e outer) one 0 (at z signs.Else ∷ (vs ++ w)) f tt h2 in
+    let next =
+        accepted_in first (ThenOf p e outer) within 0 (at z signs.Else ∷ (vs ++ w)) tt
+        ∙ token (Ended (ThenOf p e outer) c) (Ready (ElseOf p e c outer)) z signs.Else 0 (vs ++ w) refl refl refl in
+    let second = writes_back v j.0 (ElseOf p e c outer) one 0 w f fr (sym next ∙ h2) in
+    subst (λ (y : ℕ). WritesIn y (Stated b) (at p signs.If ∷ at q signs.Open ∷ (ts ++ at r signs.Close ∷ text)) (If p e c d Done)) (sym j.1) (if_else p q r z full first second)
