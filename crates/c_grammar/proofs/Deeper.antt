@@ -3,8 +3,31 @@ use Rattle.std.proofs.Common.{◌≡◌, ℕ, suc, Bool, true, false, List, [], 
 use Rattle.c_grammar.specs.declared.items.Item.{Item}
 use Rattle.c_grammar.specs.Grammar.{File}
 use Rattle.c_grammar.specs.Machine.{State, step, finish, at_end, moved, run, start}
-use Rattle.c_grammar.specs.Deep.{IsDeep, counted, is_deep, Fault, Wrong, Deep, ended, went, guarded, Answers}
+use Rattle.c_grammar.specs.Deep.{counted, is_deep, Fault, Wrong, Deep, ended, went, guarded}
 use Rattle.c_grammar.proofs.Closing.{completes}
+
+-- an item with which some file goes on, but too much is open at it; at none before it is too much open
+pub record IsDeep (from : State) (count : ℕ) (ts : List Item) (n : ℕ) : Type 0 where
+  pub before : List Item
+  pub item : Item
+  pub rest : List Item
+  pub state : State
+  pub next : State
+  pub operators : ℕ
+  pub cut : ts ≡ before ++ item ∷ rest
+  pub left : suc (length rest) ≡ n
+  pub leads : (w : List Item) → run from (before ++ w) ≡ run state w
+  pub shallow : (w : List Item) → guarded from count (before ++ w) ≡ guarded state operators w
+  pub goes_on : step state item.place item.sign ≡ Some next
+  pub deep : is_deep state item.sign operators ≡ true
+  pub tail : List Item
+  pub made : File
+  pub fits : run from (before ++ item ∷ tail) ≡ Ok made
+
+abbrev pub Answers : Result File Fault → State → ℕ → List Item → Type 0
+Answers (Ok f) from count ts = run from ts ≡ Ok f
+Answers (Err (Wrong n)) from count ts = run from ts ≡ Err n
+Answers (Err (Deep n)) from count ts = IsDeep from count ts n
 
 ends_so : (o : Option File) (state : State) (count : ℕ) → finish state ≡ o → Answers (ended o) state count []
 unfolding run
@@ -68,18 +91,5 @@ unfolding guarded
 answers [] state count = ends_so (finish state) state count refl
 answers (x ∷ ts) state count = goes_so (step state x.place x.sign) (is_deep state x.sign count) state count x ts refl refl (λ next. answers ts next (counted state x.sign count))
 
-pub limited_law : (items : List Item) → Answers (guarded start 0 items) start 0 items
-limited_law items = answers items start 0
-
-deep_fault : ℕ → Result File Fault
-deep_fault n = Err (Deep n)
-
-pub deep_is_found_law : (items : List Item) (n : ℕ) → IsDeep start 0 items n → guarded start 0 items ≡ Err (Deep n)
-unfolding guarded deep_fault
-deep_is_found_law items n h =
-    let go : State → Result File Fault = λ k. guarded k (counted h.state h.item.sign h.operators) h.rest in
-    ap (guarded start 0) h.cut
-    ∙ h.shallow (h.item ∷ h.rest)
-    ∙ ap (λ (o : Option State). went o (is_deep h.state h.item.sign h.operators) go (suc (length h.rest))) h.goes_on
-    ∙ ap (λ (d : Bool). went (Some h.next) d go (suc (length h.rest))) h.deep
-    ∙ ap deep_fault h.left
+pub limited : (items : List Item) → Answers (guarded start 0 items) start 0 items
+limited items = answers items start 0

@@ -1,10 +1,11 @@
 -- The laws of the grammar and of reading item by item.
-use Rattle.std.specs.Prelude.{◌≡◌, ℕ, List, [], ◌∷◌, ◌++◌, length, Option, Some, None, Result, Ok, Err}
+use Rattle.std.specs.Prelude.{◌≡◌, ◌↔◌, ℕ, List, [], ◌∷◌, ◌++◌, length, Option, Some, None, Result, Ok, Err}
 use Rattle.c_tree.specs.Tree.{Whole}
 use Rattle.c_grammar.specs.declared.items.Item.{Item}
 use Rattle.c_grammar.specs.Grammar.{File, Forms, Spells, whole_of}
 use Rattle.c_grammar.specs.Machine.{State, step, finish, run, start}
-use Rattle.c_grammar.specs.Deep.{Answers, Deep, IsDeep, guarded}
+use Rattle.c_grammar.specs.Deep.{Deep, Wrong, guarded}
+use Rattle.c_grammar.specs.Within.{FormsWithin, IsTooDeep, NothingDeep}
 
 -- the program of a file that was read
 abbrev pub program_in : List (List ℕ) → List Item → Result File ℕ → Result Whole ℕ
@@ -79,10 +80,14 @@ StepsGoOn = (before : List Item) (state : State) → after start before ≡ Some
 abbrev pub EndsDecide : Type 0
 EndsDecide = (items : List Item) (state : State) → after start items ≡ Some state → finish state ≡ None → (f : File) → Forms items f → ⊥
 
--- the run with limits does what the run without does, or stops at the first item at which too much is open
-abbrev pub Limited : Type 0
-Limited = (items : List Item) → Answers (guarded start 0 items) start 0 items
+-- what is read within the limits is a file within them, and each such file is read
+abbrev pub ReadsWithin : Type 0
+ReadsWithin = (items : List Item) (f : File) → (guarded start 0 items ≡ Ok f) ↔ FormsWithin items f
 
--- and nowhere else
-abbrev pub DeepIsFound : Type 0
-DeepIsFound = (items : List Item) (n : ℕ) → IsDeep start 0 items n → guarded start 0 items ≡ Err (Deep n)
+-- the reading with limits stops as wrong at the first wrong item, where none is too deep, and nowhere else
+abbrev pub StopsWrong : Type 0
+StopsWrong = (items : List Item) (n : ℕ) → (guarded start 0 items ≡ Err (Wrong n)) ↔ (IsWrong items n × NothingDeep items)
+
+-- and as too deep at the first item that is too deep, and nowhere else
+abbrev pub StopsDeep : Type 0
+StopsDeep = (items : List Item) (n : ℕ) → (guarded start 0 items ≡ Err (Deep n)) ↔ IsTooDeep items n
