@@ -5,8 +5,9 @@ use Rattle.c_grammar.specs.declared.items.Item.{Item}
 use Rattle.c_grammar.specs.Grammar.{File}
 use Rattle.c_grammar.specs.Machine.{State, step, finish, moved, run, start}
 use Rattle.c_grammar.specs.Deep.{counted, is_deep, is_nested, is_long, Fault, Wrong, Deep, ended, went, guarded}
-use Rattle.c_grammar.specs.Laws.{IsWrong, ReadsWithin, StopsWrong, StopsDeep}
-use Rattle.c_grammar.specs.Within.{FormsWithin, IsTooDeep, NothingDeep}
+use Rattle.c_grammar.specs.Laws.{ReadsWithin, StopsWrong, StopsDeep}
+use Rattle.c_grammar.specs.Within.{FormsWithin}
+use Rattle.c_grammar.specs.Faults.{IsWrong, IsTooDeep, NothingDeep}
 use Rattle.c_grammar.proofs.Files.{is_read}
 use Rattle.c_grammar.proofs.Closing.{completes}
 use Rattle.c_grammar.proofs.Sound.{ok_forms}

@@ -5,7 +5,8 @@ use Rattle.c_tree.specs.Tree.{Whole}
 use Rattle.c_grammar.specs.declared.items.Item.{Item}
 use Rattle.c_grammar.specs.Grammar.{File, Forms, whole_of}
 use Rattle.c_grammar.specs.Machine.{State, step, finish, at_end, moved, run, start}
-use Rattle.c_grammar.specs.Laws.{Stops, program_in, IsWrong, on_with, after, AtMostOne, Complete, Sound, FindsWrong, WrongIsFound, StepsDecide, StepsGoOn, EndsDecide}
+use Rattle.c_grammar.specs.Faults.{Stops, IsWrong}
+use Rattle.c_grammar.specs.Laws.{program_in, on_with, after, AtMostOne, Complete, Sound, FindsWrong, WrongIsFound, StepsDecide, StepsGoOn, EndsDecide}
 use Rattle.c_grammar.proofs.Files.{is_read}
 use Rattle.c_grammar.proofs.Closing.{completes}
 use Rattle.c_grammar.proofs.Sound.{ok_forms}

@@ -1,8 +1,7 @@
 -- Where the reader of items refuses them.
 use Rattle.std.specs.Prelude.{◌≡◌, ◌+◌, ℕ, List, length, Result, Ok, Err}
 use Rattle.c_grammar.specs.declared.items.Item.{Item}
-use Rattle.c_grammar.specs.Laws.{IsWrong}
-use Rattle.c_grammar.specs.Within.{IsTooDeep, NothingDeep}
+use Rattle.c_grammar.specs.Faults.{IsWrong, IsTooDeep, NothingDeep}
 use Rattle.item_reader.specs.declared.unread.Unread.{Unread}
 use Rattle.item_reader.specs.declared.unread.Unread.TheVariants as unread
 use Rattle.fam_outer.specs.declared.refusal.Refusal.{Refusal}
