@@ -16,7 +16,7 @@ use Rattle.c_grammar.specs.declared.items.Sign.{Sign}
 use Rattle.c_grammar.specs.Within.{WithinIsFile}
 use Rattle.std.specs.Prelude.{Option, Some, None}
 use Rattle.c_parser.specs.Signs.{keyword_of}
-use Rattle.c_parser.specs.Items.{Listed, listed, with_name, names_with_word, names_with, names_from, lexeme_in, AreNewBehind, AreDistinct}
+use Rattle.c_parser.specs.Items.{Listed, with_name, names_with_word, names_with, names_from, lexeme_in, AreNewBehind, AreDistinct}
 use Rattle.c_parser.specs.Names.{targets, names_at, each_once}
 use Rattle.c_parser.specs.Reading.{items_of, IsAccepted, IsReadOver, AreDeclaredNames}
 use Rattle.c_parser.proofs.Declarations.{declared_forms}
