@@ -293,6 +293,7 @@ fn the_first_wrong_item_is_found(rt: HostRuntime) -> Result<(), Fail> {
 }
 
 /// Signs in which more and more is open: `front`, so many times `opens`, `middle`, as many times `closes`, and `back`.
+#[derive(Clone, Copy)]
 struct Nest<'a> {
     front: &'a [Sign],
     opens: &'a [Sign],
@@ -468,10 +469,28 @@ fn sixty_four_operators_may_stand_in_an_expression(rt: HostRuntime) -> Result<()
     // behind `int main() {` these signs, the opening ones, those inside, the closing ones and those behind; and where the
     // 65th operator stands
     let cases: [(&[Sign], &[Sign], &[Sign], &[Sign], usize); 6] = [
-        (&assigns, &[Sign::Open], &[Sign::Number(1)], &[Sign::Close], 71),
+        (
+            &assigns,
+            &[Sign::Open],
+            &[Sign::Number(1)],
+            &[Sign::Close],
+            71,
+        ),
         (&assigns, &[Sign::Bang], &[Sign::Number(1)], &[], 71),
-        (&assigns, &[Sign::Oper(Op::Sub)], &[Sign::Number(1)], &[], 71),
-        (&assigns, &[Sign::Oper(Op::Add)], &[Sign::Number(1)], &[], 71),
+        (
+            &assigns,
+            &[Sign::Oper(Op::Sub)],
+            &[Sign::Number(1)],
+            &[],
+            71,
+        ),
+        (
+            &assigns,
+            &[Sign::Oper(Op::Add)],
+            &[Sign::Number(1)],
+            &[],
+            71,
+        ),
         (
             &[Sign::Name(0), Sign::Equals, Sign::Number(1)],
             &[Sign::Oper(Op::Add), Sign::Number(1)],
