@@ -37,7 +37,7 @@ deep_is m n h = cc
 
 -- what is read within the limits is a file within them
 pub forms_within : (items : List Item) (f : File) → guarded start 0 items ≡ Ok f → FormsWithin items f
-forms_within items f h = forms_back f (ok_forms items f (subst (λ (r : Result File Fault). Answers r start 0 items) h (limited items))) h
+forms_within items f h = forms_back f (ok_forms items f (subst (λ (r : Result File Fault). Answers r start items) h (limited items))) h
 
 -- ---- one item
 
@@ -180,11 +180,11 @@ ok_or_err f n r p q = cc
 
 wrong_there : (items : List Item) (n : ℕ) → guarded start 0 items ≡ wrong n → IsWrong items n × NothingDeep items
 wrong_there items n h = (
-  is_wrong items n (subst (λ (r : Result File Fault). Answers r start 0 items) h (limited items)),
+  is_wrong items n (subst (λ (r : Result File Fault). Answers r start items) h (limited items)),
   λ k d. not_wrong n k (guarded start 0 items) h (deep_found items k d),
 )
 
-wrong_found : (items : List Item) (n : ℕ) → IsWrong items n → NothingDeep items → (r : Result File Fault) → guarded start 0 items ≡ r → Answers r start 0 items → r ≡ wrong n
+wrong_found : (items : List Item) (n : ℕ) → IsWrong items n → NothingDeep items → (r : Result File Fault) → guarded start 0 items ≡ r → Answers r start items → r ≡ wrong n
 wrong_found items n w shallow (Ok f) is a = absurd (ok_or_err f n (run start items) a (read_err [] items n (run start items) (wrong_is_found_law [] items n w)))
 wrong_found items n w shallow (Err (Wrong m)) is a = ap wrong (same_left m n (run start items) a (read_err [] items n (run start items) (wrong_is_found_law [] items n w)))
 wrong_found items n w shallow (Err (Deep m)) is a = absurd (shallow m (is_too_deep items m is))
