@@ -11,7 +11,7 @@ use Rattle.c_grammar.specs.declared.items.Sign.TheVariants as signs
 use Rattle.c_grammar.specs.declared.items.Item.{Item}
 use Rattle.c_grammar.specs.Grammar.{at, Optional, absent, present, Declarator, bare, positive, negative, with_true, with_false, declared, Part, Outer, Vars, Later, Returns, no_return, return, Gap, Gaps, GapRest, File, file_of}
 use Rattle.c_grammar.specs.Machine.{Tailing, Another, Final, Top, Sections, Outermost, InPart, InLast, guards_of, Aim, ToPrototype, ToMain, State, Outside, AfterStatic, AfterExtern, AfterInt, AfterExternInt, Declaring, Bare, Starting, Negating, Started, Parameters, InParameters, AfterVoid, AfterParameters, Ready, Returning, Returned, Closing, Over, with_declared, step, start}
-use Rattle.c_grammar.specs.Deep.{opens_more, counted, section_depth, tail_depth, ended, guarded}
+use Rattle.c_grammar.specs.Deep.{opens_more, tail_depth, guarded}
 use Rattle.c_grammar.specs.Within.{DeclaresIn, nothing, variables, prototype, section, last_var, next_var, end_part, else_part, elif_part, EmptyIn, no_more, empty_section, empty_end, empty_else, empty_elif, BodyWithin, body, MainWithin, main, FormsWithin, file}
 use Rattle.c_grammar.proofs.Complete.{followed-none}
 use Rattle.c_grammar.proofs.Files.{NameFirst, IsName, vars_first, return_no_else}

@@ -1,5 +1,5 @@
 -- What is spelled is a well-formed program.
-use Rattle.std.proofs.Common.{◌≡◌, ℕ, ℤ, pos, suc, ◌<◌, Bool, true, false, cond, List, [], ◌∷◌, ◌++◌, length, Result, refl, ap, subst, ◌∙◌, arith}
+use Rattle.std.proofs.Common.{◌≡◌, ℕ, ℤ, pos, suc, ◌<◌, Bool, true, false, cond, List, [], ◌∷◌, ◌++◌, length, refl, ap, ◌∙◌, arith}
 use Rattle.std.specs.List.{All}
 use Rattle.std.proofs.lemmas.List.Elements.{All-append, All-cons, All-nil}
 use Rattle.std.proofs.lemmas.Int.{ints}
@@ -14,13 +14,11 @@ use Rattle.c_tree.specs.Whole.{IsDeclaredOf}
 use Rattle.c_grammar.specs.declared.items.Item.{Item}
 use Rattle.c_grammar.specs.declared.items.Sign.TheVariants as signs
 use Rattle.c_grammar.specs.Grammar.{at, Prefix, Positive, Negative, Inverse, applied, Expresses, number, name, group, prefix, loose, binary, Shape, Writes, none, more, choice, ends, otherwise, elif, assign, input, update, count, assert, skip, block, while, if_then, if_else, Declarator, bare, positive, negative, declared, Part, Declares, nothing, variables, prototype, section, last_var, next_var, end_part, else_part, elif_part, Returns, no_return, return, Body, body, Main, main, File, Forms, file, has_groups, zeros}
-use Rattle.c_grammar.specs.Machine.{start}
-use Rattle.c_grammar.specs.Deep.{Fault, Answers}
 use Rattle.c_grammar.specs.Facts.{AreFit, WellFormed, PlainWithoutGroups}
 use Rattle.c_tree.proofs.Starts.{length-start, ints-start}
 use Rattle.c_grammar.proofs.Keeping.{no_groups}
-use Rattle.c_grammar.proofs.Deeper.{answers}
-use Rattle.c_grammar.proofs.Sound.{ok_forms}
+use Rattle.c_grammar.proofs.Within.{forms_plain}
+use Rattle.c_grammar.proofs.FilesWithin.{read_within}
 use Rattle.c_grammar.proofs.Limits.{fine_files}
 use Rattle.c_grammar.proofs.PlacesRise.{rising_part, file_part}
 
@@ -185,11 +183,11 @@ zeros_count [] = refl
 zeros_count (x ∷ names) = ap suc (zeros_count names)
 
 pub well_formed_law : WellFormed
-well_formed_law names items f few fit rising read =
+well_formed_law names items f few fit rising within =
     let n : ℕ = length names in
-    let forms : Forms items f = ok_forms items f (subst (λ (r : Result File Fault). Answers r start 0 items) read (answers items start 0)) in
+    let forms : Forms items f = forms_plain within in
     let ds : All (IsDeclaredOf n) f.declared = file_declared_fits n items f forms fit in
-    let fine = fine_files items f read in
+    let fine = fine_files items f (read_within items f within) in
     record {
       few = few;
       starts = elim (has_groups items) as (λ b. length (cond b (zeros names) (projected_start [] f.declared (zeros names))) ≡ n) [

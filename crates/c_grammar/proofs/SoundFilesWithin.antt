@@ -35,10 +35,10 @@ declares_back (plain.variables p gs {us} {vs} {ws} {ds} {es = fs} o v d) = λ k 
 declares_back (plain.prototype p q r s t gs {us} {vs} {ws} {es = fs} o v d) = λ k secs is e es w f h.
     let re : (us ++ at p signs.Int ∷ at q signs.Input ∷ at r signs.Open ∷ (vs ++ at s signs.Close ∷ at t signs.Semicolon ∷ ws)) ++ w ≡ us ++ at p signs.Int ∷ at q signs.Input ∷ at r signs.Open ∷ (vs ++ at s signs.Close ∷ at t signs.Semicolon ∷ (ws ++ w)) = simp append_assoc in
     let begins =
-        ap (guarded (Outside secs es) 0) re
-        ∙ prototyped p q secs es (at r signs.Open ∷ (vs ++ at s signs.Close ∷ at t signs.Semicolon ∷ (ws ++ w))) o
-        ∙ parameters r s (ToPrototype secs es) (at t signs.Semicolon ∷ (ws ++ w)) v
-        ∙ token (AfterParameters (ToPrototype secs es)) (Outside secs es) t signs.Semicolon 0 (ws ++ w) refl refl refl in
+    ap (guarded (Outside secs es) 0) re
+    ∙ prototyped p q secs es (at r signs.Open ∷ (vs ++ at s signs.Close ∷ at t signs.Semicolon ∷ (ws ++ w))) o
+    ∙ parameters r s (ToPrototype secs es) (at t signs.Semicolon ∷ (ws ++ w)) v
+    ∙ token (AfterParameters (ToPrototype secs es)) (Outside secs es) t signs.Semicolon 0 (ws ++ w) refl refl refl in
     prototype p q r s t gs o v (declares_back d k secs is e es w f (sym begins ∙ h))
 declares_back (plain.section p n gs {us} {vs} {ws} {cs} {ds} {es = fs} a b d) = λ k secs is e es w f h.
     let re : (us ++ (vs ++ ws)) ++ w ≡ us ++ (vs ++ (ws ++ w)) = simp append_assoc in
@@ -62,8 +62,8 @@ declares_back (plain.next_var p gs v d) = λ k. next_var p gs v (declares_back d
 declares_back (plain.end_part p gs) = λ k hs n outer is e es w f h. end_part p gs
 declares_back (plain.else_part p q gs {us} {ds} d) = λ k hs n outer is e es w f h.
     let begins =
-        token (Outside (InPart hs n outer) es) (Outside (InLast (with_false hs n) outer) es) p signs.GroupElse 0 ((us ++ at q signs.GroupEnd ∷ []) ++ w) refl refl refl
-        ∙ ap (guarded (Outside (InLast (with_false hs n) outer) es) 0) (append_assoc us (at q signs.GroupEnd ∷ []) w) in
+    token (Outside (InPart hs n outer) es) (Outside (InLast (with_false hs n) outer) es) p signs.GroupElse 0 ((us ++ at q signs.GroupEnd ∷ []) ++ w) refl refl refl
+    ∙ ap (guarded (Outside (InLast (with_false hs n) outer) es) 0) (append_assoc us (at q signs.GroupEnd ∷ []) w) in
     else_part p q gs (declares_back d k (InLast (with_false hs n) outer) is e es (at q signs.GroupEnd ∷ w) f (sym begins ∙ h))
 declares_back (plain.elif_part p m gs {us} {vs} {cs} {ds} a b) = λ k hs n outer is e es w f h.
     let here : length (with_false hs n) ≡ length gs = ap length is in
@@ -104,8 +104,8 @@ empty_back (plain.empty_section p n {us} {vs} {ws} a b d) = λ k f parts e w g h
 empty_back (plain.empty_end p) = λ k f i parts e w g h. empty_end p
 empty_back (plain.empty_else p q {us} a) = λ k f i parts e w g h.
     let begins =
-        token (Over f (Another i ∷ parts)) (Over f (Final i ∷ parts)) p signs.GroupElse 0 ((us ++ at q signs.GroupEnd ∷ []) ++ w) refl refl refl
-        ∙ ap (guarded (Over f (Final i ∷ parts)) 0) (append_assoc us (at q signs.GroupEnd ∷ []) w) in
+    token (Over f (Another i ∷ parts)) (Over f (Final i ∷ parts)) p signs.GroupElse 0 ((us ++ at q signs.GroupEnd ∷ []) ++ w) refl refl refl
+    ∙ ap (guarded (Over f (Final i ∷ parts)) 0) (append_assoc us (at q signs.GroupEnd ∷ []) w) in
     empty_else p q (empty_back a k f (Final i ∷ parts) e (at q signs.GroupEnd ∷ w) g (sym begins ∙ h))
 empty_back (plain.empty_elif p n {us} {vs} a b) = λ k f i parts e w g h.
     let le : suc (i + tail_depth parts) ≤ 64 = opens_few (Over f (Another i ∷ parts)) 0 (at p (signs.GroupElif n)) ((us ++ vs) ++ w) g refl h in
@@ -129,7 +129,7 @@ body_back ds g (plain.body p {us} {vs} {ws} {c} {d} s r e) h =
 main_back : {ts : List Item} {c : Code} {p : Place} (ds : List Declared) (g : File) → Main ts c p → guarded (Outside Outermost ds) 0 ts ≡ Ok g → MainWithin ts c p
 main_back ds g (plain.main p q r s t u {us} {vs} o b) h = main p q r s t u o (body_back ds g b (sym (enters_main p q r s t ds vs o) ∙ h))
 
-forms_back : {ts : List Item} {f : File} (g : File) → Forms ts f → guarded start 0 ts ≡ Ok g → FormsWithin ts f
+pub forms_back : {ts : List Item} {f : File} (g : File) → Forms ts f → guarded start 0 ts ≡ Ok g → FormsWithin ts f
 forms_back g (plain.file {us} {vs} {ds} d m) h =
     let first = declares_back d 64 Outermost refl (omega arith) [] vs g h in
     file first (main_back ds g m (sym (goes_in first Outermost refl (omega arith) [] vs) ∙ h))

@@ -1,21 +1,19 @@
 -- What is read within the limits is spelled within them: expressions and statements. The text is spelled as it is
 -- without limits, and each item at which more is open shows that there is room for it.
-use Rattle.std.proofs.Common.{◌≡◌, ℕ, zero, suc, ◌+◌, ◌≤◌, Bool, true, false, ◌&&◌, ◌||◌, List, [], ◌∷◌, ◌++◌, length, Option, Some, None, Result, Ok, refl, sym, ap, subst, ◌∙◌, append_assoc, arith}
+use Rattle.std.proofs.Common.{◌≡◌, ℕ, zero, suc, ◌+◌, ◌≤◌, Bool, true, false, ◌&&◌, List, [], ◌∷◌, ◌++◌, length, Option, Some, None, Result, Ok, refl, sym, ap, subst, ◌∙◌, append_assoc, arith}
 use Rattle.std.specs.Prelude.{nat_le}
 use Rattle.std.proofs.lemmas.Bool.{leb-false, or_parts}
-use Rattle.fam_outer.specs.declared.faults.Place.{Place}
-use Rattle.c_tree.specs.Tree.{Term, Code, Done, Assign, Input, Assert, If, While, Block, Skip, Cond}
-use Rattle.c_grammar.specs.declared.items.Sign.{Sign}
+use Rattle.c_tree.specs.Tree.{Term, Code, Done, If, While, Block, Cond}
 use Rattle.c_grammar.specs.declared.items.Sign.TheVariants as signs
 use Rattle.c_grammar.specs.declared.items.Item.{Item}
 use Rattle.c_grammar.specs.Ahead.{IsLooser, Loose, IsList, NoElse}
 use Rattle.c_grammar.specs.Grammar.{at, tighter, Prefix, Positive, Negative, Inverse, prefix_sign, applied, Expresses, number, name, group, prefix, loose, binary, update_sign, count_sign, updated, Shape, Listed, Stated, Chained, Writes, File}
 use Rattle.c_grammar.specs.Grammar as plain
-use Rattle.c_grammar.specs.Machine.{Frame, Paren, Pre, Left, room, Stack, Braces, Yes, No, ThenOf, ElseOf, LoopOf, Use, ToAssign, ToUpdate, ToAssert, ToChoose, ToLoop, State, Ready, Ended, Wants, Has, Named, Opens, Finishing, folded, step}
+use Rattle.c_grammar.specs.Machine.{Frame, Paren, Pre, Left, room, Stack, Braces, Yes, No, ThenOf, ElseOf, LoopOf, Use, ToAssign, ToUpdate, ToAssert, ToChoose, ToLoop, State, Ready, Ended, Wants, Has, Named, Opens, folded, step}
 use Rattle.c_grammar.specs.Deep.{depth, opens_more, around, counted, is_deep, is_nested, is_long, Fault, went, guarded}
 use Rattle.c_grammar.specs.Within.{operators_in, more_by, Full, WritesIn, none, more, choice, ends, otherwise, elif, assign, input, update, count, assert, skip, block, while, if_then, if_else}
-use Rattle.c_grammar.proofs.Complete.{Free, free_of, no_else, chain_no_else, looser, settled, folded-list, loop_step, else_step, then_step}
-use Rattle.c_grammar.proofs.CompleteWithin.{takes, same_within, prefix_takes, prefix_more, operators_both, expresses_within}
+use Rattle.c_grammar.proofs.Complete.{Free, free_of, no_else, chain_no_else, looser, settled, folded-list}
+use Rattle.c_grammar.proofs.CompleteWithin.{takes, prefix_takes, prefix_more, operators_both, expresses_within}
 use Rattle.c_grammar.proofs.StatesWithin.{token, opens_in, group_in, folds_in, depth_folded, full_in, last_token, updates_in, head_in, accepted_in}
 
 -- ---- an item that is read
@@ -118,8 +116,8 @@ writes_back (plain.choice p n {ts} {us} {vs} {c} {d} {e = g} s t l) = λ k outer
     let within : j.0 + (suc 0 + depth outer) ≤ 64 = omega (arith, one) in
     let made : Code = Cond n c d Done in
     let begins =
-        ap (λ (x : List Item). guarded (Ready outer) m (at p (signs.GroupIf n) ∷ x)) (append_assoc ts (us ++ vs) w ∙ ap (λ (x : List Item). ts ++ x) (append_assoc us vs w))
-        ∙ group_in p n outer m (ts ++ (us ++ (vs ++ w))) is le in
+    ap (λ (x : List Item). guarded (Ready outer) m (at p (signs.GroupIf n) ∷ x)) (append_assoc ts (us ++ vs) w ∙ ap (λ (x : List Item). ts ++ x) (append_assoc us vs w))
+    ∙ group_in p n outer m (ts ++ (us ++ (vs ++ w))) is le in
     let h1 = sym begins ∙ h in
     let first = writes_back s j.0 (Yes [] n Done outer) tt one 0 (us ++ (vs ++ w)) f (no_else t (vs ++ w) r) h1 in
     let h2 = sym (accepted_in first (Yes [] n Done outer) tt within 0 (us ++ (vs ++ w)) (no_else t (vs ++ w) r)) ∙ h1 in
@@ -130,8 +128,8 @@ writes_back (plain.choice p n {ts} {us} {vs} {c} {d} {e = g} s t l) = λ k outer
 writes_back (plain.ends p) = λ k links n c outer e m w f h. ends p
 writes_back (plain.otherwise p q {ts} {c} s) = λ k links n a outer e m w f h.
     let begins =
-        token (Ready (Yes links n a outer)) (Ready (No links n a Done outer)) p signs.GroupElse m ((ts ++ at q signs.GroupEnd ∷ []) ++ w) refl refl refl
-        ∙ ap (guarded (Ready (No links n a Done outer)) 0) (append_assoc ts (at q signs.GroupEnd ∷ []) w) in
+    token (Ready (Yes links n a outer)) (Ready (No links n a Done outer)) p signs.GroupElse m ((ts ++ at q signs.GroupEnd ∷ []) ++ w) refl refl refl
+    ∙ ap (guarded (Ready (No links n a Done outer)) 0) (append_assoc ts (at q signs.GroupEnd ∷ []) w) in
     otherwise p q (writes_back s k (No links n a Done outer) tt e 0 (at q signs.GroupEnd ∷ w) f tt (sym begins ∙ h))
 writes_back (plain.elif p i {ts} {us} {c} {d} s t) = λ k links n a outer e m w f h.
     let le : suc (suc (length links) + depth outer) ≤ 64 = opens_few (Ready (Yes links n a outer)) m (at p (signs.GroupElif i)) ((ts ++ us) ++ w) f refl h in
@@ -139,8 +137,8 @@ writes_back (plain.elif p i {ts} {us} {c} {d} s t) = λ k links n a outer e m w 
     let one : j.0 + (suc (suc (length links)) + depth outer) ≡ 64 = omega (arith, e, j.1) in
     let within : j.0 + (suc (suc (length links)) + depth outer) ≤ 64 = omega (arith, one) in
     let begins =
-        opens_in (Ready (Yes links n a outer)) (Ready (Yes ((n, a) ∷ links) i Done outer)) p (signs.GroupElif i) m ((ts ++ us) ++ w) refl refl le
-        ∙ ap (guarded (Ready (Yes ((n, a) ∷ links) i Done outer)) 0) (append_assoc ts us w) in
+    opens_in (Ready (Yes links n a outer)) (Ready (Yes ((n, a) ∷ links) i Done outer)) p (signs.GroupElif i) m ((ts ++ us) ++ w) refl refl le
+    ∙ ap (guarded (Ready (Yes ((n, a) ∷ links) i Done outer)) 0) (append_assoc ts us w) in
     let h1 = sym begins ∙ h in
     let first = writes_back s j.0 (Yes ((n, a) ∷ links) i Done outer) tt one 0 (us ++ w) f (chain_no_else t w) h1 in
     let h2 = sym (accepted_in first (Yes ((n, a) ∷ links) i Done outer) tt within 0 (us ++ w) (chain_no_else t w)) ∙ h1 in
@@ -148,20 +146,20 @@ writes_back (plain.elif p i {ts} {us} {c} {d} s t) = λ k links n a outer e m w 
     subst (λ (y : ℕ). WritesIn y Chained (at p (signs.GroupElif i) ∷ (ts ++ us)) (Cond i c d Done)) (sym j.1) (elif p i first second)
 writes_back (plain.assign p q r x {ts} {e} s) = λ k outer room_is m w f fr h.
     let begins =
-        token (Ready outer) (Named p x outer) p (signs.Name x) m (at q signs.Equals ∷ ((ts ++ at r signs.Semicolon ∷ []) ++ w)) refl refl refl
-        ∙ token (Named p x outer) (Wants [] (ToAssign p x outer)) q signs.Equals 0 ((ts ++ at r signs.Semicolon ∷ []) ++ w) refl refl refl in
+    token (Ready outer) (Named p x outer) p (signs.Name x) m (at q signs.Equals ∷ ((ts ++ at r signs.Semicolon ∷ []) ++ w)) refl refl refl
+    ∙ token (Named p x outer) (Wants [] (ToAssign p x outer)) q signs.Equals 0 ((ts ++ at r signs.Semicolon ∷ []) ++ w) refl refl refl in
     assign p q r x (full_back s (ToAssign p x outer) (at r signs.Semicolon) [] w f tt (sym begins ∙ h))
 writes_back (plain.input p q r s t u x) = λ k outer e m w f fr h. input p q r s t u x
 writes_back (plain.update p q r x u {ts} {e} s) = λ k outer room_is m w f fr h.
     let begins =
-        token (Ready outer) (Named p x outer) p (signs.Name x) m (at q (update_sign u) ∷ ((ts ++ at r signs.Semicolon ∷ []) ++ w)) refl refl refl
-        ∙ updates_in p q x u outer ((ts ++ at r signs.Semicolon ∷ []) ++ w) in
+    token (Ready outer) (Named p x outer) p (signs.Name x) m (at q (update_sign u) ∷ ((ts ++ at r signs.Semicolon ∷ []) ++ w)) refl refl refl
+    ∙ updates_in p q x u outer ((ts ++ at r signs.Semicolon ∷ []) ++ w) in
     update p q r x u (full_back s (ToUpdate p x u outer) (at r signs.Semicolon) [] w f tt (sym begins ∙ h))
 writes_back (plain.count p q r x u) = λ k outer e m w f fr h. count p q r x u
 writes_back (plain.assert p q r z {ts} {e} s) = λ k outer room_is m w f fr h.
     let begins =
-        token (Ready outer) (Opens (ToAssert p outer)) p signs.Assert m (at q signs.Open ∷ ((ts ++ at r signs.Close ∷ at z signs.Semicolon ∷ []) ++ w)) refl refl refl
-        ∙ token (Opens (ToAssert p outer)) (Wants [] (ToAssert p outer)) q signs.Open 0 ((ts ++ at r signs.Close ∷ at z signs.Semicolon ∷ []) ++ w) refl refl refl in
+    token (Ready outer) (Opens (ToAssert p outer)) p signs.Assert m (at q signs.Open ∷ ((ts ++ at r signs.Close ∷ at z signs.Semicolon ∷ []) ++ w)) refl refl refl
+    ∙ token (Opens (ToAssert p outer)) (Wants [] (ToAssert p outer)) q signs.Open 0 ((ts ++ at r signs.Close ∷ at z signs.Semicolon ∷ []) ++ w) refl refl refl in
     assert p q r z (full_back s (ToAssert p outer) (at r signs.Close) (at z signs.Semicolon ∷ []) w f tt (sym begins ∙ h))
 writes_back (plain.skip p) = λ k outer e m w f fr h. skip p
 writes_back (plain.block p q {ts} {c} s) = λ k outer e m w f fr h.
@@ -169,8 +167,8 @@ writes_back (plain.block p q {ts} {c} s) = λ k outer e m w f fr h.
     let j = room_for k (depth outer) e le in
     let one : j.0 + suc (depth outer) ≡ 64 = omega (arith, e, j.1) in
     let begins =
-        opens_in (Ready outer) (Ready (Braces p Done outer)) p signs.LeftBrace m ((ts ++ at q signs.RightBrace ∷ []) ++ w) refl refl le
-        ∙ ap (guarded (Ready (Braces p Done outer)) 0) (append_assoc ts (at q signs.RightBrace ∷ []) w) in
+    opens_in (Ready outer) (Ready (Braces p Done outer)) p signs.LeftBrace m ((ts ++ at q signs.RightBrace ∷ []) ++ w) refl refl le
+    ∙ ap (guarded (Ready (Braces p Done outer)) 0) (append_assoc ts (at q signs.RightBrace ∷ []) w) in
     let inner = writes_back s j.0 (Braces p Done outer) tt one 0 (at q signs.RightBrace ∷ w) f tt (sym begins ∙ h) in
     subst (λ (y : ℕ). WritesIn y (Stated false) (at p signs.LeftBrace ∷ (ts ++ at q signs.RightBrace ∷ [])) (Block p c Done)) (sym j.1) (block p q inner)
 writes_back (plain.while p q r {b} {ts} {us} {e} {c} s t) = λ k outer room_is m w f fr h.
@@ -200,13 +198,13 @@ writes_back (plain.if_else p q r z {b} {ts} {us} {vs} {e} {c} {d} s t v) = λ k 
     let h1 = sym (head_in (ToChoose p outer) outer p q signs.If m ((ts ++ at r signs.Close ∷ text) ++ w) refl le) ∙ h in
     let full = full_back s (ToChoose p outer) (at r signs.Close) text w f tt h1 in
     let head =
-        full_in full (ToChoose p outer) (at r signs.Close) text w tt
-        ∙ last_token full (ToChoose p outer) (Ready (ThenOf p e outer)) r signs.Close (text ++ w) refl refl refl refl
-        ∙ ap (guarded (Ready (ThenOf p e outer)) 0) (append_assoc us (at z signs.Else ∷ vs) w) in
+    full_in full (ToChoose p outer) (at r signs.Close) text w tt
+    ∙ last_token full (ToChoose p outer) (Ready (ThenOf p e outer)) r signs.Close (text ++ w) refl refl refl refl
+    ∙ ap (guarded (Ready (ThenOf p e outer)) 0) (append_assoc us (at z signs.Else ∷ vs) w) in
     let h2 = sym head ∙ h1 in
     let first = writes_back t j.0 (ThenOf p e outer) one 0 (at z signs.Else ∷ (vs ++ w)) f tt h2 in
     let next =
-        accepted_in first (ThenOf p e outer) within 0 (at z signs.Else ∷ (vs ++ w)) tt
-        ∙ token (Ended (ThenOf p e outer) c) (Ready (ElseOf p e c outer)) z signs.Else 0 (vs ++ w) refl refl refl in
+    accepted_in first (ThenOf p e outer) within 0 (at z signs.Else ∷ (vs ++ w)) tt
+    ∙ token (Ended (ThenOf p e outer) c) (Ready (ElseOf p e c outer)) z signs.Else 0 (vs ++ w) refl refl refl in
     let second = writes_back v j.0 (ElseOf p e c outer) one 0 w f fr (sym next ∙ h2) in
     subst (λ (y : ℕ). WritesIn y (Stated b) (at p signs.If ∷ at q signs.Open ∷ (ts ++ at r signs.Close ∷ text)) (If p e c d Done)) (sym j.1) (if_else p q r z full first second)

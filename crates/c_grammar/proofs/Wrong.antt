@@ -5,7 +5,8 @@ use Rattle.c_tree.specs.Tree.{Whole}
 use Rattle.c_grammar.specs.declared.items.Item.{Item}
 use Rattle.c_grammar.specs.Grammar.{File, Forms, whole_of}
 use Rattle.c_grammar.specs.Machine.{State, step, finish, at_end, moved, run, start}
-use Rattle.c_grammar.specs.Laws.{Stops, program_in, IsWrong, on_with, after, AtMostOne, Complete, Sound, FindsWrong, WrongIsFound, StepsDecide, StepsGoOn, EndsDecide}
+use Rattle.c_grammar.specs.Faults.{Stops, IsWrong}
+use Rattle.c_grammar.specs.Laws.{program_in, on_with, after, AtMostOne, Complete, Sound, FindsWrong, WrongIsFound, StepsDecide, StepsGoOn, EndsDecide}
 use Rattle.c_grammar.proofs.Files.{is_read}
 use Rattle.c_grammar.proofs.Closing.{completes}
 use Rattle.c_grammar.proofs.Sound.{ok_forms}
@@ -63,7 +64,7 @@ stops_wrong a x ts state n leads is h =
       stops = λ more e s. never e (suc (length more)) (run start (a ++ x ∷ more)) (is_read (a ++ x ∷ more) e s) (leads (x ∷ more) ∙ ap (λ (o : Option State). moved o (λ next. run next more) (suc (length more))) is);
     }
 
-leads_on : (a : List Item) (x : Item) (state next : State) → Leads a state → step state x.place x.sign ≡ Some next → Leads (a ++ x ∷ []) next
+pub leads_on : (a : List Item) (x : Item) (state next : State) → Leads a state → step state x.place x.sign ≡ Some next → Leads (a ++ x ∷ []) next
 unfolding run
 leads_on a x state next leads is w = ap (run start) (append_assoc a (x ∷ []) w) ∙ leads (x ∷ w) ∙ ap (λ (o : Option State). moved o (λ next. run next w) (suc (length w))) is
 
@@ -95,7 +96,7 @@ read_ok : (names : List (List ℕ)) (items : List Item) (p : Whole) (r : Result 
 read_ok names items p (Ok f) h = (f, refl, cc)
 read_ok names items p (Err n) h = absurd cc
 
-read_err : (names : List (List ℕ)) (items : List Item) (n : ℕ) (r : Result File ℕ) → program_in names items r ≡ Err n → r ≡ Err n
+pub read_err : (names : List (List ℕ)) (items : List Item) (n : ℕ) (r : Result File ℕ) → program_in names items r ≡ Err n → r ≡ Err n
 read_err names items n (Ok f) h = absurd cc
 read_err names items n (Err m) h = let is : m ≡ n = cc in ap Err is
 

@@ -1,11 +1,11 @@
 -- Reading item by item with limits on what is open: at most 64 statements and groups around a statement or a group, and
 -- at most 64 operators and opening parentheses in one expression.
-use Rattle.std.specs.Prelude.{◌≡◌, ◌+◌, ℕ, suc, Bool, true, false, ◌&&◌, ◌||◌, nat_le, List, [], ◌∷◌, ◌++◌, length, Option, Some, None, Result, Ok, Err, if◌then◌else◌}
+use Rattle.std.specs.Prelude.{◌+◌, ℕ, suc, Bool, true, false, ◌&&◌, ◌||◌, nat_le, List, [], ◌∷◌, length, Option, Some, None, Result, Ok, Err, if◌then◌else◌}
 use Rattle.c_grammar.specs.declared.items.Sign.{Sign}
 use Rattle.c_grammar.specs.declared.items.Sign.TheVariants as signs
 use Rattle.c_grammar.specs.declared.items.Item.{Item}
 use Rattle.c_grammar.specs.Grammar.{File}
-use Rattle.c_grammar.specs.Machine.{Stack, Top, Braces, Yes, No, ThenOf, ElseOf, LoopOf, Sections, guards_of, Tailing, Another, Final, State, Outside, Ready, Ended, Wants, Has, Over, step, finish, folded, run}
+use Rattle.c_grammar.specs.Machine.{Stack, Top, Braces, Yes, No, ThenOf, ElseOf, LoopOf, Sections, guards_of, Tailing, Another, Final, State, Outside, Ready, Ended, Wants, Has, Over, step, finish, folded}
 
 -- ---- statements and groups
 
@@ -93,26 +93,3 @@ went (Some state) false go n = go state
 unfoldable pub guarded : State → ℕ → List Item → Result File Fault
 guarded state count [] = ended (finish state)
 guarded state count (x ∷ ts) = went (step state x.place x.sign) (is_deep state x.sign count) (λ next. guarded next (counted state x.sign count) ts) (suc (length ts))
-
--- an item with which some file goes on, but too much is open at it; at none before it is too much open
-pub record IsDeep (from : State) (count : ℕ) (ts : List Item) (n : ℕ) : Type 0 where
-  pub before : List Item
-  pub item : Item
-  pub rest : List Item
-  pub state : State
-  pub next : State
-  pub operators : ℕ
-  pub cut : ts ≡ before ++ item ∷ rest
-  pub left : suc (length rest) ≡ n
-  pub leads : (w : List Item) → run from (before ++ w) ≡ run state w
-  pub shallow : (w : List Item) → guarded from count (before ++ w) ≡ guarded state operators w
-  pub goes_on : step state item.place item.sign ≡ Some next
-  pub deep : is_deep state item.sign operators ≡ true
-  pub tail : List Item
-  pub made : File
-  pub fits : run from (before ++ item ∷ tail) ≡ Ok made
-
-abbrev pub Answers : Result File Fault → State → ℕ → List Item → Type 0
-Answers (Ok f) from count ts = run from ts ≡ Ok f
-Answers (Err (Wrong n)) from count ts = run from ts ≡ Err n
-Answers (Err (Deep n)) from count ts = IsDeep from count ts n

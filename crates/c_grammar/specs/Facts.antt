@@ -1,5 +1,5 @@
 -- Facts of the items of a text, and what they make of a program.
-use Rattle.std.specs.Prelude.{◌≡◌, ◌≤◌, ◌<◌, ◌≤ℤ◌, ℕ, pos, false, List, [], ◌∷◌, IsTrue, length, Ok}
+use Rattle.std.specs.Prelude.{◌≡◌, ◌≤◌, ◌<◌, ◌≤ℤ◌, ℕ, pos, false, List, [], ◌∷◌, IsTrue, length}
 use Rattle.fam_outer.specs.declared.faults.Place.{Place}
 use Rattle.c_tree.specs.Value.{greatest}
 use Rattle.c_tree.specs.Tree.{Whole}
@@ -9,8 +9,7 @@ use Rattle.c_grammar.specs.declared.items.Item.{Item}
 use Rattle.c_grammar.specs.declared.items.Sign.{Sign}
 use Rattle.c_grammar.specs.declared.items.Sign.TheVariants as signs
 use Rattle.c_grammar.specs.Grammar.{File, Forms, has_groups, whole_of, Spells}
-use Rattle.c_grammar.specs.Machine.{start}
-use Rattle.c_grammar.specs.Deep.{guarded}
+use Rattle.c_grammar.specs.Within.{FormsWithin}
 
 abbrev pub IsFit : ℕ → Sign → Type 0
 IsFit count (signs.Number n) = (pos 0 ≤ℤ n) × (n ≤ℤ greatest)
@@ -31,9 +30,9 @@ abbrev pub AreRising : List Item → Type 0
 AreRising [] = Unit {0}
 AreRising (x ∷ w) = IsBeforeItems x.place w × AreRising w
 
--- a file that is read within the limits is a well-formed program
+-- a file within the limits is a well-formed program
 abbrev pub WellFormed : Type 0
-WellFormed = (names : List (List ℕ)) (items : List Item) (f : File) → length names ≤ 16 → AreFit (length names) items → AreRising items → guarded start 0 items ≡ Ok f → IsProgram (whole_of names items f)
+WellFormed = (names : List (List ℕ)) (items : List Item) (f : File) → length names ≤ 16 → AreFit (length names) items → AreRising items → FormsWithin items f → IsProgram (whole_of names items f)
 
 -- a file without groups is a plain program
 abbrev pub PlainWithoutGroups : Type 0

@@ -1,10 +1,12 @@
 -- The laws of the grammar and of reading item by item.
-use Rattle.std.specs.Prelude.{◌≡◌, ℕ, List, [], ◌∷◌, ◌++◌, length, Option, Some, None, Result, Ok, Err}
+use Rattle.std.specs.Prelude.{◌≡◌, ◌↔◌, ℕ, List, [], ◌∷◌, ◌++◌, Option, Some, None, Result, Ok, Err}
 use Rattle.c_tree.specs.Tree.{Whole}
 use Rattle.c_grammar.specs.declared.items.Item.{Item}
 use Rattle.c_grammar.specs.Grammar.{File, Forms, Spells, whole_of}
 use Rattle.c_grammar.specs.Machine.{State, step, finish, run, start}
-use Rattle.c_grammar.specs.Deep.{Answers, Deep, IsDeep, guarded}
+use Rattle.c_grammar.specs.Deep.{Deep, Wrong, guarded}
+use Rattle.c_grammar.specs.Within.{FormsWithin}
+use Rattle.c_grammar.specs.Faults.{IsWrong, IsTooDeep, NothingDeep}
 
 -- the program of a file that was read
 abbrev pub program_in : List (List ℕ) → List Item → Result File ℕ → Result Whole ℕ
@@ -14,23 +16,6 @@ program_in names items (Err n) = Err n
 -- the program that the machine reads, or how many items there are from the wrong one on
 abbrev pub read : List (List ℕ) → List Item → Result Whole ℕ
 read names items = program_in names items (run start items)
-
--- no list of items that spells a program begins so
-abbrev pub Stops : List Item → List Item → Type 0
-Stops before [] = (f : File) → Forms before f → ⊥
-Stops before (x ∷ rest) = (more : List Item) (f : File) → Forms (before ++ x ∷ more) f → ⊥
-
--- the first wrong item, or the end, with so many items from it on: what stands before it goes on to a file, and with it
--- nothing does, whichever names there are
-pub record IsWrong (ts : List Item) (n : ℕ) : Type 0 where
-  pub before : List Item
-  pub rest : List Item
-  pub cut : ts ≡ before ++ rest
-  pub left : length rest ≡ n
-  pub tail : List Item
-  pub made : File
-  pub goes_on : Forms (before ++ tail) made
-  pub stops : Stops before rest
 
 -- the state after these items, where each of them can be taken
 abbrev pub on_with : Option State → (State → Option State) → Option State
@@ -79,10 +64,14 @@ StepsGoOn = (before : List Item) (state : State) → after start before ≡ Some
 abbrev pub EndsDecide : Type 0
 EndsDecide = (items : List Item) (state : State) → after start items ≡ Some state → finish state ≡ None → (f : File) → Forms items f → ⊥
 
--- the run with limits does what the run without does, or stops at the first item at which too much is open
-abbrev pub Limited : Type 0
-Limited = (items : List Item) → Answers (guarded start 0 items) start 0 items
+-- what is read within the limits is a file within them, and each such file is read
+abbrev pub ReadsWithin : Type 0
+ReadsWithin = (items : List Item) (f : File) → (guarded start 0 items ≡ Ok f) ↔ FormsWithin items f
 
--- and nowhere else
-abbrev pub DeepIsFound : Type 0
-DeepIsFound = (items : List Item) (n : ℕ) → IsDeep start 0 items n → guarded start 0 items ≡ Err (Deep n)
+-- the reading with limits stops as wrong at the first wrong item, where none is too deep, and nowhere else
+abbrev pub StopsWrong : Type 0
+StopsWrong = (items : List Item) (n : ℕ) → (guarded start 0 items ≡ Err (Wrong n)) ↔ (IsWrong items n × NothingDeep items)
+
+-- and as too deep at the first item that is too deep, and nowhere else
+abbrev pub StopsDeep : Type 0
+StopsDeep = (items : List Item) (n : ℕ) → (guarded start 0 items ≡ Err (Deep n)) ↔ IsTooDeep items n

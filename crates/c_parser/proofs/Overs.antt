@@ -14,13 +14,14 @@ use Rattle.c_tree.specs.Tree.{Whole}
 use Rattle.c_tree.specs.View.{whole}
 use Rattle.c_tree.specs.declared.tree.Program.{Program}
 use Rattle.c_grammar.specs.declared.items.Item.{Item}
+use Rattle.c_grammar.specs.Within.{SpellsWithin}
 use Rattle.c_parser.specs.declared.numbering.Numbered.{Numbered}
 use Rattle.c_tree.specs.Whole.{IsProgram}
 use Rattle.c_parser.specs.Items.{Listed, listed, names_from}
 use Rattle.c_parser.specs.Names.{declared_by, first_name_fault, name_fault_from}
 use Rattle.c_parser.specs.Signing.{IsListed}
 use Rattle.c_parser.specs.Stages.{Lists, IsSpelledAs}
-use Rattle.c_parser.specs.Reading.{IsSpelled, IsAccepted, HasWrong, HasDeep, IsReadOver, DeclaresAmong, AreAmong, items_of, items_of_code, code_of_file}
+use Rattle.c_parser.specs.Reading.{IsAccepted, HasWrong, HasDeep, IsReadOver, DeclaresAmong, AreAmong, items_of, items_of_code, code_of_file}
 use Rattle.c_parser.proofs.Stepwise.{all_over}
 use Rattle.c_parser.proofs.Declared.{names_from_declared, names_from_given}
 
@@ -39,7 +40,7 @@ not_spelled given bytes made (refusals.Fault code place) (l, is, m) (inr w) = in
 -- a name has a fault
 pub wrong_name : (given : List (List ℕ)) (bytes : List ℕ) (made : Numbered) (p : Program) (code : FileCode) (place : Place) → Lists (Ok made) (items_of given bytes) → IsSpelledAs made.names made.items.items (end_place bytes) (Ok p)
     → first_name_fault made.items.items ≡ Some (code, place) → IsReadOver given bytes (Err (refusals.Fault code place))
-wrong_name given bytes made p code place (l, is, m) s f = inr (l, is, inr (inr (record { program = whole p; spelled = subst (λ (x : Listed). IsSpelled x (whole p)) (same_list l made m) s; is = ap first_name_fault (sym m.items_are) ∙ f })))
+wrong_name given bytes made p code place (l, is, m) s f = inr (l, is, inr (inr (record { program = whole p; spelled = subst (λ (x : Listed). SpellsWithin x.names (whole p) x.items) (same_list l made m) s; is = ap first_name_fault (sym m.items_are) ∙ f })))
 
 -- ---- the items of a file are those of some tokens
 
@@ -107,11 +108,11 @@ abbrev FormedIfFew : Program → Type 0
 FormedIfFew p = length (whole p).names ≤ 16 → IsProgram (whole p)
 
 pub own_names : (bytes : List ℕ) (r : Result Program FileRefusal) → IsReadOver [] bytes r → IfOk r FormedIfFew → IfOk r (λ p. IsProgram (whole p))
-own_names bytes (Ok p) (l, is, a) formed = formed (subst (λ (ns : List (List ℕ)). length ns ≤ 16) (sym (ap (λ (w : Whole). w.names) a.spelled.spelled.is)) (names_declared bytes l (whole p) is a).1)
+own_names bytes (Ok p) (l, is, a) formed = formed (subst (λ (ns : List (List ℕ)). length ns ≤ 16) (sym (ap (λ (w : Whole). w.names) a.spelled.is)) (names_declared bytes l (whole p) is a).1)
 own_names bytes (Err e) h formed = tt
 
 pub has_given : (given : List (List ℕ)) (bytes : List ℕ) (r : Result Program FileRefusal) → DeclaresAmong given bytes → IsReadOver given bytes r → IfOk r (λ p. (whole p).names ≡ given)
-has_given given bytes (Ok p) among (l, is, a) = ap (λ (w : Whole). w.names) a.spelled.spelled.is ∙ names_given given bytes l (whole p) among is a
+has_given given bytes (Ok p) among (l, is, a) = ap (λ (w : Whole). w.names) a.spelled.is ∙ names_given given bytes l (whole p) among is a
 has_given given bytes (Err e) among h = tt
 
 pub given_names : (given : List (List ℕ)) (bytes : List ℕ) (r : Result Program FileRefusal) → length given ≤ 16 → IfOk r (λ p. (whole p).names ≡ given) → IfOk r FormedIfFew → IfOk r (λ p. IsProgram (whole p))

@@ -13,9 +13,10 @@ use Rattle.c_tokens.specs.declared.token.TokenKind.{TokenKind}
 use Rattle.c_tokens.specs.declared.token.TokenKind.TheVariants as kinds
 use Rattle.c_tree.specs.Tree.{Whole}
 use Rattle.c_grammar.specs.declared.items.Sign.{Sign}
+use Rattle.c_grammar.specs.Within.{WithinIsFile}
 use Rattle.std.specs.Prelude.{Option, Some, None}
 use Rattle.c_parser.specs.Signs.{keyword_of}
-use Rattle.c_parser.specs.Items.{Listed, listed, with_name, names_with_word, names_with, names_from, lexeme_in, AreNewBehind, AreDistinct}
+use Rattle.c_parser.specs.Items.{Listed, with_name, names_with_word, names_with, names_from, lexeme_in, AreNewBehind, AreDistinct}
 use Rattle.c_parser.specs.Names.{targets, names_at, each_once}
 use Rattle.c_parser.specs.Reading.{items_of, IsAccepted, IsReadOver, AreDeclaredNames}
 use Rattle.c_parser.proofs.Declarations.{declared_forms}
@@ -66,22 +67,23 @@ all_at front (n ∷ ns) k e =
 abbrev IsDistinct : Listed → Type 0
 IsDistinct l = AreDistinct l.names
 
-pub own_declared : (bytes : List ℕ) (l : Listed) (p : Whole) → items_of [] bytes ≡ Ok l → IsAccepted l p → AreDeclaredNames [] bytes p.names
-own_declared bytes l p is a =
+pub own_declared : WithinIsFile → (bytes : List ℕ) (l : Listed) (p : Whole) → items_of [] bytes ≡ Ok l → IsAccepted l p → AreDeclaredNames [] bytes p.names
+own_declared is_file bytes l p is a =
     let s = stands_for [] bytes l is in
     let distinct : AreDistinct l.names = subst IsDistinct (sym s.is) (distinct_from s.code [] s.tokens tt) in
-    let file = a.spelled.spelled.file in
-    let numbers : targets file.declared ≡ range_with_len 0 (length l.names) = sym (declared_forms a.spelled.spelled.forms) ∙ (names_declared bytes l p is a).0 in
+    let spelled = is_file l.names l.items p a.spelled in
+    let file = spelled.file in
+    let numbers : targets file.declared ≡ range_with_len 0 (length l.names) = sym (declared_forms spelled.forms) ∙ (names_declared bytes l p is a).0 in
     record {
       listed = l;
       items = is;
       file = file;
-      forms = a.spelled.spelled.forms;
+      forms = spelled.forms;
       are =
-          ap (λ (w : Whole). w.names) a.spelled.spelled.is
+          ap (λ (w : Whole). w.names) spelled.is
           ∙ sym (ap (λ (xs : List ℕ). each_once [] (names_at l.names xs)) numbers ∙ ap (each_once []) (all_at [] l.names 0 refl) ∙ all_new [] l.names distinct);
     }
 
-pub read_declared : (bytes : List ℕ) (r : Result Program FileRefusal) → IsReadOver [] bytes r → IfOk r (λ p. AreDeclaredNames [] bytes (whole p).names)
-read_declared bytes (Ok p) (l, is, a) = own_declared bytes l (whole p) is a
-read_declared bytes (Err e) h = tt
+pub read_declared : WithinIsFile → (bytes : List ℕ) (r : Result Program FileRefusal) → IsReadOver [] bytes r → IfOk r (λ p. AreDeclaredNames [] bytes (whole p).names)
+read_declared is_file bytes (Ok p) (l, is, a) = own_declared is_file bytes l (whole p) is a
+read_declared is_file bytes (Err e) h = tt

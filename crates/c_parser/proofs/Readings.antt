@@ -1,5 +1,5 @@
 -- A file has one reading: that which the machine decides.
-use Rattle.std.proofs.Common.{◌≡◌, ℕ, ◌+◌, ◌-◌, ◌<◌, List, [], ◌∷◌, length, Option, Some, None, Result, Ok, Err, refl, sym, ap, subst, ◌∙◌, arith, inl, inr}
+use Rattle.std.proofs.Common.{◌≡◌, ℕ, ◌+◌, ◌-◌, ◌<◌, List, ◌∷◌, length, Option, Some, None, Result, Ok, Err, refl, sym, ap, ◌∙◌, arith, inl, inr}
 use Rattle.std.proofs.lemmas.Bool.{lt-ltb}
 use Rattle.std.proofs.lemmas.List.{length-append}
 use Rattle.fam_outer.specs.declared.faults.Place.{Place}
@@ -11,55 +11,26 @@ use Rattle.fam_outer.specs.Results.{and_then}
 use Rattle.c_tree.specs.Tree.{Whole}
 use Rattle.c_grammar.specs.declared.items.Item.{Item}
 use Rattle.c_grammar.specs.Grammar.{File, whole_of}
-use Rattle.c_grammar.specs.Machine.{run, start}
+use Rattle.c_grammar.specs.Machine.{start}
 use Rattle.c_grammar.specs.Deep as limits
-use Rattle.c_grammar.specs.Deep.{Answers, Fault, guarded}
-use Rattle.c_grammar.specs.Laws.{Complete, DeepIsFound, FindsWrong, Limited, Sound, WrongIsFound, program_in}
+use Rattle.c_grammar.specs.Deep.{Fault, guarded}
+use Rattle.c_grammar.specs.Within.{SpellsWithin}
+use Rattle.c_grammar.specs.Laws.{ReadsWithin, StopsWrong, StopsDeep}
 use Rattle.item_reader.specs.Reading.{IsWrongAt, IsDeepAt}
 use Rattle.c_parser.specs.Items.{Listed}
 use Rattle.c_parser.specs.Names.{first_name_fault}
-use Rattle.c_parser.specs.Reading.{IsSpelled, IsAccepted, HasWrong, HasDeep, HasNameFault, Refuses, ReadsOver, file_place, code_of_file, items_of, place_with}
+use Rattle.c_parser.specs.Reading.{IsAccepted, HasWrong, HasDeep, HasNameFault, Refuses, ReadsOver, file_place, code_of_file, items_of, place_with}
 
 -- the laws of the grammar that are used here
 pub record GrammarLaws : Type 0 where
-  pub complete : Complete
-  pub sound : Sound
-  pub finds_wrong : FindsWrong
-  pub wrong_is_found : WrongIsFound
-  pub limited : Limited
-  pub deep_is_found : DeepIsFound
+  pub reads : ReadsWithin
+  pub stops_wrong : StopsWrong
+  pub stops_deep : StopsDeep
 
 abbrev Came : Type 0
 Came = Result File Fault
 
-abbrev Ran : Type 0
-Ran = Result File ℕ
-
-abbrev Made : Type 0
-Made = Result Whole ℕ
-
 -- ---- what was told of the items decides what the machine comes to
-
-abbrev ran_ok : File → Ran
-ran_ok f = Ok f
-
-abbrev ran_err : ℕ → Ran
-ran_err n = Err n
-
-abbrev made_ok : Whole → Made
-made_ok p = Ok p
-
-abbrev made_err : ℕ → Made
-made_err n = Err n
-
-same_made : (p q : Whole) (r : Made) → r ≡ Ok p → r ≡ Ok q → p ≡ q
-same_made p q r h k = let e : made_ok p ≡ made_ok q = sym h ∙ k in cc
-
-made_or_not : (p : Whole) (n : ℕ) (r : Made) → r ≡ Ok p → r ≡ Err n → ⊥
-made_or_not p n r h k = let e : made_ok p ≡ made_err n = sym h ∙ k in cc
-
-same_left : (m n : ℕ) (r : Made) → r ≡ Err m → r ≡ Err n → m ≡ n
-same_left m n r h k = let e : made_err m ≡ made_err n = sym h ∙ k in cc
 
 pub record CameTo (l : Listed) (p : Whole) : Type 0 where
   pub file : File
@@ -71,28 +42,15 @@ pub record StoppedAt (items : List Item) (n : ℕ) (fault : ℕ → Fault) : Typ
   pub there : n + left ≡ length items
   pub came : guarded start 0 items ≡ Err (fault left)
 
-spelled_came : GrammarLaws → (l : Listed) (p : Whole) → IsSpelled l p → (g : Came) → guarded start 0 l.items ≡ g → Answers g start 0 l.items → CameTo l p
-spelled_came laws l p s (Ok f) e a = record { file = f; came = e; is = same_made p (whole_of l.names l.items f) (program_in l.names l.items (run start l.items)) (laws.complete l.names l.items p s.spelled) (ap (program_in l.names l.items) a) }
-spelled_came laws l p s (Err (limits.Wrong n)) e a = absurd (made_or_not p n (program_in l.names l.items (run start l.items)) (laws.complete l.names l.items p s.spelled) (ap (program_in l.names l.items) a))
-spelled_came laws l p s (Err (limits.Deep n)) e a = absurd (s.shallow n a)
-
-answered : GrammarLaws → (items : List Item) (g : Came) → guarded start 0 items ≡ g → Answers g start 0 items
-answered laws items g e = subst (λ (r : Came). Answers r start 0 items) e (laws.limited items)
-
 -- items that spell a program are read
-pub came_to : GrammarLaws → (l : Listed) (p : Whole) → IsSpelled l p → CameTo l p
-came_to laws l p s = spelled_came laws l p s (guarded start 0 l.items) refl (answered laws l.items (guarded start 0 l.items) refl)
-
-wrong_came : GrammarLaws → (items : List Item) (n : ℕ) → IsWrongAt items n → (g : Came) → guarded start 0 items ≡ g → Answers g start 0 items → StoppedAt items n limits.Wrong
-wrong_came laws items n w (Ok f) e a = absurd (made_or_not (whole_of [] items f) w.left (program_in [] items (run start items)) (ap (program_in [] items) a) (laws.wrong_is_found [] items w.left w.wrong))
-wrong_came laws items n w (Err (limits.Wrong k)) e a = let same = same_left w.left k (program_in [] items (run start items)) (laws.wrong_is_found [] items w.left w.wrong) (ap (program_in [] items) a) in record { left = k; there = omega (arith, w.position, same); came = e }
-wrong_came laws items n w (Err (limits.Deep k)) e a = absurd (w.shallow k a)
+pub came_to : GrammarLaws → (l : Listed) (p : Whole) → SpellsWithin l.names p l.items → CameTo l p
+came_to laws l p s = record { file = s.file; came = (laws.reads l.items s.file).1 s.forms; is = s.is }
 
 wrong_stops : GrammarLaws → (items : List Item) (n : ℕ) → IsWrongAt items n → StoppedAt items n limits.Wrong
-wrong_stops laws items n w = wrong_came laws items n w (guarded start 0 items) refl (answered laws items (guarded start 0 items) refl)
+wrong_stops laws items n w = record { left = w.left; there = w.position; came = (laws.stops_wrong items w.left).1 (w.wrong, w.shallow) }
 
 deep_stops : GrammarLaws → (items : List Item) (n : ℕ) → IsDeepAt items n → StoppedAt items n limits.Deep
-deep_stops laws items n d = record { left = d.left; there = d.position; came = laws.deep_is_found items d.left d.deep }
+deep_stops laws items n d = record { left = d.left; there = d.position; came = (laws.stops_deep items d.left).1 d.deep }
 
 -- ---- the answer that the machine decides
 
@@ -157,60 +115,38 @@ abbrev IsJudged : Listed → Place → Answer → Type 0
 IsJudged l end (Ok p) = IsAccepted l p
 IsJudged l end (Err fault) = Refuses l end fault
 
-with_fault : (l : Listed) (end : Place) (p : Whole) → IsSpelled l p → (o : Option (FileCode × Place)) → first_name_fault l.items ≡ o → (r : Answer) × IsJudged l end r
+with_fault : (l : Listed) (end : Place) (p : Whole) → SpellsWithin l.names p l.items → (o : Option (FileCode × Place)) → first_name_fault l.items ≡ o → (r : Answer) × IsJudged l end r
 with_fault l end p s None e = (Ok p, record { spelled = s; names = e })
 with_fault l end p s (Some fault) e = (Err fault, inr (inr (record { program = p; spelled = s; is = e })))
 
-abbrev came_ok : File → Came
-came_ok f = Ok f
-
-abbrev came_wrong : ℕ → Came
-came_wrong n = Err (limits.Wrong n)
-
-abbrev came_deep : ℕ → Came
-came_deep n = Err (limits.Deep n)
-
-ok_or_deep : (f : File) (k : ℕ) (r : Came) → r ≡ Ok f → r ≡ Err (limits.Deep k) → ⊥
-ok_or_deep f k r h g = let e : came_ok f ≡ came_deep k = sym h ∙ g in cc
-
-wrong_or_deep : (n k : ℕ) (r : Came) → r ≡ Err (limits.Wrong n) → r ≡ Err (limits.Deep k) → ⊥
-wrong_or_deep n k r h g = let e : came_wrong n ≡ came_deep k = sym h ∙ g in cc
-
-by_machine : GrammarLaws → (l : Listed) (end : Place) (g : Came) → guarded start 0 l.items ≡ g → Answers g start 0 l.items → (r : Answer) × IsJudged l end r
-by_machine laws l end (Ok f) e a =
-    with_fault l end (whole_of l.names l.items f) (record {
-      spelled = laws.sound l.names l.items (whole_of l.names l.items f) (ap (program_in l.names l.items) a);
-      shallow = λ k d. ok_or_deep f k (guarded start 0 l.items) e (laws.deep_is_found l.items k d);
-    }) (first_name_fault l.items) refl
-by_machine laws l end (Err (limits.Wrong k)) e a =
-    let w = laws.finds_wrong [] l.items k (ap (program_in [] l.items) a) in (
+by_machine : GrammarLaws → (l : Listed) (end : Place) (g : Came) → guarded start 0 l.items ≡ g → (r : Answer) × IsJudged l end r
+by_machine laws l end (Ok f) e = with_fault l end (whole_of l.names l.items f) (record { file = f; forms = (laws.reads l.items f).0 e; is = refl }) (first_name_fault l.items) refl
+by_machine laws l end (Err (limits.Wrong k)) e =
+    let b = (laws.stops_wrong l.items k).0 e in
+    let w = b.0 in (
       Err (Syntax, place_with l.items (length w.before) end),
       inl (record {
         position = length w.before;
-        wrong = record {
-          left = k;
-          position = omega (arith, ap length w.cut, length-append w.before w.rest, w.left);
-          wrong = w;
-          shallow = λ j d. wrong_or_deep k j (guarded start 0 l.items) e (laws.deep_is_found l.items j d);
-        };
+        wrong = record { left = k; position = omega (arith, ap length w.cut, length-append w.before w.rest, w.left); wrong = w; shallow = b.1 };
         is = refl;
       }),
     )
-by_machine laws l end (Err (limits.Deep k)) e a = (
-  Err (TooDeep, place_with l.items (length a.before) end),
-  inr (inl (record {
-    position = length a.before;
-    deep = record { left = k; position = omega (arith, ap length a.cut, length-append a.before (a.item ∷ a.rest), a.left); deep = a };
-    is = refl;
-  })),
-)
+by_machine laws l end (Err (limits.Deep k)) e =
+    let a = (laws.stops_deep l.items k).0 e in (
+      Err (TooDeep, place_with l.items (length a.before) end),
+      inr (inl (record {
+        position = length a.before;
+        deep = record { left = k; position = omega (arith, ap length a.cut, length-append a.before (a.item ∷ a.rest), a.left); deep = a };
+        is = refl;
+      })),
+    )
 
 judged_reads : (given : List (List ℕ)) (bytes : List ℕ) (l : Listed) → items_of given bytes ≡ Ok l → (r : Answer) → IsJudged l (end_place bytes) r → ReadsOver given bytes r
 judged_reads given bytes l is (Ok p) j = (l, is, j)
 judged_reads given bytes l is (Err fault) j = inr (l, is, j)
 
 by_items : GrammarLaws → (given : List (List ℕ)) (bytes : List ℕ) (x : Result Listed (FileCode × Place)) → items_of given bytes ≡ x → (r : Answer) × ReadsOver given bytes r
-by_items laws given bytes (Ok l) is = let j = by_machine laws l (end_place bytes) (guarded start 0 l.items) refl (answered laws l.items (guarded start 0 l.items) refl) in (j.0, judged_reads given bytes l is j.0 j.1)
+by_items laws given bytes (Ok l) is = let j = by_machine laws l (end_place bytes) (guarded start 0 l.items) refl in (j.0, judged_reads given bytes l is j.0 j.1)
 by_items laws given bytes (Err fault) is = (Err fault, inl is)
 
 -- each file is read

@@ -16,8 +16,9 @@ use Rattle.c_tree.specs.Tree.{Whole}
 use Rattle.c_tree.specs.View.{whole}
 use Rattle.c_tree.specs.declared.tree.Program.{Program}
 use Rattle.c_grammar.specs.declared.items.Item.{Item}
-use Rattle.c_grammar.specs.Grammar.{File, Forms, Spells}
-use Rattle.item_reader.specs.Reading.{IsWrongAt, IsDeepAt, NothingDeep}
+use Rattle.c_grammar.specs.Grammar.{File, Forms}
+use Rattle.c_grammar.specs.Within.{SpellsWithin}
+use Rattle.item_reader.specs.Reading.{IsWrongAt, IsDeepAt}
 use Rattle.c_parser.specs.Items.{Listed, listed}
 use Rattle.std.specs.List.{list_any}
 use Rattle.c_parser.specs.Names.{declared_by, first_name_fault, targets, names_at, each_once}
@@ -55,14 +56,9 @@ place_or (Some x) end = x.place
 abbrev pub place_with : List Item → ℕ → Place → Place
 place_with items n end = place_or (slice_get items n) end
 
--- the items spell the program within the limits
-pub record IsSpelled (l : Listed) (p : Whole) : Type 0 where
-  pub spelled : Spells l.names p l.items
-  pub shallow : NothingDeep l.items
-
--- so does a program whose names have no fault
+-- the items spell the program within the limits, and its names have no fault
 pub record IsAccepted (l : Listed) (p : Whole) : Type 0 where
-  pub spelled : IsSpelled l p
+  pub spelled : SpellsWithin l.names p l.items
   pub names : first_name_fault l.items ≡ None
 
 -- the item at a position, or the end behind all, is the first wrong one
@@ -71,16 +67,16 @@ pub record HasWrong (l : Listed) (end : Place) (fault : FileCode × Place) : Typ
   pub wrong : IsWrongAt l.items position
   pub is : fault ≡ (Syntax, place_with l.items position end)
 
--- at the item at a position too much is open
+-- the item at a position is the first too deep one
 pub record HasDeep (l : Listed) (end : Place) (fault : FileCode × Place) : Type 0 where
   pub position : ℕ
   pub deep : IsDeepAt l.items position
   pub is : fault ≡ (TooDeep, place_with l.items position end)
 
--- the items spell a program, and a name has a fault
+-- the items spell a program within the limits, and a name has a fault
 pub record HasNameFault (l : Listed) (fault : FileCode × Place) : Type 0 where
   pub program : Whole
-  pub spelled : IsSpelled l program
+  pub spelled : SpellsWithin l.names program l.items
   pub is : first_name_fault l.items ≡ Some fault
 
 abbrev pub Refuses : Listed → Place → FileCode × Place → Type 0

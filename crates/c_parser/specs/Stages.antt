@@ -9,10 +9,11 @@ use Rattle.c_tree.specs.declared.tree.Program.{Program}
 use Rattle.c_grammar.specs.declared.items.Item.{Item}
 use Rattle.c_grammar.specs.Facts.{AreFit, AreRising}
 use Rattle.c_grammar.specs.Grammar.{has_groups}
+use Rattle.c_grammar.specs.Within.{SpellsWithin}
 use Rattle.c_parser.specs.declared.numbering.Numbered.{Numbered}
 use Rattle.c_parser.specs.Items.{Listed}
 use Rattle.c_parser.specs.Signing.{IsListed}
-use Rattle.c_parser.specs.Reading.{IsSpelled, HasWrong, HasDeep}
+use Rattle.c_parser.specs.Reading.{HasWrong, HasDeep}
 
 -- items that a reader may be given, and that have no groups
 pub record AreProper (names : List (List ℕ)) (items : List Item) : Type 0 where
@@ -32,8 +33,8 @@ Lists (Err refusals.NoMemory) answer = ⊤
 abbrev list : List (List ℕ) → List Item → Listed
 list names items = record { names = names; items = items }
 
--- the program of the items, or the first wrong item, or that at which too much is open
+-- the program of the items, or the first wrong item, or the first too deep one
 abbrev pub IsSpelledAs : List (List ℕ) → List Item → Place → Result Program FileRefusal → Type 0
-IsSpelledAs names items end (Ok program) = IsSpelled (list names items) (whole program)
+IsSpelledAs names items end (Ok program) = SpellsWithin names (whole program) items
 IsSpelledAs names items end (Err (refusals.Fault code place)) = HasWrong (list names items) end (code, place) ⊎ HasDeep (list names items) end (code, place)
 IsSpelledAs names items end (Err refusals.NoMemory) = ⊤

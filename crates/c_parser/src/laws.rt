@@ -11,29 +11,20 @@ ghost use Rattle.c_grammar.specs.Grammar.{File, Forms};
 ghost use Rattle.c_parser.specs.Names.{declared_by, targets};
 ghost use Rattle.c_parser.specs.Reading.{ReadsOver, items_of, IsAccepted, AreDeclaredNames};
 
-use c_grammar::laws::{
-    limits_stop_only_what_is_deep, reads_what_is_spelled, spells_what_is_read,
-    stops_at_the_first_wrong_item,
-};
+use c_grammar::laws::{reads_within_the_limits, within_the_limits_is_a_file};
 
 /// A file is read in one way.
 pub fn reads_at_most_once()
     ensures { (given : List (List ℕ)) (bytes : List ℕ) (r s : Result Whole (FileCode × Place)) → ReadsOver given bytes r → ReadsOver given bytes s → r ≡ s }
 {
-    reads_what_is_spelled();
-    spells_what_is_read();
-    stops_at_the_first_wrong_item();
-    limits_stop_only_what_is_deep();
+    reads_within_the_limits();
 }
 
 /// Each file is read as a program, or has a refusal.
 pub fn reads_something()
     ensures { (given : List (List ℕ)) (bytes : List ℕ) → (r : Result Whole (FileCode × Place)) × ReadsOver given bytes r }
 {
-    reads_what_is_spelled();
-    spells_what_is_read();
-    stops_at_the_first_wrong_item();
-    limits_stop_only_what_is_deep();
+    reads_within_the_limits();
 }
 
 /// The names of a program that is read over no given names are those that its file declares, in the order of their
@@ -41,7 +32,9 @@ pub fn reads_something()
 pub fn names_are_declared()
     ensures names { (bytes : List ℕ) (l : Listed) (p : Whole) → items_of [] bytes ≡ Ok l → IsAccepted l p → AreDeclaredNames [] bytes p.names }
     ensures few { (bytes : List ℕ) (l : Listed) (p : Whole) → items_of [] bytes ≡ Ok l → IsAccepted l p → length l.names ≤ 16 }
-{}
+{
+    within_the_limits_is_a_file();
+}
 
 /// What stands as declared in phase 6, each name before `main`, is what the grammar declares: the targets of the
 /// declarators of the file that the items form, in the order of the text.

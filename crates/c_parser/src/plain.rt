@@ -16,7 +16,7 @@ ghost use Rattle.c_parser.specs.Stages.{Lists, AreProper, ProperIn, IsSpelledAs}
 use crate::names::first_name_fault;
 use crate::numbering::{Numbered, number};
 use c_grammar::Item;
-use c_grammar::laws::spells_at_most_one;
+use c_grammar::laws::{spells_at_most_one, within_the_limits_is_a_file};
 use c_tokens::laws::{literals_are_decimal, reads_longest_lexemes};
 use c_tokens::tokens;
 use c_tree::{Names, Program};
@@ -129,8 +129,9 @@ fn read_over(alloc: Global, given: &[Text], bytes: &[u8]) -> Result<Program, Fil
 /// The earliest of these phases that has a fault decides, and in a phase the first place: `TooLong` at 1:1 for more than
 /// 1,048,576 bytes; `OpenComment`, `Splice` and `CommentAtDirective` as `cpp_lines::blank_comments` has them; `Directive`
 /// and `GroupHere` as `cpp_lines::plain_lines` has them; `StrayByte` and `Literal` as `c_tokens::tokens` has them;
-/// `Syntax` at the first token, or the end, at which no file goes on, and `TooDeep` at a statement with 64 around it or
-/// the 65th operator or opening parenthesis of an expression; and then `Undeclared` at a name that is used and nowhere
+/// `Syntax` at the first token, or the end, at which no file goes on, and `TooDeep` at the first token at which some file
+/// goes on but none within the limits: an `if`, `while` or block with 64 of these around it, or the 65th operator or
+/// opening parenthesis of an expression; and then `Undeclared` at a name that is used and nowhere
 /// declared, `Twice` at the second declaration of a name, and `TooManyVariables` at the first declaration of the 17th.
 /// `NoMemory` is want of memory.
 pub fn read_plain(alloc: Global, bytes: &[u8]) -> Result<Program, FileRefusal>
@@ -141,6 +142,7 @@ pub fn read_plain(alloc: Global, bytes: &[u8]) -> Result<Program, FileRefusal>
     ensures plain { IfOk result (λ p. IsPlainProgram (whole p)) }
 {
     spells_at_most_one();
+    within_the_limits_is_a_file();
     read_over(alloc, &[], bytes)
 }
 

@@ -10,12 +10,11 @@ use Rattle.c_grammar.specs.Grammar as grammar
 use Rattle.c_grammar.specs.Machine.{State, start, step, finish}
 use Rattle.c_grammar.specs.Deep as limits
 use Rattle.c_grammar.specs.Deep.{Fault, counted, is_deep, is_long, is_nested, went, ended, guarded}
-use Rattle.item_reader.specs.Reading.{StopsAt}
 use Rattle.item_reader.specs.declared.unread.Unread.{Unread}
 use Rattle.item_reader.specs.declared.unread.Unread.TheVariants as unread
 use Rattle.fam_outer.specs.declared.refusal.Refusal.{Refusal}
 use Rattle.fam_outer.specs.declared.refusal.Refusal.TheVariants as refusal
-use Rattle.item_reader.specs.Taking.{AreUnsigned, IsTaken, IsTooMuch, Takes, Reads}
+use Rattle.item_reader.specs.Taking.{AreUnsigned, IsTaken, IsTooMuch, StopsAt, Takes, Reads}
 
 or_right : (a b : Bool) → (a || b) ≡ false → b ≡ false
 or_right true b e = cc

@@ -1,17 +1,16 @@
 -- One item, with what is open before it.
-use Rattle.std.specs.Prelude.{◌≡◌, ◌≤◌, ℕ, false, true, Some, None, Result, Ok, Err, List, [], ◌∷◌}
+use Rattle.std.specs.Prelude.{◌≡◌, ◌≤◌, ◌+◌, ℕ, false, true, Some, None, Result, Ok, Err, List, [], ◌∷◌, length}
 use Rattle.c_grammar.specs.declared.items.Item.{Item}
 use Rattle.c_grammar.specs.Machine as machine
 use Rattle.c_grammar.specs.Machine.{start, step}
 use Rattle.c_grammar.specs.Deep as limits
-use Rattle.c_grammar.specs.Deep.{counted, is_deep, guarded}
+use Rattle.c_grammar.specs.Deep.{Fault, counted, is_deep, guarded}
 use Rattle.item_reader.specs.declared.states.State.{State}
 use Rattle.item_reader.specs.declared.states.File.{File}
 use Rattle.item_reader.specs.declared.unread.Unread.{Unread}
 use Rattle.item_reader.specs.declared.unread.Unread.TheVariants as unread
 use Rattle.fam_outer.specs.declared.refusal.Refusal.{Refusal}
 use Rattle.fam_outer.specs.declared.refusal.Refusal.TheVariants as refusal
-use Rattle.item_reader.specs.Reading.{StopsAt}
 use Rattle.item_reader.specs.Signs.{IsUnsigned}
 use Rattle.item_reader.specs.Views.{as_file, as_state}
 
@@ -34,6 +33,12 @@ Takes state count x n (Ok made) = IsTaken state count x (as_state made.0) made.1
 Takes state count x n (Err refusal.NoMemory) = Unit {0}
 Takes state count x n (Err (refusal.Fault (unread.Wrong m))) = (m ≡ n) × (step state x.place x.sign ≡ None)
 Takes state count x n (Err (refusal.Fault (unread.Deep m))) = (m ≡ n) × IsTooMuch state count x
+
+-- the machine stops, with so many items left from a position on
+pub record StopsAt (items : List Item) (n : ℕ) (fault : ℕ → Fault) : Type 0 where
+  pub left : ℕ
+  pub position : n + left ≡ length items
+  pub stops : guarded start 0 items ≡ Err (fault left)
 
 -- what the items lead to
 abbrev pub Reads : List Item → Result File (Refusal Unread) → Type 0

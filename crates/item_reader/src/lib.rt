@@ -22,6 +22,3 @@ pub mod unread;
 
 pub use reading::read_items;
 pub use unread::{Unread, UnreadRefusal};
-
-#[cfg(test)]
-mod tests;

@@ -5,21 +5,19 @@ ghost use Rattle.std.specs.Prelude.{◌≡◌, ◌≤◌, length, false, IfOk};
 ghost use Rattle.c_tree.specs.View.{whole};
 ghost use Rattle.c_tree.specs.Whole.{IsProgram, IsPlainProgram};
 ghost use Rattle.c_grammar.specs.Facts.{AreFit, AreRising};
-ghost use Rattle.c_grammar.specs.Grammar.{Spells, has_groups};
-ghost use Rattle.item_reader.specs.Reading.{IsDeepAt, IsRead, IsWrongAt, NothingDeep, OnDeep, OnWrong};
+ghost use Rattle.c_grammar.specs.Grammar.{has_groups};
+ghost use Rattle.c_grammar.specs.Within.{SpellsWithin};
+ghost use Rattle.item_reader.specs.Reading.{IsDeepAt, IsWrongAt, OnDeep, OnWrong};
 
 use crate::files::read_file;
 use crate::programs::program_of;
 use crate::unread::UnreadRefusal;
 use c_grammar::Item;
-use c_grammar::laws::{
-    files_are_programs, limits_stop_only_what_is_deep, spells_what_is_read,
-    stops_at_the_first_wrong_item,
-};
+use c_grammar::laws::{files_are_programs, reads_within_the_limits, within_the_limits_is_a_file};
 use c_tree::{Names, Program};
 use std::alloc::Global;
 
-/// The program that a list of items spells over these names.
+/// The program that a list of items spells within the limits, over these names.
 ///
 /// An item is a token or a group directive (`#if`, `#elif`, `#else`, `#endif`) of a C file, and the grammar is that of
 /// `c_grammar`: declarations of `int` variables, which may stand in groups, and then `main` (ISO/IEC 9899:2011, 6.5 to
@@ -34,24 +32,21 @@ use std::alloc::Global;
 ///
 /// - `Wrong(n)`: no file goes on with item `n`, whichever names it has, though some file goes on with the items before
 ///   it. Where `n` is the number of the items, some file goes on with all of them, but none ends behind them.
-/// - `Deep(n)`: some file goes on with item `n`, but too much is open at it: it opens an `if`, a `while`, a block, a
+/// - `Deep(n)`: some file goes on with item `n`, but none within the limits: it opens an `if`, a `while`, a block, a
 ///   group or the next part of a group inside 64 of these, or it is the 65th operator or opening parenthesis of an
 ///   expression. The brace of `main` is no block, and each `#elif` counts as one more around what follows in its section.
 /// - `NoMemory`: want of memory, and nothing else.
 pub fn read_items(alloc: Global, names: Names, items: &[Item]) -> Result<Program, UnreadRefusal>
     requires fit { AreFit (length names) items.now }
     requires rising { AreRising items.now }
-    ensures spells { IfOk result (λ p. Spells names (whole p) items.now) }
-    ensures read { IfOk result (λ p. IsRead names items.now (whole p)) }
-    ensures shallow { IfOk result (λ p. NothingDeep items.now) }
+    ensures spells { IfOk result (λ p. SpellsWithin names (whole p) items.now) }
     ensures program { length names ≤ 16 → IfOk result (λ p. IsProgram (whole p)) }
     ensures plain { IfOk result (λ p. has_groups items.now ≡ false → IsPlainProgram (whole p)) }
     ensures wrong { OnWrong result (IsWrongAt items.now) }
     ensures deep { OnDeep result (IsDeepAt items.now) }
 {
-    spells_what_is_read();
-    stops_at_the_first_wrong_item();
-    limits_stop_only_what_is_deep();
+    reads_within_the_limits();
+    within_the_limits_is_a_file();
     files_are_programs();
     let file = read_file(alloc, items)?;
     let program = program_of(alloc, names, items, file)?;

@@ -9,7 +9,7 @@ pub enum Unread {
     /// No file goes on with the item at this position of the list, or ends behind its last item where the position is
     /// the length of the list.
     Wrong(usize),
-    /// Too much is open at the item at this position of the list.
+    /// Some file goes on with the item at this position of the list, but none within the limits.
     Deep(usize),
 }
 

@@ -3,10 +3,7 @@ use Rattle.c_parser.proofs.laws.reads_at_most_once.Goals as goal
 
 pub returns : goal.returns
 returns c = reads_once (record {
-  complete = c.reads_what_is_spelled.ensures;
-  sound = c.spells_what_is_read.ensures;
-  finds_wrong = c.stops_at_the_first_wrong_item.ensures.there;
-  wrong_is_found = c.stops_at_the_first_wrong_item.ensures.alone;
-  limited = c.limits_stop_only_what_is_deep.ensures.there;
-  deep_is_found = c.limits_stop_only_what_is_deep.ensures.alone;
+  reads = c.reads_within_the_limits.ensures.file;
+  stops_wrong = c.reads_within_the_limits.ensures.wrong;
+  stops_deep = c.reads_within_the_limits.ensures.deep;
 })

@@ -1,5 +1,5 @@
 use Rattle.std.proofs.Common.{length}
-use Rattle.item_reader.proofs.tests.+do_rise.Given as goal
+use Rattle.item_reader_tests.proofs.tests.+do_rise.Given as goal
 
 abbrev pub decreases-do_rise : goal.decreases-do_rise
 decreases-do_rise l = length l.items.now

@@ -5,10 +5,10 @@ ghost use Rattle.std.specs.Prelude.{◌≡◌, ◌<◌, [], ◌∷◌, IsTrue, I
 ghost use Rattle.c_tree.specs.Whole.{is_before};
 ghost use Rattle.c_grammar.specs.Facts.{AreFit, AreRising, IsBeforeItems, IsFit};
 
-use crate::{Unread, UnreadRefusal, read_items};
 use c_grammar::{Item, Sign};
 use c_tree::{Names, Op, Program};
 use fam_outer::{NoMemory, Place, Text};
+use item_reader::{Unread, UnreadRefusal, read_items};
 use std::alloc::{AllocError, Global};
 use std::process::Abort;
 use std::test::Fail;
@@ -79,7 +79,7 @@ fn two_names(alloc: Global) -> Result<Names, NoMemory>
 }
 
 /// Reads these signs, each in a line of its own.
-fn read(rt: &impl Abort, alloc: Global, signs: &[Sign]) -> Result<Program, UnreadRefusal> {
+pub(crate) fn read(rt: &impl Abort, alloc: Global, signs: &[Sign]) -> Result<Program, UnreadRefusal> {
     let mut items = Vec::new(alloc);
     let mut line = 0u32;
     for sign in signs {
@@ -112,34 +112,23 @@ fn accepts(rt: &impl Abort, alloc: Global, signs: &[Sign], wanted: &str) -> Resu
     Ok(())
 }
 
-/// `int main() {`, some signs, a sign so many times, and some signs.
-fn nested(
-    alloc: Global,
-    front: &[Sign],
-    repeated: Sign,
-    count: u32,
-    back: &[Sign],
-) -> Result<Vec<Sign>, NoMemory> {
-    let mut signs = Vec::new(alloc);
-    for sign in [
-        Sign::Int,
-        Sign::Main,
-        Sign::Open,
-        Sign::Close,
-        Sign::LeftBrace,
-    ] {
-        signs.push(sign)?;
-    }
-    for sign in front {
-        signs.push(*sign)?;
-    }
+/// `int main() {`.
+pub(crate) const HEAD: [Sign; 5] = [
+    Sign::Int,
+    Sign::Main,
+    Sign::Open,
+    Sign::Close,
+    Sign::LeftBrace,
+];
+
+/// Adds these signs so many times.
+pub(crate) fn add(signs: &mut Vec<Sign>, more: &[Sign], count: u32) -> Result<(), NoMemory> {
     for _ in 0..count {
-        signs.push(repeated)?;
+        for sign in more {
+            signs.push(*sign)?;
+        }
     }
-    for sign in back {
-        signs.push(*sign)?;
-    }
-    Ok(signs)
+    Ok(())
 }
 
 #[test]
@@ -292,36 +281,13 @@ fn the_first_wrong_item_is_found(rt: HostRuntime) -> Result<(), Fail> {
         ),
     ];
     for (signs, position) in inside {
-        let signs = nested(alloc, signs, Sign::Semicolon, 0, &[])?;
+        let mut all = Vec::new(alloc);
+        add(&mut all, &HEAD, 1)?;
+        add(&mut all, signs, 1)?;
         assert_eq!(rt;
-            read(&rt, alloc, &signs).err(),
+            read(&rt, alloc, &all).err(),
             Some(UnreadRefusal::Fault(Unread::Wrong(position)))
         );
     }
-    Ok(())
-}
-
-#[test]
-fn limits(rt: HostRuntime) -> Result<(), Fail> {
-    let alloc = rt.alloc();
-    let mut blocks = nested(alloc, &[], Sign::LeftBrace, 64, &[])?;
-    for _ in 0..65 {
-        blocks.push(Sign::RightBrace)?;
-    }
-    assert!(rt; read(&rt, alloc, &blocks).is_ok());
-    let blocks = nested(alloc, &[], Sign::LeftBrace, 65, &[])?;
-    assert_eq!(rt;
-        read(&rt, alloc, &blocks).err(),
-        Some(UnreadRefusal::Fault(Unread::Deep(69)))
-    );
-    let front = [Sign::Name(0), Sign::Equals];
-    let back = [Sign::Number(1), Sign::Semicolon, Sign::RightBrace];
-    let sum = nested(alloc, &front, Sign::Oper(Op::Sub), 64, &back)?;
-    assert!(rt; read(&rt, alloc, &sum).is_ok());
-    let sum = nested(alloc, &front, Sign::Oper(Op::Sub), 65, &back)?;
-    assert_eq!(rt;
-        read(&rt, alloc, &sum).err(),
-        Some(UnreadRefusal::Fault(Unread::Deep(71)))
-    );
     Ok(())
 }
