@@ -81,7 +81,7 @@ fn faulty_files_have_no_variant(rt: HostRuntime) -> Result<(), Fail> {
     let alloc = rt.alloc();
     let model = model(alloc)?;
     let config = config(alloc, &model, ["A=1", "N=0"])?;
-    let long = vec![in alloc; b'\n', 1_048_577]?;
+    let long = vec![in alloc; b'\n'; 1_048_577]?;
     let cases: [(&[u8], FileCode, u32, u32); 3] = [
         (&long, FileCode::TooLong, 1, 1),
         (b"#if A\n /* x", FileCode::OpenComment, 2, 2),
