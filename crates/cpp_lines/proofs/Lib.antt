@@ -1,3 +1,4 @@
+pub mod LineNumbers
 pub mod KeptLines
 pub mod Numbering
 pub mod Standing

@@ -72,3 +72,8 @@ AreLinesOf text lines = AreLinesFrom 0 (pieces text) lines
 abbrev pub ArePlaced : List ℕ → List Line → Type 0
 ArePlaced text [] = ⊤
 ArePlaced text (l ∷ ls) = (l.place ≡ place_at text (if is_code l.kind then l.start else l.start + prefix_len is_gap (drop l.start text))) × ArePlaced text ls
+
+-- the lines are numbered one after another, from this number on
+abbrev pub AreCounted : ℕ → List Line → Type 0
+AreCounted n [] = ⊤
+AreCounted n (l ∷ ls) = (l.place.line ≡ n) × AreCounted (n + 1) ls

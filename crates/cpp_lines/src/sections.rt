@@ -293,6 +293,7 @@ pub fn read_sections(alloc: Global, model: &Model, blanked: &[u8]) -> Result<Sec
     requires few { HaveFewAtoms 64 (plain model.now).constraints }
     ensures read { sections.ReadsSections (plain model.now) blanked.now result }
     ensures lines { IfOk result (λ made. lists.AreLinesOf blanked.now made.lines) }
+    ensures numbers { IfOk result (λ made. lists.AreCounted 1 made.lines) }
     ensures few { IfOk result (λ made. length made.atoms ≤ 64) }
     ensures atoms { IfOk result (λ made. AreAtoms (length model.now.features) made.atoms) }
     ensures below { IfOk result (λ made. All (λ f. IsBelow (length made.atoms) (formula f)) made.conditions) }

@@ -1,4 +1,4 @@
-use Rattle.std.proofs.Common.{◌≡◌, List, [], length, map, Ok, sym, ap, subst, ◌∙◌}
+use Rattle.std.proofs.Common.{◌≡◌, List, [], length, map, Ok, refl, sym, ap, subst, ◌∙◌}
 use Rattle.linear_atoms.specs.declared.atoms.Atom.{Atom}
 use Rattle.linear_atoms.specs.Atoms.{AreAtoms}
 use Rattle.cpp_conditions.specs.declared.conditions.Condition.{Condition}
@@ -6,10 +6,11 @@ use Rattle.cpp_conditions.specs.Numbering.{AreAllAmong}
 use Rattle.cpp_conditions.specs.Validity.{plain}
 use Rattle.cpp_conditions.specs.View.{proposition}
 use Rattle.cpp_lines.specs.declared.line.Line.{Line}
-use Rattle.cpp_lines.specs.Lines.{pieces, AreLinesFrom, AreLinesOf}
+use Rattle.cpp_lines.specs.Lines.{pieces, AreLinesFrom, AreLinesOf, AreCounted}
 use Rattle.cpp_lines.specs.Sections.{AreNumberedBelow}
 use Rattle.cpp_lines.specs.Taking.{meant}
 use Rattle.cpp_lines.proofs.Adding.{atoms_fit}
+use Rattle.cpp_lines.proofs.LineNumbers.{counted}
 use Rattle.cpp_lines.proofs.Numbering.{among_behind, lines_are, numbers_are, same_count}
 use Rattle.cpp_lines.proofs.sections.read_sections.Goals as goal
 
@@ -39,3 +40,9 @@ returns-clause-numbered c =
     ap length c.from_vec-2.ensures ∙ sym (same_count c.deref-2.result.now (map proposition c.deref.result.now) c.in_ok-conditions.conditions.items c.in_ok-conditions.ensures.numbered)
     ∙ ap (λ (cs : List Condition). length (map proposition cs)) c.deref.ensures.value in
     subst (λ (ls : List Line). AreNumberedBelow (length c.from_vec-2.result) ls) (sym c.from_vec.ensures) (all (length c.from_vec-2.result) count)
+
+pub returns-clause-numbers : goal.returns-clause-numbers
+returns-clause-numbers c =
+    subst (λ (ls : List Line). AreCounted 1 ls) (sym c.from_vec.ensures)
+    (counted (plain c.args.model.now) c.args.blanked.now [] [] 0 c.args.blanked.now (pieces c.args.blanked.now) 1 (Ok (record { lines = c.in_ok-reading.reading.lines.items; conditions = meant c.in_ok-reading.reading })) refl refl refl
+    c.in_ok-reading.ensures.read)
