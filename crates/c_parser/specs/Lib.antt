@@ -5,3 +5,4 @@ pub mod Names
 pub mod Reading
 pub mod Judging
 pub mod Stages
+pub mod Families

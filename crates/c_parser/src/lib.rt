@@ -2,6 +2,7 @@
 #![tactic(auto)]
 
 pub mod laws;
+mod families;
 mod names;
 mod numbering;
 pub mod plain;
