@@ -79,7 +79,11 @@ fn two_names(alloc: Global) -> Result<Names, NoMemory>
 }
 
 /// Reads these signs, each in a line of its own.
-pub(crate) fn read(rt: &impl Abort, alloc: Global, signs: &[Sign]) -> Result<Program, UnreadRefusal> {
+pub(crate) fn read(
+    rt: &impl Abort,
+    alloc: Global,
+    signs: &[Sign],
+) -> Result<Program, UnreadRefusal> {
     let mut items = Vec::new(alloc);
     let mut line = 0u32;
     for sign in signs {
