@@ -6,3 +6,4 @@ pub mod Reading
 pub mod Judging
 pub mod Stages
 pub mod Families
+pub mod FamilyStages

@@ -27,7 +27,7 @@ use item_reader::{Unread, UnreadRefusal, read_items};
 use std::alloc::Global;
 
 /// A fault at a place.
-fn refused(code: FileCode, place: Place) -> FileRefusal
+pub(crate) fn refused(code: FileCode, place: Place) -> FileRefusal
     ensures { result ≡ refusals.Fault code place }
 {
     FileRefusal::Fault { code, place }
@@ -49,6 +49,25 @@ fn file_code(alloc: Global, bytes: &[u8]) -> Result<Text, FileRefusal>
     Ok(code_text(alloc, blanked.bytes(), lines.items())?)
 }
 
+/// The names and items of code, where names are given before its own.
+pub(crate) fn number_code(
+    alloc: Global,
+    given: &[Text],
+    code: &[u8],
+) -> Result<Numbered, FileRefusal>
+    requires few { length given.now ≤ 16 }
+    requires distinct { AreDistinct given.now }
+    requires short { length code.now ≤ FILE_BYTES }
+    ensures listed { Lists result (specs.items_of_code given.now code.now) }
+    ensures proper { IfOk result (λ made. ProperIn made) }
+{
+    reads_longest_lexemes();
+    literals_are_decimal();
+    places_rise();
+    let tokens = tokens(alloc, code)?;
+    Ok(number(alloc, given, code, tokens.items())?)
+}
+
 /// The names and items of a file, where names are given before its own.
 #[tactic(auto, unfolding(crate::specs::Reading::items_of))]
 fn list_items(alloc: Global, given: &[Text], bytes: &[u8]) -> Result<Numbered, FileRefusal>
@@ -58,16 +77,12 @@ fn list_items(alloc: Global, given: &[Text], bytes: &[u8]) -> Result<Numbered, F
     ensures proper { IfOk result (λ made. ProperIn made) }
     ensures limited { IfOk result (λ _. length bytes.now ≤ FILE_BYTES) }
 {
-    reads_longest_lexemes();
-    literals_are_decimal();
-    places_rise();
     let code = file_code(alloc, bytes)?;
-    let tokens = tokens(alloc, code.bytes())?;
-    Ok(number(alloc, given, code.bytes(), tokens.items())?)
+    number_code(alloc, given, code.bytes())
 }
 
 /// The place of the item at a position, or the end of the text.
-fn place_with(items: &[Item], position: usize, bytes: &[u8]) -> Place
+pub(crate) fn place_with(items: &[Item], position: usize, bytes: &[u8]) -> Place
     requires { length bytes.now ≤ FILE_BYTES }
     ensures { result ≡ specs.place_with items.now position (outer.end_place bytes.now) }
 {

@@ -102,13 +102,17 @@ truths_at values ps = map (λ p. true_at values p) ps
 abbrev pub truths_on : List Atom → List ℤ → List Formula → List Bool
 truths_on atoms values fs = map (λ f. true_on (vector_at atoms values) (formula f)) fs
 
--- the text is read as these sections: their lines, and their conditions over the atoms of the model and of all conditions
+-- these formulas are these conditions, over the atoms of the model and of all of them; at each configuration they have their truths
+pub record AreConditionsOf (model : Plain) (conditions : List (Proposition Atom)) (atoms : List Atom) (formulas : List Formula) : Type 0 where
+  pub atoms_are : AreAtomsOf (model.constraints ++ conditions) atoms
+  pub numbered : AreNumbered atoms conditions formulas
+  pub truths : (values : List ℤ) → truths_on atoms values formulas ≡ truths_at values conditions
+
+-- the text is read as these lines, and these conditions
 pub record AreSectionsOf (model : Plain) (text : List ℕ) (s : Sections) : Type 0 where
   pub conditions : List (Proposition Atom)
   pub read : TextIsRead model text (Ok (record { lines = s.lines; conditions = conditions }))
-  pub atoms : AreAtomsOf (model.constraints ++ conditions) s.atoms
-  pub numbered : AreNumbered s.atoms conditions s.conditions
-  pub truths : (values : List ℤ) → truths_on s.atoms values s.conditions ≡ truths_at values conditions
+  pub are : AreConditionsOf model conditions s.atoms s.conditions
 
 -- each condition that a line names is one of so many
 abbrev pub IsNumberedBelow : ℕ → LineKind → Type 0
