@@ -13,7 +13,7 @@ use linear_atoms::Span;
 use linear_atoms::slices::cut;
 
 /// What is known of a negation.
-fn negation(inner: Option<bool>) -> Option<bool>
+pub(crate) fn negation(inner: Option<bool>) -> Option<bool>
     ensures { (p : Bool) → Agrees inner p → Agrees result (not p) }
 {
     match inner {
@@ -23,7 +23,7 @@ fn negation(inner: Option<bool>) -> Option<bool>
 }
 
 /// What is known of a conjunction.
-fn both(left: Option<bool>, right: Option<bool>) -> Option<bool>
+pub(crate) fn both(left: Option<bool>, right: Option<bool>) -> Option<bool>
     ensures { (p q : Bool) → Agrees left p → Agrees right q → Agrees result (p && q) }
 {
     match (left, right) {
@@ -35,7 +35,7 @@ fn both(left: Option<bool>, right: Option<bool>) -> Option<bool>
 }
 
 /// What is known of a disjunction.
-fn either(left: Option<bool>, right: Option<bool>) -> Option<bool>
+pub(crate) fn either(left: Option<bool>, right: Option<bool>) -> Option<bool>
     ensures { (p q : Bool) → Agrees left p → Agrees right q → Agrees result (p || q) }
 {
     match (left, right) {

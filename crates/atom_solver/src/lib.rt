@@ -1,6 +1,7 @@
 //! Least configurations of feature models, and what the linear tests of a model and a file can say together.
 #![tactic(auto)]
 
+mod branching;
 mod clashing;
 mod deciding;
 mod ends;

@@ -9,7 +9,7 @@ ghost use Rattle.cpp_conditions.specs.View.{proposition};
 ghost use Rattle.atom_solver.specs.Solutions.{Finds};
 ghost use Rattle.atom_solver.specs.Spans.{ranges, meets, FindsIn};
 
-use crate::clashing::are_contrary;
+use crate::branching::are_untrue;
 use crate::deciding::is_ruled_out;
 use crate::freeing::prepared;
 use crate::points::at_point;
@@ -59,10 +59,10 @@ pub(crate) fn first_valid(
     ensures config { IfOk result (λ found. IfSome found (λ config. IsConfig model.now.features config.values)) }
 {
     let constraints = model.constraints.items();
-    if are_contrary(constraints, wanted) {
+    if are_opposed(alloc, constraints, wanted)? {
         return Ok(None);
     }
-    if are_opposed(alloc, constraints, wanted)? {
+    if are_untrue(alloc, constraints, wanted)? {
         return Ok(None);
     }
     let spans = spans_of(alloc, model.features.items())?;

@@ -112,27 +112,46 @@ fn difference(alloc: Global, left: u32, right: u32) -> Result<Linear, Fail>
 /// A feature is greater than another that is behind it.
 fn exceeds(alloc: Global, left: u32, right: u32) -> Result<Condition, Fail>
     requires order { left < right }
-    requires right { right < 3 }
-    ensures { IfOk result (λ made. IsFit 3 (proposition made)) }
+    requires right { right < 4 }
+    ensures { IfOk result (λ made. IsFit 4 (proposition made)) }
 {
     let form = difference(alloc, left, right)?;
     let terms = form.terms.copy(alloc)?;
     Ok(Condition::Test(Atom { terms, bound: 1 }))
 }
 
-/// Three features of 0 to 2^20, each at most the next one, and the first greater than the last.
-fn ring(alloc: Global) -> Result<Model, Fail>
-    ensures count { IfOk result (λ made. length made.features ≡ 3) }
-    ensures ranges { IfOk result (λ made. AreRanges made.features) }
-    ensures fit { IfOk result (λ made. AreFit 3 made.constraints) }
+/// A feature is at least another that is behind it.
+fn reaches(alloc: Global, left: u32, right: u32) -> Result<Condition, Fail>
+    requires order { left < right }
+    requires right { right < 4 }
+    ensures { IfOk result (λ made. IsFit 4 (proposition made)) }
 {
-    let features = before(alloc, 3, 1_048_576, Vec::new(alloc))?;
-    let first = negation(alloc, exceeds(alloc, 0, 1)?)?;
-    let second = negation(alloc, exceeds(alloc, 1, 2)?)?;
-    let third = exceeds(alloc, 0, 2)?;
+    let form = difference(alloc, left, right)?;
+    let terms = form.terms.copy(alloc)?;
+    Ok(Condition::Test(Atom { terms, bound: 0 }))
+}
+
+/// The first two features differ, or the last two are equal.
+fn choice(alloc: Global) -> Result<Condition, Fail>
+    ensures { IfOk result (λ made. IsFit 4 (proposition made)) }
+{
+    let below = negation(alloc, reaches(alloc, 0, 1)?)?;
+    let differ = either(alloc, exceeds(alloc, 0, 1)?, below)?;
+    let not_above = negation(alloc, exceeds(alloc, 2, 3)?)?;
+    let equal = both(alloc, reaches(alloc, 2, 3)?, not_above)?;
+    Ok(either(alloc, differ, equal)?)
+}
+
+/// Four features of 0 to 2^20 and these constraints.
+fn wide(alloc: Global, constraints: Vec<Condition>) -> Result<Model, Fail>
+    requires { AreFit 4 constraints.items }
+    ensures count { IfOk result (λ made. length made.features ≡ 4) }
+    ensures ranges { IfOk result (λ made. AreRanges made.features) }
+    ensures fit { IfOk result (λ made. AreFit 4 made.constraints) }
+{
     Ok(Model {
-        features: Features::from_vec(features),
-        constraints: Conditions::from_vec(vec![in alloc; first, second, third]?),
+        features: Features::from_vec(before(alloc, 4, 1_048_576, Vec::new(alloc))?),
+        constraints: Conditions::from_vec(constraints),
     })
 }
 
@@ -149,7 +168,20 @@ fn switches_that_must_differ_are_refuted(rt: HostRuntime) -> Result<(), Fail> {
 #[test]
 fn rings_are_refuted(rt: HostRuntime) -> Result<(), Fail> {
     let alloc = rt.alloc();
-    let model = ring(alloc)?;
+    let first = negation(alloc, exceeds(alloc, 0, 1)?)?;
+    let second = negation(alloc, exceeds(alloc, 1, 2)?)?;
+    let third = exceeds(alloc, 0, 2)?;
+    let model = wide(alloc, vec![in alloc; first, second, third]?)?;
+    assert!(rt; least(alloc, &model, &[])?.is_none());
+    Ok(())
+}
+
+#[test]
+fn denials_are_refuted(rt: HostRuntime) -> Result<(), Fail> {
+    let alloc = rt.alloc();
+    let first = choice(alloc)?;
+    let second = negation(alloc, choice(alloc)?)?;
+    let model = wide(alloc, vec![in alloc; first, second]?)?;
     assert!(rt; least(alloc, &model, &[])?.is_none());
     Ok(())
 }

@@ -22,9 +22,6 @@ returns-clause-first c =
     (λ found f. found_model c.args.model.now p c.deref.result.now c.items-constraints.result.now found (c.deref.ensures.value ∙ c.in_ok-spans.ensures ∙ ap (map span_of) c.items.ensures) c.items-constraints.ensures f)
     c.search.ensures
 
-pub returns-then-are_contrary-clause-first : goal.returns-then-are_contrary-clause-first
-returns-then-are_contrary-clause-first c = none_meets c.args.model.now (proposition c.args.wanted.now) c.items-constraints.result.now c.items-constraints.ensures (c.are_contrary.ensures c.if-are_contrary.true)
-
 pub returns-clause-config : goal.returns-clause-config
 returns-clause-config c =
     let p = proposition c.args.wanted.now in
@@ -35,3 +32,6 @@ returns-clause-config c =
 
 pub returns-then-branch-clause-first : goal.returns-then-branch-clause-first
 returns-then-branch-clause-first c = none_meets c.args.model.now (proposition c.args.wanted.now) c.items-constraints.result.now c.items-constraints.ensures (c.in_ok-are_opposed.ensures c.if-branch.true)
+
+pub returns-then-branch-2-clause-first : goal.returns-then-branch-2-clause-first
+returns-then-branch-2-clause-first c = none_meets c.args.model.now (proposition c.args.wanted.now) c.items-constraints.result.now c.items-constraints.ensures (c.in_ok-are_untrue.ensures c.if-branch-2.true)
