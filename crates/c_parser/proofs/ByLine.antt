@@ -1,5 +1,5 @@
 -- Items line by line.
-use Rattle.std.proofs.Common.{◌≡◌, ◌⊎◌, inl, inr, ℕ, zero, suc, ◌+◌, ◌≤◌, ◌<◌, nat_eq, nat_lt, Bool, true, false, ◌||◌, ◌&&◌, cond, List, [], ◌∷◌, ◌++◌, length, take, drop, get_or, refl, sym, ap, subst, ◌∙◌, append_assoc, arith}
+use Rattle.std.proofs.Common.{◌≡◌, ◌⊎◌, inl, inr, ℕ, zero, suc, ◌+◌, ◌≤◌, ◌<◌, nat_eq, nat_lt, Bool, true, false, ◌||◌, ◌&&◌, cond, List, [], ◌∷◌, ◌++◌, take, drop, refl, sym, ap, subst, ◌∙◌, append_assoc, arith}
 use Rattle.std.specs.Prelude.{IsTrue}
 use Rattle.std.specs.List.{filter, prefix_len}
 use Rattle.std.proofs.lemmas.Bool.Decides.{nat_tests}
@@ -123,8 +123,9 @@ one_line n l ls xs below here behind out new total c r eb eh ed en h =
     below_same k k xs (omega arith) ∙ ap (λ (ys : List Item). filter (stands_in l.place.line) ys) (sym eb) ∙ here_first k below fb rb ∙ sym eh in
     let rest : by_line ls xs ≡ by_line ls behind =
     lines_same (n + 1) ls xs behind c.1 (λ m le. below_same k m xs (omega (arith, c.0)) ∙ ap (λ (ys : List Item). filter (stands_in m) ys) (sym eb)
-    ∙ behind_same k m below (omega (arith, c.0)) ∙ ap (λ (ys : List Item). filter (stands_in m) ys) (sym ed)) in
-    (ap (λ (ys : List Item). ys ++ by_line ls behind) en ∙ append_assoc out (or_directive (group_sign l.kind) l.place here) (by_line ls behind)
-    ∙ ap (λ (ys : List Item). out ++ (or_directive (group_sign l.kind) l.place here ++ ys)) (sym rest)
-    ∙ ap (λ (ys : List Item). out ++ (or_directive (group_sign l.kind) l.place ys ++ by_line ls xs)) (sym same) ∙ h,
-    subst AreRising (sym ed) (rising_behind (inside l.place.line below) below rb))
+    ∙ behind_same k m below (omega (arith, c.0)) ∙ ap (λ (ys : List Item). filter (stands_in m) ys) (sym ed)) in (
+      ap (λ (ys : List Item). ys ++ by_line ls behind) en ∙ append_assoc out (or_directive (group_sign l.kind) l.place here) (by_line ls behind)
+          ∙ ap (λ (ys : List Item). out ++ (or_directive (group_sign l.kind) l.place here ++ ys)) (sym rest)
+          ∙ ap (λ (ys : List Item). out ++ (or_directive (group_sign l.kind) l.place ys ++ by_line ls xs)) (sym same) ∙ h,
+      subst AreRising (sym ed) (rising_behind (inside l.place.line below) below rb),
+    )

@@ -19,7 +19,8 @@ use Rattle.c_grammar.specs.Laws.{ReadsWithin, StopsWrong, StopsDeep}
 use Rattle.item_reader.specs.Reading.{IsWrongAt, IsDeepAt}
 use Rattle.c_parser.specs.Items.{Listed}
 use Rattle.c_parser.specs.Names.{first_name_fault}
-use Rattle.c_parser.specs.Reading.{IsAccepted, HasWrong, HasDeep, HasNameFault, Refuses, ReadsOver, file_place, code_of_file, items_of, place_with}
+use Rattle.cpp_lines.specs.Whole.{file_place}
+use Rattle.c_parser.specs.Reading.{IsAccepted, HasWrong, HasDeep, HasNameFault, Refuses, ReadsOver, code_of_file, items_of, place_with}
 
 -- the laws of the grammar that are used here
 pub record GrammarLaws : Type 0 where

@@ -12,7 +12,7 @@ use Rattle.c_grammar.specs.Grammar.{at, is_group}
 use Rattle.item_reader.specs.Reading.{IsWrongAt}
 use Rattle.cpp_lines.specs.Code.{code_of}
 use Rattle.cpp_lines.specs.Sections.{Told, TextIsRead}
-use Rattle.cpp_lines.specs.Whole.{blanked_file}
+use Rattle.cpp_lines.specs.Whole.{blanked_file, HasLineFault}
 use Rattle.cpp_lines.specs.declared.line.Line.{Line}
 use Rattle.cpp_lines.specs.declared.line.LineKind.{LineKind}
 use Rattle.cpp_lines.specs.declared.line.LineKind.TheVariants as kinds
@@ -67,12 +67,6 @@ pub record HasItems (model : Plain) (bytes : List ℕ) (told : Told) (l : Listed
   pub tokens : Listed
   pub tokens_are : items_of_code [] (code_of blanked) ≡ Ok tokens
   pub is : l ≡ family_listed told.lines tokens
-
--- a line has this fault
-pub record HasLineFault (model : Plain) (bytes : List ℕ) (fault : FileCode × Place) : Type 0 where
-  pub blanked : List ℕ
-  pub without_comments : blanked_file bytes ≡ Ok blanked
-  pub read : TextIsRead model blanked (Err fault)
 
 -- a token has this fault
 pub record HasTokenFault (model : Plain) (bytes : List ℕ) (fault : FileCode × Place) : Type 0 where

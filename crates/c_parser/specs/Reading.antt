@@ -1,16 +1,15 @@
 -- What a file is read as: the program that it spells, or its refusal.
-use Rattle.std.specs.Prelude.{◌≡◌, ◌⊎◌, ◌<◌, ⊤, ℕ, nat_eq, nat_lt, true, List, [], length, slice_get, Option, Some, None, Result, Ok, Err, if◌then◌else◌}
+use Rattle.std.specs.Prelude.{◌≡◌, ◌⊎◌, ◌<◌, ⊤, ℕ, nat_eq, true, List, [], length, slice_get, Option, Some, None, Result, Ok, Err}
 use Rattle.fam_outer.specs.declared.faults.Place.{Place}
 use Rattle.fam_outer.specs.declared.faults.FileCode.{FileCode}
-use Rattle.fam_outer.specs.declared.faults.FileCode.TheVariants.{Syntax, TooDeep, TooLong}
+use Rattle.fam_outer.specs.declared.faults.FileCode.TheVariants.{Syntax, TooDeep}
 use Rattle.fam_outer.specs.declared.faults.FileRefusal.{FileRefusal}
 use Rattle.fam_outer.specs.declared.faults.FileRefusal.TheVariants as refusals
-use Rattle.fam_outer.specs.Limits.{file_bytes}
 use Rattle.fam_outer.specs.Places.{end_place}
 use Rattle.fam_outer.specs.Results.{and_then}
-use Rattle.cpp_lines.specs.Faults.{without_comments}
 use Rattle.cpp_lines.specs.Lines.{plain_lines_of}
 use Rattle.cpp_lines.specs.Code.{code_of}
+use Rattle.cpp_lines.specs.Whole.{blanked_file}
 use Rattle.c_tokens.specs.Reading.{tokens_of}
 use Rattle.c_tree.specs.Tree.{Whole}
 use Rattle.c_tree.specs.View.{whole}
@@ -23,21 +22,14 @@ use Rattle.c_parser.specs.Items.{Listed, listed}
 use Rattle.std.specs.List.{list_any}
 use Rattle.c_parser.specs.Names.{declared_by, first_name_fault, targets, names_at, each_once}
 
--- where a file is refused whole
-abbrev pub file_place : Place
-file_place = record { line = 1; column = 1 }
-
 -- ---- the phases before the grammar: the length, the comments, the lines, and the tokens of the code
-
-abbrev pub within_limit : List ℕ → Result (List ℕ) (FileCode × Place)
-within_limit bytes = if nat_lt file_bytes (length bytes) then Err (TooLong, file_place) else Ok bytes
 
 abbrev pub code_of_blanked : List ℕ → Result (List ℕ) (FileCode × Place)
 code_of_blanked blanked = and_then (plain_lines_of blanked) (λ lines. Ok (code_of blanked))
 
 -- the code of a file without groups, or the first fault
 unfoldable pub code_of_file : List ℕ → Result (List ℕ) (FileCode × Place)
-code_of_file bytes = and_then (within_limit bytes) (λ text. and_then (without_comments text) code_of_blanked)
+code_of_file bytes = and_then (blanked_file bytes) code_of_blanked
 
 abbrev pub items_of_code : List (List ℕ) → List ℕ → Result Listed (FileCode × Place)
 items_of_code given code = and_then (tokens_of code) (λ ts. Ok (listed given code ts))

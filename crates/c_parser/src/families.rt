@@ -21,9 +21,7 @@ use c_grammar::{Item, Sign};
 use c_tree::{Names, Program};
 use cpp_conditions::Model;
 use cpp_lines::laws::places_stay;
-use cpp_lines::{
-    Atoms, Formulas, Line, LineKind, blanked_file, code_text, read_sections,
-};
+use cpp_lines::{Atoms, Formulas, Line, LineKind, blanked_file, code_text, read_sections};
 use fam_outer::{FILE_BYTES, FileCode, FileRefusal, NoMemory};
 use item_reader::{Unread, UnreadRefusal, read_items};
 use std::alloc::Global;
@@ -74,11 +72,7 @@ fn add_line(out: &mut Vec<Item>, line: &Line, here: &[Item]) -> Result<(), NoMem
 
 /// The items of a file with groups: line by line, the group directive at its `#`, or the tokens that stand there. Both the
 /// lines and the tokens stand in the order of the text.
-pub(crate) fn by_line(
-    alloc: Global,
-    lines: &[Line],
-    tokens: &[Item],
-) -> Result<Vec<Item>, NoMemory>
+pub(crate) fn by_line(alloc: Global, lines: &[Line], tokens: &[Item]) -> Result<Vec<Item>, NoMemory>
     requires lines { AreCounted 1 lines.now }
     requires tokens { AreRising tokens.now }
     ensures { IfOk result (λ items. items.items ≡ specs.by_line lines.now tokens.now) }

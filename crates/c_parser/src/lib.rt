@@ -1,8 +1,8 @@
 //! The parser of the C subset: files without groups.
 #![tactic(auto)]
 
-pub mod laws;
 mod families;
+pub mod laws;
 mod names;
 mod numbering;
 pub mod plain;

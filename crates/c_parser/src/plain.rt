@@ -21,7 +21,7 @@ use c_tokens::laws::{literals_are_decimal, reads_longest_lexemes};
 use c_tokens::tokens;
 use c_tree::{Names, Program};
 use cpp_lines::laws::places_stay;
-use cpp_lines::{blank_comments, code_text, end_place, plain_lines};
+use cpp_lines::{blanked_file, code_text, end_place, plain_lines};
 use fam_outer::{FILE_BYTES, FileCode, FileRefusal, Place, Text, places_rise};
 use item_reader::{Unread, UnreadRefusal, read_items};
 use std::alloc::Global;
@@ -41,10 +41,7 @@ fn file_code(alloc: Global, bytes: &[u8]) -> Result<Text, FileRefusal>
     ensures limited { IfOk result (λ _. length bytes.now ≤ FILE_BYTES) }
 {
     places_stay();
-    if bytes.len() > FILE_BYTES {
-        return Err(refused(FileCode::TooLong, Place { line: 1, column: 1 }));
-    }
-    let blanked = blank_comments(alloc, bytes)?;
+    let blanked = blanked_file(alloc, bytes)?;
     let lines = plain_lines(alloc, blanked.bytes())?;
     Ok(code_text(alloc, blanked.bytes(), lines.items())?)
 }

@@ -13,7 +13,6 @@ use Rattle.cpp_conditions.specs.View.{formula}
 use Rattle.cpp_lines.specs.declared.directives.Directive.{Directive}
 use Rattle.cpp_lines.specs.declared.directives.Directive.TheVariants as named
 use Rattle.cpp_lines.specs.declared.line.Line.{Line}
-use Rattle.cpp_lines.specs.declared.line.LineKind.{LineKind}
 use Rattle.cpp_lines.specs.declared.line.LineKind.TheVariants as kinds
 use Rattle.cpp_lines.specs.Directives.{begins_directive, behind_hash, behind_word, directive_of}
 use Rattle.cpp_lines.specs.GroupConditions.{condition_text}

@@ -15,7 +15,7 @@ use Rattle.cpp_lines.specs.declared.directives.Directive.TheVariants as named
 use Rattle.cpp_lines.specs.declared.line.Line.{Line}
 use Rattle.cpp_lines.specs.declared.sections.Reading.{Reading}
 use Rattle.cpp_lines.specs.Lines.{line_place}
-use Rattle.cpp_lines.specs.Nesting.{named_in, opens_section, ends_before, ends_of, opened_by, is_unclosed}
+use Rattle.cpp_lines.specs.Nesting.{named_in, opens_section, ends_before, ends_of, opened_by}
 use Rattle.cpp_lines.specs.Opens.{flags, first_after, first_of}
 use Rattle.cpp_lines.specs.Sections as sections
 use Rattle.cpp_lines.specs.Sections.{Told, AreRead, TextIsRead, IsRead, HasFault, line_at, in_front}

@@ -1,5 +1,5 @@
 -- What the code makes of one line, and how it keeps what is read so far.
-use Rattle.std.specs.Prelude.{◌≡◌, ⊤, ℕ, nat_lt, ◌≤◌, Bool, if◌then◌else◌, List, [], ◌∷◌, ◌++◌, length, map, Option, Result, Ok, Err}
+use Rattle.std.specs.Prelude.{◌≡◌, ⊤, ℕ, nat_lt, ◌≤◌, Bool, if◌then◌else◌, List, [], ◌∷◌, ◌++◌, length, map, Result, Ok, Err}
 use Rattle.fam_outer.specs.declared.faults.Place.{Place}
 use Rattle.fam_outer.specs.declared.faults.ConditionFault.{ConditionFault}
 use Rattle.fam_outer.specs.declared.faults.FileCode.{FileCode}
@@ -17,7 +17,6 @@ use Rattle.cpp_conditions.specs.Distinct.{AreAtomsOf, HaveFewAtoms, HaveMoreAtom
 use Rattle.cpp_conditions.specs.Propositions.{Proposition, IsFit}
 use Rattle.cpp_conditions.specs.Validity.{Plain, AreFit}
 use Rattle.cpp_conditions.specs.View.{proposition}
-use Rattle.cpp_lines.specs.declared.line.Line.{Line}
 use Rattle.cpp_lines.specs.declared.opens.Opens.{Opens}
 use Rattle.cpp_lines.specs.declared.sections.Reading.{Reading}
 use Rattle.cpp_lines.specs.GroupConditions.{IsReadAs}

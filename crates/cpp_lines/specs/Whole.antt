@@ -1,11 +1,13 @@
 -- A whole file without its comments, or its first fault before its lines are read.
-use Rattle.std.specs.Prelude.{ℕ, nat_lt, List, length, Result, Ok, Err, if◌then◌else◌}
+use Rattle.std.specs.Prelude.{◌≡◌, ℕ, nat_lt, List, length, Result, Ok, Err, if◌then◌else◌}
 use Rattle.fam_outer.specs.declared.faults.Place.{Place}
 use Rattle.fam_outer.specs.declared.faults.FileCode.{FileCode}
 use Rattle.fam_outer.specs.declared.faults.FileCode.TheVariants.{TooLong}
 use Rattle.fam_outer.specs.Limits.{file_bytes}
 use Rattle.fam_outer.specs.Results.{and_then}
+use Rattle.cpp_conditions.specs.Validity.{Plain}
 use Rattle.cpp_lines.specs.Faults.{without_comments}
+use Rattle.cpp_lines.specs.Sections.{TextIsRead}
 
 -- where a file is refused whole
 abbrev pub file_place : Place
@@ -17,3 +19,9 @@ within_limit bytes = if nat_lt file_bytes (length bytes) then Err (TooLong, file
 -- the file with its comments blanked
 abbrev pub blanked_file : List ℕ → Result (List ℕ) (FileCode × Place)
 blanked_file bytes = and_then (within_limit bytes) without_comments
+
+-- a line has this fault, the first of the file
+pub record HasLineFault (model : Plain) (bytes : List ℕ) (fault : FileCode × Place) : Type 0 where
+  pub blanked : List ℕ
+  pub without_comments : blanked_file bytes ≡ Ok blanked
+  pub read : TextIsRead model blanked (Err fault)

@@ -7,7 +7,7 @@ use Rattle.fam_outer.specs.declared.faults.FileRefusal.TheVariants as refusals
 use Rattle.cpp_conditions.specs.Validity.{Plain}
 use Rattle.cpp_lines.specs.Preprocessed.{preprocessed}
 use Rattle.cpp_lines.specs.Sections.{Told, TextIsRead, truths_at}
-use Rattle.cpp_lines.specs.Whole.{blanked_file}
+use Rattle.cpp_lines.specs.Whole.{blanked_file, HasLineFault}
 
 -- the file is read as these lines and conditions, and this is its text at the truths of the conditions at the values
 pub record IsVariant (model : Plain) (values : List ℤ) (bytes text : List ℕ) : Type 0 where
@@ -18,13 +18,8 @@ pub record IsVariant (model : Plain) (values : List ℤ) (bytes text : List ℕ)
   pub is : text ≡ preprocessed (truths_at values told.conditions) told.lines blanked
 
 -- the file has this fault at its length or its comments, or at a line
-pub record IsFaultyLine (model : Plain) (bytes : List ℕ) (fault : FileCode × Place) : Type 0 where
-  pub blanked : List ℕ
-  pub without_comments : blanked_file bytes ≡ Ok blanked
-  pub read : TextIsRead model blanked (Err fault)
-
 abbrev pub IsFaulty : Plain → List ℕ → FileCode × Place → Type 0
-IsFaulty model bytes fault = (blanked_file bytes ≡ Err fault) ⊎ IsFaultyLine model bytes fault
+IsFaulty model bytes fault = (blanked_file bytes ≡ Err fault) ⊎ HasLineFault model bytes fault
 
 -- what a call that makes a variant's text answers; want of memory is free
 abbrev pub ReadsVariant : Plain → List ℤ → List ℕ → Result (List ℕ) FileRefusal → Type 0

@@ -1,6 +1,5 @@
-use Rattle.std.proofs.Common.{◌≡◌, ◌++◌, ℕ, ◌+◌, suc, List, ◌∷◌, get_or, take, drop, sym, ap, subst, ◌∙◌, add-one, arith}
+use Rattle.std.proofs.Common.{◌≡◌, ◌++◌, ℕ, ◌+◌, List, ◌∷◌, get_or, take, drop, sym, ap, subst, ◌∙◌, add-one}
 use Rattle.std.proofs.Math.Seq.{drop-cons}
-use Rattle.c_grammar.specs.declared.items.Item.{Item}
 use Rattle.cpp_lines.specs.declared.line.Line.{Line}
 use Rattle.cpp_lines.specs.declared.line.LineKind.TheVariants.{Code}
 use Rattle.cpp_lines.specs.Lines.{AreCounted}

@@ -1,6 +1,5 @@
 use Rattle.std.proofs.Common.{List, Ok, sym, ap, ◌∙◌, arith}
 use Rattle.c_tokens.specs.declared.token.Token.{Token}
-use Rattle.c_tokens.specs.Reading.{tokens_of}
 use Rattle.c_parser.proofs.Lexical.{tokens_within, tokens_few}
 use Rattle.c_parser.proofs.Stepwise.{proper_items}
 use Rattle.c_parser.proofs.plain.number_code.Goals as goal

@@ -1,9 +1,8 @@
-use Rattle.std.proofs.Common.{◌≡◌, ◌++◌, ℕ, List, [], ◌∷◌, refl, sym, ap, subst, ◌∙◌}
+use Rattle.std.proofs.Common.{◌≡◌, ◌++◌, ℕ, List, [], ◌∷◌, sym, ap, subst, ◌∙◌}
 use Rattle.cpp_groups.specs.declared.section.Section.{Section}
-use Rattle.cpp_groups.specs.Kept.{sections_after}
 use Rattle.cpp_lines.specs.declared.line.Line.{Line}
 use Rattle.cpp_lines.specs.Lines.{pieces, AreLinesOf}
-use Rattle.cpp_lines.specs.Preprocessed.{group_of, kept_line, kept_lines, with_newlines, preprocessed}
+use Rattle.cpp_lines.specs.Preprocessed.{kept_line, kept_lines, with_newlines, preprocessed}
 use Rattle.cpp_lines.proofs.KeptLines.{AreLeft, left_behind, line_on, last_on}
 use Rattle.cpp_lines.proofs.preprocessing.preprocessed_text.Goals as goal
 

@@ -1,4 +1,4 @@
-use Rattle.std.proofs.Common.{◌≡◌, ◌++◌, ◌+◌, ℕ, List, [], ◌∷◌, ◌<◌, get_or, length, map, take, refl, sym, ap, subst, ◌∙◌, rules, arith}
+use Rattle.std.proofs.Common.{◌≡◌, ◌++◌, ◌+◌, ℕ, List, [], ◌∷◌, ◌<◌, get_or, length, map, take, sym, ap, subst, ◌∙◌, arith}
 use Rattle.std.proofs.lemmas.List.{append-nil, take_more, take_all}
 use Rattle.linear_atoms.specs.declared.atoms.Atom.{Atom}
 use Rattle.cpp_conditions.specs.Distinct.{AreAtomsOf, Grows, Occurs}
@@ -8,7 +8,6 @@ use Rattle.cpp_conditions.proofs.Collected.{one_list}
 use Rattle.cpp_conditions.specs.Propositions.{Proposition}
 use Rattle.cpp_conditions.specs.Validity.{AreFit}
 use Rattle.cpp_conditions.specs.View.{proposition}
-use Rattle.cpp_lines.specs.Taking as taking
 use Rattle.cpp_lines.proofs.Adding.{one_more, meant_more}
 use Rattle.cpp_lines.proofs.sections.begin.Goals as goal
 

@@ -1,16 +1,14 @@
-use Rattle.std.proofs.Common.{◌≡◌, ◌≤◌, ◌+◌, ℕ, List, [], ◌∷◌, length, drop, Result, Ok, Err, refl, sym, ap, subst, ◌∙◌, rules, arith}
+use Rattle.std.proofs.Common.{◌≡◌, ◌+◌, ℕ, List, [], ◌∷◌, length, drop, Err, refl, sym, ap, subst, ◌∙◌, arith}
 use Rattle.std.proofs.lemmas.List.{length-append}
-use Rattle.fam_outer.specs.Places.{place_at}
 use Rattle.fam_outer.proofs.Placing.{spot}
 use Rattle.fam_outer.specs.declared.faults.FileRefusal.{FileRefusal}
 use Rattle.cpp_conditions.specs.Validity.{plain}
 use Rattle.cpp_lines.specs.Lines.{pieces}
 use Rattle.cpp_lines.specs.Nesting.{ends_of}
-use Rattle.cpp_lines.specs.Sections.{AreRead, TextIsRead}
 use Rattle.cpp_lines.specs.Taking as taking
 use Rattle.cpp_lines.proofs.Faulting.{behind}
 use Rattle.cpp_lines.proofs.Listing.{behind_line, next_place}
-use Rattle.cpp_lines.proofs.Standing.{Stands, stands_on, fault_read, one_more_at_most, begun, ended, unclosed_on}
+use Rattle.cpp_lines.proofs.Standing.{Stands, stands_on, fault_read, one_more_at_most, begun, ended}
 use Rattle.cpp_lines.proofs.sections.read_lines.Goals as goal
 
 pub lines-init : goal.lines-init
