@@ -1,0 +1,4 @@
+pub mod StateLemmas
+pub mod FamilyLemmas
+pub mod LoopLemmas
+pub mod AfterLemmas

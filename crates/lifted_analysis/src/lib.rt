@@ -1,0 +1,8 @@
+//! The analysis of all variants of a family at once, generic over the kind of leaf: over shared decision trees it goes the way of
+//! the analysis of one variant, and at every vector each tree has the leaf that that analysis has there.
+#![tactic(auto)]
+
+mod after;
+mod family;
+mod operations;
+mod states;
