@@ -55,6 +55,13 @@ module _ {L : Type 0} (value : L → LeafValue) (family : Family) where
       if_ok_by made (λ r. IsLifted value family a b f t (numbered r)) (λ r. IsLifted value family a b g t (numbered r))
       (λ r k. lifted_as value family a b f g t (numbered r) e k) h
 
+  -- a step that comes later
+  pub behind_made : {E : Type 0} (made : Result (Tree L) E) (a b c : List (Plain L)) (f : List Bool → LeafValue → LeafValue) (t : Plain L)
+      → Keeps a b → IfOk made (λ r. IsLifted value family b c f t (numbered r)) → IfOk made (λ r. IsLifted value family a c f t (numbered r))
+  behind_made made a b c f t k h =
+      if_ok_by made (λ r. IsLifted value family b c f t (numbered r)) (λ r. IsLifted value family a c f t (numbered r))
+      (λ r i. lifted_behind value family a b c f t (numbered r) k i) h
+
   -- two ways from one tree, joined
   pub both_made : {E : Type 0} (made : Result (Tree L) E) (M : LeafMeaning) (a b c d e z : List (Plain L)) (f g p q h : List Bool → LeafValue → LeafValue) (t : Plain L) (i j r s : Numbered L)
       → IsLifted value family a b f t i → IsLifted value family b c g t j → IsLifted value family c d p (erase i) r → IsLifted value family d e q (erase j) s

@@ -1,3 +1,5 @@
 pub mod States
 pub mod Steps
 pub mod Heads
+pub mod Entries
+pub mod Canon

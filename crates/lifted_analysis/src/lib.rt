@@ -3,6 +3,10 @@
 #![tactic(auto)]
 
 mod after;
+mod entries;
 mod family;
+pub mod findings;
 mod operations;
 mod states;
+
+pub use findings::{AlarmTree, FamilyFindings, PlaceTree};
