@@ -5,3 +5,4 @@ pub mod AfterLemmas
 pub mod EntryLemmas
 pub mod Drawn
 pub mod Canonical
+pub mod StartLemmas

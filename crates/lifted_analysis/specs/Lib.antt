@@ -3,3 +3,4 @@ pub mod Steps
 pub mod Heads
 pub mod Entries
 pub mod Canon
+pub mod Start

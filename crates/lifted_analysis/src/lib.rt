@@ -7,6 +7,7 @@ mod entries;
 mod family;
 pub mod findings;
 mod operations;
+mod start;
 mod states;
 
 pub use findings::{AlarmTree, FamilyFindings, PlaceTree};
