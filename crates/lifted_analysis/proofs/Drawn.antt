@@ -43,6 +43,15 @@ IsCodeOf-parts count (Block place body rest) b h = let r = IsCodeOf-parts count 
 IsCodeOf-parts count (Skip place rest) b h = IsCodeOf-parts count rest b h
 IsCodeOf-parts count (Cond number p q rest) b h = let r = IsCodeOf-parts count rest b h.2 in ((h.0, h.1, r.0), r.1)
 
+-- what is said of each entry, and of the entry at each place
+abbrev pub from : {Y : Type 0} → (Entry → List Y) → List Entry → List Y
+from k [] = []
+from k (f ∷ fs) = k f ++ from k fs
+
+abbrev pub over : {Y : Type 0} → (Place → Option Entry → List Y) → List Entry → List Place → List Y
+over h es [] = []
+over h es (p ∷ ps) = h p (entry_in es p) ++ over h es ps
+
 module _ (M : LeafMeaning) (o : Options) (n : ℕ) where
   -- two entries of one statement: with one place and one leaf, which may stop alike
   pub record IsSame (e f : Entry) : Type 0 where
@@ -199,6 +208,10 @@ module _ (M : LeafMeaning) (o : Options) (n : ℕ) where
       drawn (Skip place rest) x h k f = kept (same place (Skip place Done) (Skip place Done) x (λ kind. refl)) (drawn rest x h k f)
       drawn (Cond number p q rest) x h k f = group (slice_index_or ts number false) p q rest x (drawn p) (drawn q) (drawn rest) h k f
 
+      pub drawn_list : (c : Code) (x : LeafValue) → M.valid x → x.variables ≡ n → IsCodeOf n (projected ts c) → IsDrawn (entries_of M o (projected ts c) x) (entries_at M o ts c x)
+      unfolding IsDrawnAt
+      drawn_list c = drawn c
+
   -- ---- what is found at the places
 
   pub absent : {es fs : List Entry} (q : Place) (tail : List Place) → IsDrawn es fs → IsBeforeAll q (map place_of fs ++ tail) → entry_in es q ≡ None
@@ -210,31 +223,23 @@ module _ (M : LeafMeaning) (o : Options) (n : ℕ) where
 
   module _ {Y : Type 0} (k : Entry → List Y) (h : Place → Option Entry → List Y)
       (found : (e f : Entry) → IsSame e f → k f ≡ h f.place (Some e)) (lost : (f : Entry) → f.leaf ≡ nothing_of n → k f ≡ h f.place None) where
-    abbrev from : List Entry → List Y
-    from [] = []
-    from (f ∷ fs) = k f ++ from fs
-
-    abbrev over : List Entry → List Place → List Y
-    over es [] = []
-    over es (p ∷ ps) = h p (entry_in es p) ++ over es ps
-
     -- an entry before all places is found at none of them
-    skipped : (e : Entry) (es : List Entry) (ps tail : List Place) → IsBeforeAll e.place (ps ++ tail) → over (e ∷ es) ps ≡ over es ps
+    skipped : (e : Entry) (es : List Entry) (ps tail : List Place) → IsBeforeAll e.place (ps ++ tail) → over h (e ∷ es) ps ≡ over h es ps
     skipped e es [] tail b = refl
     skipped e es (p ∷ ps) tail b =
-        ap (λ (t : Bool). h p (if t then Some e else entry_in es p) ++ over (e ∷ es) ps) (before_other e.place p b.0)
+        ap (λ (t : Bool). h p (if t then Some e else entry_in es p) ++ over h (e ∷ es) ps) (before_other e.place p b.0)
         ∙ ap (λ l. h p (entry_in es p) ++ l) (skipped e es ps tail b.1)
 
-    pub matched : {es fs : List Entry} (tail : List Place) → IsDrawn es fs → IsRising (map place_of fs ++ tail) → from fs ≡ over es (map place_of fs)
+    pub matched : {es fs : List Entry} (tail : List Place) → IsDrawn es fs → IsRising (map place_of fs ++ tail) → from k fs ≡ over h es (map place_of fs)
     unfolding place_of
     matched tail none r = refl
     matched tail (kept {e = e} {f = f} {es = es} {fs = fs} s g) r =
         let b : IsBeforeAll e.place (map place_of fs ++ tail) = subst (λ p. IsBeforeAll p (map place_of fs ++ tail)) (sym s.place) r.0 in
         let here : is_same_place e.place f.place ≡ true = subst (λ p. is_same_place p f.place ≡ true) (sym s.place) (same_place_self f.place) in
-        ap (λ l. l ++ from fs) (found e f s)
-        ∙ (ap (λ (t : Bool). h f.place (if t then Some e else entry_in es f.place) ++ from fs) (sym here)
+        ap (λ l. l ++ from k fs) (found e f s)
+        ∙ (ap (λ (t : Bool). h f.place (if t then Some e else entry_in es f.place) ++ from k fs) (sym here)
         ∙ ap (λ l. h f.place (entry_in (e ∷ es) f.place) ++ l) (matched tail g r.1 ∙ sym (skipped e es (map place_of fs) tail b)))
     matched tail (left {f = f} {es = es} {fs = fs} e g) r =
-        ap (λ l. l ++ from fs) (lost f e)
-        ∙ (ap (λ (t : Option Entry). h f.place t ++ from fs) (sym (absent f.place tail g r.0))
+        ap (λ l. l ++ from k fs) (lost f e)
+        ∙ (ap (λ (t : Option Entry). h f.place t ++ from k fs) (sym (absent f.place tail g r.0))
         ∙ ap (λ l. h f.place (entry_in es f.place) ++ l) (matched tail g r.1))

@@ -43,7 +43,7 @@ onward old mid new x y z e f g = f ∙ (ap (λ l. l ++ y) e ∙ (append_assoc ol
 pub stops_in-append : (M : LeafMeaning) (o : Options) (xs ys : List Entry) → stops_in M o (xs ++ ys) ≡ stops_in M o xs ++ stops_in M o ys
 stops_in-append M o [] ys = refl
 stops_in-append M o (x ∷ xs) ys =
-    ap (λ l. (x.place, Overflow, may_at M o.mode Overflow x.statement x.leaf) ∷ ((x.place, ZeroDivisor, may_at M o.mode ZeroDivisor x.statement x.leaf) ∷ ((x.place, Assertion, may_at M o.mode Assertion x.statement x.leaf) ∷ l))) (stops_in-append M o xs ys)
+    ap (λ l. ((x.place, Overflow), may_at M o.mode Overflow x.statement x.leaf) ∷ (((x.place, ZeroDivisor), may_at M o.mode ZeroDivisor x.statement x.leaf) ∷ (((x.place, Assertion), may_at M o.mode Assertion x.statement x.leaf) ∷ l))) (stops_in-append M o xs ys)
 
 pub state_reduced : {L : Type 0} (value : L → LeafValue) (family : Family) (forest : List (Plain L)) (t : Numbered L) → IsState value family forest t → IsReducedTree family (erase t)
 state_reduced value family forest t s = record { reduced = s.tree.reduced; tests = s.tests }
@@ -87,11 +87,11 @@ module _ {L : Type 0} (value : L → LeafValue) (M : LeafMeaning) (family : Fami
   pub entered_at_last : {E : Type 0} (made : Result (Unit {0}) E) (a b c d z : Found L) (place : Place) (s : Code) (x : List Bool → LeafValue)
       → ((v : List Bool) → map (leaf_there value v) b.places.items ≡ map (leaf_there value v) a.places.items ++ (place, x v) ∷ [])
       → (AreReduced family a.places.items → AreReduced family b.places.items) → b.alarms.items ≡ a.alarms.items
-      → ((v : List Bool) → map (stop_there v) c.alarms.items ≡ map (stop_there v) b.alarms.items ++ (place, Overflow, may_at M family.options.mode Overflow s (x v)) ∷ [])
+      → ((v : List Bool) → map (stop_there v) c.alarms.items ≡ map (stop_there v) b.alarms.items ++ ((place, Overflow), may_at M family.options.mode Overflow s (x v)) ∷ [])
       → (AreReducedStops family b.alarms.items → AreReducedStops family c.alarms.items) → c.places.items ≡ b.places.items
-      → ((v : List Bool) → map (stop_there v) d.alarms.items ≡ map (stop_there v) c.alarms.items ++ (place, ZeroDivisor, may_at M family.options.mode ZeroDivisor s (x v)) ∷ [])
+      → ((v : List Bool) → map (stop_there v) d.alarms.items ≡ map (stop_there v) c.alarms.items ++ ((place, ZeroDivisor), may_at M family.options.mode ZeroDivisor s (x v)) ∷ [])
       → (AreReducedStops family c.alarms.items → AreReducedStops family d.alarms.items) → d.places.items ≡ c.places.items
-      → OnOk made ((v : List Bool) → map (stop_there v) z.alarms.items ≡ map (stop_there v) d.alarms.items ++ (place, Assertion, may_at M family.options.mode Assertion s (x v)) ∷ [])
+      → OnOk made ((v : List Bool) → map (stop_there v) z.alarms.items ≡ map (stop_there v) d.alarms.items ++ ((place, Assertion), may_at M family.options.mode Assertion s (x v)) ∷ [])
       → OnOk made (AreReducedStops family d.alarms.items → AreReducedStops family z.alarms.items) → z.places.items ≡ d.places.items
       → OnOk made (HasEntered value M family a z (λ v. record { place = place; statement = s; leaf = x v } ∷ []))
   entered_at_last (Err e) a b c d z place s x leaves trees same f g h i j k l m n = tt
@@ -100,7 +100,7 @@ module _ {L : Type 0} (value : L → LeafValue) (M : LeafMeaning) (family : Fami
       record {
         leaves = λ v. ap (map (leaf_there value v)) places ∙ leaves v;
         stops = λ v. three (map (stop_there v) a.alarms.items) (map (stop_there v) c.alarms.items) (map (stop_there v) d.alarms.items) (map (stop_there v) z.alarms.items) _ _ _
-            (f v ∙ ap (λ q. map (stop_there v) q ++ (place, Overflow, may_at M family.options.mode Overflow s (x v)) ∷ []) same) (i v) (l v);
+            (f v ∙ ap (λ q. map (stop_there v) q ++ ((place, Overflow), may_at M family.options.mode Overflow s (x v)) ∷ []) same) (i v) (l v);
         trees = λ r. subst (AreReduced family) (sym places) (trees r);
         alarm_trees = λ r. m (j (g (subst (AreReducedStops family) (sym same) r)));
       }

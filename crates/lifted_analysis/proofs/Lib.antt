@@ -6,3 +6,4 @@ pub mod EntryLemmas
 pub mod Drawn
 pub mod Canonical
 pub mod StartLemmas
+pub mod FoundLemmas

@@ -52,19 +52,19 @@ entries_at M o ts (Cond number p q rest) x =
     ++ entries_at M o ts rest (after_of M o (if slice_index_or ts number false then projected ts p else projected ts q) x))
 
 -- whether each statement may stop, by kind
-abbrev pub stops_in : LeafMeaning → Options → List Entry → List (Place × Kind × Bool)
+abbrev pub stops_in : LeafMeaning → Options → List Entry → List ((Place × Kind) × Bool)
 stops_in M o [] = []
 stops_in M o (e ∷ es) =
-    (e.place, Overflow, may_at M o.mode Overflow e.statement e.leaf)
-    ∷ ((e.place, ZeroDivisor, may_at M o.mode ZeroDivisor e.statement e.leaf)
-    ∷ ((e.place, Assertion, may_at M o.mode Assertion e.statement e.leaf) ∷ stops_in M o es))
+    ((e.place, Overflow), may_at M o.mode Overflow e.statement e.leaf)
+    ∷ (((e.place, ZeroDivisor), may_at M o.mode ZeroDivisor e.statement e.leaf)
+    ∷ (((e.place, Assertion), may_at M o.mode Assertion e.statement e.leaf) ∷ stops_in M o es))
 
 -- what a tree of a place and an alarm tree say of a vector
 abbrev pub leaf_there : {L : Type 0} → (L → LeafValue) → List Bool → PlaceTree L → Place × LeafValue
 leaf_there value v p = (p.place, value (leaf_of (plain p.tree) v))
 
-abbrev pub stop_there : List Bool → AlarmTree → Place × Kind × Bool
-stop_there v a = (a.place, a.kind, leaf_of (plain a.tree) v)
+abbrev pub stop_there : List Bool → AlarmTree → (Place × Kind) × Bool
+stop_there v a = ((a.place, a.kind), leaf_of (plain a.tree) v)
 
 -- a reduced tree whose tests are the family's
 pub record IsReducedTree {L : Type 0} (family : Family) (t : Plain L) : Type 0 where

@@ -4,3 +4,6 @@ pub mod Heads
 pub mod Entries
 pub mod Canon
 pub mod Start
+pub mod Promises
+pub mod Conditions
+pub mod Findings

@@ -85,7 +85,7 @@ fn add_alarm<L: Leaf, K: Ledger>(
 ) -> Result<(), NoMemory>
     requires fit { IsCodeOf family.now.variables (front s.now Done) }
     requires state { IsState L.value family.now tables.old.leaves (numbered t.now) }
-    ensures stops { OnOk result ((v : List Bool) → map (stop_there v) found.new.alarms.items ≡ map (stop_there v) found.old.alarms.items ++ (place, kind, may_at L.meaning family.now.options.mode kind (front s.now Done) (L.value (leaf_of (plain t.now) v))) ∷ []) }
+    ensures stops { OnOk result ((v : List Bool) → map (stop_there v) found.new.alarms.items ≡ map (stop_there v) found.old.alarms.items ++ ((place, kind), may_at L.meaning family.now.options.mode kind (front s.now Done) (L.value (leaf_of (plain t.now) v))) ∷ []) }
     ensures trees { OnOk result (AreReducedStops family.now found.old.alarms.items → AreReducedStops family.now found.new.alarms.items) }
     ensures places { found.new.places.items ≡ found.old.places.items }
     ensures same { tables.new.leaves ≡ tables.old.leaves }
