@@ -40,6 +40,10 @@ use Rattle.lifted_analysis.proofs.FamilyLemmas.{front-Cond}
 onward : {A : Type 0} (old mid new x y z : List A) → mid ≡ old ++ x → new ≡ mid ++ y → z ≡ x ++ y → new ≡ old ++ z
 onward old mid new x y z e f g = f ∙ (ap (λ l. l ++ y) e ∙ (append_assoc old x y ∙ ap (λ l. old ++ l) (sym g)))
 
+pub three : {X : Type 0} (a b c d : List X) (x y z : X) → b ≡ a ++ x ∷ [] → c ≡ b ++ y ∷ [] → d ≡ c ++ z ∷ [] → d ≡ a ++ (x ∷ (y ∷ (z ∷ [])))
+three a b c d x y z e f g =
+    g ∙ (ap (λ l. l ++ z ∷ []) f ∙ (append_assoc b (y ∷ []) (z ∷ []) ∙ (ap (λ l. l ++ y ∷ (z ∷ [])) e ∙ append_assoc a (x ∷ []) (y ∷ (z ∷ [])))))
+
 pub stops_in-append : (M : LeafMeaning) (o : Options) (xs ys : List Entry) → stops_in M o (xs ++ ys) ≡ stops_in M o xs ++ stops_in M o ys
 stops_in-append M o [] ys = refl
 stops_in-append M o (x ∷ xs) ys =
@@ -78,10 +82,6 @@ module _ {L : Type 0} (value : L → LeafValue) (M : LeafMeaning) (family : Fami
     trees = h.trees;
     alarm_trees = h.alarm_trees;
   }
-
-  pub three : {X : Type 0} (a b c d : List X) (x y z : X) → b ≡ a ++ x ∷ [] → c ≡ b ++ y ∷ [] → d ≡ c ++ z ∷ [] → d ≡ a ++ (x ∷ (y ∷ (z ∷ [])))
-  three a b c d x y z e f g =
-      g ∙ (ap (λ l. l ++ z ∷ []) f ∙ (append_assoc b (y ∷ []) (z ∷ []) ∙ (ap (λ l. l ++ y ∷ (z ∷ [])) e ∙ append_assoc a (x ∷ []) (y ∷ (z ∷ [])))))
 
   -- a statement whose tree and three alarm trees were added
   pub entered_at_last : {E : Type 0} (made : Result (Unit {0}) E) (a b c d z : Found L) (place : Place) (s : Code) (x : List Bool → LeafValue)

@@ -7,3 +7,5 @@ pub mod Drawn
 pub mod Canonical
 pub mod StartLemmas
 pub mod FoundLemmas
+pub mod ConditionLemmas
+pub mod Answered

@@ -3,6 +3,7 @@
 #![tactic(auto)]
 
 mod after;
+pub mod analysis;
 mod entries;
 mod family;
 pub mod findings;
@@ -10,4 +11,5 @@ mod operations;
 mod start;
 mod states;
 
+pub use analysis::analyse_family;
 pub use findings::{AlarmTree, FamilyFindings, PlaceTree};
