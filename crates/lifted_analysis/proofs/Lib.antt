@@ -9,3 +9,4 @@ pub mod StartLemmas
 pub mod FoundLemmas
 pub mod ConditionLemmas
 pub mod Answered
+pub mod CanonLaws

@@ -7,9 +7,11 @@ pub mod analysis;
 mod entries;
 mod family;
 pub mod findings;
+pub mod laws;
 mod operations;
 mod start;
 mod states;
 
 pub use analysis::analyse_family;
 pub use findings::{AlarmTree, FamilyFindings, PlaceTree};
+pub use laws::{leaf_trees_are_canonical, truth_trees_are_canonical};
