@@ -1,21 +1,17 @@
 -- What calls answer, put together along the recursion over statements.
-use Rattle.std.proofs.Common.{◌≡◌, ℕ, ◌≤◌, List, Bool, ap, sym, ◌∙◌, refl, Result, Ok, Err, IfOk, true, false, if◌then◌else◌, subst}
-use Rattle.std.specs.declared.vec.Vec.{Vec}
-use Rattle.std.specs.declared.alloc.Global.{Global}
+use Rattle.std.proofs.Common.{◌≡◌, ◌≤◌, List, Bool, ap, sym, ◌∙◌, refl, Result, Ok, Err, IfOk, true, subst}
 use Rattle.fam_outer.specs.declared.faults.Place.{Place}
-use Rattle.c_tree.specs.declared.tree.Expr.{Expr}
-use Rattle.c_tree.specs.declared.tree.Stmt.{Stmt}
 use Rattle.c_tree.specs.declared.tree.Stmt.TheVariants as variant
 use Rattle.c_tree.specs.declared.tree.Stmt.TheViews.{outs-Skip}
 use Rattle.c_tree.specs.Tree.{Term, Code, Done, Skip}
-use Rattle.c_tree.specs.View.{term, front, code}
+use Rattle.c_tree.specs.View.{front}
 use Rattle.c_tree.specs.Project.{projected}
 use Rattle.c_tree.proofs.Views.{front_out}
 use Rattle.decision_tree.specs.declared.tree.Tree.{Tree}
 use Rattle.decision_tree.specs.Plain.{Plain, leaf_of}
 use Rattle.decision_tree.specs.Numbered.{Numbered, erase}
 use Rattle.decision_tree.specs.Listed.{Keeps}
-use Rattle.decision_tree.specs.View.{numbered, plain}
+use Rattle.decision_tree.specs.View.{numbered}
 use Rattle.decision_tree.proofs.Numbers.{keeps_both}
 use Rattle.leaf_domain.specs.Leaves.{LeafValue, LeafMeaning, LeafLaws, nothing_of, is_nothing_of}
 use Rattle.leaf_domain.specs.Soundness.{TransferAnswers}
@@ -24,7 +20,7 @@ use Rattle.plain_analysis.proofs.Nothing.{after_stays, after_nothing, loop_nothi
 use Rattle.lifted_analysis.specs.declared.family.Family.{Family}
 use Rattle.lifted_analysis.specs.declared.operations.Combination.TheVariants.{Join}
 use Rattle.lifted_analysis.specs.States.{IsFamily, IsState, IsLifted, IsJoint, truths_in}
-use Rattle.lifted_analysis.specs.Steps.{combined_by, kept_by, after_at, if_at, group_at, final_at}
+use Rattle.lifted_analysis.specs.Steps.{combined_by, after_at, final_at}
 use Rattle.lifted_analysis.proofs.StateLemmas.{if_ok_by, counted, lifted_same, lifted_then, lifted_as, lifted_behind}
 
 pub front-Skip : (place : Place) → front (variant.Skip place) Done ≡ Skip place Done

@@ -1,11 +1,10 @@
 -- What the analysis of a family answers is what it promises.
-use Rattle.std.proofs.Common.{◌≡◌, ℕ, ◌≤◌, ◌+◌, true, false, Bool, List, [], ◌∷◌, ◌++◌, map, length, if◌then◌else◌, refl, ap, sym, subst, ◌∙◌, inl, inr, append_assoc, Result, Ok, Err, IfOk, slice_index_or}
-use Rattle.std.specs.Prelude.{OnOk, ℤ}
+use Rattle.std.proofs.Common.{◌≡◌, ℕ, ◌≤◌, ◌+◌, true, false, Bool, List, [], ◌∷◌, ◌++◌, map, length, if◌then◌else◌, refl, ap, sym, subst, ◌∙◌, inl, inr, Result, Ok, Err, slice_index_or}
+use Rattle.std.specs.Prelude.{OnOk}
 use Rattle.std.specs.List.{All}
 use Rattle.std.proofs.lemmas.List.{map-append}
 use Rattle.std.proofs.lemmas.List.Elements.{All-cons, All-nil}
 use Rattle.fam_outer.specs.declared.faults.Place.{Place}
-use Rattle.c_tree.specs.declared.tree.Declared.{Declared}
 use Rattle.c_tree.specs.declared.tree.Kind.{Kind}
 use Rattle.c_tree.specs.declared.tree.Kind.TheVariants.{Overflow, ZeroDivisor, Assertion}
 use Rattle.c_tree.specs.Places.{program_places}
@@ -18,9 +17,9 @@ use Rattle.cpp_conditions.specs.declared.formulas.Formula.{Formula}
 use Rattle.cpp_conditions.specs.Propositions.{true_on}
 use Rattle.cpp_conditions.specs.View.{formula}
 use Rattle.decision_tree.specs.declared.tree.Tree.{Tree}
-use Rattle.decision_tree.specs.Plain.{Plain, leaf, node, leaf_of, HasTest, IsReducedFrom, IsReduced, TestsBelow}
+use Rattle.decision_tree.specs.Plain.{Plain, leaf, node, leaf_of, IsReducedFrom, TestsBelow}
 use Rattle.decision_tree.specs.Numbered.{Numbered, kept, branch, erase}
-use Rattle.decision_tree.specs.View.{numbered, plain}
+use Rattle.decision_tree.specs.View.{plain}
 use Rattle.decision_tree.proofs.Reduced.{tests_below}
 use Rattle.leaf_domain.specs.Leaves.{LeafValue, LeafMeaning, LeafLaws, nothing_of}
 use Rattle.leaf_domain.specs.Soundness.{TransferAnswers, TransferHolds, NothingStops}
@@ -28,7 +27,7 @@ use Rattle.plain_analysis.specs.declared.options.Options.{Options}
 use Rattle.plain_analysis.specs.Entered.{leaves_in}
 use Rattle.plain_analysis.specs.Places.{at_of, alarm_of}
 use Rattle.plain_analysis.specs.Promises.{RunsForeseen}
-use Rattle.plain_analysis.specs.Statements.{Entry, after_of}
+use Rattle.plain_analysis.specs.Statements.{after_of}
 use Rattle.plain_analysis.proofs.Promised.{runs}
 use Rattle.tree_unify.specs.Formulas as formulas
 use Rattle.lifted_analysis.specs.declared.entries.Found.{Found}
@@ -36,13 +35,12 @@ use Rattle.lifted_analysis.specs.declared.family.Family.{Family}
 use Rattle.lifted_analysis.specs.declared.findings.AlarmTree.{AlarmTree}
 use Rattle.lifted_analysis.specs.declared.findings.FamilyFindings.{FamilyFindings}
 use Rattle.lifted_analysis.specs.declared.findings.PlaceTree.{PlaceTree}
-use Rattle.lifted_analysis.specs.Canon.{IsTreeOf}
 use Rattle.lifted_analysis.specs.Conditions.{AreTreesOf}
 use Rattle.lifted_analysis.specs.Entries.{entries_at, stops_in, leaf_there, stop_there, IsReducedTree, AreReduced, AreReducedStops, entered_with, HasEntered}
 use Rattle.lifted_analysis.specs.Findings.{HasEnded, HasFound, AreFindings}
 use Rattle.lifted_analysis.specs.Promises.{truths_of, variant_at, begin_at, leaf_at, stop_at, by_kind, valued, Occurs, AreBelow}
 use Rattle.lifted_analysis.specs.Start.{start_at}
-use Rattle.lifted_analysis.specs.States.{truths_in, IsFamily, IsTest}
+use Rattle.lifted_analysis.specs.States.{truths_in, IsTest}
 use Rattle.lifted_analysis.specs.Steps.{after_at}
 use Rattle.lifted_analysis.proofs.ConditionLemmas.{truths_same, tests_each, occurs_below}
 use Rattle.lifted_analysis.proofs.EntryLemmas.{three, reduced_push}
@@ -219,6 +217,8 @@ module _ {L : Type 0} (value : L → LeafValue) (exact : (a b : L) → value a �
             tests = below m (plain x.tree) b r;
             leads = λ v e. values_are (stop_there v) (λ q. stop_at M family.options p cs pl q v) f.alarms.items (by_kind (program_places p)) (stops_at v) k d lt;
           };
+      reduced = λ k d lt. (h.trees k d lt).reduced;
+      below = λ m b k d lt. below m (plain (slice_index_or f.places.items k d).tree) b (h.trees k d lt);
       tests = λ k d lt j w. occurs j ((h.trees k d lt).tests j w);
       alarm_tests = λ k d lt j w. occurs j ((h.alarm_trees k d lt).tests j w);
     }

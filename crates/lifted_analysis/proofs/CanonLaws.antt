@@ -1,5 +1,5 @@
 -- The one tree of a function, of leaf values and of truths.
-use Rattle.std.proofs.Common.{◌≡◌, ◌↔◌, ℕ, Bool, true, false, List, eqb, refl}
+use Rattle.std.proofs.Common.{◌≡◌, ◌↔◌, ℕ, Bool, true, false, List, refl}
 use Rattle.decision_tree.specs.Plain.{Plain}
 use Rattle.leaf_domain.specs.Leaves.{LeafValue, same_leaf}
 use Rattle.leaf_domain.proofs.LeafEquality.{leaf_decides}

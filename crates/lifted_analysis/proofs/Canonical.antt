@@ -1,9 +1,7 @@
 -- A tree is that of a function exactly where it is made by going through all vectors.
-use Rattle.std.proofs.Common.{◌≡◌, ◌≢◌, ◌↔◌, ◌⊎◌, ℕ, zero, suc, ◌+◌, ◌<◌, ◌≤◌, Bool, true, false, cond, List, [], ◌∷◌, ◌++◌, length, slice_index_or, refl, ap, sym, subst, ◌∙◌, inl, inr, arith, append_assoc, append-nil}
+use Rattle.std.proofs.Common.{◌≡◌, ◌≢◌, ◌↔◌, ◌⊎◌, ℕ, zero, suc, ◌+◌, ◌<◌, Bool, true, false, cond, List, [], ◌∷◌, ◌++◌, length, slice_index_or, refl, ap, sym, subst, ◌∙◌, inl, inr, arith, append_assoc, append-nil}
 use Rattle.std.proofs.lemmas.Bool.{cases_order}
-use Rattle.std.proofs.lemmas.List.{length-append}
 use Rattle.decision_tree.specs.Plain.{Plain, leaf, node, leaf_of, IsReducedFrom, TestsBelow, IsNodeOf}
-use Rattle.decision_tree.proofs.Reduced.{reduced_from}
 use Rattle.lifted_analysis.specs.Canon.{IsTreeOf, IsCanonFrom, IsCanon}
 
 index-at : (w : List Bool) (b : Bool) (u : List Bool) → slice_index_or (w ++ b ∷ u) (length w) false ≡ b

@@ -1,9 +1,8 @@
 -- The statements that a projection keeps, among all of a family.
-use Rattle.std.proofs.Common.{◌≡◌, ℕ, ◌≤◌, ◌<◌, true, false, Bool, List, [], ◌∷◌, ◌++◌, map, if◌then◌else◌, cond, Option, Some, None, refl, ap, sym, subst, ◌∙◌, append-nil, arith}
+use Rattle.std.proofs.Common.{◌≡◌, ℕ, ◌≤◌, ◌<◌, true, false, Bool, List, [], ◌∷◌, ◌++◌, map, if◌then◌else◌, Option, Some, None, refl, ap, sym, subst, ◌∙◌, arith}
 use Rattle.std.specs.Prelude.{slice_index_or, IsTrue}
 use Rattle.fam_outer.specs.declared.faults.Place.{Place}
 use Rattle.c_tree.specs.declared.tree.Kind.{Kind}
-use Rattle.c_tree.specs.declared.tree.Kind.TheVariants.{Overflow, ZeroDivisor, Assertion}
 use Rattle.c_tree.specs.Tree.{Term, Code, followed, Done, Assign, Input, Assert, If, While, Block, Skip, Cond}
 use Rattle.c_tree.specs.Project.{projected}
 use Rattle.c_tree.specs.Fit.{IsTermOf, IsCodeOf}
@@ -15,15 +14,14 @@ use Rattle.leaf_domain.specs.Stops.{may_at}
 use Rattle.plain_analysis.specs.declared.options.Options.{Options}
 use Rattle.plain_analysis.specs.Loops.{final_leaf}
 use Rattle.plain_analysis.specs.Statements.{Entry, after_of, entries_of}
-use Rattle.plain_analysis.specs.Places.{is_same_place, entry_in, leaf_or, may_stop}
-use Rattle.plain_analysis.specs.Entered.{leaves_in}
+use Rattle.plain_analysis.specs.Places.{is_same_place, entry_in}
 use Rattle.plain_analysis.proofs.Listed.{entries_of-followed}
 use Rattle.leaf_domain.proofs.Answered.{answers_then}
 use Rattle.plain_analysis.proofs.Recursion.{suits, join_answer, after_answers, final_of_code}
 use Rattle.plain_analysis.proofs.Located.{place_of, same_place_self}
 use Rattle.plain_analysis.proofs.Nothing.{after_nothing, loop_nothing}
 use Rattle.lifted_analysis.specs.Steps.{kept_by}
-use Rattle.lifted_analysis.specs.Entries.{entries_at, stops_in}
+use Rattle.lifted_analysis.specs.Entries.{entries_at}
 
 before_other : (a b : Place) → IsTrue (is_before a b) → is_same_place a b ≡ false
 before_other a b h = grind arith

@@ -7,7 +7,6 @@ use Rattle.std.specs.declared.vec.Vec.{Vec}
 use Rattle.std.specs.declared.alloc.Global.{Global}
 use Rattle.fam_outer.specs.declared.faults.Place.{Place}
 use Rattle.c_tree.specs.declared.tree.Expr.{Expr}
-use Rattle.c_tree.specs.declared.tree.Kind.{Kind}
 use Rattle.c_tree.specs.declared.tree.Kind.TheVariants.{Overflow, ZeroDivisor, Assertion}
 use Rattle.c_tree.specs.declared.tree.Stmt.{Stmt}
 use Rattle.c_tree.specs.declared.tree.Stmt.TheVariants as variant
@@ -16,7 +15,7 @@ use Rattle.c_tree.specs.View.{term, front, code}
 use Rattle.c_tree.specs.Project.{projected}
 use Rattle.c_tree.proofs.Views.{code-take_more}
 use Rattle.decision_tree.specs.declared.tree.Tree.{Tree}
-use Rattle.decision_tree.specs.Plain.{Plain, leaf_of, HasTest, IsReducedFrom}
+use Rattle.decision_tree.specs.Plain.{Plain}
 use Rattle.decision_tree.specs.Listed.{IsTreeIn}
 use Rattle.decision_tree.specs.Numbered.{Numbered, erase}
 use Rattle.decision_tree.specs.View.{numbered, plain}
@@ -33,7 +32,7 @@ use Rattle.tree_unify.specs.Leafwise.{TestsAreOf}
 use Rattle.lifted_analysis.specs.declared.entries.Found.{Found}
 use Rattle.lifted_analysis.specs.declared.family.Family.{Family}
 use Rattle.lifted_analysis.specs.Entries.{entries_at, stops_in, leaf_there, stop_there, IsReducedTree, AreReduced, AreReducedStops, HasEntered}
-use Rattle.lifted_analysis.specs.States.{IsState, IsTest}
+use Rattle.lifted_analysis.specs.States.{IsState}
 use Rattle.lifted_analysis.specs.Steps.{kept_by}
 use Rattle.lifted_analysis.proofs.FamilyLemmas.{front-Cond}
 

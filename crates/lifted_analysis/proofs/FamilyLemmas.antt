@@ -1,5 +1,5 @@
 -- What statements of a family do at a vector, statement by statement.
-use Rattle.std.proofs.Common.{◌≡◌, ℕ, ◌+◌, ◌<◌, ◌≤◌, List, [], ◌∷◌, Bool, true, false, if◌then◌else◌, cond, take, length, get_or, refl, ap, sym, subst, ◌∙◌, arith, zero, suc, map, inl, inr}
+use Rattle.std.proofs.Common.{◌≡◌, ℕ, ◌+◌, ◌<◌, ◌≤◌, List, [], ◌∷◌, Bool, true, false, if◌then◌else◌, cond, take, length, get_or, refl, ap, sym, subst, ◌∙◌, arith, zero, suc, inl, inr}
 use Rattle.std.specs.Prelude.{slice_index_or, slice_get, Some, None}
 use Rattle.fam_outer.specs.declared.faults.Place.{Place}
 use Rattle.std.specs.declared.vec.Vec.{Vec}
@@ -8,28 +8,27 @@ use Rattle.c_tree.specs.declared.tree.Expr.{Expr}
 use Rattle.c_tree.specs.declared.tree.Stmt.{Stmt}
 use Rattle.c_tree.specs.declared.tree.Stmt.TheVariants as variant
 use Rattle.c_tree.specs.declared.tree.Stmt.TheViews.{outs-Cond}
-use Rattle.c_tree.specs.Tree.{Code, Done, If, While, Block, Cond}
+use Rattle.c_tree.specs.Tree.{Code, Done, Cond}
 use Rattle.c_tree.specs.View.{term, front, code}
 use Rattle.c_tree.specs.Fit.{IsCodeOf}
 use Rattle.c_tree.specs.Project.{projected}
 use Rattle.c_tree.proofs.Views.{front_out}
 use Rattle.c_tree.proofs.Listed.{projected-take_more, projected-Cond}
 use Rattle.decision_tree.specs.declared.tree.Tree.{Tree}
-use Rattle.decision_tree.specs.Plain.{Plain, leaf_of, HasTest}
+use Rattle.decision_tree.specs.Plain.{leaf_of, HasTest}
 use Rattle.decision_tree.specs.Numbered.{kept, erase}
 use Rattle.decision_tree.specs.View.{numbered, plain}
 use Rattle.leaf_domain.specs.Leaves.{LeafValue, LeafMeaning, LeafLaws, nothing_of}
 use Rattle.leaf_domain.specs.Soundness.{TransferAnswers}
 use Rattle.leaf_domain.specs.Transfer.{assumed}
-use Rattle.plain_analysis.specs.declared.options.Options.{Options}
 use Rattle.plain_analysis.specs.Statements.{after_of}
 use Rattle.plain_analysis.proofs.Listed.{after_of-followed, front-If, front-While, front-Block}
 use Rattle.plain_analysis.proofs.Nothing.{after_nothing}
 use Rattle.plain_analysis.proofs.Sizes.{size_of}
 use Rattle.tree_unify.proofs.Within.{numbered_leaf}
 use Rattle.lifted_analysis.specs.declared.family.Family.{Family}
-use Rattle.lifted_analysis.specs.States.{truths_in, HasTestIn, IsTest, IsFamily, IsTruth}
-use Rattle.lifted_analysis.specs.Steps.{kept_by, after_at, if_at, group_at, final_at}
+use Rattle.lifted_analysis.specs.States.{truths_in, HasTestIn, IsFamily, IsTruth}
+use Rattle.lifted_analysis.specs.Steps.{kept_by, after_at, if_at, final_at}
 
 pub front-Cond : (number : ℕ) (p q : Vec Stmt Global) → front (variant.Cond number p q) Done ≡ Cond number (code p.items) (code q.items) Done
 front-Cond number p q = rw (front_out, outs-Cond) refl

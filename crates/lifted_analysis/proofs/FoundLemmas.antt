@@ -1,18 +1,15 @@
 -- What is found of a family at a vector is what the analysis of its program finds.
-use Rattle.std.proofs.Common.{◌≡◌, ℕ, ◌≤◌, true, false, Bool, List, [], ◌∷◌, ◌++◌, map, length, if◌then◌else◌, Option, Some, None, refl, ap, sym, subst, ◌∙◌, arith, Result, Ok, Err, IfOk}
-use Rattle.std.specs.Prelude.{IsTrue, ℤ, slice_index_or}
-use Rattle.std.specs.List.{All}
+use Rattle.std.proofs.Common.{◌≡◌, true, false, Bool, List, [], ◌∷◌, ◌++◌, map, length, if◌then◌else◌, Option, Some, None, refl, ap, sym, subst, ◌∙◌, arith}
+use Rattle.std.specs.Prelude.{IsTrue, slice_index_or}
 use Rattle.std.proofs.lemmas.List.{map-append}
 use Rattle.fam_outer.specs.declared.faults.Place.{Place}
 use Rattle.c_tree.specs.declared.tree.Kind.{Kind}
 use Rattle.c_tree.specs.declared.tree.Kind.TheVariants.{Overflow, ZeroDivisor, Assertion}
-use Rattle.c_tree.specs.Fit.{IsPlain, IsCodeOf}
+use Rattle.c_tree.specs.Fit.{IsPlain}
 use Rattle.c_tree.specs.Places.{places_of, program_places}
-use Rattle.c_tree.specs.Project.{projected, projected_program, projected_start}
+use Rattle.c_tree.specs.Project.{projected, projected_program}
 use Rattle.c_tree.specs.Tree.{Code, Done, Assign, Input, Assert, If, While, Block, Skip, Cond, Whole}
-use Rattle.c_tree.specs.Value.{IsInt}
 use Rattle.c_tree.specs.Whole.{is_before, IsBeforeAll, IsRising, IsProgram}
-use Rattle.c_tree.proofs.Starts.{length-start, ints-start}
 use Rattle.c_tree.proofs.Wholes.{IsPlain-projected, IsProgram-projected}
 use Rattle.leaf_domain.specs.Leaves.{LeafValue, LeafMeaning, LeafLaws, nothing_of, is_nothing_of}
 use Rattle.leaf_domain.specs.Soundness.{TransferAnswers, NothingStops}

@@ -1,7 +1,7 @@
 -- The rounds of a loop at one vector.
-use Rattle.std.proofs.Common.{◌≡◌, ℕ, suc, ◌+◌, ◌-◌, ◌<◌, Bool, true, false, if◌then◌else◌, nat_lt, refl, ap, sym, ◌∙◌, subst, arith}
+use Rattle.std.proofs.Common.{◌≡◌, ℕ, suc, ◌+◌, ◌-◌, ◌<◌, Bool, true, false, if◌then◌else◌, nat_lt, refl, ap, sym, ◌∙◌, arith}
 use Rattle.leaf_domain.specs.Leaves.{LeafValue, LeafMeaning}
-use Rattle.plain_analysis.specs.Loops.{round_by, round_of, rounds_of, taken_by, narrowing_of, narrowings_of}
+use Rattle.plain_analysis.specs.Loops.{round_by, rounds_of, taken_by, narrowing_of}
 
 -- one round more
 pub rounds_go : (M : LeafMeaning) (delay : ℕ) (G : LeafValue → LeafValue) (n k : ℕ) (x w y z : LeafValue) → k < n → w ≡ G x → y ≡ round_by M (nat_lt k delay) x w

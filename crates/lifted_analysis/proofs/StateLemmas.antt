@@ -1,7 +1,7 @@
 -- States that are made leaf by leaf.
-use Rattle.std.proofs.Common.{◌≡◌, ℕ, List, Bool, ap, sym, ◌∙◌, inl, inr, Result, Ok, Err, IfOk, refl, subst, true, false, if◌then◌else◌}
+use Rattle.std.proofs.Common.{◌≡◌, List, Bool, ap, sym, ◌∙◌, inl, inr, Result, Ok, Err, IfOk, refl, subst, true, false, if◌then◌else◌}
 use Rattle.decision_tree.specs.declared.tree.Tree.{Tree}
-use Rattle.decision_tree.specs.Plain.{Plain, leaf_of, HasTest, HasLeaf}
+use Rattle.decision_tree.specs.Plain.{Plain, leaf_of}
 use Rattle.decision_tree.specs.Numbered.{Numbered, erase}
 use Rattle.decision_tree.specs.Listed.{Keeps, IsNumberedTree, IsTreeIn}
 use Rattle.decision_tree.specs.View.{numbered, plain}
@@ -12,7 +12,7 @@ use Rattle.tree_unify.specs.Leafwise.{IsMapped, IsUnified, LeavesComeFrom, Leave
 use Rattle.lifted_analysis.specs.declared.family.Family.{Family}
 use Rattle.lifted_analysis.specs.declared.operations.Combination.TheVariants.{Join}
 use Rattle.lifted_analysis.specs.Steps.{kept_by, combined_by}
-use Rattle.lifted_analysis.specs.States.{IsState, IsLifted, IsJoint, IsTruth, IsTest}
+use Rattle.lifted_analysis.specs.States.{IsState, IsLifted, IsJoint, IsTruth}
 
 -- what holds at Ok
 pub if_ok_by : {A E : Type 0} (r : Result A E) (P Q : A → Type 0) → ((x : A) → P x → Q x) → IfOk r P → IfOk r Q

@@ -1,5 +1,5 @@
 -- What the analysis of a family promises.
-use Rattle.std.specs.Prelude.{◌≡◌, ◌⊎◌, ℕ, Bool, List, [], ◌∷◌, map, length, if◌then◌else◌}
+use Rattle.std.specs.Prelude.{◌⊎◌, ℕ, Bool, List, [], ◌∷◌, map, length, if◌then◌else◌}
 use Rattle.std.specs.List.{All}
 use Rattle.fam_outer.specs.declared.faults.Place.{Place}
 use Rattle.c_tree.specs.declared.tree.Kind.{Kind}
@@ -9,7 +9,7 @@ use Rattle.c_tree.specs.Project.{projected_program}
 use Rattle.cpp_conditions.specs.declared.formulas.Formula.{Formula}
 use Rattle.cpp_conditions.specs.Propositions.{true_on, IsBelow}
 use Rattle.cpp_conditions.specs.View.{formula}
-use Rattle.decision_tree.specs.Plain.{Plain, leaf, node, HasTest}
+use Rattle.decision_tree.specs.Plain.{Plain, leaf, node}
 use Rattle.leaf_domain.specs.Leaves.{LeafValue, LeafMeaning, nothing_of}
 use Rattle.plain_analysis.specs.declared.options.Options.{Options}
 use Rattle.plain_analysis.specs.Places.{at_of, alarm_of}

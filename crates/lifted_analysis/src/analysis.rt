@@ -9,7 +9,7 @@ ghost use Rattle.c_tree.specs.Project.{IsConditioned};
 ghost use Rattle.cpp_conditions.specs.declared.formulas.Formula.{Formula};
 ghost use Rattle.cpp_conditions.specs.Propositions.{IsBelow};
 ghost use Rattle.cpp_conditions.specs.View.{formula};
-ghost use Rattle.decision_tree.specs.Plain.{HasTest};
+ghost use Rattle.decision_tree.specs.Plain.{HasTest, IsReduced, TestsBelow};
 ghost use Rattle.decision_tree.specs.View.{numbered, plain};
 ghost use Rattle.plain_analysis.specs.Promises.{LoopsSettle, RunsForeseen};
 ghost use Rattle.lifted_analysis.specs.declared.findings.AlarmTree.{AlarmTree};
@@ -159,7 +159,9 @@ fn analyse_counted<L: Leaf, K: Ledger>(
 /// is the one reduced tree (after Bryant) whose leaf at each vector is what the analysis of that vector's program alone, with
 /// these options, has at the place, and Nothing where that program lacks the place. For each place there are three alarm
 /// trees, in the order of the kinds, which are true at exactly the vectors at which that analysis has an alarm of the kind
-/// there. The only refusal is want of memory.
+/// there. Each test of a tree is a number of the formulas. In the mode of the options and from each store that the first leaf
+/// of a vector holds, a run of its program is where the leaf holds its store, and the rounds of a loop settle, as for
+/// `analyse_one`. The only refusal is want of memory.
 pub fn analyse_family<L: Leaf>(
     alloc: Global,
     code: &Program,
@@ -174,6 +176,8 @@ pub fn analyse_family<L: Leaf>(
     ensures trees { IfOk result (λ f. (m : ℕ) → AreBelow m conditions.now plausible.now → All (λ p. IsTreeOf m (leaf_at L.meaning options.now (whole code.now) conditions.now plausible.now p.place) (valued L.value (plain p.tree))) f.places.items) }
     ensures kinds { IfOk result (λ f. map (λ a. (a.place, a.kind)) f.alarms.items ≡ by_kind (program_places (whole code.now))) }
     ensures alarms { IfOk result (λ f. (m : ℕ) → AreBelow m conditions.now plausible.now → All (λ (a : AlarmTree). IsTreeOf m (stop_at L.meaning options.now (whole code.now) conditions.now plausible.now (a.place, a.kind)) (plain a.tree)) f.alarms.items) }
+    ensures reduced { IfOk result (λ f. All (λ p. IsReduced (plain p.tree)) f.places.items) }
+    ensures below { IfOk result (λ f. (m : ℕ) → AreBelow m conditions.now plausible.now → All (λ p. TestsBelow m (plain p.tree)) f.places.items) }
     ensures tests { IfOk result (λ f. All (λ p. (k : ℕ) → HasTest k (plain p.tree) → Occurs conditions.now plausible.now k) f.places.items) }
     ensures alarm_tests { IfOk result (λ f. All (λ (a : AlarmTree). (k : ℕ) → HasTest k (plain a.tree) → Occurs conditions.now plausible.now k) f.alarms.items) }
     ensures runs { (v : List Bool) → RunsForeseen L.meaning options.now (variant_at (whole code.now) conditions.now v) (begin_at L.meaning (whole code.now) conditions.now plausible.now v) }

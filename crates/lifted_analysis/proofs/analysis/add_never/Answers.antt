@@ -1,8 +1,8 @@
-use Rattle.std.proofs.Common.{◌≡◌, ◌∷◌, ◌++◌, [], ◌∙◌, map, ap, sym, subst, List, Bool, false}
+use Rattle.std.proofs.Common.{◌≡◌, ◌∷◌, ◌++◌, [], ◌∙◌, map, ap, sym, subst, false}
 use Rattle.std.proofs.lemmas.List.{map-append}
 use Rattle.decision_tree.specs.Numbered.{erase}
 use Rattle.decision_tree.specs.Plain.{leaf_of}
-use Rattle.decision_tree.specs.View.{numbered, plain}
+use Rattle.decision_tree.specs.View.{plain}
 use Rattle.lifted_analysis.specs.declared.findings.AlarmTree.{AlarmTree}
 use Rattle.lifted_analysis.specs.Entries.{stop_there, IsReducedTree}
 use Rattle.lifted_analysis.proofs.EntryLemmas.{reduced_push}

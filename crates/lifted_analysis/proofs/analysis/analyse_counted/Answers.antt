@@ -1,7 +1,6 @@
-use Rattle.std.proofs.Common.{◌≡◌, ◌≤◌, ◌∙◌, ap, sym, subst, length, inl}
+use Rattle.std.proofs.Common.{◌≤◌, ap, sym, subst, length, inl}
 use Rattle.c_tree.specs.View.{whole}
-use Rattle.cpp_conditions.specs.View.{formula}
-use Rattle.decision_tree.specs.View.{numbered, plain}
+use Rattle.decision_tree.specs.View.{numbered}
 use Rattle.decision_tree.proofs.Numbers.{numbered_tree}
 use Rattle.lifted_analysis.specs.Conditions.{AreTreesOf}
 use Rattle.lifted_analysis.specs.Findings.{HasFound, AreFindings}

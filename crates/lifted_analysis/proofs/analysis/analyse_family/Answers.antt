@@ -39,3 +39,11 @@ returns-clause-tests g c =
 pub returns-clause-alarm_tests : goal.returns-clause-alarm_tests
 returns-clause-alarm_tests g c =
     if_ok_by c.analyse_counted.result (AreFindings g.L.Leaf.value g.L.Leaf.meaning c.args.options.now (whole c.args.code.now) c.args.conditions.now c.args.plausible.now) _ (λ f h. h.alarm_tests) c.analyse_counted.ensures
+
+pub returns-clause-reduced : goal.returns-clause-reduced
+returns-clause-reduced g c =
+    if_ok_by c.analyse_counted.result (AreFindings g.L.Leaf.value g.L.Leaf.meaning c.args.options.now (whole c.args.code.now) c.args.conditions.now c.args.plausible.now) _ (λ f h. h.reduced) c.analyse_counted.ensures
+
+pub returns-clause-below : goal.returns-clause-below
+returns-clause-below g c =
+    if_ok_by c.analyse_counted.result (AreFindings g.L.Leaf.value g.L.Leaf.meaning c.args.options.now (whole c.args.code.now) c.args.conditions.now c.args.plausible.now) _ (λ f h. h.below) c.analyse_counted.ensures

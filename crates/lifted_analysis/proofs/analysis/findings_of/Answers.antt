@@ -1,4 +1,4 @@
-use Rattle.std.proofs.Common.{◌≡◌, ◌∙◌, ap, sym, subst, length}
+use Rattle.std.proofs.Common.{◌∙◌, ap, sym, subst, length}
 use Rattle.std.specs.Prelude.{All}
 use Rattle.c_tree.specs.Fit.{IsCodeOf}
 use Rattle.c_tree.specs.Value.{IsInt}

@@ -1,4 +1,4 @@
-use Rattle.std.proofs.Common.{rules, arith, ◌≡◌, ◌+◌, ◌∙◌, ◌++◌, ◌∷◌, [], ap, sym, subst, refl, true, false, take, List, Bool}
+use Rattle.std.proofs.Common.{rules, arith, ◌≡◌, ◌+◌, ◌∙◌, ◌++◌, ◌∷◌, [], ap, sym, subst, refl, true, false, take}
 use Rattle.std.specs.Prelude.{IfOk}
 use Rattle.c_tree.specs.Tree.{Done}
 use Rattle.c_tree.specs.View.{term, front, code}
@@ -8,7 +8,6 @@ use Rattle.decision_tree.specs.View.{numbered, plain}
 use Rattle.decision_tree.proofs.Numbers.{keeps_same, keeps_both}
 use Rattle.leaf_domain.specs.Leaves.{LeafValue}
 use Rattle.leaf_domain.specs.Transfer.{assumed}
-use Rattle.plain_analysis.specs.Statements.{Entry}
 use Rattle.plain_analysis.proofs.EnteredLemmas.{on_ok, on_ok_by}
 use Rattle.plain_analysis.proofs.Listed.{IsCodeOf-at}
 use Rattle.plain_analysis.proofs.Sizes.{size-at}
@@ -18,7 +17,7 @@ use Rattle.lifted_analysis.specs.Steps.{kept_by, after_at, if_at, group_at, fina
 use Rattle.lifted_analysis.proofs.StateLemmas.{counted, lifted_then, lifted_as}
 use Rattle.lifted_analysis.proofs.FamilyLemmas.{after_at-more, after_at-While, after_at-Cond, kept_joins}
 use Rattle.lifted_analysis.proofs.AfterLemmas.{front-Skip, shared_made, then_made, as_made, behind_made, both_made}
-use Rattle.lifted_analysis.proofs.EntryLemmas.{entered_then, entered_as, entries_at-more, entries_at-If, entries_at-While, entries_at-Block}
+use Rattle.lifted_analysis.proofs.EntryLemmas.{entered_then, entries_at-more, entries_at-If, entries_at-While, entries_at-Block}
 use Rattle.lifted_analysis.proofs.entries.+enter.Goals as goal
 
 pub enter_body-returns-clause-keeps : goal.enter_body-returns-clause-keeps

@@ -1,4 +1,4 @@
-use Rattle.std.proofs.Common.{◌≡◌, ◌+◌, ◌*◌, take}
+use Rattle.std.proofs.Common.{◌+◌, ◌*◌, take}
 use Rattle.c_tree.specs.Tree.{Done}
 use Rattle.c_tree.specs.View.{front, code}
 use Rattle.decision_tree.specs.View.{numbered, plain}

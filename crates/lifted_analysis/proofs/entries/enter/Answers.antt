@@ -1,6 +1,4 @@
-use Rattle.std.proofs.Common.{◌≡◌, ◌∙◌, ap, sym, subst, map, List, Bool}
-use Rattle.lifted_analysis.specs.Entries.{leaf_there, stop_there, AreReduced, AreReducedStops, HasEntered}
-use Rattle.lifted_analysis.proofs.EntryLemmas.{three, entered_at_last}
+use Rattle.lifted_analysis.proofs.EntryLemmas.{entered_at_last}
 use Rattle.lifted_analysis.proofs.entries.enter.Goals as goal
 
 pub returns-clause-entered : goal.returns-clause-entered

@@ -1,5 +1,4 @@
-use Rattle.std.proofs.Common.{◌≡◌, ◌+◌, ◌∙◌, ap, sym, refl, true, false, not, ◌&&◌, take, List, Bool, if◌then◌else◌}
-use Rattle.std.specs.Prelude.{slice_index_or}
+use Rattle.std.proofs.Common.{◌+◌, sym, refl, true, take, List, Bool}
 use Rattle.std.proofs.lemmas.List.Folds.{list_all_more}
 use Rattle.c_tree.specs.Project.{guards_hold, guard_holds}
 use Rattle.lifted_analysis.specs.States.{truths_in}

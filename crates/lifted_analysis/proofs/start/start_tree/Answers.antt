@@ -1,5 +1,4 @@
-use Rattle.std.proofs.Common.{rules, ◌≡◌, ◌≤◌, ◌∙◌, ap, sym, subst, length, true, false, List, Bool}
-use Rattle.std.specs.Prelude.{ℤ}
+use Rattle.std.proofs.Common.{rules, ◌≡◌, ◌≤◌, sym, subst, length, true, List, Bool}
 use Rattle.decision_tree.specs.View.{numbered, plain}
 use Rattle.decision_tree.specs.Plain.{leaf_of}
 use Rattle.lifted_analysis.specs.Start.{start_at}

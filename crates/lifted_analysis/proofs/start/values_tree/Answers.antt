@@ -1,4 +1,4 @@
-use Rattle.std.proofs.Common.{◌≡◌, ◌+◌, ◌∙◌, ap, sym, refl, take, List, Bool, slice_set, if◌then◌else◌, arith}
+use Rattle.std.proofs.Common.{◌+◌, ◌∙◌, ap, sym, refl, take, List, Bool, slice_set, if◌then◌else◌, arith}
 use Rattle.std.specs.Prelude.{ℤ}
 use Rattle.std.specs.Cmp.Rules.{signed_items}
 use Rattle.std.proofs.lemmas.List.{take_all}

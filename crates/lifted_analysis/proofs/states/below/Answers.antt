@@ -1,4 +1,4 @@
-use Rattle.std.proofs.Common.{rules, ◌≡◌, ◌∙◌, sym}
+use Rattle.std.proofs.Common.{◌∙◌, sym}
 use Rattle.decision_tree.specs.View.{numbered}
 use Rattle.lifted_analysis.proofs.StateLemmas.{state_numbered, truth_made}
 use Rattle.lifted_analysis.proofs.states.below.Goals as goal

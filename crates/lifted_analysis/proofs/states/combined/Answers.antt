@@ -1,4 +1,4 @@
-use Rattle.std.proofs.Common.{◌≡◌, ◌∙◌, sym}
+use Rattle.std.proofs.Common.{◌∙◌, sym}
 use Rattle.decision_tree.specs.View.{numbered}
 use Rattle.lifted_analysis.specs.Steps.{combined_by}
 use Rattle.lifted_analysis.proofs.StateLemmas.{state_numbered, joint_made}

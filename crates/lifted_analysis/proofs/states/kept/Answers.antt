@@ -1,4 +1,3 @@
-use Rattle.std.proofs.Common.{◌≡◌, ◌∙◌, sym}
 use Rattle.decision_tree.specs.View.{numbered}
 use Rattle.lifted_analysis.specs.Steps.{kept_by}
 use Rattle.lifted_analysis.proofs.StateLemmas.{state_numbered, kept_made}

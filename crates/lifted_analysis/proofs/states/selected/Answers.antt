@@ -1,4 +1,3 @@
-use Rattle.std.proofs.Common.{◌≡◌, ◌∙◌, sym}
 use Rattle.decision_tree.specs.View.{numbered, plain}
 use Rattle.lifted_analysis.proofs.StateLemmas.{state_stays, selected_made}
 use Rattle.lifted_analysis.proofs.states.selected.Goals as goal

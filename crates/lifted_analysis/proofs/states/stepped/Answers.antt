@@ -1,4 +1,4 @@
-use Rattle.std.proofs.Common.{rules, ◌≡◌, ◌∙◌, ap, sym, subst}
+use Rattle.std.proofs.Common.{rules, sym, subst}
 use Rattle.decision_tree.specs.View.{numbered}
 use Rattle.lifted_analysis.specs.Steps.{IsStepOf, stepped_by}
 use Rattle.lifted_analysis.proofs.StateLemmas.{state_numbered, lifted_made}
