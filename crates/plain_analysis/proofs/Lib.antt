@@ -7,4 +7,4 @@ pub mod Recursion
 pub mod Located
 pub mod Foreseen
 pub mod Promised
-mod Nothing
+pub mod Nothing

@@ -51,7 +51,7 @@ module _ (M : LeafMeaning) (laws : LeafLaws M) (o : Options) (answers : Transfer
   either_way true c e = e
   either_way false c e = refl
 
-  loop_nothing : (test : Term) (body : LeafValue → LeafValue) → body (nothing_of n) ≡ nothing_of n → final_leaf M o test body (nothing_of n) ≡ nothing_of n
+  pub loop_nothing : (test : Term) (body : LeafValue → LeafValue) → body (nothing_of n) ≡ nothing_of n → final_leaf M o test body (nothing_of n) ≡ nothing_of n
   loop_nothing test body same =
       let G : LeafValue → LeafValue = turn_of M o.mode test body (nothing_of n) in
       let turned : G (nothing_of n) ≡ nothing_of n = joined_nothing (nothing_of n) (body (assumed M o.mode test true (nothing_of n))) refl (ap body (assumed_nothing test true) ∙ same) in

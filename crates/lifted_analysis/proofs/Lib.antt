@@ -1,0 +1,12 @@
+pub mod StateLemmas
+pub mod FamilyLemmas
+pub mod LoopLemmas
+pub mod AfterLemmas
+pub mod EntryLemmas
+pub mod Drawn
+pub mod Canonical
+pub mod StartLemmas
+pub mod FoundLemmas
+pub mod ConditionLemmas
+pub mod Answered
+pub mod CanonLaws

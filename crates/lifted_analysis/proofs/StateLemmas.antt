@@ -1,0 +1,142 @@
+-- States that are made leaf by leaf.
+use Rattle.std.proofs.Common.{◌≡◌, List, Bool, ap, sym, ◌∙◌, inl, inr, Result, Ok, Err, IfOk, refl, subst, true, false, if◌then◌else◌}
+use Rattle.decision_tree.specs.declared.tree.Tree.{Tree}
+use Rattle.decision_tree.specs.Plain.{Plain, leaf_of}
+use Rattle.decision_tree.specs.Numbered.{Numbered, erase}
+use Rattle.decision_tree.specs.Listed.{Keeps, IsNumberedTree, IsTreeIn}
+use Rattle.decision_tree.specs.View.{numbered, plain}
+use Rattle.decision_tree.proofs.Numbers.{tree_stays, numbered_tree, keeps_same, keeps_both}
+use Rattle.decision_tree.proofs.Reached.{has_leaf_of}
+use Rattle.leaf_domain.specs.Leaves.{LeafValue, LeafMeaning, LeafLaws, nothing_of}
+use Rattle.tree_unify.specs.Leafwise.{IsMapped, IsUnified, LeavesComeFrom, LeavesComeFromBoth, TestsAreOf, TestsAreOfEither}
+use Rattle.lifted_analysis.specs.declared.family.Family.{Family}
+use Rattle.lifted_analysis.specs.declared.operations.Combination.TheVariants.{Join}
+use Rattle.lifted_analysis.specs.Steps.{kept_by, combined_by}
+use Rattle.lifted_analysis.specs.States.{IsState, IsLifted, IsJoint, IsTruth}
+
+-- what holds at Ok
+pub if_ok_by : {A E : Type 0} (r : Result A E) (P Q : A → Type 0) → ((x : A) → P x → Q x) → IfOk r P → IfOk r Q
+if_ok_by (Ok x) P Q f p = f x p
+if_ok_by (Err e) P Q f p = tt
+
+-- the join of what is kept of one leaf and of another
+pub kept_or : (M : LeafMeaning) → LeafLaws M → (b : Bool) (x y : LeafValue) → x.variables ≡ y.variables → M.join (kept_by true b x) (kept_by false b y) ≡ (if b then x else y)
+kept_or M laws true x y e = ap (λ n. M.join x (nothing_of n)) (sym e) ∙ laws.nothing_join x
+kept_or M laws false x y e = ap (λ n. M.join (nothing_of n) y) e ∙ laws.join_nothing y
+
+module _ {L : Type 0} (value : L → LeafValue) (family : Family) where
+  pub state_stays : (before after : List (Plain L)) (t : Numbered L) → Keeps before after → IsState value family before t → IsState value family after t
+  state_stays before after t k s = record { tree = tree_stays 0 64 before after t k s.tree; tests = s.tests; leaves = s.leaves }
+
+  pub state_as : (forest : List (Plain L)) (t u : Numbered L) → u ≡ t → IsState value family forest t → IsState value family forest u
+  state_as forest t u e s = subst (IsState value family forest) (sym e) s
+
+  pub state_numbered : (forest : List (Plain L)) (t : Numbered L) → IsState value family forest t → IsNumberedTree 0 64 t
+  state_numbered forest t s = numbered_tree 0 64 forest t s.tree
+
+  pub counted : (forest : List (Plain L)) (t : Numbered L) (v : List Bool) → IsState value family forest t → (value (leaf_of (erase t) v)).variables ≡ family.variables
+  counted forest t v s = s.leaves (leaf_of (erase t) v) (has_leaf_of (erase t) v)
+
+  pub lifted_made : {E : Type 0} (made : Result (Tree L) E) (P : L → L → Type 0) (f : LeafValue → LeafValue) (before after : List (Plain L)) (t : Numbered L)
+      → ((a b : L) → P a b → (value b ≡ f (value a)) × ((value b).variables ≡ (value a).variables))
+      → IsState value family before t → IfOk made (λ r. IsMapped P (erase t) (plain r)) → IfOk made (λ r. LeavesComeFrom P (erase t) (plain r))
+      → IfOk made (λ r. TestsAreOf (erase t) (plain r)) → IfOk made (λ r. IsTreeIn 0 64 after (numbered r)) → Keeps before after
+      → IfOk made (λ r. IsLifted value family before after (λ v. f) (erase t) (numbered r))
+  lifted_made (Ok r) P f before after t says s m l q own k = record {
+    state = record { tree = own; tests = λ j w. s.tests j (q.each j w); leaves = λ y w. let x = l.each y w in (says x.0 y x.2).1 ∙ s.leaves x.0 x.1 };
+    keeps = k;
+    at_each = λ v. (says (leaf_of (erase t) v) (leaf_of (plain r) v) (m.at_each v)).0;
+  }
+  lifted_made (Err e) P f before after t says s m l q own k = tt
+
+  pub joint_made : {E : Type 0} (made : Result (Tree L) E) (P : L → L → L → Type 0) (f : LeafValue → LeafValue → LeafValue) (before after : List (Plain L)) (t u : Numbered L)
+      → ((a b c : L) → P a b c → (value c ≡ f (value a) (value b)) × ((value c).variables ≡ (value a).variables))
+      → IsState value family before t → IsState value family before u
+      → IfOk made (λ r. IsUnified P (erase t) (erase u) (plain r)) → IfOk made (λ r. LeavesComeFromBoth P (erase t) (erase u) (plain r))
+      → IfOk made (λ r. TestsAreOfEither (erase t) (erase u) (plain r)) → IfOk made (λ r. IsTreeIn 0 64 after (numbered r)) → Keeps before after
+      → IfOk made (λ r. IsJoint value family before after (λ v. f) (erase t) (erase u) (numbered r))
+  joint_made (Ok r) P f before after t u says s z m l q own k = record {
+    state = record {
+      tree = own;
+      tests = λ j w. elim (q.each j w) [ inl x ↦ s.tests j x | inr y ↦ z.tests j y ];
+      leaves = λ y w. let x = l.each y w in (says x.0 x.1 y x.4).1 ∙ s.leaves x.0 x.2;
+    };
+    keeps = k;
+    at_each = λ v. (says (leaf_of (erase t) v) (leaf_of (erase u) v) (leaf_of (plain r) v) (m.at_each v)).0;
+  }
+  joint_made (Err e) P f before after t u says s z m l q own k = tt
+
+  pub kept_made : {E : Type 0} (made : Result (Tree L) E) (P : Bool → L → L → Type 0) (f : Bool → LeafValue → LeafValue) (before after : List (Plain L)) (c : Numbered Bool) (t : Numbered L)
+      → ((b : Bool) (x y : L) → P b x y → (value y ≡ f b (value x)) × ((value y).variables ≡ (value x).variables))
+      → IsTruth family c → IsState value family before t
+      → IfOk made (λ r. IsUnified P (erase c) (erase t) (plain r)) → IfOk made (λ r. LeavesComeFromBoth P (erase c) (erase t) (plain r))
+      → IfOk made (λ r. TestsAreOfEither (erase c) (erase t) (plain r)) → IfOk made (λ r. IsTreeIn 0 64 after (numbered r)) → Keeps before after
+      → IfOk made (λ r. IsLifted value family before after (λ v. f (leaf_of (erase c) v)) (erase t) (numbered r))
+  kept_made (Ok r) P f before after c t says h s m l q own k = record {
+    state = record {
+      tree = own;
+      tests = λ j w. elim (q.each j w) [ inl x ↦ h.tests j x | inr y ↦ s.tests j y ];
+      leaves = λ y w. let x = l.each y w in (says x.0 x.1 y x.4).1 ∙ s.leaves x.1 x.3;
+    };
+    keeps = k;
+    at_each = λ v. (says (leaf_of (erase c) v) (leaf_of (erase t) v) (leaf_of (plain r) v) (m.at_each v)).0;
+  }
+  kept_made (Err e) P f before after c t says h s m l q own k = tt
+
+  pub truth_made : {E : Type 0} (made : Result (Tree Bool) E) (before : List (Plain L)) (after : List (Plain Bool)) (t u : Numbered L)
+      → IsState value family before t → IsState value family before u
+      → IfOk made (λ r. TestsAreOfEither (erase t) (erase u) (plain r)) → IfOk made (λ r. IsTreeIn 0 64 after (numbered r))
+      → IfOk made (λ r. IsTruth family (numbered r))
+  truth_made (Ok r) before after t u s z q own = record {
+    tree = numbered_tree 0 64 after (numbered r) own;
+    tests = λ j w. elim (q.each j w) [ inl x ↦ s.tests j x | inr y ↦ z.tests j y ];
+  }
+  truth_made (Err e) before after t u s z q own = tt
+
+  -- ---- steps after steps
+
+  pub lifted_same : (forest : List (Plain L)) (t r : Numbered L) → r ≡ t → IsState value family forest t → IsLifted value family forest forest (λ v x. x) (erase t) r
+  lifted_same forest t r e s = record {
+    state = state_as forest t r e s;
+    keeps = keeps_same forest forest refl;
+    at_each = λ v. ap (λ u. value (leaf_of (erase u) v)) e;
+  }
+
+  pub lifted_then : (a b c : List (Plain L)) (f g : List Bool → LeafValue → LeafValue) (t : Plain L) (r s : Numbered L)
+      → IsLifted value family a b f t r → IsLifted value family b c g (erase r) s → IsLifted value family a c (λ v x. g v (f v x)) t s
+  lifted_then a b c f g t r s h k = record { state = k.state; keeps = keeps_both a b c h.keeps k.keeps; at_each = λ v. k.at_each v ∙ ap (g v) (h.at_each v) }
+
+  pub lifted_as : (a b : List (Plain L)) (f g : List Bool → LeafValue → LeafValue) (t : Plain L) (r : Numbered L)
+      → ((v : List Bool) → f v (value (leaf_of t v)) ≡ g v (value (leaf_of t v))) → IsLifted value family a b f t r → IsLifted value family a b g t r
+  lifted_as a b f g t r e h = record { state = h.state; keeps = h.keeps; at_each = λ v. h.at_each v ∙ e v }
+
+  -- a step later, in a forest that has more
+  pub lifted_behind : (a b c : List (Plain L)) (f : List Bool → LeafValue → LeafValue) (t : Plain L) (r : Numbered L)
+      → Keeps a b → IsLifted value family b c f t r → IsLifted value family a c f t r
+  lifted_behind a b c f t r k h = record { state = h.state; keeps = keeps_both a b c k h.keeps; at_each = h.at_each }
+
+  -- two trees that were made from one, combined
+  pub joined_lifted : (a b : List (Plain L)) (f g : List Bool → LeafValue → LeafValue) (op : List Bool → LeafValue → LeafValue → LeafValue) (h : List Bool → LeafValue → LeafValue) (t p q : Plain L) (r : Numbered L) (before : List (Plain L))
+      → Keeps before a
+      → ((v : List Bool) → value (leaf_of p v) ≡ f v (value (leaf_of t v))) → ((v : List Bool) → value (leaf_of q v) ≡ g v (value (leaf_of t v)))
+      → ((v : List Bool) → op v (f v (value (leaf_of t v))) (g v (value (leaf_of t v))) ≡ h v (value (leaf_of t v)))
+      → IsJoint value family a b op p q r → IsLifted value family before b h t r
+  joined_lifted a b f g op h t p q r before k ep eq e j = record {
+    state = j.state;
+    keeps = keeps_both before a b k j.keeps;
+    at_each = λ v. j.at_each v ∙ (ap (λ x. op v x (value (leaf_of q v))) (ep v) ∙ (ap (op v (f v (value (leaf_of t v)))) (eq v) ∙ e v));
+  }
+
+  pub selected_made : {E : Type 0} (M : LeafMeaning) → LeafLaws M → (made : Result (Tree L) E) (truth : Plain Bool) (a b c d : List (Plain L)) (t u p q : Numbered L)
+      → IsState value family a t → IsState value family a u
+      → IsLifted value family a b (λ v. kept_by true (leaf_of truth v)) (erase t) p → IsLifted value family b c (λ v. kept_by false (leaf_of truth v)) (erase u) q
+      → IfOk made (λ r. IsJoint value family c d (λ v. combined_by M Join) (erase p) (erase q) (numbered r))
+      → IfOk made (λ r. IsJoint value family a d (λ v x y. if leaf_of truth v then x else y) (erase t) (erase u) (numbered r))
+  selected_made M laws (Ok r) truth a b c d t u p q s z h k j = record {
+    state = j.state;
+    keeps = keeps_both a c d (keeps_both a b c h.keeps k.keeps) j.keeps;
+    at_each = λ v. let x = value (leaf_of (erase t) v) in let y = value (leaf_of (erase u) v) in
+        j.at_each v ∙ (ap (λ w. M.join w (value (leaf_of (erase q) v))) (h.at_each v) ∙ (ap (M.join (kept_by true (leaf_of truth v) x)) (k.at_each v)
+        ∙ kept_or M laws (leaf_of truth v) x y (counted a t v s ∙ sym (counted a u v z))));
+  }
+  selected_made M laws (Err e) truth a b c d t u p q s z h k j = tt

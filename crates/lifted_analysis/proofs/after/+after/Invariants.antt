@@ -1,0 +1,68 @@
+use Rattle.std.proofs.Common.{◌≡◌, ◌+◌, ◌*◌, ◌-◌, take, List, Bool}
+use Rattle.c_tree.specs.Tree.{Done}
+use Rattle.c_tree.specs.View.{term, front, code}
+use Rattle.decision_tree.specs.Listed.{Keeps}
+use Rattle.decision_tree.specs.Plain.{leaf_of}
+use Rattle.decision_tree.specs.View.{numbered, plain}
+use Rattle.leaf_domain.specs.Leaves.{LeafValue}
+use Rattle.plain_analysis.specs.Loops.{rounds_of, widened_leaf, narrowings_of}
+use Rattle.plain_analysis.proofs.Sizes.{size_of}
+use Rattle.lifted_analysis.specs.Heads.{IsHeadOf}
+use Rattle.lifted_analysis.specs.States.{IsLifted}
+use Rattle.lifted_analysis.specs.Steps.{after_at, turn_at, final_at}
+use Rattle.lifted_analysis.proofs.after.+after.Given as goal
+
+-- the tree after the statements so far
+abbrev pub invariant-after_list-loop-s : goal.invariant-after_list-loop-s
+invariant-after_list-loop-s g l =
+    IsLifted g.L.Leaf.value l.family l.initial.tables.leaves l.tables.leaves (after_at g.L.Leaf.meaning l.family (code (take l.s-index l.list))) (plain l.t) (numbered l.made)
+
+-- at each vector, the rounds that are left lead from here to where all lead from the start
+abbrev pub invariant-widened-loop-k : goal.invariant-widened-loop-k
+invariant-widened-loop-k g l =
+    let value = g.L.Leaf.value in
+    let M = g.L.Leaf.meaning in
+    let family = l.family in
+    let G : List Bool → LeafValue → LeafValue = λ v. turn_at M family (term l.test) (code l.body) v (value (leaf_of (plain l.t) v)) in
+    record {
+      rest : (v : List Bool) → rounds_of M family.options.delay (G v) (l.rounds - l.k) l.k (value (leaf_of (plain l.head.at) v)) ≡ widened_leaf M family.options.delay (G v) (value (leaf_of (plain l.t) v));
+      head : IsHeadOf value family l.tables.leaves G l.head;
+      keeps : Keeps l.fn.tables.leaves l.tables.leaves;
+    }
+
+abbrev pub invariant-final_tree-loop-k : goal.invariant-final_tree-loop-k
+invariant-final_tree-loop-k g l =
+    let value = g.L.Leaf.value in
+    let M = g.L.Leaf.meaning in
+    let family = l.family in
+    let G : List Bool → LeafValue → LeafValue = λ v. turn_at M family (term l.test) (code l.body) v (value (leaf_of (plain l.t) v)) in
+    record {
+      rest : (v : List Bool) → narrowings_of M (G v) (family.options.narrow - l._k) (value (leaf_of (plain l.head.at) v)) ≡ final_at M family (term l.test) (code l.body) v (value (leaf_of (plain l.t) v));
+      head : IsHeadOf value family l.tables.leaves G l.head;
+      keeps : Keeps l.fn.tables.leaves l.tables.leaves;
+    }
+
+-- the size of the statements, and then the order of the calls
+abbrev pub decreases-after_stmt : goal.decreases-after_stmt
+decreases-after_stmt g l = 8 * size_of (front l.s.now Done)
+
+abbrev pub decreases-after_list : goal.decreases-after_list
+decreases-after_list g l = 8 * size_of (code l.list.now) + 1
+
+abbrev pub decreases-after_if : goal.decreases-after_if
+decreases-after_if g l = 8 * (size_of (code l.yes.now) + size_of (code l.no.now)) + 3
+
+abbrev pub decreases-after_group : goal.decreases-after_group
+decreases-after_group g l = 8 * (size_of (code l.yes.now) + size_of (code l.no.now)) + 3
+
+abbrev pub decreases-head_at : goal.decreases-head_at
+decreases-head_at g l = 8 * size_of (code l.body.now) + 2
+
+abbrev pub decreases-widened : goal.decreases-widened
+decreases-widened g l = 8 * size_of (code l.body.now) + 3
+
+abbrev pub decreases-narrowed : goal.decreases-narrowed
+decreases-narrowed g l = 8 * size_of (code l.body.now) + 3
+
+abbrev pub decreases-final_tree : goal.decreases-final_tree
+decreases-final_tree g l = 8 * size_of (code l.body.now) + 4

@@ -1,0 +1,35 @@
+use Rattle.std.proofs.Common.{◌+◌, ◌*◌, take}
+use Rattle.c_tree.specs.Tree.{Done}
+use Rattle.c_tree.specs.View.{front, code}
+use Rattle.decision_tree.specs.View.{numbered, plain}
+use Rattle.plain_analysis.proofs.Sizes.{size_of}
+use Rattle.lifted_analysis.specs.Entries.{entered_with, HasEntered}
+use Rattle.lifted_analysis.specs.States.{IsLifted}
+use Rattle.lifted_analysis.specs.Steps.{after_at}
+use Rattle.lifted_analysis.proofs.entries.+enter.Given as goal
+
+-- the tree after the statements so far, and these entered
+abbrev pub invariant-enter_list-loop-s : goal.invariant-enter_list-loop-s
+invariant-enter_list-loop-s g l =
+    let value = g.L.Leaf.value in
+    let M = g.L.Leaf.meaning in
+    record {
+      made : IsLifted value l.family l.fn.tables.leaves l.tables.leaves (after_at M l.family (code (take l.s-index l.list))) (plain l.t) (numbered l.made);
+      entered : HasEntered value M l.family l.fn.found l.found (entered_with value M l.family (code (take l.s-index l.list)) (plain l.t));
+    }
+
+-- the size of the statements, and then the order of the calls
+abbrev pub decreases-enter_stmt : goal.decreases-enter_stmt
+decreases-enter_stmt g l = 4 * size_of (front l.s.now Done)
+
+abbrev pub decreases-enter_list : goal.decreases-enter_list
+decreases-enter_list g l = 4 * size_of (code l.list.now) + 1
+
+abbrev pub decreases-enter_if : goal.decreases-enter_if
+decreases-enter_if g l = 4 * (size_of (code l.yes.now) + size_of (code l.no.now)) + 2
+
+abbrev pub decreases-enter_group : goal.decreases-enter_group
+decreases-enter_group g l = 4 * (size_of (code l.yes.now) + size_of (code l.no.now)) + 2
+
+abbrev pub decreases-enter_body : goal.decreases-enter_body
+decreases-enter_body g l = 4 * size_of (code l.body.now) + 2

@@ -1,0 +1,10 @@
+use Rattle.lifted_analysis.proofs.EntryLemmas.{entered_at_last}
+use Rattle.lifted_analysis.proofs.entries.enter.Goals as goal
+
+pub returns-clause-entered : goal.returns-clause-entered
+returns-clause-entered g c =
+    let tree = c.in_ok-add_tree.ensures in
+    let one = c.in_ok-add_alarm.ensures in
+    let two = c.in_ok-add_alarm-2.ensures in
+    entered_at_last g.L.Leaf.value g.L.Leaf.meaning c.args.family.now c.add_alarm-3.result c.args.found.now c.add_tree.new.found c.add_alarm.new.found c.add_alarm-2.new.found c.add_alarm-3.new.found c.args.place _ _
+    tree.leaves tree.trees tree.alarms one.stops one.trees one.places two.stops two.trees two.places c.add_alarm-3.ensures.stops c.add_alarm-3.ensures.trees c.add_alarm-3.ensures.places

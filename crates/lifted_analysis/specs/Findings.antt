@@ -1,0 +1,53 @@
+-- What is found of a family, over its trees of conditions.
+use Rattle.std.specs.Prelude.{◌≡◌, ℕ, Bool, false, List, [], ◌∷◌, ◌++◌, map}
+use Rattle.std.specs.List.{All}
+use Rattle.fam_outer.specs.declared.faults.Place.{Place}
+use Rattle.c_tree.specs.declared.tree.Kind.{Kind}
+use Rattle.c_tree.specs.declared.tree.Kind.TheVariants.{Overflow, ZeroDivisor, Assertion}
+use Rattle.c_tree.specs.Tree.{Whole}
+use Rattle.c_tree.specs.Places.{program_places}
+use Rattle.c_tree.specs.Project.{projected_program}
+use Rattle.cpp_conditions.specs.declared.formulas.Formula.{Formula}
+use Rattle.decision_tree.specs.Plain.{Plain, leaf_of, HasTest, IsReduced, TestsBelow}
+use Rattle.decision_tree.specs.View.{plain}
+use Rattle.leaf_domain.specs.Leaves.{LeafValue, LeafMeaning}
+use Rattle.plain_analysis.specs.declared.options.Options.{Options}
+use Rattle.plain_analysis.specs.Places.{at_of, alarm_of}
+use Rattle.lifted_analysis.specs.declared.entries.Found.{Found}
+use Rattle.lifted_analysis.specs.declared.family.Family.{Family}
+use Rattle.lifted_analysis.specs.declared.findings.AlarmTree.{AlarmTree}
+use Rattle.lifted_analysis.specs.declared.findings.FamilyFindings.{FamilyFindings}
+use Rattle.lifted_analysis.specs.declared.findings.PlaceTree.{PlaceTree}
+use Rattle.lifted_analysis.specs.Canon.{IsTreeOf}
+use Rattle.lifted_analysis.specs.Entries.{leaf_there, stop_there, AreReduced, AreReducedStops}
+use Rattle.lifted_analysis.specs.Promises.{leaf_at, stop_at, by_kind, valued, Occurs, AreBelow}
+use Rattle.lifted_analysis.specs.Start.{start_at}
+use Rattle.lifted_analysis.specs.States.{truths_in}
+
+-- the last place with its tree, and three alarm trees that are true nowhere
+pub record HasEnded {L : Type 0} (value : L → LeafValue) (family : Family) (place : Place) (t : Plain L) (before now : Found L) : Type 0 where
+  pub leaves : (v : List Bool) → map (leaf_there value v) now.places.items ≡ map (leaf_there value v) before.places.items ++ (place, value (leaf_of t v)) ∷ []
+  pub stops : (v : List Bool) → map (stop_there v) now.alarms.items
+      ≡ map (stop_there v) before.alarms.items ++ (((place, Overflow), false) ∷ (((place, ZeroDivisor), false) ∷ (((place, Assertion), false) ∷ [])))
+  pub trees : AreReduced family before.places.items → AreReduced family now.places.items
+  pub alarm_trees : AreReducedStops family before.alarms.items → AreReducedStops family now.alarms.items
+
+-- at every vector the leaves and the alarms of the analysis of its program, in reduced trees
+pub record HasFound {L : Type 0} (value : L → LeafValue) (M : LeafMeaning) (family : Family) (p : Whole) (f : FamilyFindings L) : Type 0 where
+  pub leaves : (v : List Bool) → map (leaf_there value v) f.places.items
+      ≡ map (λ (q : Place). (q, at_of M family.options (projected_program (truths_in family.choices.now v) p) (start_at M family p.start p.declared v) q)) (program_places p)
+  pub stops : (v : List Bool) → map (stop_there v) f.alarms.items
+      ≡ map (λ (q : Place × Kind). (q, alarm_of M family.options (projected_program (truths_in family.choices.now v) p) (start_at M family p.start p.declared v) q.0 q.1)) (by_kind (program_places p))
+  pub trees : AreReduced family f.places.items
+  pub alarm_trees : AreReducedStops family f.alarms.items
+
+-- what `analyse_family` promises of what it finds
+pub record AreFindings {L : Type 0} (value : L → LeafValue) (M : LeafMeaning) (o : Options) (p : Whole) (conditions : List Formula) (plausible : Formula) (f : FamilyFindings L) : Type 0 where
+  pub places : map (λ (x : PlaceTree L). x.place) f.places.items ≡ program_places p
+  pub trees : (m : ℕ) → AreBelow m conditions plausible → All (λ (x : PlaceTree L). IsTreeOf m (leaf_at M o p conditions plausible x.place) (valued value (plain x.tree))) f.places.items
+  pub kinds : map (λ (a : AlarmTree). (a.place, a.kind)) f.alarms.items ≡ by_kind (program_places p)
+  pub alarms : (m : ℕ) → AreBelow m conditions plausible → All (λ (a : AlarmTree). IsTreeOf m (stop_at M o p conditions plausible (a.place, a.kind)) (plain a.tree)) f.alarms.items
+  pub reduced : All (λ (x : PlaceTree L). IsReduced (plain x.tree)) f.places.items
+  pub below : (m : ℕ) → AreBelow m conditions plausible → All (λ (x : PlaceTree L). TestsBelow m (plain x.tree)) f.places.items
+  pub tests : All (λ (x : PlaceTree L). (k : ℕ) → HasTest k (plain x.tree) → Occurs conditions plausible k) f.places.items
+  pub alarm_tests : All (λ (a : AlarmTree). (k : ℕ) → HasTest k (plain a.tree) → Occurs conditions plausible k) f.alarms.items

@@ -1,0 +1,9 @@
+pub mod States
+pub mod Steps
+pub mod Heads
+pub mod Entries
+pub mod Canon
+pub mod Start
+pub mod Promises
+pub mod Conditions
+pub mod Findings

@@ -1,0 +1,188 @@
+//! The analysis of a family.
+#![tactic(auto)]
+
+ghost use Rattle.std.specs.Prelude.{◌≡◌, ◌<◌, ◌++◌, ◌∷◌, [], ℕ, map, length, false, IfOk, OnOk, List, Bool, All};
+ghost use Rattle.c_tree.specs.View.{whole};
+ghost use Rattle.c_tree.specs.Whole.{IsProgram};
+ghost use Rattle.c_tree.specs.Places.{program_places};
+ghost use Rattle.c_tree.specs.Project.{IsConditioned};
+ghost use Rattle.cpp_conditions.specs.declared.formulas.Formula.{Formula};
+ghost use Rattle.cpp_conditions.specs.Propositions.{IsBelow};
+ghost use Rattle.cpp_conditions.specs.View.{formula};
+ghost use Rattle.decision_tree.specs.Plain.{HasTest, IsReduced, TestsBelow};
+ghost use Rattle.decision_tree.specs.View.{numbered, plain};
+ghost use Rattle.plain_analysis.specs.Promises.{LoopsSettle, RunsForeseen};
+ghost use Rattle.lifted_analysis.specs.declared.findings.AlarmTree.{AlarmTree};
+ghost use Rattle.lifted_analysis.specs.Canon.{IsTreeOf};
+ghost use Rattle.lifted_analysis.specs.Conditions.{AreTreesOf};
+ghost use Rattle.lifted_analysis.specs.Entries.{stop_there, IsReducedTree, AreReducedStops};
+ghost use Rattle.lifted_analysis.specs.Findings.{HasEnded, HasFound, AreFindings};
+ghost use Rattle.lifted_analysis.specs.States.{IsFamily, IsTruth};
+ghost use Rattle.lifted_analysis.specs.Promises.{variant_at, begin_at, leaf_at, stop_at, by_kind, valued, Occurs, AreBelow};
+
+use crate::entries::{Found, enter_list};
+use crate::family::{Family, Tables};
+use crate::findings::{AlarmTree, FamilyFindings, PlaceTree};
+use crate::start::start_tree;
+use c_tree::{Kind, Program};
+use cpp_conditions::Formula;
+use decision_tree::{Forest, Tree};
+use fam_outer::{NoMemory, Place};
+use leaf_domain::{Leaf, equality_is_exact, transfer_is_sound};
+use plain_analysis::Options;
+use std::alloc::Global;
+use std::marker::Brand;
+use std::sync::ledger::{Blank, Ledger};
+use tree_unify::{Steps, test_tree_in};
+
+/// The trees of conditions, each made once.
+fn condition_trees<L: Leaf, K: Ledger>(
+    tables: &mut Tables<L, K>,
+    conditions: &[Formula],
+) -> Result<Vec<Tree<bool>>, NoMemory>
+    requires { All (λ (c : Formula). IsBelow 64 (formula c)) conditions.now }
+    ensures { IfOk result (λ trees. AreTreesOf conditions.now trees.items) }
+{
+    let alloc = tables.alloc;
+    let mut trees = Vec::new(alloc);
+    for condition in conditions {
+        let tree = test_tree_in(alloc, &mut tables.truths, condition, &mut tables.steps)?;
+        trees.push(tree)?;
+    }
+    Ok(trees)
+}
+
+/// Adds an alarm tree that is true nowhere.
+fn add_never<L: Leaf>(
+    found: &mut Found<L>,
+    family: &Family,
+    place: Place,
+    kind: Kind,
+) -> Result<(), NoMemory>
+    requires { IsFamily family.now }
+    ensures stops { OnOk result ((v : List Bool) → map (stop_there v) found.new.alarms.items ≡ map (stop_there v) found.old.alarms.items ++ ((place, kind), false) ∷ []) }
+    ensures trees { OnOk result (AreReducedStops family.now found.old.alarms.items → AreReducedStops family.now found.new.alarms.items) }
+    ensures places { found.new.places.items ≡ found.old.places.items }
+{
+    let tree = family.never.share()?;
+    found.alarms.push(AlarmTree { place, kind, tree })?;
+    Ok(())
+}
+
+/// Adds the tree of the last place, at which nothing stops.
+fn add_end<L: Leaf>(
+    found: &mut Found<L>,
+    family: &Family,
+    place: Place,
+    tree: Tree<L>,
+) -> Result<(), NoMemory>
+    requires family { IsFamily family.now }
+    requires tree { IsReducedTree family.now (plain tree) }
+    ensures { OnOk result (HasEnded L.value family.now place (plain tree) found.old found.new) }
+{
+    found.places.push(PlaceTree { place, tree })?;
+    add_never(found, family, place, Kind::Overflow)?;
+    add_never(found, family, place, Kind::ZeroDivisor)?;
+    add_never(found, family, place, Kind::Assertion)
+}
+
+/// What is found of a program, whose trees of conditions are the family's.
+fn findings_of<L: Leaf, K: Ledger>(
+    tables: &mut Tables<L, K>,
+    family: &Family,
+    code: &Program,
+) -> Result<FamilyFindings<L>, NoMemory>
+    requires family { IsFamily family.now }
+    requires plausible { IsTruth family.now (numbered family.now.plausible.now) }
+    requires program { IsProgram (whole code.now) }
+    requires count { family.now.variables ≡ length code.now.names }
+    ensures { IfOk result (λ f. HasFound L.value L.meaning family.now (whole code.now) f) }
+{
+    transfer_is_sound::<L>();
+    let alloc = tables.alloc;
+    let start = start_tree(tables, family, code.start.items(), &code.declared)?;
+    let mut found = Found {
+        places: Vec::new(alloc),
+        alarms: Vec::new(alloc),
+    };
+    let tree = enter_list(tables, family, &code.body, &start, &mut found)?;
+    add_end(&mut found, family, code.end, tree)?;
+    Ok(FamilyFindings {
+        places: found.places,
+        alarms: found.alarms,
+    })
+}
+
+/// The analysis of a family, with a counter of its steps.
+fn analyse_counted<L: Leaf, K: Ledger>(
+    alloc: Global,
+    code: &Program,
+    conditions: &[Formula],
+    plausible: &Formula,
+    options: Options,
+    blank: Blank,
+) -> Result<FamilyFindings<L>, NoMemory>
+    requires name { blank.name ≡ K.name }
+    requires parts { blank.parts ≡ K.parts }
+    requires some { 0 < K.parts }
+    requires program { IsProgram (whole code.now) }
+    requires below { AreBelow 64 conditions.now plausible.now }
+    ensures { IfOk result (λ f. AreFindings L.value L.meaning options (whole code.now) conditions.now plausible.now f) }
+{
+    equality_is_exact::<L>();
+    let mut tables = Tables {
+        alloc,
+        leaves: Forest::new(alloc),
+        truths: Forest::new(alloc),
+        steps: Steps::<K>::new(blank),
+    };
+    let choices = condition_trees(&mut tables, conditions)?;
+    let plausible = test_tree_in(alloc, &mut tables.truths, plausible, &mut tables.steps)?;
+    let never = tables.truths.leaf(false)?;
+    let family = Family {
+        choices: &choices,
+        plausible: &plausible,
+        never: &never,
+        variables: code.names.items().len() as u32,
+        options,
+    };
+    findings_of(&mut tables, &family, code)
+}
+
+/// The analysis of all variants of a family at once.
+///
+/// A vector has a truth for each numbered test of the conditions, of which `conditions` has one formula each, and of
+/// `plausible`; all numbers are below 64. The program of a vector is the family's, projected by the truths of the conditions
+/// there. Its analysis begins with the leaf of its start values, or with Nothing where `plausible` is false.
+///
+/// The places are those of the family in the order of the text, that of the closing brace of `main` last. The tree of a place
+/// is the one reduced tree (after Bryant) whose leaf at each vector is what the analysis of that vector's program alone, with
+/// these options, has at the place, and Nothing where that program lacks the place. For each place there are three alarm
+/// trees, in the order of the kinds, which are true at exactly the vectors at which that analysis has an alarm of the kind
+/// there. Each test of a tree is a number of the formulas. In the mode of the options and from each store that the first leaf
+/// of a vector holds, a run of its program is where the leaf holds its store, and the rounds of a loop settle, as for
+/// `analyse_one`. The only refusal is want of memory.
+pub fn analyse_family<L: Leaf>(
+    alloc: Global,
+    code: &Program,
+    conditions: &[Formula],
+    plausible: &Formula,
+    options: &Options,
+) -> Result<FamilyFindings<L>, NoMemory>
+    requires program { IsProgram (whole code.now) }
+    requires conditioned { IsConditioned (length conditions.now) (whole code.now) }
+    requires below { AreBelow 64 conditions.now plausible.now }
+    ensures places { IfOk result (λ f. map (λ p. p.place) f.places.items ≡ program_places (whole code.now)) }
+    ensures trees { IfOk result (λ f. (m : ℕ) → AreBelow m conditions.now plausible.now → All (λ p. IsTreeOf m (leaf_at L.meaning options.now (whole code.now) conditions.now plausible.now p.place) (valued L.value (plain p.tree))) f.places.items) }
+    ensures kinds { IfOk result (λ f. map (λ a. (a.place, a.kind)) f.alarms.items ≡ by_kind (program_places (whole code.now))) }
+    ensures alarms { IfOk result (λ f. (m : ℕ) → AreBelow m conditions.now plausible.now → All (λ (a : AlarmTree). IsTreeOf m (stop_at L.meaning options.now (whole code.now) conditions.now plausible.now (a.place, a.kind)) (plain a.tree)) f.alarms.items) }
+    ensures reduced { IfOk result (λ f. All (λ p. IsReduced (plain p.tree)) f.places.items) }
+    ensures below { IfOk result (λ f. (m : ℕ) → AreBelow m conditions.now plausible.now → All (λ p. TestsBelow m (plain p.tree)) f.places.items) }
+    ensures tests { IfOk result (λ f. All (λ p. (k : ℕ) → HasTest k (plain p.tree) → Occurs conditions.now plausible.now k) f.places.items) }
+    ensures alarm_tests { IfOk result (λ f. All (λ (a : AlarmTree). (k : ℕ) → HasTest k (plain a.tree) → Occurs conditions.now plausible.now k) f.alarms.items) }
+    ensures runs { (v : List Bool) → RunsForeseen L.meaning options.now (variant_at (whole code.now) conditions.now v) (begin_at L.meaning (whole code.now) conditions.now plausible.now v) }
+    ensures settled { LoopsSettle L.meaning options.now }
+{
+    transfer_is_sound::<L>();
+    analyse_counted::<L, Brand>(alloc, code, conditions, plausible, *options, Blank::new(1))
+}

@@ -1,0 +1,17 @@
+//! The analysis of all variants of a family at once, generic over the kind of leaf: over shared decision trees it goes the way of
+//! the analysis of one variant, and at every vector each tree has the leaf that that analysis has there.
+#![tactic(auto)]
+
+mod after;
+pub mod analysis;
+mod entries;
+mod family;
+pub mod findings;
+pub mod laws;
+mod operations;
+mod start;
+mod states;
+
+pub use analysis::analyse_family;
+pub use findings::{AlarmTree, FamilyFindings, PlaceTree};
+pub use laws::{leaf_trees_are_canonical, truth_trees_are_canonical};

@@ -1,0 +1,110 @@
+//! What is done to single leaves, and to pairs of them.
+#![tactic(auto)]
+
+ghost use Rattle.std.specs.Prelude.{◌≡◌, IfOk};
+ghost use Rattle.lifted_analysis.specs.Steps.{IsStepOf, stepped_by};
+
+use c_tree::{Expr, Mode};
+use fam_outer::NoMemory;
+use leaf_domain::{Leaf, assign, assume, forget, leaf_is_valid};
+use plain_analysis::{joined, narrowed_by, round};
+use std::alloc::Global;
+use tree_unify::Operation;
+
+/// What a straight statement or a test does to a leaf: a variable is set to a value or to any input, or the value of a test
+/// is known to be other than 0, or to be 0.
+#[derive(Drop)]
+pub(crate) enum Step<'a> {
+    Assign(u32, &'a Expr),
+    Forget(u32),
+    Assume(&'a Expr, bool),
+}
+
+impl Step<'_> {
+    /// The leaf after the step.
+    pub(crate) fn at<L: Leaf>(&self, alloc: Global, leaf: &L, mode: Mode) -> Result<L, NoMemory>
+        requires { IsStepOf (L.value leaf.now).variables self.now }
+        ensures value { IfOk result (λ made. L.value made ≡ stepped_by L.meaning mode self.now (L.value leaf.now)) }
+        ensures same { IfOk result (λ made. (L.value made).variables ≡ (L.value leaf.now).variables) }
+    {
+        match self {
+            Step::Assign(x, e) => assign(alloc, leaf, *x, e, mode),
+            Step::Forget(x) => forget(alloc, leaf, *x),
+            Step::Assume(e, want) => assume(alloc, leaf, e, *want, mode),
+        }
+    }
+}
+
+/// How two leaves are combined: joined, by a round of a loop, or to a candidate of narrowing.
+#[derive(Clone, Copy)]
+pub(crate) enum Combination {
+    Join,
+    Round(bool),
+    Narrow,
+}
+
+/// The combination of two leaves.
+#[derive(Drop)]
+pub(crate) struct Combine {
+    pub(crate) alloc: Global,
+    pub(crate) how: Combination,
+}
+
+impl<L: Leaf> Operation<L, L, L> for Combine {
+    ghost use Rattle.std.specs.Prelude.{◌≡◌};
+    ghost use Rattle.lifted_analysis.specs.Steps.{combined_by};
+
+    ghost takes = { λ _ a b. (L.value a).variables ≡ (L.value b).variables };
+
+    ghost gives = { λ op a b c. (L.value c ≡ combined_by L.meaning op.how (L.value a) (L.value b)) × ((L.value c).variables ≡ (L.value a).variables) };
+
+    fn apply(&self, first: &L, second: &L) -> Result<L, NoMemory> {
+        match self.how {
+            Combination::Join => joined(self.alloc, first, second),
+            Combination::Round(is_early) => round(self.alloc, first, second, is_early),
+            Combination::Narrow => narrowed_by(self.alloc, first, second),
+        }
+    }
+}
+
+/// Whether a leaf is below another.
+#[derive(Drop)]
+pub(crate) struct Below;
+
+impl<L: Leaf> Operation<L, L, bool> for Below {
+    ghost use Rattle.std.specs.Prelude.{◌≡◌};
+
+    ghost takes = { λ _ a b. (L.value a).variables ≡ (L.value b).variables };
+
+    ghost gives = { λ _ a b c. c ≡ L.meaning.leq (L.value a) (L.value b) };
+
+    fn apply(&self, first: &L, second: &L) -> Result<bool, NoMemory> {
+        Ok(first.leq(second))
+    }
+}
+
+/// The leaf where the truth is as wanted, and Nothing elsewhere.
+#[derive(Drop)]
+pub(crate) struct Keep {
+    pub(crate) alloc: Global,
+    pub(crate) want: bool,
+}
+
+impl<L: Leaf> Operation<bool, L, L> for Keep {
+    ghost use Rattle.std.specs.Prelude.{◌≡◌};
+    ghost use Rattle.lifted_analysis.specs.Steps.{kept_by};
+
+    ghost takes = { λ _ _ _. Unit {0} };
+
+    ghost gives = { λ op b a c. (L.value c ≡ kept_by op.want b (L.value a)) × ((L.value c).variables ≡ (L.value a).variables) };
+
+    fn apply(&self, first: &bool, second: &L) -> Result<L, NoMemory> {
+        leaf_is_valid(second);
+        let is_kept = if self.want { *first } else { !*first };
+        if is_kept {
+            second.copy(self.alloc)
+        } else {
+            L::nothing(self.alloc, second.variables())
+        }
+    }
+}
