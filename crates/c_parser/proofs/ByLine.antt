@@ -27,7 +27,7 @@ not_above : (p q : Place) → IsTrue (is_before p q) → p.line ≤ q.line
 not_above p q h = elim (one_of (nat_lt p.line q.line) (nat_eq p.line q.line) (nat_lt p.column q.column) h) [ inl e ↦ lower p.line q.line e | inr e ↦ level p.line q.line e ]
 
 -- all stand in this line or below
-abbrev AreFrom : ℕ → List Item → Type 0
+abbrev pub AreFrom : ℕ → List Item → Type 0
 AreFrom n [] = Unit {0}
 AreFrom n (x ∷ xs) = (n ≤ x.place.line) × AreFrom n xs
 
@@ -50,7 +50,7 @@ not_under m n e = grind (arith, nat_tests)
 beyond : (m n : ℕ) → nat_eq m n ≡ false → n ≤ m → n + 1 ≤ m
 beyond m n e h = grind (arith, nat_tests)
 
-none_in : (n m : ℕ) (xs : List Item) → n < m → AreFrom m xs → filter (stands_in n) xs ≡ []
+pub none_in : (n m : ℕ) (xs : List Item) → n < m → AreFrom m xs → filter (stands_in n) xs ≡ []
 none_in n m [] lt h = refl
 none_in n m (x ∷ xs) lt h = rw (not_in n x.place.line (omega (arith, h.0))) (none_in n m xs lt h.1)
 
@@ -103,10 +103,10 @@ behind_same n m (x ∷ xs) lt = elim (nat_eq x.place.line n) as (λ t. nat_eq x.
 
 -- ---- the other lines
 
-abbrev AreSameFrom : ℕ → List Item → List Item → Type 0
+abbrev pub AreSameFrom : ℕ → List Item → List Item → Type 0
 AreSameFrom n xs ys = (m : ℕ) → n ≤ m → filter (stands_in m) xs ≡ filter (stands_in m) ys
 
-lines_same : (n : ℕ) (ls : List Line) (xs ys : List Item) → AreCounted n ls → AreSameFrom n xs ys → by_line ls xs ≡ by_line ls ys
+pub lines_same : (n : ℕ) (ls : List Line) (xs ys : List Item) → AreCounted n ls → AreSameFrom n xs ys → by_line ls xs ≡ by_line ls ys
 lines_same n [] xs ys c s = refl
 lines_same n (l ∷ ls) xs ys c s =
     ap (λ (zs : List Item). or_directive (group_sign l.kind) l.place zs ++ by_line ls xs) (s l.place.line (omega (arith, c.0)))

@@ -77,15 +77,15 @@ all_conditions count (l ∷ ls) xs n h =
 
 -- ---- rising
 
-abbrev AreOn : ℕ → List Item → Type 0
+abbrev pub AreOn : ℕ → List Item → Type 0
 AreOn n [] = Unit {0}
 AreOn n (x ∷ xs) = (x.place.line ≡ n) × AreOn n xs
 
-abbrev AreFrom : ℕ → List Item → Type 0
+abbrev pub AreFrom : ℕ → List Item → Type 0
 AreFrom n [] = Unit {0}
 AreFrom n (x ∷ xs) = (n ≤ x.place.line) × AreFrom n xs
 
-is_on : (m n : ℕ) → nat_eq m n ≡ true → m ≡ n
+pub is_on : (m n : ℕ) → nat_eq m n ≡ true → m ≡ n
 is_on m n e = grind (arith, nat_tests)
 
 some_on : (n : ℕ) (xs : List Item) → AreOn n (filter (stands_in n) xs)
@@ -135,11 +135,11 @@ rising_both n [] ys o h f k = k
 rising_both n (x ∷ xs) ys o h f k =
     (before_both x.place xs ys h.0 (before_lower x.place ys (subst (λ (i : ℕ). AreFrom (i + 1) ys) (sym o.0) f)), rising_both n xs ys o.1 h.1 f k)
 
-from_on : (n m : ℕ) (xs : List Item) → n ≤ m → AreOn m xs → AreFrom n xs
+pub from_on : (n m : ℕ) (xs : List Item) → n ≤ m → AreOn m xs → AreFrom n xs
 from_on n m [] le h = tt
 from_on n m (x ∷ xs) le h = (omega (arith, h.0), from_on n m xs le h.1)
 
-from_both : (n : ℕ) (xs ys : List Item) → AreFrom n xs → AreFrom n ys → AreFrom n (xs ++ ys)
+pub from_both : (n : ℕ) (xs ys : List Item) → AreFrom n xs → AreFrom n ys → AreFrom n (xs ++ ys)
 from_both n [] ys h k = k
 from_both n (x ∷ xs) ys h k = (h.0, from_both n xs ys h.1 k)
 
