@@ -7,7 +7,8 @@ use Rattle.decision_tree.specs.Listed.{Keeps, IsNumberedTree, IsTreeIn}
 use Rattle.decision_tree.specs.View.{numbered, plain}
 use Rattle.decision_tree.proofs.Numbers.{tree_stays, numbered_tree, keeps_same, keeps_both}
 use Rattle.decision_tree.proofs.Reached.{has_leaf_of}
-use Rattle.leaf_domain.specs.Leaves.{LeafValue, LeafMeaning, LeafLaws, nothing_of}
+use Rattle.leaf_domain.specs.Leaves.{LeafValue, LeafMeaning, LeafLaws, nothing_of, is_nothing_of}
+use Rattle.plain_analysis.proofs.Nothing.{nothing_value}
 use Rattle.tree_unify.specs.Leafwise.{IsMapped, IsUnified, LeavesComeFrom, LeavesComeFromBoth, TestsAreOf, TestsAreOfEither}
 use Rattle.lifted_analysis.specs.declared.family.Family.{Family}
 use Rattle.lifted_analysis.specs.declared.operations.Combination.TheVariants.{Join}
@@ -140,3 +141,30 @@ module _ {L : Type 0} (value : L → LeafValue) (family : Family) where
         ∙ kept_or M laws (leaf_of truth v) x y (counted a t v s ∙ sym (counted a u v z))));
   }
   selected_made M laws (Err e) truth a b c d t u p q s z h k j = tt
+
+  -- the join with Nothing everywhere is the other tree
+  pub joint_first : {E : Type 0} (M : LeafMeaning) → LeafLaws M → (made : Result (Tree L) E) (forest : List (Plain L)) (t u : Numbered L)
+      → IsState value family forest t → IsState value family forest u → ((v : List Bool) → is_nothing_of (value (leaf_of (erase u) v)) ≡ true)
+      → IfOk made (λ r. numbered r ≡ t) → IfOk made (λ r. IsJoint value family forest forest (λ v. combined_by M Join) (erase t) (erase u) (numbered r))
+  joint_first M laws (Ok r) forest t u s z n e = record {
+    state = state_as forest t (numbered r) e s;
+    keeps = keeps_same forest forest refl;
+    at_each = λ v.
+        let x = value (leaf_of (erase t) v) in
+        let is : value (leaf_of (erase u) v) ≡ nothing_of x.variables = nothing_value (value (leaf_of (erase u) v)) x.variables (n v) (counted forest u v z ∙ sym (counted forest t v s)) in
+        ap (λ w. value (leaf_of (erase w) v)) e ∙ sym (ap (M.join x) is ∙ laws.nothing_join x);
+  }
+  joint_first M laws (Err e) forest t u s z n h = tt
+
+  pub joint_second : {E : Type 0} (M : LeafMeaning) → LeafLaws M → (made : Result (Tree L) E) (forest : List (Plain L)) (t u : Numbered L)
+      → IsState value family forest t → IsState value family forest u → ((v : List Bool) → is_nothing_of (value (leaf_of (erase t) v)) ≡ true)
+      → IfOk made (λ r. numbered r ≡ u) → IfOk made (λ r. IsJoint value family forest forest (λ v. combined_by M Join) (erase t) (erase u) (numbered r))
+  joint_second M laws (Ok r) forest t u s z n e = record {
+    state = state_as forest u (numbered r) e z;
+    keeps = keeps_same forest forest refl;
+    at_each = λ v.
+        let y = value (leaf_of (erase u) v) in
+        let is : value (leaf_of (erase t) v) ≡ nothing_of y.variables = nothing_value (value (leaf_of (erase t) v)) y.variables (n v) (counted forest t v s ∙ sym (counted forest u v z)) in
+        ap (λ w. value (leaf_of (erase w) v)) e ∙ sym (ap (λ w. M.join w y) is ∙ laws.join_nothing y);
+  }
+  joint_second M laws (Err e) forest t u s z n h = tt

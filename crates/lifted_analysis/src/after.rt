@@ -17,7 +17,7 @@ ghost use Rattle.lifted_analysis.specs.Steps.{after_at, if_at, group_at, turn_at
 use crate::family::{Family, Tables};
 use crate::operations::{Combination, Step};
 use crate::states::{
-    below, combined, is_nothing_everywhere, is_true_everywhere, kept, selected, stepped,
+    below, combined, is_nothing_everywhere, is_true_everywhere, joined, kept, selected, stepped,
 };
 use c_tree::{Expr, Stmt};
 use decision_tree::Tree;
@@ -103,7 +103,7 @@ fn after_if<L: Leaf, K: Ledger>(
     let in_no = stepped(tables, family, &Step::Assume(test, false), t)?;
     let after_yes = after_list(tables, family, yes, &in_yes)?;
     let after_no = after_list(tables, family, no, &in_no)?;
-    combined(tables, family, Combination::Join, &after_yes, &after_no)
+    joined(tables, family, &after_yes, &after_no)
 }
 
 /// The tree after a section of groups: each side is entered with Nothing where it is not kept.
@@ -128,7 +128,7 @@ fn after_group<L: Leaf, K: Ledger>(
     let in_no = kept(tables, family, choice, false, t)?;
     let after_yes = after_list(tables, family, yes, &in_yes)?;
     let after_no = after_list(tables, family, no, &in_no)?;
-    combined(tables, family, Combination::Join, &after_yes, &after_no)
+    joined(tables, family, &after_yes, &after_no)
 }
 
 /// The tree at the head of a loop, and that of what comes in there with its leaves.
@@ -159,7 +159,7 @@ fn head_at<L: Leaf, K: Ledger>(
 {
     let inside = stepped(tables, family, &Step::Assume(test, true), &at)?;
     let end = after_list(tables, family, body, &inside)?;
-    let next = combined(tables, family, Combination::Join, t, &end)?;
+    let next = joined(tables, family, t, &end)?;
     Ok(Head { at, next })
 }
 

@@ -16,8 +16,8 @@ ghost use Rattle.lifted_analysis.specs.Steps.{after_at, if_at, group_at};
 use crate::after::final_tree;
 use crate::family::{Family, Tables};
 use crate::findings::{AlarmTree, PlaceTree};
-use crate::operations::{Combination, Step};
-use crate::states::{combined, kept, stepped};
+use crate::operations::Step;
+use crate::states::{joined, kept, stepped};
 use c_tree::{Expr, Kind, Stmt};
 use decision_tree::Tree;
 use fam_outer::{NoMemory, Place};
@@ -223,7 +223,7 @@ fn enter_if<L: Leaf, K: Ledger>(
     let in_no = stepped(tables, family, &Step::Assume(test, false), t)?;
     let after_yes = enter_list(tables, family, yes, &in_yes, found)?;
     let after_no = enter_list(tables, family, no, &in_no, found)?;
-    combined(tables, family, Combination::Join, &after_yes, &after_no)
+    joined(tables, family, &after_yes, &after_no)
 }
 
 /// Enters both lists of a section of groups, each with Nothing where it is not kept, and answers the tree after them.
@@ -250,7 +250,7 @@ fn enter_group<L: Leaf, K: Ledger>(
     let in_no = kept(tables, family, choice, false, t)?;
     let after_yes = enter_list(tables, family, yes, &in_yes, found)?;
     let after_no = enter_list(tables, family, no, &in_no, found)?;
-    combined(tables, family, Combination::Join, &after_yes, &after_no)
+    joined(tables, family, &after_yes, &after_no)
 }
 
 /// Enters the body of a loop from its final tree.

@@ -6,6 +6,7 @@ ghost use Rattle.decision_tree.specs.Listed.{Keeps};
 ghost use Rattle.decision_tree.specs.Plain.{leaf_of};
 ghost use Rattle.decision_tree.specs.View.{numbered, plain};
 ghost use Rattle.leaf_domain.specs.Leaves.{is_nothing_of};
+ghost use Rattle.lifted_analysis.specs.declared.operations.Combination.TheVariants.{Join};
 ghost use Rattle.lifted_analysis.specs.States.{IsState, IsLifted, IsJoint, IsTruth};
 ghost use Rattle.lifted_analysis.specs.Steps.{IsStepOf, stepped_by, combined_by, kept_by};
 
@@ -53,6 +54,26 @@ pub(crate) fn combined<L: Leaf, K: Ledger>(
     let alloc = tables.alloc;
     let op = Combine { alloc, how };
     unify_in(alloc, &mut tables.leaves, &op, t, u, &mut tables.steps)
+}
+
+/// The join of two trees, leaf by leaf. Where one is Nothing everywhere it is the other, and no leaf is looked at.
+pub(crate) fn joined<L: Leaf, K: Ledger>(
+    tables: &mut Tables<L, K>,
+    family: &Family,
+    t: &Tree<L>,
+    u: &Tree<L>,
+) -> Result<Tree<L>, NoMemory>
+    requires t { IsState L.value family.now tables.old.leaves (numbered t.now) }
+    requires u { IsState L.value family.now tables.old.leaves (numbered u.now) }
+    ensures { IfOk result (λ r. IsJoint L.value family.now tables.old.leaves tables.new.leaves (λ v. combined_by L.meaning Join) (plain t.now) (plain u.now) (numbered r)) }
+{
+    if is_nothing_everywhere(u) {
+        return t.share();
+    }
+    if is_nothing_everywhere(t) {
+        return u.share();
+    }
+    combined(tables, family, Combination::Join, t, u)
 }
 
 /// Where the leaves of a tree are below those of another.
@@ -105,7 +126,7 @@ pub(crate) fn selected<L: Leaf, K: Ledger>(
 {
     let where_true = kept(tables, family, truth, true, t)?;
     let where_false = kept(tables, family, truth, false, u)?;
-    combined(tables, family, Combination::Join, &where_true, &where_false)
+    joined(tables, family, &where_true, &where_false)
 }
 
 /// Whether a tree is Nothing at all vectors.

@@ -27,12 +27,12 @@ after_group-returns g t c =
     let p = code c.args.yes.now in
     let q = code c.args.no.now in
     let choice = plain c.args.choice.now in
-    both_made value family c.combined.result M c.args.tables.now.leaves c.kept.new.tables.leaves c.kept-2.new.tables.leaves c.after_list.new.tables.leaves c.after_list-2.new.tables.leaves c.combined.new.tables.leaves
+    both_made value family c.joined.result M c.args.tables.now.leaves c.kept.new.tables.leaves c.kept-2.new.tables.leaves c.after_list.new.tables.leaves c.after_list-2.new.tables.leaves c.joined.new.tables.leaves
     (λ v. kept_by true (leaf_of choice v)) _ (after_at M family p) (after_at M family q) (group_at M family choice p q)
     (plain c.args.t.now) (numbered c.in_ok-in_yes.in_yes) (numbered c.in_ok-in_no.in_no) (numbered c.in_ok-after_yes.after_yes) (numbered c.in_ok-after_no.after_no)
     c.in_ok-in_yes.ensures c.in_ok-in_no.ensures c.in_ok-after_yes.ensures c.in_ok-after_no.ensures
     (λ v e f. kept_joins M family g.met.L.Leaf.laws (c.transfer_is_sound.ensures.answers family.options.mode) c.requires.family.few p q v (leaf_of choice v) (value (leaf_of (plain c.args.t.now) v)) (counted value family c.args.tables.now.leaves (numbered c.args.t.now) v c.requires.state) e f)
-    c.combined.ensures
+    c.joined.ensures
 
 pub after_if-returns : goal.after_if-returns
 after_if-returns g t c =
@@ -40,12 +40,12 @@ after_if-returns g t c =
     let family = c.args.family.now in
     let p = code c.args.yes.now in
     let q = code c.args.no.now in
-    both_made g.L.Leaf.value family c.combined.result M c.args.tables.now.leaves c.stepped.new.tables.leaves c.stepped-2.new.tables.leaves c.after_list.new.tables.leaves c.after_list-2.new.tables.leaves c.combined.new.tables.leaves
+    both_made g.L.Leaf.value family c.joined.result M c.args.tables.now.leaves c.stepped.new.tables.leaves c.stepped-2.new.tables.leaves c.after_list.new.tables.leaves c.after_list-2.new.tables.leaves c.joined.new.tables.leaves
     _ _ (after_at M family p) (after_at M family q) (if_at M family (term c.args.test.now) p q)
     (plain c.args.t.now) (numbered c.in_ok-in_yes.in_yes) (numbered c.in_ok-in_no.in_no) (numbered c.in_ok-after_yes.after_yes) (numbered c.in_ok-after_no.after_no)
     c.in_ok-in_yes.ensures c.in_ok-in_no.ensures c.in_ok-after_yes.ensures c.in_ok-after_no.ensures
     (λ v e f. refl)
-    c.combined.ensures
+    c.joined.ensures
 
 pub after_list-returns-then-is_nothing_everywhere : goal.after_list-returns-then-is_nothing_everywhere
 after_list-returns-then-is_nothing_everywhere g t c =

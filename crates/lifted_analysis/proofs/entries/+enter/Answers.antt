@@ -32,12 +32,12 @@ enter_group-returns-clause-lifted g t c =
     let p = code c.args.yes.now in
     let q = code c.args.no.now in
     let choice = plain c.args.choice.now in
-    both_made value family c.combined.result M c.args.tables.now.leaves c.kept.new.tables.leaves c.kept-2.new.tables.leaves c.enter_list.new.tables.leaves c.enter_list-2.new.tables.leaves c.combined.new.tables.leaves
+    both_made value family c.joined.result M c.args.tables.now.leaves c.kept.new.tables.leaves c.kept-2.new.tables.leaves c.enter_list.new.tables.leaves c.enter_list-2.new.tables.leaves c.joined.new.tables.leaves
     (λ v. kept_by true (leaf_of choice v)) (λ v. kept_by false (leaf_of choice v)) (after_at M family p) (after_at M family q) (group_at M family choice p q)
     (plain c.args.t.now) (numbered c.in_ok-in_yes.in_yes) (numbered c.in_ok-in_no.in_no) (numbered c.in_ok-after_yes.after_yes) (numbered c.in_ok-after_no.after_no)
     c.in_ok-in_yes.ensures c.in_ok-in_no.ensures c.in_ok-after_yes.ensures.lifted c.in_ok-after_no.ensures.lifted
     (λ v e f. kept_joins M family g.met.L.Leaf.laws (c.transfer_is_sound.ensures.answers family.options.mode) c.requires.family.few p q v (leaf_of choice v) (value (leaf_of (plain c.args.t.now) v)) (counted value family c.args.tables.now.leaves (numbered c.args.t.now) v c.requires.state) e f)
-    c.combined.ensures
+    c.joined.ensures
 
 pub enter_group-returns-clause-entered : goal.enter_group-returns-clause-entered
 enter_group-returns-clause-entered g t c =
@@ -50,7 +50,7 @@ enter_group-returns-clause-entered g t c =
     let ps = entered_with value M family p (plain c.in_ok-in_yes.in_yes) in
     let qs = entered_with value M family q (plain c.in_ok-in_no.in_no) in
     let all = entered_group value M family choice p q (plain c.args.t.now) in
-    on_ok c.combined.result (HasEntered value M family c.args.found.now c.enter_list-2.new.found all)
+    on_ok c.joined.result (HasEntered value M family c.args.found.now c.enter_list-2.new.found all)
     (entered_then value M family c.args.found.now c.enter_list.new.found c.enter_list-2.new.found ps qs all
     (λ v.
     ap (λ x. entries_at M family.options (truths_in family.choices.now v) p x ++ qs v) (c.in_ok-in_yes.ensures.at_each v)
@@ -63,12 +63,12 @@ enter_if-returns-clause-lifted g t c =
     let family = c.args.family.now in
     let p = code c.args.yes.now in
     let q = code c.args.no.now in
-    both_made g.L.Leaf.value family c.combined.result M c.args.tables.now.leaves c.stepped.new.tables.leaves c.stepped-2.new.tables.leaves c.enter_list.new.tables.leaves c.enter_list-2.new.tables.leaves c.combined.new.tables.leaves
+    both_made g.L.Leaf.value family c.joined.result M c.args.tables.now.leaves c.stepped.new.tables.leaves c.stepped-2.new.tables.leaves c.enter_list.new.tables.leaves c.enter_list-2.new.tables.leaves c.joined.new.tables.leaves
     _ _ (after_at M family p) (after_at M family q) (if_at M family (term c.args.test.now) p q)
     (plain c.args.t.now) (numbered c.in_ok-in_yes.in_yes) (numbered c.in_ok-in_no.in_no) (numbered c.in_ok-after_yes.after_yes) (numbered c.in_ok-after_no.after_no)
     c.in_ok-in_yes.ensures c.in_ok-in_no.ensures c.in_ok-after_yes.ensures.lifted c.in_ok-after_no.ensures.lifted
     (λ v e f. refl)
-    c.combined.ensures
+    c.joined.ensures
 
 pub enter_if-returns-clause-entered : goal.enter_if-returns-clause-entered
 enter_if-returns-clause-entered g t c =
@@ -81,7 +81,7 @@ enter_if-returns-clause-entered g t c =
     let ps = entered_with value M family p (plain c.in_ok-in_yes.in_yes) in
     let qs = entered_with value M family q (plain c.in_ok-in_no.in_no) in
     let all = entered_sides value M family e p q (plain c.args.t.now) in
-    on_ok c.combined.result (HasEntered value M family c.args.found.now c.enter_list-2.new.found all)
+    on_ok c.joined.result (HasEntered value M family c.args.found.now c.enter_list-2.new.found all)
     (entered_then value M family c.args.found.now c.enter_list.new.found c.enter_list-2.new.found ps qs all
     (λ v.
     ap (λ x. entries_at M family.options (truths_in family.choices.now v) p x ++ qs v) (c.in_ok-in_yes.ensures.at_each v)
