@@ -1,5 +1,5 @@
 -- The items of a family by those of its lines.
-use Rattle.std.proofs.Common.{◌≡◌, ℕ, zero, suc, ◌+◌, ◌≤◌, ◌<◌, nat_eq, Bool, true, false, ◌||◌, cond, List, [], ◌∷◌, ◌++◌, length, map, take, Result, Ok, Err, refl, sym, ap, subst, ◌∙◌, arith}
+use Rattle.std.proofs.Common.{◌≡◌, ℕ, zero, suc, ◌+◌, ◌≤◌, ◌<◌, nat_eq, true, false, List, [], ◌∷◌, ◌++◌, length, map, take, Result, Ok, Err, refl, sym, ap, ◌∙◌, arith}
 use Rattle.std.specs.List.{list_any, filter}
 use Rattle.std.proofs.lemmas.List.{append-nil}
 use Rattle.std.proofs.lemmas.List.Elements.{filter-append}
@@ -14,8 +14,8 @@ use Rattle.c_tokens.specs.Reading.{tokens_of, StandBetween}
 use Rattle.c_grammar.specs.declared.items.Item.{Item}
 use Rattle.cpp_lines.specs.declared.line.Line.{Line}
 use Rattle.cpp_lines.specs.Lines.{pieces, AreCounted}
-use Rattle.cpp_lines.proofs.Coding.{not_none, last_piece, next_piece}
-use Rattle.c_parser.specs.Families.{stands_in, group_sign, or_directive, items_of_line, by_line}
+use Rattle.cpp_lines.proofs.Coding.{last_piece, next_piece}
+use Rattle.c_parser.specs.Families.{stands_in, group_sign, or_directive, by_line}
 use Rattle.c_parser.specs.Items.{items_over}
 use Rattle.c_parser.proofs.ByLine.{none_in, lines_same}
 use Rattle.c_parser.proofs.FamilyFacts.{AreOn, AreFrom, from_on, from_both}

@@ -1,15 +1,15 @@
 -- The items of a text by those of its lines.
-use Rattle.std.proofs.Common.{◌≡◌, ℕ, zero, suc, ◌+◌, ◌-◌, ◌≤◌, ◌<◌, Bool, true, false, ◌||◌, List, [], ◌∷◌, ◌++◌, length, map, take, drop, Result, Ok, Err, refl, sym, ap, subst, ◌∙◌, arith}
+use Rattle.std.proofs.Common.{◌≡◌, ℕ, zero, suc, ◌+◌, ◌-◌, ◌≤◌, false, List, [], ◌∷◌, ◌++◌, length, map, take, drop, Result, Ok, Err, refl, sym, ap, ◌∙◌, arith}
 use Rattle.std.specs.List.{list_any}
 use Rattle.std.specs.Prelude.{count_by}
 use Rattle.std.proofs.lemmas.List.{append-nil, map-append, take-append-le, drop-drop}
 use Rattle.fam_outer.specs.declared.faults.Place.{Place}
 use Rattle.fam_outer.specs.declared.faults.FileCode.{FileCode}
-use Rattle.fam_outer.specs.Places.{is_newline, place_at, end_place}
-use Rattle.fam_outer.proofs.Placing.{none_counted, behind_bytes}
+use Rattle.fam_outer.specs.Places.{is_newline}
+use Rattle.fam_outer.proofs.Placing.{none_counted}
 use Rattle.c_tokens.specs.declared.token.Token.{Token}
-use Rattle.c_tokens.specs.Reading.{tokens_of, slice, before, StandBetween}
-use Rattle.c_tokens.specs.Lines.{lower_place, lower_token, lowered, line_behind}
+use Rattle.c_tokens.specs.Reading.{tokens_of, slice}
+use Rattle.c_tokens.specs.Lines.{lower_place, lower_token, line_behind}
 use Rattle.c_grammar.specs.declared.items.Item.{Item}
 use Rattle.c_grammar.specs.Grammar.{at}
 use Rattle.cpp_lines.specs.Lines.{pieces}
@@ -17,7 +17,7 @@ use Rattle.cpp_lines.proofs.Coding.{not_none, last_piece, next_piece}
 use Rattle.cpp_lines.proofs.Listing.{behind_line}
 use Rattle.c_parser.specs.Items.{sign_of, lexeme_in, item_over, items_over}
 use Rattle.c_parser.specs.Signing.{AreWithin}
-use Rattle.c_parser.proofs.Lexical.{TokenLaws, tokens_within, stand}
+use Rattle.c_parser.proofs.Lexical.{TokenLaws, tokens_within}
 
 -- what a law of tokens says of lines
 abbrev pub LinesApart : Type 0
@@ -94,14 +94,16 @@ two_lines : TokenLaws → (names : List (List ℕ)) (line rest : List ℕ) (n : 
     → line_behind line r q ≡ Ok ts → (us : List Token) × (tokens_of rest ≡ Ok us) × (map (item_below n) (items_over names (line ++ 10 ∷ rest) ts) ≡ map (item_below n) (alone names line) ++ map (item_below (n + 1)) (items_over names rest us))
 two_lines laws names line rest n ts (Ok vs) (Ok us) none er eq h =
     let c : count_by is_newline line + 1 ≡ 1 = omega (arith, none_counted line none) in
-    let is : vs ++ map (lower_token 1 (length line + 1)) us ≡ ts = ap (λ (i : ℕ). vs ++ map (lower_token i (length line + 1)) us) (sym c) ∙ ap (got []) h in
-    (us, eq,
-    ap (λ (xs : List Token). map (item_below n) (items_over names (line ++ 10 ∷ rest) xs)) (sym is)
-    ∙ ap (map (item_below n)) (map-append (item_over names (line ++ 10 ∷ rest)) vs (map (lower_token 1 (length line + 1)) us))
-    ∙ map-append (item_below n) (items_over names (line ++ 10 ∷ rest) vs) (items_over names (line ++ 10 ∷ rest) (map (lower_token 1 (length line + 1)) us))
-    ∙ ap (λ (xs : List Item). map (item_below n) xs ++ map (item_below n) (items_over names (line ++ 10 ∷ rest) (map (lower_token 1 (length line + 1)) us)))
-    (items_front names line (10 ∷ rest) vs (tokens_within laws line vs er) ∙ ap (alone_of names line) (sym er))
-    ∙ ap (λ (xs : List Item). map (item_below n) (alone names line) ++ xs) (ap (map (item_below n)) (items_behind names line rest 1 us) ∙ further_below n (items_over names rest us)))
+    let is : vs ++ map (lower_token 1 (length line + 1)) us ≡ ts = ap (λ (i : ℕ). vs ++ map (lower_token i (length line + 1)) us) (sym c) ∙ ap (got []) h in (
+      us,
+      eq,
+      ap (λ (xs : List Token). map (item_below n) (items_over names (line ++ 10 ∷ rest) xs)) (sym is)
+          ∙ ap (map (item_below n)) (map-append (item_over names (line ++ 10 ∷ rest)) vs (map (lower_token 1 (length line + 1)) us))
+          ∙ map-append (item_below n) (items_over names (line ++ 10 ∷ rest) vs) (items_over names (line ++ 10 ∷ rest) (map (lower_token 1 (length line + 1)) us))
+          ∙ ap (λ (xs : List Item). map (item_below n) xs ++ map (item_below n) (items_over names (line ++ 10 ∷ rest) (map (lower_token 1 (length line + 1)) us)))
+          (items_front names line (10 ∷ rest) vs (tokens_within laws line vs er) ∙ ap (alone_of names line) (sym er))
+          ∙ ap (λ (xs : List Item). map (item_below n) (alone names line) ++ xs) (ap (map (item_below n)) (items_behind names line rest 1 us) ∙ further_below n (items_over names rest us)),
+    )
 two_lines laws names line rest n ts (Ok vs) (Err fault) none er eq h = absurd cc
 two_lines laws names line rest n ts (Err fault) q none er eq h = absurd cc
 
