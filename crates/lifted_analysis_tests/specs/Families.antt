@@ -1,0 +1,24 @@
+-- Families made by hand.
+use Rattle.std.specs.Prelude.{ℕ, pos}
+use Rattle.fam_outer.specs.declared.faults.Place.{Place}
+use Rattle.c_tree.specs.declared.tree.Op.TheVariants as op
+use Rattle.c_tree.specs.Tree.{Term, Code, Done, Assign, Assert, If, While, Cond, Binary, Var, Number}
+
+abbrev pub line : ℕ → Place
+line n = record { line = n; column = 1 }
+
+abbrev pub less_of : ℕ → ℕ → Term
+less_of x n = Binary op.Lt (Var x) (Number (pos n))
+
+abbrev pub grown_at : ℕ → ℕ → ℕ → Code
+grown_at n x m = Assign (line n) x (Binary op.Add (Var x) (Number (pos m))) Done
+
+abbrev pub outer_loop : Code
+outer_loop =
+    While (line 10) (less_of 0 10)
+    (Cond 1 (grown_at 11 0 1) (grown_at 12 0 2) (Cond 2 (While (line 13) (less_of 1 5) (grown_at 14 1 1) Done) Done Done)) Done
+
+abbrev pub rest_of_body : Code
+rest_of_body =
+    Cond 0 (Cond 1 (While (line 20) (less_of 1 7) (grown_at 21 1 1) Done) Done Done) (grown_at 25 1 3)
+    (If (line 30) (less_of 0 4) (Assert (line 31) (less_of 1 6) Done) Done Done)

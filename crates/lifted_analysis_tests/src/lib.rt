@@ -1,0 +1,7 @@
+//! Tests of the analysis of all variants of a family, against the analysis of each variant alone.
+#![tactic(auto)]
+
+#[cfg(test)]
+mod families;
+#[cfg(test)]
+mod tests;
