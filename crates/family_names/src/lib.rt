@@ -1,0 +1,8 @@
+//! The faults of names in a file with groups (ISO/IEC 9899:2011, 6.5 and 6.7).
+#![tactic(auto)]
+
+mod declarations;
+pub mod groups;
+mod questions;
+
+pub use groups::{Group, Groups};
