@@ -139,15 +139,16 @@ IsUseFault setting before x fault =
     IsEither (is_feature setting x) (fault ≡ Some FeatureInCode)
     (IsEither (is_among x (declared_by before)) (IsWithFirst setting.model (is_missed setting before x) Undeclared None fault) (fault ≡ Some (Undeclared None)))
 
--- a name is a feature's, or it is the 17th
-abbrev pub new_name_fault : Setting → List Item → ℕ → Option FileCode
-new_name_fault setting before x =
+-- a name is a feature's, or it is the 17th, where these are declared before it
+abbrev pub new_name_fault : Setting → List ℕ → ℕ → Option FileCode
+new_name_fault setting declared x =
     if is_feature setting x then Some FeatureInCode
-    else (if not (is_among x (declared_by before)) && nat_le 16 (length (each_once [] (declared_by before))) then Some TooManyVariables else None)
+    else (if not (is_among x declared) && nat_le 16 (length declared) then Some TooManyVariables else None)
 
 -- where a name is declared: an earlier declaration of it is kept too at some configuration, or it is a feature's or the 17th
 abbrev pub IsDeclarationFault : Setting → List Item → ℕ → Option FileCode → Type 0
-IsDeclarationFault setting before x fault = IsWithFirst setting.model (is_met_again setting before x) Twice (new_name_fault setting before x) fault
+IsDeclarationFault setting before x fault =
+    IsWithFirst setting.model (is_met_again setting before x) Twice (new_name_fault setting (each_once [] (declared_by before)) x) fault
 
 -- the fault of an item behind these
 abbrev pub IsNameFault : Setting → List Item → Sign → Option FileCode → Type 0

@@ -2,7 +2,10 @@
 #![tactic(auto)]
 
 mod declarations;
+mod faults;
 pub mod groups;
 mod questions;
+pub mod setting;
 
 pub use groups::{Group, Groups};
+pub use setting::Setting;
