@@ -1,25 +1,22 @@
 -- What the solver answers.
-use Rattle.std.proofs.Common.{◌≡◌, ℕ, ℤ, Bool, true, false, not, ◌&&◌, List, [], ◌∷◌, ◌++◌, Option, Some, None, refl, sym, ap, subst, ◌∙◌, nat_eq}
+use Rattle.std.proofs.Common.{◌≡◌, ℕ, ℤ, Bool, true, false, not, ◌&&◌, List, [], ◌∷◌, ◌++◌, Option, Some, None, refl, sym, subst, ◌∙◌, nat_eq}
 use Rattle.std.specs.Prelude.{◌||◌}
 use Rattle.std.proofs.lemmas.List.Folds.{list_any-append}
 use Rattle.std.proofs.lemmas.Bool.{eqb-true}
 use Rattle.family_names.specs.declared.groups.Group.{Group}
-use Rattle.fam_outer.specs.declared.faults.FileCode.{FileCode}
-use Rattle.fam_outer.specs.declared.faults.FileCode.TheVariants.{Undeclared}
 use Rattle.linear_atoms.specs.declared.atoms.Config.{Config}
 use Rattle.cpp_conditions.specs.declared.models.Model.{Model}
 use Rattle.cpp_conditions.specs.declared.formulas.Formula.{Formula}
-use Rattle.cpp_conditions.specs.Numbering.{vector_at}
-use Rattle.cpp_conditions.specs.Propositions.{IsBelow, true_on, Not, And}
+use Rattle.cpp_conditions.specs.Propositions.{IsBelow, Not, And}
 use Rattle.cpp_conditions.specs.Validity.{plain, IsValid}
 use Rattle.cpp_conditions.specs.View.{formula}
-use Rattle.atom_solver.specs.Solutions.{Finds, IsFirst}
+use Rattle.atom_solver.specs.Solutions.{Finds}
 use Rattle.family_names.specs.declared.declarations.Declaration.{Declaration}
 use Rattle.family_names.specs.declared.faults.Seen.{Seen}
 use Rattle.family_names.specs.Declarations.{is_kept, is_declared}
 use Rattle.family_names.specs.Groups.{are_kept}
-use Rattle.family_names.specs.Names.{Setting, truths_on, truths_at, IsWithFirst, code_with}
-use Rattle.family_names.specs.Judging.{AreSettled, is_missed, is_met_again, Misses}
+use Rattle.family_names.specs.Names.{Setting, truths_at}
+use Rattle.family_names.specs.Judging.{AreSettled, is_missed, Misses}
 
 -- the same is found where the same holds
 pub found_same : (model : Model) (a b : List ℤ → Bool) → ((values : List ℤ) → a values ≡ b values) → (found : Option Config) → Finds model a found → Finds model b found
@@ -90,8 +87,8 @@ settle setting seen old settled x d s none e name groups = record {
   fault_is = record { found = None; finds = none; fault_is = refl };
   settled_is = subst (AreSettled setting seen.declarations.items) (sym e) (settled_more setting seen.declarations.items old d s
       (λ values y valid k.
-        let n = kept_name y d.name (are_kept (truths_at setting values) d.groups) k in
-        subst (λ (z : ℕ). is_declared (truths_at setting values) seen.declarations.items z ≡ true) (sym (n.0 ∙ name))
-        (kept_declared (are_kept (truths_at setting values) seen.groups) (is_declared (truths_at setting values) seen.declarations.items x) (none values valid)
-        (subst (λ (gs : List Group). are_kept (truths_at setting values) gs ≡ true) groups n.1))));
+      let n = kept_name y d.name (are_kept (truths_at setting values) d.groups) k in
+      subst (λ (z : ℕ). is_declared (truths_at setting values) seen.declarations.items z ≡ true) (sym (n.0 ∙ name))
+      (kept_declared (are_kept (truths_at setting values) seen.groups) (is_declared (truths_at setting values) seen.declarations.items x) (none values valid)
+      (subst (λ (gs : List Group). are_kept (truths_at setting values) gs ≡ true) groups n.1))));
 }

@@ -1,17 +1,16 @@
 -- What stands in groups is kept where each of their conditions has the truth that is asked of it.
-use Rattle.std.proofs.Common.{◌≡◌, ℕ, zero, suc, Bool, true, false, not, ◌&&◌, List, [], ◌∷◌, ◌++◌, Option, Some, None, reverse, slice_get, slice_index_or, refl, sym, ap, subst, ◌∙◌}
+use Rattle.std.proofs.Common.{◌≡◌, ℕ, zero, suc, Bool, true, false, not, ◌&&◌, List, [], ◌∷◌, Some, None, slice_get, refl, sym, ap, subst, ◌∙◌}
 use Rattle.std.specs.List.{All}
-use Rattle.std.proofs.lemmas.List.{reverse-append}
 use Rattle.std.proofs.lemmas.Option.{get_or_from_slice_get, slice_get_within}
 use Rattle.cpp_groups.specs.declared.section.Section.{Section}
 use Rattle.cpp_groups.specs.declared.section.Section.TheVariants.{Seeking, Keeping, Passed}
-use Rattle.cpp_groups.specs.Kept.{sections_after, behind, in_next, truth, next_group, all_kept}
+use Rattle.cpp_groups.specs.Kept.{in_next, truth, next_group, all_kept}
 use Rattle.cpp_conditions.specs.declared.formulas.Formula.{Formula}
 use Rattle.cpp_conditions.specs.Propositions.{And, IsBelow, true_on}
 use Rattle.cpp_conditions.specs.View.{formula}
 use Rattle.family_names.specs.declared.groups.Group.{Group}
 use Rattle.family_names.specs.declared.groups.Group.TheVariants.{First, Later, Else}
-use Rattle.family_names.specs.Groups.{opening, sections, are_kept, is_first, with_group, IsSome, IsOpened, is_true, is_as_asked}
+use Rattle.family_names.specs.Groups.{sections, are_kept, is_first, with_group, IsSome, IsOpened, is_true, is_as_asked}
 use Rattle.family_names.specs.Names.{truths_on}
 
 pub truth_with : (fs : List Formula) (n : ℕ) (f : Formula) → slice_get fs n ≡ Some f → (v : List Bool) → truth (truths_on fs v) n ≡ true_on v (formula f)

@@ -1,5 +1,5 @@
 -- Groups that are the outermost of others.
-use Rattle.std.proofs.Common.{◌≡◌, ℕ, suc, ◌+◌, ◌<◌, ◌≤◌, Bool, true, false, not, ◌&&◌, nat_eq, List, [], ◌∷◌, ◌++◌, reverse, length, take, drop, get_or, refl, sym, ap, subst, ◌∙◌, arith, drop-cons, append-nil}
+use Rattle.std.proofs.Common.{◌≡◌, ℕ, suc, ◌<◌, Bool, true, false, ◌&&◌, List, [], ◌∷◌, ◌++◌, reverse, length, take, drop, get_or, refl, sym, ap, subst, ◌∙◌, drop-cons}
 use Rattle.std.proofs.lemmas.Bool.{eqb-true}
 use Rattle.std.proofs.Math.Seq.{take-length}
 use Rattle.std.proofs.lemmas.List.{reverse-append, take-append-drop}
@@ -84,7 +84,7 @@ pub begun : (gs others : List Group) (d : Group) → true ≡ pointwise eq-value
     → (truths : List Bool) → are_kept truths (reverse others) ≡ true → are_kept truths (reverse gs) ≡ true
 begun gs others d same lt first truths h =
     let whole : others ≡ gs ++ get_or others (length gs) d ∷ drop (suc (length gs)) others =
-        sym (take-append-drop (length gs) others) ∙ ap (λ (xs : List Group). xs ++ drop (length gs) others) (same_groups (take (length gs) others) gs (sym same)) ∙ ap (λ (xs : List Group). gs ++ xs) (drop-cons others (length gs) d lt) in
+    sym (take-append-drop (length gs) others) ∙ ap (λ (xs : List Group). xs ++ drop (length gs) others) (same_groups (take (length gs) others) gs (sym same)) ∙ ap (λ (xs : List Group). gs ++ xs) (drop-cons others (length gs) d lt) in
     outer_kept truths gs (drop (suc (length gs)) others) (get_or others (length gs) d) first (subst (λ (xs : List Group). are_kept truths (reverse xs) ≡ true) whole h)
 
 take_all : (xs : List Group) (n : ℕ) → n ≡ length xs → take n xs ≡ xs

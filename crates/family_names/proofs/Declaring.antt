@@ -1,13 +1,12 @@
 -- A declaration of a name is kept.
-use Rattle.std.proofs.Common.{◌≡◌, ℕ, ◌+◌, ◌<◌, Bool, true, false, ◌&&◌, nat_eq, List, [], ◌∷◌, ◌++◌, length, take, get_or, refl, sym, ap, subst, ◌∙◌}
+use Rattle.std.proofs.Common.{◌≡◌, ℕ, ◌+◌, ◌<◌, Bool, true, false, List, [], ◌∷◌, ◌++◌, length, take, get_or, refl, sym, ap, ◌∙◌}
 use Rattle.std.specs.Prelude.{◌||◌}
-use Rattle.std.specs.List.{All, list_any}
+use Rattle.std.specs.List.{All}
 use Rattle.std.proofs.lemmas.List.Folds.{list_any-append, list_any_more}
 use Rattle.std.proofs.lemmas.Bool.{eq-eqb}
 use Rattle.cpp_conditions.specs.declared.formulas.Formula.{Formula}
 use Rattle.cpp_conditions.specs.Propositions.{IsBelow, true_on}
 use Rattle.cpp_conditions.specs.View.{formula}
-use Rattle.family_names.specs.declared.groups.Group.{Group}
 use Rattle.family_names.specs.declared.declarations.Declaration.{Declaration}
 use Rattle.family_names.specs.Groups.{are_kept}
 use Rattle.family_names.specs.Names.{truths_on}

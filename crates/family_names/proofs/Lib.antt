@@ -3,3 +3,4 @@ pub mod Asked
 pub mod Begun
 pub mod Declaring
 pub mod Opened
+pub mod Walking

@@ -1,5 +1,5 @@
 -- The groups that stand around an item have the sections that are open there.
-use Rattle.std.proofs.Common.{◌≡◌, ℕ, Bool, true, false, List, [], ◌∷◌, ◌++◌, Some, reverse, refl, sym, ap, ◌∙◌}
+use Rattle.std.proofs.Common.{◌≡◌, Bool, true, false, List, [], ◌∷◌, ◌++◌, Some, reverse, refl, sym, ◌∙◌}
 use Rattle.std.proofs.lemmas.List.{reverse-append}
 use Rattle.cpp_groups.specs.declared.section.Section.{Section}
 use Rattle.cpp_groups.specs.Kept.{sections_after, behind, in_next, truth}

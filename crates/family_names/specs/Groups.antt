@@ -1,8 +1,6 @@
 -- The groups that stand around an item, with the latest first, and the sections that are open there (ISO/IEC 9899:2011, 6.10.1).
-use Rattle.std.specs.Prelude.{◌≡◌, ℕ, Bool, true, false, not, ◌&&◌, List, [], ◌∷◌, Option, Some, if◌then◌else◌}
-use Rattle.std.specs.List.{list_any}
+use Rattle.std.specs.Prelude.{Bool, true, false, not, List, [], ◌∷◌, Some, if◌then◌else◌}
 use Rattle.cpp_groups.specs.declared.section.Section.{Section}
-use Rattle.cpp_groups.specs.declared.section.Section.TheVariants.{Seeking, Keeping, Passed}
 use Rattle.cpp_groups.specs.declared.directive.GroupDirective.{GroupDirective}
 use Rattle.cpp_groups.specs.declared.directive.GroupDirective.TheVariants as directives
 use Rattle.cpp_groups.specs.Kept.{all_kept, sections_after, truth}

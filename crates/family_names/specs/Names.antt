@@ -1,20 +1,18 @@
 -- The names that the items of a file with groups declare, and the first fault of a name (ISO/IEC 9899:2011, 6.5.1 and 6.7).
 -- Before `main` each name is that of a declaration, and behind it each name is used. A valid configuration gives each
 -- condition a truth, and keeps the items that stand in kept groups.
-use Rattle.std.specs.Prelude.{◌≡◌, ℕ, ℤ, nat_eq, nat_le, Bool, true, false, not, ◌&&◌, List, [], ◌∷◌, ◌++◌, length, map, slice_get, Option, Some, None, option_map, if◌then◌else◌}
-use Rattle.std.specs.List.{list_any, All}
+use Rattle.std.specs.Prelude.{◌≡◌, ℕ, ℤ, nat_eq, nat_le, Bool, true, false, not, ◌&&◌, List, [], ◌∷◌, ◌++◌, length, map, slice_get, Option, Some, None, if◌then◌else◌}
+use Rattle.std.specs.List.{list_any}
 use Rattle.std.specs.Str.{bytes_eq}
 use Rattle.fam_outer.specs.declared.faults.Place.{Place}
 use Rattle.fam_outer.specs.declared.faults.FileCode.{FileCode}
 use Rattle.fam_outer.specs.declared.faults.FileCode.TheVariants.{Undeclared, Twice, FeatureInCode, TooManyVariables}
 use Rattle.linear_atoms.specs.declared.atoms.Atom.{Atom}
 use Rattle.linear_atoms.specs.declared.atoms.Config.{Config}
-use Rattle.linear_atoms.specs.Atoms.{AreAtoms, AreRanges}
 use Rattle.cpp_conditions.specs.declared.formulas.Formula.{Formula}
 use Rattle.cpp_conditions.specs.declared.models.Model.{Model}
 use Rattle.cpp_conditions.specs.Numbering.{vector_at}
-use Rattle.cpp_conditions.specs.Propositions.{IsBelow, true_on}
-use Rattle.cpp_conditions.specs.Validity.{AreFit}
+use Rattle.cpp_conditions.specs.Propositions.{true_on}
 use Rattle.cpp_conditions.specs.View.{formula}
 use Rattle.cpp_groups.specs.declared.section.Section.{Section}
 use Rattle.cpp_groups.specs.Kept.{all_kept, sections_after}

@@ -101,7 +101,7 @@ fn missing_fault(
 }
 
 /// The fault of a use.
-fn use_fault(
+pub(crate) fn use_fault(
     alloc: Global,
     setting: &Setting<'_>,
     seen: &Seen,
@@ -173,7 +173,7 @@ fn add(alloc: Global, seen: &mut Seen, name: u32) -> Result<(), NoMemory>
 }
 
 /// The fault of a declaration; without one it is added.
-fn declare(
+pub(crate) fn declare(
     alloc: Global,
     setting: &Setting<'_>,
     seen: &mut Seen,

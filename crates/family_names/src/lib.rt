@@ -4,8 +4,10 @@
 mod declarations;
 mod faults;
 pub mod groups;
+pub mod judging;
 mod questions;
 pub mod setting;
 
 pub use groups::{Group, Groups};
+pub use judging::first_name_fault;
 pub use setting::Setting;

@@ -1,4 +1,4 @@
-use Rattle.std.proofs.Common.{◌≡◌, Bool, true, List, refl, subst}
+use Rattle.std.proofs.Common.{◌≡◌, true, List, refl, subst}
 use Rattle.family_names.specs.declared.declarations.Declaration.{Declaration}
 use Rattle.family_names.specs.Declarations.{is_declared}
 use Rattle.family_names.specs.Names.{truths_at}

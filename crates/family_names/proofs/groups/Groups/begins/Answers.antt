@@ -1,4 +1,4 @@
-use Rattle.std.proofs.Common.{◌≡◌, ◌<◌, Bool, true, false, not, List, length, get_or, take, reverse, refl, sym, ap, subst, ◌∙◌, arith}
+use Rattle.std.proofs.Common.{◌≡◌, ◌<◌, Bool, true, false, not, List, length, take, refl, sym, subst, ◌∙◌, arith}
 use Rattle.family_names.specs.declared.groups.Group.{Group}
 use Rattle.family_names.specs.declared.groups.Group.TheVariants.{First}
 use Rattle.family_names.specs.contracts.groups.GroupPartialEq.TheImpl.{eq-value}

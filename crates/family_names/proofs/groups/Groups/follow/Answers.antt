@@ -1,5 +1,5 @@
-use Rattle.std.proofs.Common.{◌≡◌, List, ◌∷◌, reverse, ap, sym, subst, ◌∙◌, Some}
-use Rattle.cpp_groups.specs.Kept.{sections_after, behind}
+use Rattle.std.proofs.Common.{◌≡◌, List, reverse, ap, sym, subst, ◌∙◌}
+use Rattle.cpp_groups.specs.Kept.{behind}
 use Rattle.family_names.specs.Groups.{IsOpened, sections}
 use Rattle.family_names.specs.declared.groups.Group.{Group}
 use Rattle.family_names.proofs.Opened.{opened_left, behind_left}
