@@ -12,7 +12,7 @@ use std::marker::Model;
 
 /// A group: the first of its section, or a later one, with the number of its condition; that of `#else` has none.
 #[derive(Clone, Copy, Debug, PartialEq, Eq)]
-pub enum Group {
+pub(crate) enum Group {
     First(u32),
     Later(u32),
     Else,
@@ -20,7 +20,7 @@ pub enum Group {
 
 /// The groups of the open sections up to the one that stands here, which contracts see with the latest first.
 #[derive(Drop)]
-pub struct Groups {
+pub(crate) struct Groups {
     list: Vec<Group>,
 }
 
@@ -72,7 +72,7 @@ fn leave(list: &mut Vec<Group>)
 
 impl Groups {
     /// No group. It takes no memory.
-    pub fn new(alloc: Global) -> Groups
+    pub(crate) fn new(alloc: Global) -> Groups
         ensures { result ≡ [] }
     {
         Groups {
@@ -81,7 +81,7 @@ impl Groups {
     }
 
     /// A copy of the groups. It answers an error only for want of memory.
-    pub fn copy(&self, alloc: Global) -> Result<Groups, NoMemory>
+    pub(crate) fn copy(&self, alloc: Global) -> Result<Groups, NoMemory>
         ensures { IfOk result (λ made. made ≡ self.now) }
     {
         Ok(Groups {
@@ -90,7 +90,7 @@ impl Groups {
     }
 
     /// The groups, with the latest last.
-    pub fn items(&self) -> &[Group]
+    pub(crate) fn items(&self) -> &[Group]
         ensures value { reverse result.now ≡ self.now }
         ensures opened { specs.IsOpened self.now }
     {
@@ -99,7 +99,7 @@ impl Groups {
 
     /// Whether these are the outermost of the other groups: then what stands in those is kept only where what stands in
     /// these is.
-    pub fn begins(&self, other: &Groups) -> bool
+    pub(crate) fn begins(&self, other: &Groups) -> bool
         ensures { result ≡ true → (truths : List Bool) → specs.are_kept truths other.now ≡ true → specs.are_kept truths self.now ≡ true }
     {
         let groups = self.items();
@@ -133,7 +133,7 @@ impl Groups {
 
     /// Goes on behind a group directive: the sections that are open are the same as `cpp_groups` says, whatever the truths
     /// of the conditions. It answers an error only for want of memory.
-    pub fn follow(&mut self, directive: GroupDirective) -> Result<(), NoMemory>
+    pub(crate) fn follow(&mut self, directive: GroupDirective) -> Result<(), NoMemory>
         ensures { OnOk result ((truths : List Bool) → specs.sections truths self.new ≡ sections_after truths (specs.sections truths self.old) (Some directive)) }
     {
         let _count = self.list.len();

@@ -3,11 +3,10 @@
 
 mod declarations;
 mod faults;
-pub mod groups;
+mod groups;
 pub mod judging;
 mod questions;
 pub mod setting;
 
-pub use groups::{Group, Groups};
 pub use judging::first_name_fault;
 pub use setting::Setting;
