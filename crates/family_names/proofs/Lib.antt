@@ -1,0 +1,6 @@
+pub mod Answering
+pub mod Asked
+pub mod Begun
+pub mod Declaring
+pub mod Opened
+pub mod Walking

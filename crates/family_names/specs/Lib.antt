@@ -1,0 +1,5 @@
+pub mod Declarations
+pub mod Groups
+pub mod Judging
+pub mod Names
+pub mod Settings
