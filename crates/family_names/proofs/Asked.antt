@@ -1,5 +1,6 @@
 -- What stands in groups is kept where each of their conditions has the truth that is asked of it.
-use Rattle.std.proofs.Common.{◌≡◌, ℕ, zero, suc, Bool, true, false, not, ◌&&◌, List, [], ◌∷◌, Some, None, slice_get, refl, sym, ap, subst, ◌∙◌}
+use Rattle.std.proofs.Common.{◌≡◌, ℕ, zero, suc, ◌<◌, Bool, true, false, not, ◌&&◌, List, [], ◌∷◌, ◌++◌, Some, None, reverse, length, get_or, slice_get, refl, sym, ap, subst, ◌∙◌, append_assoc, arith}
+use Rattle.std.proofs.lemmas.List.{reverse-append}
 use Rattle.std.specs.List.{All}
 use Rattle.std.proofs.lemmas.Option.{get_or_from_slice_get, slice_get_within}
 use Rattle.cpp_groups.specs.declared.section.Section.{Section}
@@ -10,7 +11,7 @@ use Rattle.cpp_conditions.specs.Propositions.{And, IsBelow, true_on}
 use Rattle.cpp_conditions.specs.View.{formula}
 use Rattle.family_names.specs.declared.groups.Group.{Group}
 use Rattle.family_names.specs.declared.groups.Group.TheVariants.{First, Later, Else}
-use Rattle.family_names.specs.Groups.{sections, are_kept, is_first, with_group, IsSome, IsOpened, is_true, is_as_asked}
+use Rattle.family_names.specs.Groups.{sections, are_kept, is_first, with_group, IsSome, IsOpened, is_true, is_as_asked, are_as_asked}
 use Rattle.family_names.specs.Names.{truths_on}
 
 pub truth_with : (fs : List Formula) (n : ℕ) (f : Formula) → slice_get fs n ≡ Some f → (v : List Bool) → truth (truths_on fs v) n ≡ true_on v (formula f)
@@ -86,13 +87,23 @@ kept_step truths false (Later n) gs h = later_waits (truth truths n) (sections t
 kept_step truths true Else gs h = later_kept true (sections truths gs) (sections_some truths gs h.0 h.1)
 kept_step truths false Else gs h = later_waits true (sections truths gs) (sections_some truths gs h.0 h.1)
 
--- ---- the loop
+none_left : (truths : List Bool) (asked : Bool) → kept_by truths asked [] ≡ true
+none_left truths true = refl
+none_left truths false = refl
 
--- so far these are asked, and of the rest what is asked of the latest one
-pub record IsAsked (conditions : List Formula) (all rest : List Group) (asked : Bool) (whole : Formula) : Type 0 where
-  pub truth : (v : List Bool) → are_kept (truths_on conditions v) all ≡ (true_on v (formula whole) && kept_by (truths_on conditions v) asked rest)
-  pub below : (count : ℕ) → All (λ (f : Formula). IsBelow count (formula f)) conditions → IsBelow count (formula whole)
-  pub opened : IsOpened rest
+by_guards : (truths : List Bool) (asked : Bool) (gs : List Group) → IsOpened gs → kept_by truths asked gs ≡ are_as_asked truths asked gs
+by_guards truths asked [] h = none_left truths asked
+by_guards truths asked (First n ∷ gs) h =
+    kept_step truths asked (First n) gs h ∙ ap (λ (b : Bool). is_as_asked asked (is_true truths (First n)) && b) (by_guards truths true gs h)
+by_guards truths asked (Later n ∷ gs) h =
+    kept_step truths asked (Later n) gs h ∙ ap (λ (b : Bool). is_as_asked asked (is_true truths (Later n)) && b) (by_guards truths false gs h.1)
+by_guards truths asked (Else ∷ gs) h =
+    kept_step truths asked Else gs h ∙ ap (λ (b : Bool). is_as_asked asked (is_true truths Else) && b) (by_guards truths false gs h.1)
+
+pub opened_guards : (truths : List Bool) (gs : List Group) → IsOpened gs → are_kept truths gs ≡ are_as_asked truths true gs
+opened_guards truths gs h = by_guards truths true gs h
+
+-- ---- two halves
 
 and_assoc : (a b c : Bool) → (a && (b && c)) ≡ ((a && b) && c)
 and_assoc true b c = refl
@@ -102,30 +113,33 @@ and_one : (a : Bool) → (a && true) ≡ a
 and_one true = refl
 and_one false = refl
 
-opened_behind : (g : Group) (gs : List Group) → IsOpened (with_group g gs) → IsOpened gs
-opened_behind (First n) gs h = h
-opened_behind (Later n) gs h = h.1
-opened_behind Else gs h = h.1
+and_swap : (a b : Bool) → (a && b) ≡ (b && a)
+and_swap true b = sym (and_one b)
+and_swap false true = refl
+and_swap false false = refl
 
-pub asked_step : (conditions : List Formula) (all : List Group) (g : Group) (gs : List Group) (asked : Bool) (whole next guard : Formula) → IsAsked conditions all (with_group g gs) asked whole
-    → ((v : List Bool) → is_as_asked asked (is_true (truths_on conditions v) g) ≡ true_on v (formula guard))
-    → ((count : ℕ) → All (λ (f : Formula). IsBelow count (formula f)) conditions → IsBelow count (formula guard))
-    → formula next ≡ And (formula whole) (formula guard)
-    → IsAsked conditions all gs (is_first g) next
-asked_step conditions all g gs asked whole next guard k t b both = record {
-  truth = λ v.
-      k.truth v ∙ ap (λ (x : Bool). true_on v (formula whole) && x) (kept_step (truths_on conditions v) asked g gs k.opened)
-      ∙ and_assoc (true_on v (formula whole)) (is_as_asked asked (is_true (truths_on conditions v) g)) (kept_by (truths_on conditions v) (is_first g) gs)
-      ∙ ap (λ (x : Bool). (true_on v (formula whole) && x) && kept_by (truths_on conditions v) (is_first g) gs) (t v)
-      ∙ ap (λ (x : Bool). x && kept_by (truths_on conditions v) (is_first g) gs) (sym (ap (true_on v) both));
-  below = λ count h. subst (IsBelow count) (sym both) (k.below count h, b count h);
-  opened = opened_behind g gs k.opened;
-}
+apart : (truths : List Bool) (asked : Bool) (xs : List Group) (g : Group) (ys : List Group) → are_as_asked truths asked (xs ++ g ∷ ys) ≡ (are_as_asked truths asked (xs ++ g ∷ []) && are_as_asked truths (is_first g) ys)
+apart truths asked [] g ys = ap (λ (b : Bool). b && are_as_asked truths (is_first g) ys) (sym (and_one (is_as_asked asked (is_true truths g))))
+apart truths asked (x ∷ xs) g ys =
+    ap (λ (b : Bool). is_as_asked asked (is_true truths x) && b) (apart truths (is_first x) xs g ys)
+    ∙ and_assoc (is_as_asked asked (is_true truths x)) (are_as_asked truths (is_first x) (xs ++ g ∷ [])) (are_as_asked truths (is_first g) ys)
 
-none_left : (truths : List Bool) (asked : Bool) → kept_by truths asked [] ≡ true
-none_left truths true = refl
-none_left truths false = refl
+pub halves : (truths : List Bool) (asked : Bool) (outer inner : List Group) (d : Group) → 0 < length inner
+    → are_as_asked truths asked (reverse (outer ++ inner)) ≡ (are_as_asked truths (is_first (get_or inner 0 d)) (reverse outer) && are_as_asked truths asked (reverse inner))
+halves truths asked outer [] d lt = absurd (omega (arith, lt))
+halves truths asked outer (g ∷ gs) d lt =
+    ap (are_as_asked truths asked) (reverse-append outer (g ∷ gs) ∙ ap (λ (xs : List Group). xs ++ reverse outer) (reverse-append (g ∷ []) gs) ∙ append_assoc (reverse gs) (g ∷ []) (reverse outer))
+    ∙ apart truths asked (reverse gs) g (reverse outer)
+    ∙ ap (λ (xs : List Group). are_as_asked truths asked xs && are_as_asked truths (is_first g) (reverse outer)) (sym (reverse-append (g ∷ []) gs))
+    ∙ and_swap (are_as_asked truths asked (reverse (g ∷ gs))) (are_as_asked truths (is_first g) (reverse outer))
 
-pub asked_all : (conditions : List Formula) (all : List Group) (asked : Bool) (whole : Formula) → IsAsked conditions all [] asked whole → (v : List Bool) → are_kept (truths_on conditions v) all ≡ true_on v (formula whole)
-asked_all conditions all asked whole k v =
-    k.truth v ∙ ap (λ (x : Bool). true_on v (formula whole) && x) (none_left (truths_on conditions v) asked) ∙ and_one (true_on v (formula whole))
+pub halved : (conditions : List Formula) (asked b : Bool) (groups outer inner : List Group) (d : Group) (front back made : Formula) → groups ≡ outer ++ inner → 0 < length inner → b ≡ is_first (get_or inner 0 d)
+    → ((v : List Bool) → are_as_asked (truths_on conditions v) b (reverse outer) ≡ true_on v (formula front)) → ((v : List Bool) → are_as_asked (truths_on conditions v) asked (reverse inner) ≡ true_on v (formula back))
+    → formula made ≡ And (formula front) (formula back) → (v : List Bool) → are_as_asked (truths_on conditions v) asked (reverse groups) ≡ true_on v (formula made)
+halved conditions asked b groups outer inner d front back made parts some first f g both v =
+    ap (λ (gs : List Group). are_as_asked (truths_on conditions v) asked (reverse gs)) parts
+    ∙ halves (truths_on conditions v) asked outer inner d some
+    ∙ ap (λ (c : Bool). are_as_asked (truths_on conditions v) c (reverse outer) && are_as_asked (truths_on conditions v) asked (reverse inner)) (sym first)
+    ∙ ap (λ (c : Bool). c && are_as_asked (truths_on conditions v) asked (reverse inner)) (f v)
+    ∙ ap (λ (c : Bool). true_on v (formula front) && c) (g v)
+    ∙ sym (ap (true_on v) both)

@@ -3,4 +3,5 @@ pub mod Asked
 pub mod Begun
 pub mod Declaring
 pub mod Opened
+pub mod Plain
 pub mod Walking

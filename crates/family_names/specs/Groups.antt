@@ -1,5 +1,5 @@
 -- The groups that stand around an item, with the latest first, and the sections that are open there (ISO/IEC 9899:2011, 6.10.1).
-use Rattle.std.specs.Prelude.{Bool, true, false, not, List, [], ◌∷◌, Some, if◌then◌else◌}
+use Rattle.std.specs.Prelude.{◌&&◌, Bool, true, false, not, List, [], ◌∷◌, Some, if◌then◌else◌}
 use Rattle.cpp_groups.specs.declared.section.Section.{Section}
 use Rattle.cpp_groups.specs.declared.directive.GroupDirective.{GroupDirective}
 use Rattle.cpp_groups.specs.declared.directive.GroupDirective.TheVariants as directives
@@ -62,3 +62,9 @@ is_true truths Else = true
 -- the truth that the condition has is the one that is asked
 abbrev pub is_as_asked : Bool → Bool → Bool
 is_as_asked asked b = if asked then b else not b
+
+-- the condition of the latest group has the truth that is asked, and so have those before it: of each section the group that
+-- stands here is to be true, and those before it false
+abbrev pub are_as_asked : List Bool → Bool → List Group → Bool
+are_as_asked truths asked [] = true
+are_as_asked truths asked (g ∷ gs) = is_as_asked asked (is_true truths g) && are_as_asked truths (is_first g) gs

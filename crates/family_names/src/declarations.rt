@@ -23,25 +23,38 @@ pub(crate) struct Declaration {
     pub(crate) groups: Groups,
 }
 
-/// The formula, or that the declaration is kept where it is one of the name.
-fn or_kept(
+/// One of the formulas or both, without one that is false.
+fn one_of(alloc: Global, left: Formula, right: Formula) -> Result<Formula, NoMemory>
+    ensures truth { IfOk result (λ made. (v : List Bool) → (true_on v (formula left) || true_on v (formula right)) ≡ true_on v (formula made)) }
+    ensures below { IfOk result (λ made. (count : ℕ) → IsBelow count (formula left) → IsBelow count (formula right) → IsBelow count (formula made)) }
+{
+    match left {
+        Formula::Const(false) => Ok(right),
+        left => match right {
+            Formula::Const(false) => Ok(left),
+            right => either(alloc, left, right),
+        },
+    }
+}
+
+/// That the declaration is kept, where it is one of the name.
+fn kept(
     alloc: Global,
     conditions: &[Formula],
-    some: Formula,
     declaration: &Declaration,
     name: u32,
 ) -> Result<Formula, NoMemory>
-    ensures truth { IfOk result (λ made. (v : List Bool) → (true_on v (formula some) || is_kept (truths_on conditions.now v) name declaration.now) ≡ true_on v (formula made)) }
-    ensures below { IfOk result (λ made. (count : ℕ) → All (λ f. IsBelow count (formula f)) conditions.now → IsBelow count (formula some) → IsBelow count (formula made)) }
+    ensures truth { IfOk result (λ made. (v : List Bool) → is_kept (truths_on conditions.now v) name declaration.now ≡ true_on v (formula made)) }
+    ensures below { IfOk result (λ made. (count : ℕ) → All (λ f. IsBelow count (formula f)) conditions.now → IsBelow count (formula made)) }
 {
-    if declaration.name != name {
-        return Ok(some);
+    if declaration.name == name {
+        keeping(alloc, conditions, &declaration.groups)
+    } else {
+        Ok(Formula::Const(false))
     }
-    let kept = keeping(alloc, conditions, &declaration.groups)?;
-    either(alloc, some, kept)
 }
 
-/// That a declaration of the name is kept.
+/// That a declaration of the name is kept. It has as few levels as can be, since what reads it is recursive.
 pub(crate) fn declaring(
     alloc: Global,
     conditions: &[Formula],
@@ -51,11 +64,16 @@ pub(crate) fn declaring(
     ensures truth { IfOk result (λ made. (v : List Bool) → is_declared (truths_on conditions.now v) declarations.now name ≡ true_on v (formula made)) }
     ensures below { IfOk result (λ made. (count : ℕ) → All (λ f. IsBelow count (formula f)) conditions.now → IsBelow count (formula made)) }
 {
-    let mut some = Formula::Const(false);
-    for declaration in declarations {
-        some = or_kept(alloc, conditions, some, declaration, name)?;
+    match declarations {
+        [] => Ok(Formula::Const(false)),
+        [declaration] => kept(alloc, conditions, declaration, name),
+        _ => {
+            let (front, back) = declarations.split_at(declarations.len() / 2);
+            let left = declaring(alloc, conditions, front, name)?;
+            let right = declaring(alloc, conditions, back, name)?;
+            one_of(alloc, left, right)
+        }
     }
-    Ok(some)
 }
 
 /// Whether a declaration of the name stands in the outermost of these groups, so that it is kept wherever what stands in

@@ -5,6 +5,7 @@ mod declarations;
 mod faults;
 mod groups;
 pub mod judging;
+pub mod laws;
 mod questions;
 pub mod setting;
 

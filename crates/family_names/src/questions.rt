@@ -1,15 +1,15 @@
 //! Formulas that say what is kept.
 #![tactic(auto)]
 
-ghost use Rattle.std.specs.Prelude.{◌≡◌, ℕ, ◌≤◌, Bool, List, IfOk};
+ghost use Rattle.std.specs.Prelude.{◌≡◌, ℕ, ◌≤◌, Bool, List, reverse, IfOk};
 ghost use Rattle.std.specs.List.{All};
 ghost use Rattle.cpp_conditions.specs.Propositions.{IsBelow, true_on};
 ghost use Rattle.cpp_conditions.specs.View.{formula};
 ghost use Rattle.cpp_groups.specs.Kept.{truth};
-ghost use Rattle.family_names.specs.Groups.{is_true, is_as_asked, are_kept};
+ghost use Rattle.family_names.specs.Groups.{is_true, is_as_asked, are_as_asked, are_kept};
 ghost use Rattle.family_names.specs.Names.{truths_on};
 
-use crate::groups::{Group, Groups, cut_last};
+use crate::groups::{Group, Groups};
 use cpp_conditions::Formula;
 use cpp_conditions::formulas::{both, either, negation};
 use fam_outer::NoMemory;
@@ -57,8 +57,31 @@ fn guard(
     }
 }
 
-/// That what stands in these groups is kept: of each section the condition of the group that stands here, and the
-/// negations of those of the groups before it.
+/// That the condition of the last group is as asked, and those before it too: of each section the group that stands here,
+/// and the negations of those before it. It has as few levels as can be, since what reads it is recursive.
+fn guards(
+    alloc: Global,
+    conditions: &[Formula],
+    groups: &[Group],
+    asked: bool,
+) -> Result<Formula, NoMemory>
+    ensures truth { IfOk result (λ made. (v : List Bool) → are_as_asked (truths_on conditions.now v) asked (reverse groups.now) ≡ true_on v (formula made)) }
+    ensures below { IfOk result (λ made. (count : ℕ) → All (λ f. IsBelow count (formula f)) conditions.now → IsBelow count (formula made)) }
+{
+    match groups {
+        [] => Ok(Formula::Const(true)),
+        [group] => guard(alloc, conditions, *group, asked),
+        _ => {
+            let (outer, inner) = groups.split_at(groups.len() / 2);
+            let front = guards(alloc, conditions, outer, inner[0].is_first())?;
+            let back = guards(alloc, conditions, inner, asked)?;
+            both(alloc, front, back)
+        }
+    }
+}
+
+/// That what stands in these groups is kept.
+#[tactic(auto, using(crate::proofs::Asked::opened_guards))]
 pub(crate) fn keeping(
     alloc: Global,
     conditions: &[Formula],
@@ -67,14 +90,5 @@ pub(crate) fn keeping(
     ensures truth { IfOk result (λ made. (v : List Bool) → are_kept (truths_on conditions.now v) groups.now ≡ true_on v (formula made)) }
     ensures below { IfOk result (λ made. (count : ℕ) → All (λ f. IsBelow count (formula f)) conditions.now → IsBelow count (formula made)) }
 {
-    let mut whole = Formula::Const(true);
-    let mut asked = true;
-    let mut rest = groups.items();
-    'groups: while let Some((group, before)) = cut_last(rest) {
-        let guard = guard(alloc, conditions, *group, asked)?;
-        whole = both(alloc, whole, guard)?;
-        asked = group.is_first();
-        rest = before;
-    }
-    Ok(whole)
+    guards(alloc, conditions, groups.items(), true)
 }

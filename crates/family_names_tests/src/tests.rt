@@ -16,7 +16,7 @@ use cpp_conditions::{Condition, Conditions, Features, Formula, Model};
 use fam_outer::{FileCode, NoMemory, Place, Text};
 use family_names::{Setting, first_name_fault};
 use linear_atoms::{Atom, Feature, Linear};
-use std::alloc::Global;
+use std::alloc::{AllocError, Global};
 use std::process::Abort;
 use std::test::Fail;
 
@@ -213,6 +213,28 @@ fn names_with_a_fault(rt: HostRuntime) -> Result<(), Fail> {
     ];
     for (file, wanted, column) in cases {
         refuses(&rt, rt.alloc(), file, wanted, column)?;
+    }
+    Ok(())
+}
+
+/// A text and so many copies of another one behind it.
+fn repeated(alloc: Global, front: &str, behind: &str, count: u32) -> Result<String, AllocError> {
+    let mut text = String::new(alloc);
+    text.push_str(front)?;
+    for _ in 0..count {
+        text.push_str(behind)?;
+    }
+    Ok(text)
+}
+
+#[test]
+fn many_names(rt: HostRuntime) -> Result<(), Fail> {
+    let alloc = rt.alloc();
+    for (front, behind) in [("0x|x.@", "x"), ("0x.@", "0x."), ("0x|x.@", "0x3x|x.")] {
+        let file = repeated(alloc, front, behind, 10_000)?;
+        accepts(&rt, alloc, file.as_str())?;
+        let more = repeated(alloc, file.as_str(), "y", 1)?;
+        assert!(rt; fault(alloc, more.as_bytes())?.is_some());
     }
     Ok(())
 }
