@@ -15,7 +15,7 @@ use Rattle.c_grammar.specs.declared.items.Sign.{Sign}
 use Rattle.c_grammar.specs.declared.items.Sign.TheVariants as signs
 use Rattle.family_names.specs.Names as family
 use Rattle.family_names.specs.Names.{is_main, has_main, until_main, name_of, names_of, declared_by, is_among, with_number, each_once, Setting, IsFaultFrom, IsNameFault, IsEither, code_with, new_name_fault, IsThisOr}
-use Rattle.c_parser.proofs.Occurring.{is_name, has}
+use Rattle.c_parser.specs.Families.{is_name, has}
 
 -- ---- declared names, one item after another
 
@@ -97,12 +97,12 @@ once_has x seen (d ∷ ds) h = elim (nat_eq x d) as (λ b. nat_eq x d ≡ b → 
 used : (setting : Setting) (before : List Item) (x : ℕ) → family.IsUseFault setting before x None → is_among x (declared_by before) ≡ true
 used setting before x h = elim (family.is_feature setting x) as (λ a. IsEither a (None ≡ Some FeatureInCode)
     (IsEither (is_among x (declared_by before)) (family.IsWithFirst setting.model (family.is_missed setting before x) Undeclared None None) (None ≡ Some (Undeclared None))) → is_among x (declared_by before) ≡ true) [
-  | true ↦ λ e. absurd cc
-  | false ↦ λ k. (elim (is_among x (declared_by before)) as (λ b. IsEither b (family.IsWithFirst setting.model (family.is_missed setting before x) Undeclared None None) (None ≡ Some (Undeclared None)) → b ≡ true) [
-      | true ↦ λ _. refl
-      | false ↦ λ e. absurd cc
-    ] k)
-] h
+      | true ↦ λ e. absurd cc
+      | false ↦ λ k. (elim (is_among x (declared_by before)) as (λ b. IsEither b (family.IsWithFirst setting.model (family.is_missed setting before x) Undeclared None None) (None ≡ Some (Undeclared None)) → b ≡ true) [
+        | true ↦ λ _. refl
+        | false ↦ λ e. absurd cc
+      ] k)
+    ] h
 
 no_other : (code : Option (List ℤ) → FileCode) (other : Option FileCode) (found : Option Config) → None ≡ code_with code other found → other ≡ None
 no_other code other None e = sym e
@@ -185,8 +185,8 @@ declaration_step setting before x n e m h le =
 name_step : (setting : Setting) (before : List Item) (x : Item) (n : ℕ) → x.sign ≡ signs.Name n → IsNameFault setting before (signs.Name n) None → length (each_once [] (declared_by before)) ≤ 16 → IsFine before x
 name_step setting before x n e h le =
     elim (has_main before) as (λ b. has_main before ≡ b → IsEither b (family.IsUseFault setting before n None) (family.IsDeclarationFault setting before n None) → IsFine before x) [
-    | true ↦ λ m k. use_step setting before x n e m k le
-    | false ↦ λ m k. declaration_step setting before x n e m k le
+      | true ↦ λ m k. use_step setting before x n e m k le
+      | false ↦ λ m k. declaration_step setting before x n e m k le
     ] refl h
 
 step : (setting : Setting) (before : List Item) (x : Item) → IsNameFault setting before x.sign None → length (each_once [] (declared_by before)) ≤ 16 → IsFine before x
@@ -254,9 +254,9 @@ others_stay x z [] n h = absurd cc
 others_stay x z (y ∷ ys) n h = elim (nat_eq x y) as (λ b. nat_eq x y ≡ b → is_among z (cond b ys (y ∷ without x ys)) ≡ true) [
   | true ↦ λ e. not_first (nat_eq z y) (is_among z ys) (subst (λ (w : ℕ). nat_eq z w ≡ false) (is_same x y e) n) h
   | false ↦ λ e. (elim (nat_eq z y) as (λ b. (b || is_among z ys) ≡ true → (b || is_among z (without x ys)) ≡ true) [
-      | true ↦ λ _. refl
-      | false ↦ λ k. others_stay x z ys n k
-    ] h)
+    | true ↦ λ _. refl
+    | false ↦ λ k. others_stay x z ys n k
+  ] h)
 ] refl
 
 below_differs : (z x : ℕ) → z < x → nat_eq z x ≡ false

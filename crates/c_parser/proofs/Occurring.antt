@@ -17,21 +17,13 @@ use Rattle.c_grammar.specs.Grammar.{at}
 use Rattle.cpp_lines.specs.declared.line.Line.{Line}
 use Rattle.cpp_lines.specs.declared.line.LineKind.{LineKind}
 use Rattle.c_parser.specs.Signs.{keyword_of}
-use Rattle.c_parser.specs.Families.{group_sign, or_directive}
+use Rattle.c_parser.specs.Families.{group_sign, or_directive, is_name, has}
 use Rattle.c_parser.specs.Items.{number_in, with_name, word_sign, names_with_word, sign_of, names_with, names_from, lexeme_in}
 use Rattle.c_parser.specs.Signing.{items_from}
 use Rattle.c_parser.proofs.Growing.{with_token}
 use Rattle.c_parser.proofs.Lexical.{new_or_old}
 use Rattle.c_parser.proofs.LineItems.{by_both, HaveSameLength}
 use Rattle.c_parser.proofs.TokenLines.{item_below, alone, by_piece}
-
-abbrev pub is_name : ℕ → Sign → Bool
-is_name x (signs.Name y) = nat_eq x y
-is_name x _ = false
-
--- the name with this number stands among the items
-abbrev pub has : ℕ → List Item → Bool
-has x xs = list_any (λ i. is_name x i.sign) xs
 
 same_name : (x : ℕ) → nat_eq x x ≡ true
 same_name x = grind (arith, nat_tests)
@@ -70,12 +62,12 @@ all_occur text names (t ∷ ts) x h k =
     let next = names_with names t.kind (lexeme_in text t) in
     let grow = with_token names t.kind (lexeme_in text t) in
     elim (nat_lt x (length (names_with names t.kind (lexeme_in text t)))) as (λ b. nat_lt x (length (names_with names t.kind (lexeme_in text t))) ≡ b → has x (items_from text names (t ∷ ts)) ≡ true) [
-    | true ↦ λ e. (
-        let lt : x < length (names_with names t.kind (lexeme_in text t)) = below x (length next) e in
-        let is : x ≡ length names = omega (arith, lt, grow.1) in
-        let new : sign_of names t.kind (lexeme_in text t) ≡ signs.Name x = new_sign names t.kind (lexeme_in text t) (omega (arith, lt, h)) ∙ ap (λ (n : ℕ). signs.Name n) (sym is) in
-        or_left (is_name x s) (has x (items_from text next ts)) (ap (is_name x) new ∙ same_name x))
-    | false ↦ λ e. or_right (is_name x s) (has x (items_from text next ts)) (all_occur text next ts x (not_below x (length next) e) k)
+      | true ↦ λ e. (
+          let lt : x < length (names_with names t.kind (lexeme_in text t)) = below x (length next) e in
+          let is : x ≡ length names = omega (arith, lt, grow.1) in
+          let new : sign_of names t.kind (lexeme_in text t) ≡ signs.Name x = new_sign names t.kind (lexeme_in text t) (omega (arith, lt, h)) ∙ ap (λ (n : ℕ). signs.Name n) (sym is) in
+          or_left (is_name x s) (has x (items_from text next ts)) (ap (is_name x) new ∙ same_name x))
+      | false ↦ λ e. or_right (is_name x s) (has x (items_from text next ts)) (all_occur text next ts x (not_below x (length next) e) k)
     ] refl
 
 -- ---- what stands in lines stands among the items of a family
