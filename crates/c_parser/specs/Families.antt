@@ -1,6 +1,6 @@
 -- The items of a file with groups: its tokens and its group directives, line by line (ISO/IEC 9899:2011, 5.1.1.2 and 6.10.1).
 use Rattle.std.specs.Prelude.{◌≡◌, ◌⊎◌, ℕ, zero, suc, nat_eq, nat_lt, Bool, true, false, ◌||◌, ◌&&◌, if◌then◌else◌, List, [], ◌∷◌, ◌++◌, slice_get, Option, Some, None, Ok, Err}
-use Rattle.std.specs.List.{filter}
+use Rattle.std.specs.List.{filter, list_any}
 use Rattle.fam_outer.specs.declared.faults.Place.{Place}
 use Rattle.fam_outer.specs.declared.faults.FileCode.{FileCode}
 use Rattle.fam_outer.specs.declared.faults.FileCode.TheVariants.{Syntax, GroupInsideStatement}
@@ -52,6 +52,15 @@ items_of_line l xs = or_directive (group_sign l.kind) l.place (filter (stands_in
 abbrev pub by_line : List Line → List Item → List Item
 by_line [] xs = []
 by_line (l ∷ ls) xs = items_of_line l xs ++ by_line ls xs
+
+-- the sign is the name with this number
+abbrev pub is_name : ℕ → Sign → Bool
+is_name x (signs.Name y) = nat_eq x y
+is_name x _ = false
+
+-- the name with this number stands among the items
+abbrev pub has : ℕ → List Item → Bool
+has x xs = list_any (λ i. is_name x i.sign) xs
 
 -- names, and the items of a family over them
 abbrev pub family_listed : List Line → Listed → Listed

@@ -7,3 +7,4 @@ pub mod Judging
 pub mod Stages
 pub mod Families
 pub mod FamilyStages
+pub mod FamilyReading

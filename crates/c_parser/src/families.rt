@@ -161,7 +161,7 @@ fn wrong_code(items: &[Item], position: usize) -> FileCode
 }
 
 /// The program of a file with groups whose names may have a fault.
-fn spelled(
+pub(crate) fn spelled(
     alloc: Global,
     names: Names,
     items: &[Item],

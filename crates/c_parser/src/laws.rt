@@ -1,17 +1,22 @@
 //! Laws of reading files, for the crates above: each function does nothing, and its contract is the law.
 #![tactic(auto)]
 
-ghost use Rattle.std.specs.Prelude.{◌≡◌, ◌≤◌, ℕ, List, [], length, Result, Ok};
+ghost use Rattle.std.specs.Prelude.{◌≡◌, ◌≤◌, ◌<◌, true, ℕ, List, [], length, Result, Ok};
 ghost use Rattle.fam_outer.specs.declared.faults.FileCode.{FileCode};
 ghost use Rattle.fam_outer.specs.declared.faults.Place.{Place};
 ghost use Rattle.c_tree.specs.Tree.{Whole};
 ghost use Rattle.c_parser.specs.Items.{Listed};
 ghost use Rattle.c_grammar.specs.declared.items.Item.{Item};
 ghost use Rattle.c_grammar.specs.Grammar.{File, Forms};
+ghost use Rattle.cpp_conditions.specs.Validity.{Plain};
+ghost use Rattle.cpp_lines.specs.Sections.{Told};
+ghost use Rattle.c_parser.specs.Families.{HasItems, has};
 ghost use Rattle.c_parser.specs.Names.{declared_by, targets};
 ghost use Rattle.c_parser.specs.Reading.{ReadsOver, items_of, IsAccepted, AreDeclaredNames};
 
 use c_grammar::laws::{reads_within_the_limits, within_the_limits_is_a_file};
+use c_tokens::laws::{lines_are_apart, literals_are_decimal, one_reading, reads_longest_lexemes};
+use fam_outer::places_rise;
 
 /// A file is read in one way.
 pub fn reads_at_most_once()
@@ -41,3 +46,14 @@ pub fn names_are_declared()
 pub fn declarations_are_those_of_the_grammar()
     ensures { (items : List Item) (f : File) → Forms items f → declared_by items ≡ targets f.declared }
 {}
+
+/// Each name of a file with groups occurs among its items.
+pub fn family_names_occur()
+    ensures { (model : Plain) (bytes : List ℕ) (told : Told) (l : Listed) (x : ℕ) → HasItems model bytes told l → x < length l.names → has x l.items ≡ true }
+{
+    reads_longest_lexemes();
+    literals_are_decimal();
+    places_rise();
+    lines_are_apart();
+    one_reading();
+}

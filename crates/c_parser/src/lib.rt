@@ -1,11 +1,13 @@
-//! The parser of the C subset: files without groups.
+//! The parser of the C subset: files without groups, and families.
 #![tactic(auto)]
 
 mod families;
+pub mod family;
 pub mod laws;
 mod names;
 mod numbering;
 pub mod plain;
 mod signs;
 
+pub use family::{Family, read_family};
 pub use plain::{read_plain, read_plain_with};

@@ -1,0 +1,111 @@
+//! The program of a file with groups.
+#![tactic(auto)]
+
+ghost use Rattle.std.specs.Prelude.{◌≡◌, ◌≤◌, length, IfOk};
+ghost use Rattle.std.specs.List.{All};
+ghost use Rattle.linear_atoms.specs.Atoms.{AreAtoms};
+ghost use Rattle.cpp_conditions.specs.Distinct.{HaveFewAtoms};
+ghost use Rattle.cpp_conditions.specs.Naming.{AreFeatures};
+ghost use Rattle.cpp_conditions.specs.Propositions.{IsBelow};
+ghost use Rattle.cpp_conditions.specs.Validity.{plain, AreFit};
+ghost use Rattle.cpp_conditions.specs.View.{formula};
+ghost use Rattle.c_tree.specs.Project.{IsConditioned};
+ghost use Rattle.c_tree.specs.View.{whole};
+ghost use Rattle.c_tree.specs.Whole.{IsProgram};
+ghost use Rattle.c_grammar.specs.Laws.{AtMostOne};
+ghost use Rattle.c_parser.specs.FamilyReading.{IsFamilyRead, setting_of};
+ghost use Rattle.family_names.specs.Names.{IsFirstNameFault};
+
+use crate::families::{FamilyItems, list_family, spelled};
+use crate::laws::family_names_occur;
+use crate::plain::refused;
+use c_grammar::Item;
+use c_grammar::laws::{files_are_programs, spells_at_most_one, within_the_limits_is_a_file};
+use c_tree::{Names, Program};
+use cpp_conditions::Model;
+use cpp_lines::{Atoms, Formulas};
+use fam_outer::{FileCode, FileRefusal, NoMemory, Place};
+use family_names::{Setting, first_name_fault};
+use std::alloc::Global;
+
+/// A family: the program of a file with groups, the conditions of its group directives in their order, and the atoms of the
+/// model and of these conditions, which rise strictly. A formula has the numbers of its condition's atoms.
+#[derive(Debug, Drop)]
+pub struct Family {
+    pub code: Program,
+    pub conditions: Formulas,
+    pub atoms: Atoms,
+}
+
+/// The first fault of a name among the items of a family, whose conditions are over these atoms.
+fn name_fault(
+    alloc: Global,
+    model: &Model,
+    names: &Names,
+    items: &[Item],
+    conditions: &Formulas,
+    atoms: &Atoms,
+) -> Result<Option<(FileCode, Place)>, NoMemory>
+    requires features { AreFeatures model.now.features }
+    requires fit { AreFit (length model.now.features) model.now.constraints }
+    requires atoms { AreAtoms (length model.now.features) atoms.now }
+    requires below { All (λ c. IsBelow (length atoms.now) (formula c)) conditions.now }
+    ensures { IfOk result (λ fault. IsFirstNameFault (setting_of model.now atoms.now conditions.now names.now) items.now fault) }
+{
+    let setting = Setting {
+        model,
+        atoms: atoms.items(),
+        conditions: conditions.items(),
+        names: names.items(),
+    };
+    first_name_fault(alloc, &setting, items)
+}
+
+/// The family that a file spells over a model. Over one list of names, a list of items spells at most one program.
+///
+/// The file is one as `read_plain` reads it, in which groups of `#if`, `#ifdef`, `#ifndef`, `#elif`, `#else` and `#endif`
+/// may stand around whole declarations and whole statements, and behind `main` around nothing (ISO/IEC 9899:2011, 6.10.1).
+/// In the program a group in a list of statements is a `Cond`, with the number of its condition; an `#elif` opens one in
+/// the `no` side of the one before. Each declarator stands with the guards of the groups around it. Each name is one that
+/// the file declares; there are at most 16. A file without group directives gives a plain program.
+///
+/// The earliest of these phases that has a fault decides, and in a phase the first place: `TooLong`, `OpenComment`, `Splice`
+/// and `CommentAtDirective` as `cpp_lines::blanked_file` has them; `Directive` to `TooManyTests` as
+/// `cpp_lines::read_sections` has them; `StrayByte` and `Literal` as `c_tokens::tokens` has them, for the lines that are no
+/// directives; at the first token or group directive, or the end, at which no file goes on, `GroupInsideStatement` where it
+/// is a group directive, or an `else` directly behind one, and else `Syntax`; `TooDeep` at the first at which some file goes
+/// on, but none within the limits (`read_plain` has them; a group and each `#elif` count as well); and then the first
+/// fault of a name as `family_names::first_name_fault` has it, with the least valid configuration as its example.
+/// `NoMemory` is want of memory.
+pub fn read_family(alloc: Global, model: &Model, bytes: &[u8]) -> Result<Family, FileRefusal>
+    requires features { AreFeatures model.now.features }
+    requires fit { AreFit (length model.now.features) model.now.constraints }
+    requires few { HaveFewAtoms 64 (plain model.now).constraints }
+    ensures reads { IsFamilyRead model.now bytes.now result }
+    ensures once { AtMostOne }
+    ensures program { IfOk result (λ f. IsProgram (whole f.code)) }
+    ensures conditioned { IfOk result (λ f. IsConditioned (length f.conditions) (whole f.code)) }
+    ensures few { IfOk result (λ f. length f.atoms ≤ 64) }
+    ensures atoms { IfOk result (λ f. AreAtoms (length model.now.features) f.atoms) }
+    ensures below { IfOk result (λ f. All (λ c. IsBelow (length f.atoms) (formula c)) f.conditions) }
+{
+    spells_at_most_one();
+    within_the_limits_is_a_file();
+    files_are_programs();
+    family_names_occur();
+    let FamilyItems {
+        names,
+        items,
+        conditions,
+        atoms,
+    } = list_family(alloc, model, bytes)?;
+    let code = spelled(alloc, names, &items, bytes)?;
+    match name_fault(alloc, model, &code.names, &items, &conditions, &atoms)? {
+        Some((code, place)) => Err(refused(code, place)),
+        None => Ok(Family {
+            code,
+            conditions,
+            atoms,
+        }),
+    }
+}

@@ -1,0 +1,7 @@
+pub mod Answering
+pub mod Asked
+pub mod Begun
+pub mod Declaring
+pub mod Opened
+pub mod Plain
+pub mod Walking

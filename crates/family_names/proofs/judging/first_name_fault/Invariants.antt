@@ -1,0 +1,12 @@
+use Rattle.std.proofs.Common.{take, drop}
+use Rattle.family_names.specs.Settings.{plain}
+use Rattle.family_names.specs.Judging.{IsSeen, AreSettled}
+use Rattle.family_names.proofs.Walking.{Leads}
+use Rattle.family_names.proofs.judging.first_name_fault.Given as goal
+
+abbrev pub invariant-loop-item : goal.invariant-loop-item
+invariant-loop-item l = record {
+  seen : IsSeen (take l.item-index l.items) l.seen;
+  settled : AreSettled (plain l.setting) l.seen.declarations.items l.settled.items;
+  fault : Leads (plain l.setting) l.items (take l.item-index l.items) (drop l.item-index l.items);
+}

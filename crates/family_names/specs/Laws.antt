@@ -1,0 +1,29 @@
+-- Laws of the faults of names.
+use Rattle.std.specs.Prelude.{◌≡◌, ℕ, ℤ, Bool, true, false, List, [], Option, Some, None, if◌then◌else◌}
+use Rattle.std.specs.List.{list_any}
+use Rattle.fam_outer.specs.declared.faults.FileCode.{FileCode}
+use Rattle.fam_outer.specs.declared.faults.FileCode.TheVariants.{Undeclared, Twice, FeatureInCode}
+use Rattle.c_grammar.specs.declared.items.Item.{Item}
+use Rattle.c_grammar.specs.declared.items.Sign.TheVariants as signs
+use Rattle.c_grammar.specs.Grammar.{is_group}
+use Rattle.family_names.specs.Names.{Setting, has_main, declared_by, is_among, each_once, is_feature, new_name_fault, IsWithFirst, IsEither, IsNameFault}
+
+-- a group directive stands among the items
+abbrev pub has_groups : List Item → Bool
+has_groups items = list_any (λ x. is_group x.sign) items
+
+-- a name is used: a feature's, or one that is not declared
+abbrev pub plain_use_fault : Setting → List ℕ → ℕ → Option FileCode
+plain_use_fault setting declared x =
+    if is_feature setting x then Some FeatureInCode else (if is_among x declared then None else Some (Undeclared None))
+
+-- the fault of a name without groups: of a second declaration the example is the least valid configuration
+abbrev pub IsPlainFault : Setting → List Item → ℕ → Option FileCode → Type 0
+IsPlainFault setting before x fault =
+    IsEither (has_main before) (fault ≡ plain_use_fault setting (declared_by before) x)
+    (IsEither (is_among x (declared_by before)) (IsWithFirst setting.model (λ (values : List ℤ). true) Twice (new_name_fault setting (each_once [] (declared_by before)) x) fault)
+    (fault ≡ new_name_fault setting (each_once [] (declared_by before)) x))
+
+-- behind items without groups, the fault of a name is the plain one
+abbrev pub PlainNames : Type 0
+PlainNames = (setting : Setting) (before : List Item) (x : ℕ) (fault : Option FileCode) → has_groups before ≡ false → IsNameFault setting before (signs.Name x) fault → IsPlainFault setting before x fault

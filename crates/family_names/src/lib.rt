@@ -1,0 +1,13 @@
+//! The faults of names in a file with groups (ISO/IEC 9899:2011, 6.5 and 6.7).
+#![tactic(auto)]
+
+mod declarations;
+mod faults;
+mod groups;
+pub mod judging;
+pub mod laws;
+mod questions;
+pub mod setting;
+
+pub use judging::first_name_fault;
+pub use setting::Setting;
