@@ -1,55 +1,96 @@
 -- What a request is answered, for what is told of the paths that it names.
-use Rattle.std.specs.Prelude.{ℕ, ◌≡◌, List, [], ◌∷◌, Option, Some, Result, Ok, Err}
+use Rattle.std.specs.Prelude.{ℕ, ℤ, ◌≡◌, ◌⊎◌, ⊤, List, [], ◌∷◌, Option, Some, Result, Ok, Err}
+use Rattle.c_tree.specs.Run.{run_of}
 use Rattle.c_tree.specs.Tree.{Whole}
+use Rattle.c_tree.specs.declared.tree.Mode.{Mode}
+use Rattle.cpp_conditions.specs.Validity.{plain}
 use Rattle.c_parser.specs.Reading.{Reads}
+use Rattle.variant_projector.specs.Variant.{IsVariant}
 use Rattle.interval_leaf.specs.Intervals.{intervals}
-use Rattle.plain_analysis.specs.declared.alarm.Alarm.{Alarm}
 use Rattle.plain_analysis.specs.declared.options.Options.{Options}
-use Rattle.plain_analysis.specs.Places.{alarms_of}
 use Rattle.famlint_core.specs.declared.fault.Done.{Done}
 use Rattle.famlint_core.specs.declared.fault.Fault.{Fault}
 use Rattle.famlint_core.specs.declared.fault.Fault.TheVariants as fault
-use Rattle.famlint_core.specs.declared.words.Request.{Request}
-use Rattle.famlint_core.specs.declared.words.Request.TheVariants.{Plain}
-use Rattle.famlint_core.specs.Report.{variant_text, report_status}
+use Rattle.famlint_core.specs.declared.request.Request.{Request}
+use Rattle.famlint_core.specs.declared.request.Request.TheVariants.{Plain, Variant}
+use Rattle.famlint_core.specs.declared.request.VariantTask.{VariantTask}
+use Rattle.famlint_core.specs.declared.request.VariantTask.TheVariants.{Text, Report, Run}
+use Rattle.famlint_core.specs.declared.selected.Selected.{Selected}
+use Rattle.famlint_core.specs.Report.{report_done, IsReport}
+use Rattle.famlint_core.specs.RunText.{run_text}
+use Rattle.famlint_core.specs.Selected.{AreSelected, IsRefused, IsLoadedFor, program_of}
 
--- the bytes that are told for the paths of a request
+-- the bytes that are told for the paths of a request: of MODEL, if it has one, and of FILE
 pub record Contents : Type 0 where
+  pub model : List ℕ
   pub file : List ℕ
 
 -- the contents of the paths of a request are told, and are these
 abbrev pub IsTold : Request → (List ℕ → Option (List ℕ)) → Contents → Type 0
 IsTold (Plain file options) content told = content file ≡ Some told.file
+IsTold (Variant model file settings task) content told = (content model ≡ Some told.model) × (content file ≡ Some told.file)
 
 -- ---- `plain FILE`
 
--- the alarms of a program, by intervals and from its start values, with these options
-abbrev pub plain_alarms : Options → Whole → List Alarm
-plain_alarms options p = alarms_of intervals options p (intervals.start p.start)
-
--- the report on a program
+-- the report on a program, by intervals
 abbrev pub plain_done : Options → Whole → Done
-plain_done options p = record { text = variant_text (plain_alarms options p); status = report_status (plain_alarms options p) }
+plain_done options p = report_done intervals options p
 
 -- the report on the program that the bytes spell, or their refusal
 abbrev pub AnswersPlain : Options → List ℕ → Result Done Fault → Type 0
 AnswersPlain options bytes (Ok done) = (p : Whole) × Reads bytes (Ok p) × (done ≡ plain_done options p)
-AnswersPlain options bytes (Err (fault.File code place)) = Reads bytes (Err (code, place))
+AnswersPlain options bytes (Err (fault.File code place example)) = Reads bytes (Err (code, place)) × (example ≡ Option.None)
+AnswersPlain options bytes (Err other) = ⊥
+
+-- ---- `project`, `variant` and `run`
+
+-- how a run stands, as a text
+abbrev pub run_done : List ℤ → ℕ → Mode → Whole → Done
+run_done inputs steps mode p = record { text = run_text p.names (run_of p inputs steps mode); status = 0 }
+
+-- what is asked of a variant is this
+abbrev pub IsDone : VariantTask → Selected → Done → Type 0
+IsDone Text s done = IsVariant (plain s.model) s.config.values s.text done.text × (done.status ≡ 0)
+IsDone (Report options) s done = done ≡ plain_done options (program_of s)
+IsDone (Run steps inputs mode) s done = done ≡ run_done inputs steps mode (program_of s)
+
+-- what is asked of the variant that settings select, or the refusal of the model, the file or the settings
+abbrev pub AnswersVariant : VariantTask → List (List ℕ) → Contents → Result Done Fault → Type 0
+AnswersVariant task settings told (Ok done) = (s : Selected) × AreSelected told.model told.file settings s × IsDone task s done
+AnswersVariant task settings told (Err fault) = IsRefused told.model told.file settings fault
 
 -- ---- all commands
 
 -- a request is answered this where the paths that it names hold this
 abbrev pub Answers : Request → Contents → Result Done Fault → Type 0
 Answers (Plain file options) told answer = AnswersPlain options told.file answer
+Answers (Variant model file settings task) told answer = AnswersVariant task settings told answer
 
--- what a request names is accepted
+-- what a request names is accepted: no fault answers it
 abbrev pub IsAccepted : Request → Contents → Type 0
-IsAccepted (Plain file options) told = (p : Whole) × Reads told.file (Ok p)
+IsAccepted request told = (fault : Fault) → Answers request told (Err fault) → ⊥
 
--- a request is for the report on this program
-abbrev pub IsReportOn : Request → Contents → Whole → Type 0
-IsReportOn (Plain file options) told p = Reads told.file (Ok p)
+-- a path that is loaded for a request
+abbrev pub IsLoaded : Request → Contents → Option (List ℕ) → Type 0
+IsLoaded (Plain file options) told failed = failed ≡ Some file
+IsLoaded (Variant model file settings task) told failed = IsLoadedFor model file told.model failed
 
--- the paths that are loaded for a request, in their order, as far as the loads go
-abbrev pub loads_of : Request → Contents → List (List ℕ)
-loads_of (Plain file options) told = file ∷ []
+-- ---- what is promised of the output, beside its text
+
+-- the report is one on the program that the bytes spell
+abbrev pub PromisedPlain : Options → List ℕ → ℕ → List ℕ → Type 0
+PromisedPlain options bytes status text = (p : Whole) × Reads bytes (Ok p) × IsReport options.mode p status text
+
+-- a report is one on the program of the variant; a text or a run is exactly its answer, and no more is promised of it
+abbrev pub PromisedOf : VariantTask → Selected → ℕ → List ℕ → Type 0
+PromisedOf Text s status text = status ≡ 0
+PromisedOf (Report options) s status text = IsReport options.mode (program_of s) status text
+PromisedOf (Run steps inputs mode) s status text = status ≡ 0
+
+abbrev pub PromisedVariant : VariantTask → List (List ℕ) → Contents → ℕ → List ℕ → Type 0
+PromisedVariant task settings told status text = (s : Selected) × AreSelected told.model told.file settings s × PromisedOf task s status text
+
+-- what is promised of the output to a request
+abbrev pub Promised : Request → Contents → ℕ → List ℕ → Type 0
+Promised (Plain file options) told status text = PromisedPlain options told.file status text
+Promised (Variant model file settings task) told status text = PromisedVariant task settings told status text

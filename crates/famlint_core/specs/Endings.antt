@@ -1,5 +1,5 @@
 -- How the program ends.
-use Rattle.std.specs.Prelude.{ℕ, false, ◌≡◌, ◌≢◌, ◌≤◌, ◌==◌, List, [], if◌then◌else◌, Option, Result, Ok, Err}
+use Rattle.std.specs.Prelude.{ℕ, false, ◌≡◌, ◌≢◌, ◌≤◌, ◌⊎◌, ◌==◌, List, [], if◌then◌else◌, Option, Result, Ok, Err}
 use Rattle.std.specs.Io.KnownBytes.{append_known}
 use Rattle.fam_outer.specs.Causes.{Rose}
 use Rattle.fam_outer.specs.Writing.{Delivers, Reports}
@@ -7,7 +7,7 @@ use Rattle.famlint_core.specs.declared.fault.Done.{Done}
 use Rattle.famlint_core.specs.declared.fault.Fault.{Fault}
 use Rattle.famlint_core.specs.declared.fault.Stop.{Stop}
 use Rattle.famlint_core.specs.declared.fault.Stop.TheVariants as stop
-use Rattle.famlint_core.specs.declared.words.Role.{Role}
+use Rattle.famlint_core.specs.declared.request.Role.{Role}
 use Rattle.famlint_core.specs.Faults.{status_of, line_of, read_fault_line, write_fault_line, memory_line}
 use Rattle.famlint_core.specs.Loads.{IsReadFault}
 
@@ -40,6 +40,11 @@ pub record Ends (answer : Result Done Fault) (failed : Role) (status : ℕ) (out
   pub whole : status ≤ 1 → out' ≡ append_known out (output_of answer)
   pub part : status ≡ 7 → Delivers out out' (output_of answer) false
   pub line : 2 ≤ status → Reports err err' (line_at status failed answer) errs errs'
+
+-- the run ended with an answer that may be, unless a load failed or memory ran out
+abbrev pub EndsWith : (Result Done Fault → Type 0) → Role → ℕ → Option (List ℕ) → Option (List ℕ) → Option (List ℕ) → Option (List ℕ) → ℕ → ℕ → Type 0
+EndsWith MayBe failed status out out' err err' errs errs' =
+    (status ≡ 6) ⊎ ((status ≡ 8) ⊎ ((answer : Result Done Fault) × MayBe answer × Ends answer failed status out out' err err' errs errs'))
 
 -- ---- by what the work came to
 

@@ -3,4 +3,6 @@ pub mod Endings
 pub mod Faults
 pub mod Loads
 pub mod Report
-pub mod Words
+pub mod Requests
+pub mod RunText
+pub mod Selected

@@ -10,6 +10,10 @@ use Rattle.c_tree.specs.Value.{IsInt}
 use Rattle.c_tree.specs.Run.{run_of, StoppedEnd}
 use Rattle.fam_outer.specs.declared.faults.Place.{Place}
 use Rattle.plain_analysis.specs.declared.alarm.Alarm.{Alarm}
+use Rattle.leaf_domain.specs.Leaves.{LeafMeaning}
+use Rattle.plain_analysis.specs.declared.options.Options.{Options}
+use Rattle.plain_analysis.specs.Places.{alarms_of}
+use Rattle.famlint_core.specs.declared.fault.Done.{Done}
 use Rattle.famlint_core.specs.Faults.{place_text}
 
 abbrev pub kind_text : Kind → List ℕ
@@ -41,6 +45,14 @@ NeverStops mode p = (inputs : List ℤ) (n : ℕ) (place : Place) (kind : Kind) 
 -- the status of a report on these alarms
 abbrev pub report_status : List Alarm → ℕ
 report_status alarms = if some_alarm alarms then 1 else 0
+
+-- the alarms of a program, over a kind of leaf and from its start values, with these options
+abbrev pub start_alarms : LeafMeaning → Options → Whole → List Alarm
+start_alarms M options p = alarms_of M options p (M.start p.start)
+
+-- the report on a program
+abbrev pub report_done : LeafMeaning → Options → Whole → Done
+report_done M options p = record { text = variant_text (start_alarms M options p); status = report_status (start_alarms M options p) }
 
 -- what is promised of a report: its text reports a list of alarms, in which each stop of each run of the program in this mode is
 -- listed, and at status 0 no run stops

@@ -1,16 +1,30 @@
-//! Faults of what was loaded, their statuses and their lines.
+//! Faults of what was loaded, and why the work stops.
 #![tactic(auto)]
 
-ghost use Rattle.std.specs.Prelude.{◌≡◌, ◌≤◌, IfOk};
-ghost use Rattle.famlint_core.specs.Faults.{status_of, line_of, file_line as line_of_file, condition_code as code_of_condition, file_code as code_of_file};
+mod lines;
 
-use fam_outer::{ConditionFault, FileCode, NoMemory, Place, Text};
+ghost use Rattle.std.specs.Prelude.{◌≡◌, ◌≤◌, IfOk, Some};
+ghost use Rattle.famlint_core.specs.Faults.{status_of, line_of, fault_of_file, fault_of_settings, example_of, name_of};
+
+use crate::fault::lines::{config_line, file_line, model_line};
+use fam_outer::{FileCode, FileRefusal, NoMemory, Place, Text};
+use feature_model::{ConfigFault, ModelFault, ModelRefusal};
+use linear_atoms::Feature;
+use setting_texts::config_text;
 use std::alloc::Global;
 
-/// Why the bytes of a path are refused.
+/// Why what was loaded, or what the settings say, is refused.
 #[derive(Debug, Drop)]
 pub enum Fault {
-    File { code: FileCode, place: Place },
+    Model(ModelFault),
+    /// With the text of the configuration that shows the fault, if there is one.
+    File {
+        code: FileCode,
+        place: Place,
+        example: Option<Text>,
+    },
+    /// With the name of the feature that has no value, if that is the fault.
+    Settings { fault: ConfigFault, name: Text },
 }
 
 /// Why the work stops before its output.
@@ -39,55 +53,63 @@ pub struct Done {
     pub status: u8,
 }
 
-/// A file's code, where its condition is refused.
-fn condition_code(fault: ConditionFault) -> &'static str
-    ensures { result.now ≡ code_of_condition fault }
-{
-    match fault {
-        ConditionFault::Syntax => "F8 C1",
-        ConditionFault::NonLinear => "F8 C2",
-        ConditionFault::TooLarge => "F8 C3",
-        ConditionFault::ReservedName => "F8 C4",
-        ConditionFault::TooDeep => "F8 C5",
-    }
-}
-
-/// A file's code.
-fn file_code(code: &FileCode) -> &'static str
-    ensures { result.now ≡ code_of_file code.now }
+/// The text of the configuration that shows the fault of a file.
+fn example_of(
+    alloc: Global,
+    features: &[Feature],
+    code: &FileCode,
+) -> Result<Option<Text>, NoMemory>
+    ensures { IfOk result (λ example. example ≡ example_of features.now code.now) }
 {
     match code {
-        FileCode::OpenComment => "F1",
-        FileCode::Splice => "F2",
-        FileCode::CommentAtDirective => "F3",
-        FileCode::Directive => "F4",
-        FileCode::NoIf => "F5",
-        FileCode::NoEndif => "F6",
-        FileCode::SecondElse => "F7",
-        FileCode::Condition(fault) => condition_code(*fault),
-        FileCode::TooManyTests => "F9",
-        FileCode::StrayByte => "F10",
-        FileCode::Literal => "F11",
-        FileCode::Syntax => "F12",
-        FileCode::Undeclared(_) => "F13",
-        FileCode::Twice(_) => "F14",
-        FileCode::FeatureInCode => "F15",
-        FileCode::TooDeep => "F16",
-        FileCode::TooManyVariables => "F17",
-        FileCode::GroupInsideStatement => "F19",
-        FileCode::TooLong => "F20",
-        FileCode::GroupHere => "F21",
+        FileCode::Undeclared(Some(values)) => {
+            Ok(Some(config_text(alloc, features, values.items())?))
+        }
+        FileCode::Twice(Some(values)) => Ok(Some(config_text(alloc, features, values.items())?)),
+        _ => Ok(None),
     }
 }
 
-/// The line of a file's fault.
-fn file_line(alloc: Global, code: &FileCode, place: Place) -> Result<Text, NoMemory>
-    ensures { IfOk result (λ text. text ≡ line_of_file code.now place) }
+/// The fault of a file, over the features of the model.
+pub fn file_fault(
+    alloc: Global,
+    features: &[Feature],
+    code: FileCode,
+    place: Place,
+) -> Result<Fault, NoMemory>
+    ensures { IfOk result (λ fault. fault ≡ fault_of_file features.now code place) }
 {
-    let name = file_code(code);
-    let Place { line, column } = place;
-    let text = format!(in alloc; "file: {name} at {line}:{column}\n")?;
-    Ok(Text::from_vec(text.into_bytes()))
+    let example = example_of(alloc, features, &code)?;
+    Ok(Fault::File {
+        code,
+        place,
+        example,
+    })
+}
+
+/// The name of the feature that has no value, or nothing.
+fn name_of<'a>(features: &'a [Feature], fault: ConfigFault) -> &'a [u8]
+    ensures { result.now ≡ name_of features.now fault }
+{
+    match fault {
+        ConfigFault::Missing(number) => match features.get((number as usize).saturating_sub(1)) {
+            Some(feature) => feature.name.bytes(),
+            None => b"",
+        },
+        _ => b"",
+    }
+}
+
+/// The fault of settings, over the features of the model.
+pub fn settings_fault(
+    alloc: Global,
+    features: &[Feature],
+    fault: ConfigFault,
+) -> Result<Fault, NoMemory>
+    ensures { IfOk result (λ made. made ≡ fault_of_settings features.now fault) }
+{
+    let name = Text::from_bytes(alloc, name_of(features, fault))?;
+    Ok(Fault::Settings { fault, name })
 }
 
 impl Fault {
@@ -98,7 +120,13 @@ impl Fault {
         ensures high { result ≤ 5 }
     {
         match self {
-            Fault::File { code: _, place: _ } => 4,
+            Fault::Model(_) => 3,
+            Fault::File {
+                code: _,
+                place: _,
+                example: _,
+            } => 4,
+            Fault::Settings { fault: _, name: _ } => 5,
         }
     }
 
@@ -107,7 +135,13 @@ impl Fault {
         ensures { IfOk result (λ line. line ≡ line_of self.now) }
     {
         match self {
-            Fault::File { code, place } => file_line(alloc, code, *place),
+            Fault::Model(fault) => model_line(alloc, *fault),
+            Fault::File {
+                code,
+                place,
+                example,
+            } => file_line(alloc, code, *place, example.as_ref()),
+            Fault::Settings { fault, name } => config_line(alloc, *fault, name.bytes()),
         }
     }
 }

@@ -1,15 +1,16 @@
 //! The program: words, loads, work and answers.
 #![tactic(auto)]
 
-mod commands;
-mod ends;
+mod ending;
 mod fault;
 pub mod laws;
 mod load;
 mod program;
 mod report;
+mod request;
+mod selected;
 mod steady;
-mod words;
+mod work;
 
 pub use program::famlint;
 pub use steady::famlint_over_steady;
@@ -18,3 +19,5 @@ pub use steady::famlint_over_steady;
 mod analysis_tests;
 #[cfg(test)]
 mod tests;
+#[cfg(test)]
+mod variant_tests;

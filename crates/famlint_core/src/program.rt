@@ -1,26 +1,21 @@
 //! The top call.
 #![tactic(auto)]
 
-ghost use Rattle.std.specs.Prelude.{◌≡◌, ◌≢◌, ◌≤◌, ◌⊎◌, ℕ, List, Some, None, Result};
+ghost use Rattle.std.specs.Prelude.{◌≡◌, ◌≢◌, ◌≤◌, ◌⊎◌, ℕ, List, Some, None};
 ghost use Rattle.std.specs.Io.KnownBytes.{append_known};
 ghost use Rattle.fam_outer.specs.Causes.{Rose};
 ghost use Rattle.fam_outer.specs.Writing.{Reports};
-ghost use Rattle.c_tree.specs.Tree.{Whole};
 ghost use Rattle.command_words.specs.Arguments.{texts_of};
-ghost use Rattle.famlint_core.specs.declared.fault.Done.{Done as Work};
-ghost use Rattle.famlint_core.specs.declared.fault.Fault.{Fault};
-ghost use Rattle.famlint_core.specs.declared.words.Request.{Request};
-ghost use Rattle.famlint_core.specs.Answers.{Contents, IsTold, IsAccepted, IsReportOn, Answers, loads_of};
-ghost use Rattle.famlint_core.specs.Endings.{Ends, HasLines};
+ghost use Rattle.famlint_core.specs.declared.request.Request.{Request};
+ghost use Rattle.famlint_core.specs.Answers.{Contents, IsTold, IsAccepted, IsLoaded, Answers, Promised};
+ghost use Rattle.famlint_core.specs.Endings.{EndsWith, HasLines};
 ghost use Rattle.famlint_core.specs.Faults.{usage_line, memory_line};
 ghost use Rattle.famlint_core.specs.Loads.{IsOneOf};
-ghost use Rattle.famlint_core.specs.Report.{IsReport};
-ghost use Rattle.famlint_core.specs.Words.{mode_in, reading, paths_of, role_of};
+ghost use Rattle.famlint_core.specs.Requests.{reading, paths_of, role_of};
 
-use crate::commands::run;
-use crate::ends::{end, give_up, refuse};
-use crate::words::read_request;
-use c_parser::laws::reads_at_most_once;
+use crate::work::work;
+use crate::ending::{end, give_up, refuse};
+use crate::request::read_request;
 use command_words::WordsRefusal;
 use fam_outer::{Files, Sink};
 use std::alloc::Global;
@@ -28,8 +23,8 @@ use std::alloc::Global;
 /// Does all that the program does, and answers its status. `words` are those after the program's
 /// name.
 ///
-/// 0 and 1: done, and 1 exactly where the output has an alarm. 2: the words are refused. 4: the
-/// file's bytes are refused. 6: a load failed. 7: a write to `out` failed. 8: want of memory. At 2
+/// 0 and 1: done, and 1 exactly where the output has an alarm. 2: the words are refused. 3: the
+/// model's bytes are refused. 4: the file's are. 5: the settings are. 6: a load failed. 7: a write to `out` failed. 8: want of memory. At 2
 /// to 8 one line on `err` tells the fault.
 pub fn famlint<F: Files, S: Sink, E: Sink>(
     alloc: Global,
@@ -38,17 +33,16 @@ pub fn famlint<F: Files, S: Sink, E: Sink>(
     out: &mut S,
     err: &mut E,
 ) -> u8
-    // Where the contents of the paths are told, they and the request decide the status, the output and the line.
+    // Where the contents of the paths are told, the run ended with an answer of theirs to the request: its status, its whole
+    // output and its line.
     ensures answer { (request : Request) → reading (texts_of words.now) ≡ Some request
         → (told : Contents) → IsTold request (F.content files.old) told
-        → (answer : Result Work Fault) → Answers request told answer
-        → Ends answer (role_of request (F.failed files.new)) result
+        → EndsWith (Answers request told) (role_of request (F.failed files.new)) result
         (S.written out.old) (S.written out.new) (E.written err.old) (E.written err.new) (E.faults err.old) (E.faults err.new) }
-    // Each stop of each run of an accepted program, in the mode of the options, is printed; at status 0 no run stops.
-    ensures report { (request : Request) → reading (texts_of words.now) ≡ Some request
-        → (told : Contents) → IsTold request (F.content files.old) told
-        → (p : Whole) → IsReportOn request told p → result ≤ 1
-        → (text : List ℕ) × (S.written out.new ≡ append_known (S.written out.old) text) × IsReport (mode_in request) p result text }
+    // What is promised of the output: each stop of each run of a reported program is printed, and at status 0 no run stops.
+    ensures promise { (request : Request) → reading (texts_of words.now) ≡ Some request
+        → (told : Contents) → IsTold request (F.content files.old) told → result ≤ 1
+        → (text : List ℕ) × (S.written out.new ≡ append_known (S.written out.old) text) × Promised request told result text }
     // What is accepted is answered, unless memory runs out, a load fails or a write fails.
     ensures complete { (request : Request) → reading (texts_of words.now) ≡ Some request
         → (told : Contents) → IsTold request (F.content files.old) told → IsAccepted request told
@@ -57,7 +51,7 @@ pub fn famlint<F: Files, S: Sink, E: Sink>(
     // A refusal of what was loaded earlier comes before a failed load.
     ensures order { (request : Request) → reading (texts_of words.now) ≡ Some request
         → (told : Contents) → IsTold request (F.content files.old) told
-        → result ≡ 6 → IsOneOf (F.failed files.new) (loads_of request told) }
+        → result ≡ 6 → IsLoaded request told (F.failed files.new) }
     // The line of a failed load, a failed write and want of memory, whatever is told.
     ensures lines { (request : Request) → reading (texts_of words.now) ≡ Some request
         → HasLines (role_of request (F.failed files.new)) result (E.written err.old) (E.written err.new) (E.faults err.old) (E.faults err.new) }
@@ -78,12 +72,11 @@ pub fn famlint<F: Files, S: Sink, E: Sink>(
     ensures out_later { S.faults out.old ≤ S.faults out.new }
     ensures err_later { E.faults err.old ≤ E.faults err.new }
 {
-    reads_at_most_once();
     match read_request(alloc, words) {
         Err(WordsRefusal::NoMemory) => give_up(err),
         Err(WordsRefusal::Fault(_)) => refuse(err),
         Ok(request) => {
-            let came = run(alloc, &request, files);
+            let came = work(alloc, &request, files);
             let failed = request.role(files.failed());
             end(alloc, &came, failed, out, err)
         }

@@ -1,15 +1,20 @@
 //! The report on one program.
 #![tactic(auto)]
 
-ghost use Rattle.std.specs.Prelude.{◌≡◌, ◌++◌, string_bytes, IfOk};
-ghost use Rattle.famlint_core.specs.Report.{kind_text as text_of_kind, alarm_line, report_status as status_of, variant_text};
+ghost use Rattle.std.specs.Prelude.{◌≡◌, ◌++◌, ◌≤◌, string_bytes, IfOk};
+ghost use Rattle.c_tree.specs.View.{whole};
+ghost use Rattle.c_tree.specs.Whole.{IsProgram, IsPlainProgram};
+ghost use Rattle.famlint_core.specs.Report.{kind_text as text_of_kind, alarm_line, report_status as status_of, variant_text, report_done, IsReport};
 
-use c_tree::Kind;
+use crate::fault::Done;
+use c_tree::{Kind, Program};
 use fam_outer::{NoMemory, Text};
-use plain_analysis::Alarm;
+use leaf_domain::Leaf;
+use plain_analysis::{Alarm, Options, analyse_one};
 use std::alloc::Global;
 
-fn kind_text(kind: Kind) -> &'static str
+/// The name of a kind of stop.
+pub fn kind_text(kind: Kind) -> &'static str
     ensures { result.now ≡ text_of_kind kind }
 {
     match kind {
@@ -31,14 +36,14 @@ fn push_alarm(text: &mut String, alarm: &Alarm) -> Result<(), NoMemory>
 }
 
 /// The status of a report: 1 where there is an alarm.
-pub fn report_status(alarms: &[Alarm]) -> u8
+fn report_status(alarms: &[Alarm]) -> u8
     ensures { result ≡ status_of alarms.now }
 {
     if alarms.is_empty() { 0 } else { 1 }
 }
 
 /// The lines of the alarms, and how many they are.
-pub fn report(alloc: Global, alarms: &[Alarm]) -> Result<Text, NoMemory>
+fn report(alloc: Global, alarms: &[Alarm]) -> Result<Text, NoMemory>
     ensures { IfOk result (λ text. text ≡ variant_text alarms.now) }
 {
     let mut text = String::new(alloc);
@@ -48,4 +53,25 @@ pub fn report(alloc: Global, alarms: &[Alarm]) -> Result<Text, NoMemory>
     let count = alarms.len();
     write!(text, "alarms: {count}\n")?;
     Ok(Text::from_vec(text.into_bytes()))
+}
+
+/// The report on a program, over a kind of leaf.
+pub fn report_on<L: Leaf>(
+    alloc: Global,
+    program: &Program,
+    options: &Options,
+) -> Result<Done, NoMemory>
+    requires program { IsProgram (whole program.now) }
+    requires plain { IsPlainProgram (whole program.now) }
+    ensures answer { IfOk result (λ done. done ≡ report_done L.meaning options.now (whole program.now)) }
+    ensures report { IfOk result (λ done. IsReport options.now.mode (whole program.now) done.status done.text) }
+    ensures status { IfOk result (λ done. done.status ≤ 1) }
+{
+    let start = L::start(alloc, program.start.items())?;
+    let findings = analyse_one(alloc, program, &start, options)?;
+    let alarms = findings.alarms.items();
+    Ok(Done {
+        text: report(alloc, alarms)?,
+        status: report_status(alarms),
+    })
 }

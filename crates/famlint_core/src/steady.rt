@@ -6,10 +6,10 @@ ghost use Rattle.fam_outer.specs.Memory.{entry_of};
 ghost use Rattle.command_words.specs.Arguments.{texts_of};
 ghost use Rattle.famlint_core.specs.declared.fault.Done.{Done};
 ghost use Rattle.famlint_core.specs.declared.fault.Fault.{Fault};
-ghost use Rattle.famlint_core.specs.declared.words.Request.{Request};
+ghost use Rattle.famlint_core.specs.declared.request.Request.{Request};
 ghost use Rattle.famlint_core.specs.Answers.{Contents, IsTold, Answers};
 ghost use Rattle.famlint_core.specs.Endings.{status_at};
-ghost use Rattle.famlint_core.specs.Words.{reading};
+ghost use Rattle.famlint_core.specs.Requests.{reading};
 
 use crate::program::famlint;
 use fam_outer::{SteadyFiles, SteadySink};
@@ -26,7 +26,7 @@ pub fn famlint_over_steady(
 ) -> u8
     ensures exact { (request : Request) → reading (texts_of words.now) ≡ Some request
         → (told : Contents) → IsTold request (λ path. Some (unwrap_or (entry_of files.old.entries path) [])) told
-        → (answer : Result Done Fault) → Answers request told answer → result ≢ 8 → result ≡ status_at answer }
+        → result ≢ 8 → (answer : Result Done Fault) × Answers request told answer × (result ≡ status_at answer) }
     ensures read { result ≢ 6 }
     ensures write { result ≢ 7 }
 {

@@ -1,8 +1,8 @@
 //! Texts of settings.
 
 use crate::texts::{config_text, push_settings};
-use fam_outer::{NoMemory, Text, Values};
-use linear_atoms::{Config, Feature};
+use fam_outer::Text;
+use linear_atoms::Feature;
 use std::alloc::Global;
 use std::test::Fail;
 
@@ -23,21 +23,15 @@ fn features(alloc: Global) -> Result<Vec<Feature>, Fail> {
     Ok(vec![in alloc; switch, number]?)
 }
 
-fn config(alloc: Global, values: &[i64]) -> Result<Config, Fail> {
-    Ok(Config {
-        values: Values::from_vec(Vec::from_slice(alloc, values)?),
-    })
-}
-
 #[test]
 fn configurations_have_texts(rt: HostRuntime) -> Result<(), Fail> {
     let alloc = rt.alloc();
     let features = features(alloc)?;
-    let both = config_text(alloc, &features, &config(alloc, &[1, -3])?).map_err(|_| "memory")?;
+    let both = config_text(alloc, &features, &[1, -3]).map_err(|_| "memory")?;
     assert_eq!(rt; both.bytes(), b"A=1 N=-3".as_slice());
-    let one = config_text(alloc, &features[..1], &config(alloc, &[0])?).map_err(|_| "memory")?;
+    let one = config_text(alloc, &features[..1], &[0]).map_err(|_| "memory")?;
     assert_eq!(rt; one.bytes(), b"A=0".as_slice());
-    let none = config_text(alloc, &[], &config(alloc, &[])?).map_err(|_| "memory")?;
+    let none = config_text(alloc, &[], &[]).map_err(|_| "memory")?;
     assert_eq!(rt; none.bytes(), b"-".as_slice());
     Ok(())
 }

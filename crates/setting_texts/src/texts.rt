@@ -6,8 +6,8 @@ ghost use Rattle.setting_texts.specs.Settings.{setting_text, spaced_settings, co
 
 use crate::named::Named;
 use fam_outer::{NoMemory, Text, decimal};
+use linear_atoms::Feature;
 use linear_atoms::slices::cut;
-use linear_atoms::{Config, Feature};
 use std::alloc::Global;
 
 /// Adds `NAME=VALUE`.
@@ -42,13 +42,13 @@ pub fn push_settings<N: Named>(
     Ok(())
 }
 
-/// The text of a configuration: `NAME=VALUE` of each feature, in their order and joined by spaces; `-` where there is no
+/// The text of a configuration with these values: `NAME=VALUE` of each feature, in their order and joined by spaces; `-` where there is no
 /// feature. It answers an error only for want of memory.
-pub fn config_text(alloc: Global, features: &[Feature], config: &Config) -> Result<Text, NoMemory>
-    ensures { IfOk result (λ text. text ≡ config_text features.now config.now.values) }
+pub fn config_text(alloc: Global, features: &[Feature], values: &[i64]) -> Result<Text, NoMemory>
+    ensures { IfOk result (λ text. text ≡ config_text features.now values.now) }
 {
     let mut text = Vec::new(alloc);
-    match (cut(features), cut(config.values.items())) {
+    match (cut(features), cut(values)) {
         (Some((feature, behind)), Some((value, others))) => {
             push_setting(alloc, &mut text, feature.name.bytes(), *value)?;
             push_settings(alloc, &mut text, behind, others)?;

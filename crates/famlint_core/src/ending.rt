@@ -7,7 +7,7 @@ ghost use Rattle.famlint_core.specs.Endings.{IsEnded};
 ghost use Rattle.famlint_core.specs.Faults.{read_fault_line, usage_line, memory_line};
 
 use crate::fault::{Done, Stop};
-use crate::words::Role;
+use crate::request::Role;
 use fam_outer::{Sink, write_all};
 use std::alloc::Global;
 
@@ -28,6 +28,7 @@ fn role_line(role: Role) -> &'static [u8]
     ensures { result.now ≡ read_fault_line role }
 {
     match role {
+        Role::Model => b"read fault: model\n",
         Role::File => b"read fault: file\n",
     }
 }

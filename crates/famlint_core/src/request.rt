@@ -1,0 +1,124 @@
+//! What the words ask for, by the shape of the command: which paths are loaded, and what is done with them.
+#![tactic(auto)]
+
+mod options;
+mod reading;
+
+pub use reading::read_request;
+
+ghost use Rattle.std.specs.Option.{option_copied};
+ghost use Rattle.std.specs.Prelude.{◌≡◌, ◌++◌, ◌∷◌, [], IfOk, OnOk, map, string_bytes};
+ghost use Rattle.famlint_core.specs.Requests.{role_of, is_path};
+
+use c_tree::Mode;
+use command_words::Word;
+use fam_outer::{NoMemory, Text, Values};
+use plain_analysis::Options;
+use std::alloc::Global;
+use std::marker::Model;
+
+/// What the words ask for.
+#[derive(Debug, Drop)]
+pub enum Request {
+    /// The report on the program of FILE.
+    Plain { file: Word, options: Options },
+    /// Something of the variant of FILE that the settings select among those of MODEL.
+    Variant {
+        model: Word,
+        file: Word,
+        settings: SettingWords,
+        task: VariantTask,
+    },
+}
+
+/// What is asked of a variant.
+#[derive(Debug, Drop)]
+pub enum VariantTask {
+    /// Its text.
+    Text,
+    /// The report on its program.
+    Report(Options),
+    /// How a run of its program stands after at most so many steps.
+    Run {
+        steps: u64,
+        inputs: Values,
+        mode: Mode,
+    },
+}
+
+/// The words of settings, each `NAME=VALUE` or `NAME`.
+#[derive(Debug, Drop)]
+pub struct SettingWords {
+    list: Vec<String>,
+}
+
+impl Model for SettingWords {
+    ghost use Rattle.std.specs.Prelude.{List, ℕ, map, string_bytes};
+
+    ghost Value = { List (List ℕ) };
+
+    ghost view = { λ words. map string_bytes words.list.items };
+}
+
+impl SettingWords {
+    /// Copies of these words.
+    pub fn from_words(alloc: Global, words: &[Word]) -> Result<SettingWords, NoMemory>
+        ensures { IfOk result (λ made. made ≡ words.now) }
+    {
+        let mut list = Vec::new(alloc);
+        for word in words {
+            list.push(String::from_str(alloc, word.as_str())?)?;
+        }
+        Ok(SettingWords { list })
+    }
+
+    /// The words.
+    pub fn items(&self) -> &[String]
+        ensures { map string_bytes result.now ≡ self.now }
+    {
+        self.list.as_slice()
+    }
+}
+
+/// What a path is to a request.
+#[derive(Clone, Copy, Debug, PartialEq, Eq)]
+pub enum Role {
+    Model,
+    File,
+}
+
+/// Whether the failed path is this one.
+fn is_path(failed: Option<&Text>, path: &Word) -> bool
+    ensures { result ≡ is_path (option_copied failed.entry) path.now }
+{
+    match failed {
+        None => false,
+        Some(text) => text.bytes() == path.as_str().as_bytes(),
+    }
+}
+
+impl Request {
+    /// What the path of a failed load is to the request.
+    pub fn role(&self, failed: Option<&Text>) -> Role
+        ensures { result ≡ role_of self.now (option_copied failed.entry) }
+    {
+        match self {
+            Request::Plain {
+                file: _,
+                options: _,
+            } => Role::File,
+            Request::Variant {
+                model,
+                file: _,
+                settings: _,
+                task: _,
+            } => {
+                if is_path(failed, model) {
+                    Role::Model
+                } else {
+                    Role::File
+                }
+            }
+        }
+    }
+}

@@ -1,0 +1,115 @@
+//! Which options a command takes, and what they set.
+#![tactic(auto)]
+
+ghost use Rattle.std.specs.Prelude.{◌≡◌};
+ghost use Rattle.famlint_core.specs.Requests as specs;
+
+use c_tree::Mode;
+use command_words::{Arguments, Domain, Given, Overflow, Settings};
+use plain_analysis::Options;
+
+/// The commands.
+#[derive(Clone, Copy, Debug, PartialEq, Eq)]
+pub enum Command {
+    Plain,
+    Project,
+    Variant,
+    Run,
+}
+
+impl Command {
+    /// The command with the name.
+    pub fn of(name: &str) -> Option<Command>
+        ensures { result ≡ specs.command_of name.now }
+    {
+        match name {
+            "plain" => Some(Command::Plain),
+            "project" => Some(Command::Project),
+            "variant" => Some(Command::Variant),
+            "run" => Some(Command::Run),
+            _ => None,
+        }
+    }
+
+    /// The options that it takes.
+    fn options(self) -> Given
+        ensures { result ≡ specs.taken_by self }
+    {
+        match self {
+            Command::Plain | Command::Variant => Given {
+                domain: true,
+                delay: true,
+                narrow: true,
+                overflow: true,
+                steps: false,
+                inputs: false,
+            },
+            Command::Project => Given {
+                domain: false,
+                delay: false,
+                narrow: false,
+                overflow: false,
+                steps: false,
+                inputs: false,
+            },
+            Command::Run => Given {
+                domain: false,
+                delay: false,
+                narrow: false,
+                overflow: true,
+                steps: true,
+                inputs: true,
+            },
+        }
+    }
+}
+
+/// Whether each option that is given is taken.
+fn are_taken(given: Given, taken: Given) -> bool
+    ensures { result ≡ specs.are_taken given taken }
+{
+    (!given.domain || taken.domain)
+        && (!given.delay || taken.delay)
+        && (!given.narrow || taken.narrow)
+        && (!given.overflow || taken.overflow)
+        && (!given.steps || taken.steps)
+        && (!given.inputs || taken.inputs)
+}
+
+/// Whether the analyses over a domain are built.
+fn is_built(domain: Domain) -> bool
+    ensures { result ≡ specs.is_built domain }
+{
+    match domain {
+        Domain::Interval => true,
+        Domain::Octagon | Domain::Stride => false,
+    }
+}
+
+/// Whether the options suit a command.
+pub fn suits(command: Command, arguments: &Arguments) -> bool
+    ensures { result ≡ specs.suits command arguments.now }
+{
+    are_taken(arguments.given, command.options()) && is_built(arguments.settings.domain)
+}
+
+/// What becomes of an overflow.
+pub fn mode_of(overflow: Overflow) -> Mode
+    ensures { result ≡ specs.mode_of overflow }
+{
+    match overflow {
+        Overflow::Stop => Mode::Stop,
+        Overflow::Wrap => Mode::Wrap,
+    }
+}
+
+/// How programs are analysed.
+pub fn options_of(settings: &Settings) -> Options
+    ensures { result ≡ specs.options_of settings.now }
+{
+    Options {
+        delay: settings.delay,
+        narrow: settings.narrow,
+        mode: mode_of(settings.overflow),
+    }
+}

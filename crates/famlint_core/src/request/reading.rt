@@ -1,0 +1,118 @@
+//! What the words ask for.
+#![tactic(auto)]
+
+ghost use Rattle.std.specs.Prelude.{◌≡◌};
+ghost use Rattle.command_words.specs.Arguments.{texts_of, Reads};
+ghost use Rattle.famlint_core.specs.Requests as specs;
+ghost use Rattle.famlint_core.specs.Requests.{reading};
+
+use crate::request::options::{Command, mode_of, options_of, suits};
+use crate::request::{Request, SettingWords, VariantTask};
+use command_words::{Arguments, Settings, Usage, Word, WordsRefusal, read_words};
+use std::alloc::Global;
+
+/// What `plain` asks for with these words.
+fn plain_request(
+    alloc: Global,
+    settings: &Settings,
+    words: &[Word],
+) -> Result<Request, WordsRefusal>
+    ensures { Reads (specs.plain_request settings.now words.now) result }
+{
+    match words {
+        [file] => Ok(Request::Plain {
+            file: Word::from_str(alloc, file.as_str())?,
+            options: options_of(settings),
+        }),
+        _ => Err(WordsRefusal::Fault(Usage)),
+    }
+}
+
+/// What is asked of a variant with these words.
+fn variant_request(
+    alloc: Global,
+    task: VariantTask,
+    words: &[Word],
+) -> Result<Request, WordsRefusal>
+    ensures { Reads (specs.variant_request task words.now) result }
+{
+    match words {
+        [model, file, rest @ ..] => Ok(Request::Variant {
+            model: Word::from_str(alloc, model.as_str())?,
+            file: Word::from_str(alloc, file.as_str())?,
+            settings: SettingWords::from_words(alloc, rest)?,
+            task,
+        }),
+        _ => Err(WordsRefusal::Fault(Usage)),
+    }
+}
+
+/// The run that the options ask for.
+fn run_task(alloc: Global, settings: &Settings) -> Result<VariantTask, WordsRefusal>
+    ensures { Reads (specs.run_task settings.now) result }
+{
+    Ok(VariantTask::Run {
+        steps: settings.steps,
+        inputs: settings.inputs.copy(alloc)?,
+        mode: mode_of(settings.overflow),
+    })
+}
+
+/// What a command asks for with these words.
+fn request_for(
+    alloc: Global,
+    command: Command,
+    settings: &Settings,
+    words: &[Word],
+) -> Result<Request, WordsRefusal>
+    ensures { Reads (specs.request_for command settings.now words.now) result }
+{
+    match command {
+        Command::Plain => plain_request(alloc, settings, words),
+        Command::Project => variant_request(alloc, VariantTask::Text, words),
+        Command::Variant => {
+            variant_request(alloc, VariantTask::Report(options_of(settings)), words)
+        }
+        Command::Run => {
+            let task = run_task(alloc, settings)?;
+            variant_request(alloc, task, words)
+        }
+    }
+}
+
+/// What a command asks for, where the options suit it.
+fn suited(
+    alloc: Global,
+    command: Command,
+    arguments: &Arguments,
+    words: &[Word],
+) -> Result<Request, WordsRefusal>
+    ensures { Reads (specs.suited command arguments.now words.now) result }
+{
+    if suits(command, arguments) {
+        request_for(alloc, command, &arguments.settings, words)
+    } else {
+        Err(WordsRefusal::Fault(Usage))
+    }
+}
+
+/// What the positional words ask for.
+fn request_of(alloc: Global, arguments: &Arguments) -> Result<Request, WordsRefusal>
+    ensures { Reads (specs.request_of arguments.now) result }
+{
+    match arguments.positional.items() {
+        [] => Err(WordsRefusal::Fault(Usage)),
+        [first, rest @ ..] => match Command::of(first.as_str()) {
+            Some(command) => suited(alloc, command, arguments, rest),
+            None => Err(WordsRefusal::Fault(Usage)),
+        },
+    }
+}
+
+/// What the words ask for.
+pub fn read_request(alloc: Global, words: &[String]) -> Result<Request, WordsRefusal>
+    ensures { Reads (reading (texts_of words.now)) result }
+{
+    let arguments = read_words(alloc, words)?;
+    request_of(alloc, &arguments)
+}

@@ -1,0 +1,40 @@
+//! What is done for a request: its loads, and then its work.
+#![tactic(auto)]
+
+mod plain;
+mod variant;
+
+ghost use Rattle.std.specs.Prelude.{◌≡◌, ◌≤◌, IfOk};
+ghost use Rattle.famlint_core.specs.Answers.{Contents, IsTold, Answers, Promised, IsLoaded};
+ghost use Rattle.famlint_core.specs.Loads.{Comes, IsReadFault, IsReadOf};
+ghost use Rattle.famlint_core.specs.Requests.{paths_of, HasInts};
+
+use crate::fault::{Done, Stop};
+use crate::request::Request;
+use crate::work::plain::plain;
+use crate::work::variant::variant;
+use fam_outer::Files;
+use std::alloc::Global;
+
+/// Does what a request asks for: first the loads, then the work.
+pub fn work<F: Files>(alloc: Global, request: &Request, files: &mut F) -> Result<Done, Stop>
+    requires { HasInts request.now }
+    ensures answer { (told : Contents) → IsTold request.now (F.content files.old) told → Comes (Answers request.now told) result }
+    ensures promise { (told : Contents) → IsTold request.now (F.content files.old) told
+        → IfOk result (λ done. Promised request.now told done.status done.text) }
+    ensures status { IfOk result (λ done. done.status ≤ 1) }
+    ensures order { (told : Contents) → IsTold request.now (F.content files.old) told
+        → IsReadFault result → IsLoaded request.now told (F.failed files.new) }
+    ensures kept { F.content files.new ≡ F.content files.old }
+    ensures read { IsReadOf (paths_of request.now) (F.faults files.old) (F.faults files.new) (F.failed files.new) result }
+{
+    match request {
+        Request::Plain { file, options } => plain(alloc, file, options, files),
+        Request::Variant {
+            model,
+            file,
+            settings,
+            task,
+        } => variant(alloc, (model, file), settings, task, files),
+    }
+}
