@@ -145,7 +145,7 @@ fn pin_from(spans: &mut [Span], place: usize, constraints: &[Condition], wanted:
 }
 
 /// The box narrowed by bounds, with the least value alone of each feature that nothing undecided names.
-pub(crate) fn prepared(
+pub(crate) fn reduced(
     alloc: Global,
     spans: &[Span],
     constraints: &[Condition],

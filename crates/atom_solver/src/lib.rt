@@ -10,6 +10,7 @@ mod freeing;
 mod narrowing;
 pub mod plausibility;
 mod points;
+pub mod prepared;
 mod refuting;
 mod searching;
 pub mod solving;
@@ -17,6 +18,7 @@ mod spans;
 mod wanted;
 
 pub use plausibility::plausible;
+pub use prepared::Prepared;
 pub use solving::{implied, least, least_where};
 
 #[cfg(test)]

@@ -7,14 +7,15 @@ ghost use Rattle.cpp_conditions.specs.Propositions.{IsFit, true_at};
 ghost use Rattle.cpp_conditions.specs.Validity.{AreFit, IsConfig};
 ghost use Rattle.cpp_conditions.specs.View.{proposition};
 ghost use Rattle.atom_solver.specs.Solutions.{Finds};
+ghost use Rattle.atom_solver.specs.Narrowing.{HasAllValid};
 ghost use Rattle.atom_solver.specs.Spans.{ranges, meets, FindsIn};
 
 use crate::branching::are_untrue;
 use crate::deciding::is_ruled_out;
-use crate::freeing::prepared;
+use crate::freeing::reduced;
 use crate::points::at_point;
 use crate::refuting::are_opposed;
-use crate::spans::{cut_box, spans_of};
+use crate::spans::cut_box;
 use cpp_conditions::{Condition, Model};
 use fam_outer::NoMemory;
 use linear_atoms::{Config, Span};
@@ -35,7 +36,7 @@ fn search(
     if is_ruled_out(spans, constraints, wanted) {
         return Ok(None);
     }
-    let narrower = prepared(alloc, spans, constraints, wanted)?;
+    let narrower = reduced(alloc, spans, constraints, wanted)?;
     let inner = narrower.as_slice();
     match cut_box(alloc, inner)? {
         None => at_point(alloc, inner, constraints, wanted),
@@ -46,15 +47,17 @@ fn search(
     }
 }
 
-/// The first of the valid configurations at which the condition is true.
+/// The first of the valid configurations at which the condition is true, in a box that has all of them.
 pub(crate) fn first_valid(
     alloc: Global,
     model: &Model,
+    spans: &[Span],
     wanted: &Condition,
 ) -> Result<Option<Config>, NoMemory>
     requires constraints { AreFit (length model.now.features) model.now.constraints }
     requires wanted { IsFit (length model.now.features) (proposition wanted.now) }
     requires ranges { AreRanges model.now.features }
+    requires spans { HasAllValid model.now spans.now }
     ensures first { IfOk result (λ found. Finds model.now (λ (values : List ℤ). true_at values (proposition wanted.now)) found) }
     ensures config { IfOk result (λ found. IfSome found (λ config. IsConfig model.now.features config.values)) }
 {
@@ -65,6 +68,5 @@ pub(crate) fn first_valid(
     if are_untrue(alloc, constraints, wanted)? {
         return Ok(None);
     }
-    let spans = spans_of(alloc, model.features.items())?;
-    search(alloc, &spans, constraints, wanted)
+    search(alloc, spans, constraints, wanted)
 }

@@ -1,0 +1,126 @@
+//! Models that are prepared once, for many questions.
+#![tactic(auto)]
+
+ghost use Rattle.std.specs.Prelude.{◌≡◌, ℤ, List, IfOk, IfSome, length};
+ghost use Rattle.linear_atoms.specs.Atoms.{AreRanges, IsAtom, AreAtoms, AreLiterals};
+ghost use Rattle.cpp_conditions.specs.Numbering.{vector_at};
+ghost use Rattle.cpp_conditions.specs.Propositions.{IsBelow, true_on};
+ghost use Rattle.cpp_conditions.specs.Validity.{AreFit, IsConfig};
+ghost use Rattle.cpp_conditions.specs.View.{formula};
+ghost use Rattle.atom_solver.specs.Narrowing.{HasAllValid};
+ghost use Rattle.atom_solver.specs.Solutions.{Finds, IsImplied, all_hold};
+
+use crate::narrowing::narrowed;
+use crate::searching::first_valid;
+use crate::spans::spans_of;
+use crate::wanted::{denial, of_formula, of_literals};
+use cpp_conditions::{Condition, Formula, Model};
+use fam_outer::NoMemory;
+use linear_atoms::{Atom, Config, Literal, Span};
+use std::alloc::Global;
+use std::marker;
+
+/// A model with what its constraints alone say of the ranges of its features, made once for many questions. Contracts
+/// see it as the model.
+#[derive(Drop)]
+pub struct Prepared<'a> {
+    model: &'a Model,
+    spans: Vec<Span>,
+}
+
+impl<'a> marker::Model for Prepared<'a> {
+    ghost use Rattle.cpp_conditions.specs.declared.models.Model.{Model};
+    ghost use Rattle.cpp_conditions.specs.contracts.models.Model as of_model;
+    ghost use Rattle.std.specs.Coded.{codes};
+    ghost use Rattle.atom_solver.specs.Narrowing.{IsPrepared};
+
+    ghost Value = { Model };
+
+    ghost coded = { Prim.hlevel (codes, of_model.the_row.coded) };
+
+    ghost view = { λ prepared. prepared.model.now };
+
+    ghost invariant = { λ prepared. IsPrepared prepared.model.now prepared.spans.items };
+}
+
+/// The box of all valid configurations that bounds leave of the ranges of a model.
+fn valid_box(alloc: Global, model: &Model) -> Result<Vec<Span>, NoMemory>
+    requires constraints { AreFit (length model.now.features) model.now.constraints }
+    requires ranges { AreRanges model.now.features }
+    ensures { IfOk result (λ made. HasAllValid model.now made.items) }
+{
+    let whole = spans_of(alloc, model.features.items())?;
+    narrowed(
+        alloc,
+        &whole,
+        model.constraints.items(),
+        &Condition::Const(true),
+    )
+}
+
+impl<'a> Prepared<'a> {
+    /// A model, ready for questions. It answers an error only for want of memory.
+    ///
+    /// The ranges are not empty and have ends of at most 2^20 in size, and the atoms of the constraints are well formed over
+    /// the features.
+    pub fn new(alloc: Global, model: &'a Model) -> Result<Prepared<'a>, NoMemory>
+        requires constraints { AreFit (length model.now.features) model.now.constraints }
+        requires ranges { AreRanges model.now.features }
+        ensures { IfOk result (λ made. made ≡ model.now) }
+    {
+        let spans = valid_box(alloc, model)?;
+        Ok(Prepared { model, spans })
+    }
+
+    /// The least of the valid configurations that meet all literals, by the order of the features. It answers None
+    /// exactly where there is none, and an error only for want of memory.
+    ///
+    /// The configuration has one value per feature, each in its range. The atoms of the literals are well formed over the
+    /// features.
+    pub fn least(&self, alloc: Global, literals: &[Literal]) -> Result<Option<Config>, NoMemory>
+        requires { AreLiterals (length self.now.features) literals.now }
+        ensures first { IfOk result (λ found. Finds self.now (λ (values : List ℤ). all_hold literals.now values) found) }
+        ensures config { IfOk result (λ found. IfSome found (λ config. IsConfig self.now.features config.values)) }
+    {
+        let wanted = of_literals(alloc, literals, Condition::Const(true))?;
+        first_valid(alloc, self.model, &self.spans, &wanted)
+    }
+
+    /// The least of the valid configurations at which the formula holds: at the truths of the atoms there. It answers
+    /// None exactly where there is none, and an error only for want of memory.
+    ///
+    /// The configuration has one value per feature, each in its range. The formula's numbers are below the number of
+    /// atoms, which are well formed over the features.
+    pub fn least_where(
+        &self,
+        alloc: Global,
+        atoms: &[Atom],
+        wanted: &Formula,
+    ) -> Result<Option<Config>, NoMemory>
+        requires atoms { AreAtoms (length self.now.features) atoms.now }
+        requires numbers { IsBelow (length atoms.now) (formula wanted.now) }
+        ensures first { IfOk result (λ found. Finds self.now (λ (values : List ℤ). true_on (vector_at atoms.now values) (formula wanted.now)) found) }
+        ensures config { IfOk result (λ found. IfSome found (λ config. IsConfig self.now.features config.values)) }
+    {
+        let wanted = of_formula(alloc, atoms, wanted)?;
+        first_valid(alloc, self.model, &self.spans, &wanted)
+    }
+
+    /// Whether every valid configuration that meets the literals meets this one too. It answers an error only for want
+    /// of memory. The atoms of all literals are well formed over the features.
+    pub fn implied(
+        &self,
+        alloc: Global,
+        literals: &[Literal],
+        literal: &Literal,
+    ) -> Result<bool, NoMemory>
+        requires literals { AreLiterals (length self.now.features) literals.now }
+        requires literal { IsAtom (length self.now.features) literal.now.atom }
+        ensures { IfOk result (λ answer. IsImplied self.now literals.now literal.now answer) }
+    {
+        let denied = denial(alloc, literal)?;
+        let wanted = of_literals(alloc, literals, denied)?;
+        let found = first_valid(alloc, self.model, &self.spans, &wanted)?;
+        Ok(found.is_none())
+    }
+}
