@@ -1,5 +1,5 @@
 -- What bytes are answered under `plain` is answered once.
-use Rattle.std.proofs.Common.{◌≡◌, ℕ, List, refl, sym, ap, ◌∙◌}
+use Rattle.std.proofs.Common.{◌≡◌, ℕ, List, [], refl, sym, ap, ◌∙◌}
 use Rattle.std.specs.Prelude.{Option, None, Result, Ok, Err}
 use Rattle.fam_outer.specs.declared.faults.FileCode.{FileCode}
 use Rattle.fam_outer.specs.declared.faults.Place.{Place}
@@ -30,6 +30,12 @@ one_answer once options bytes (Err (fault.File code place example)) (Err (fault.
     let e : (let r : Result Whole (FileCode × Place) = Err (code, place) in r) ≡ Err (c, p) = once [] bytes (Err (code, place)) (Err (c, p)) h k in
     let f : (code, place) ≡ (c, p) = cc in
     ap (λ (y : FileCode × Place). Err (fault.File y.0 y.1 example)) f ∙ ap (λ (y : Option (List ℕ)). Err (fault.File c p y)) (none ∙ sym nothing)
+one_answer once options bytes (Ok d) (Err (fault.Model given)) h k = elim k [ ]
+one_answer once options bytes (Ok d) (Err (fault.Settings given name)) h k = elim k [ ]
+one_answer once options bytes (Err (fault.Model given)) b h k = elim h [ ]
+one_answer once options bytes (Err (fault.Settings given name)) b h k = elim h [ ]
+one_answer once options bytes (Err (fault.File code place example)) (Err (fault.Model given)) h k = elim k [ ]
+one_answer once options bytes (Err (fault.File code place example)) (Err (fault.Settings given name)) h k = elim k [ ]
 
 -- each file is read as a program, or has a refusal
 abbrev pub SomeReading : Type 0

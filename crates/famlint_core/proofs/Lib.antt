@@ -1,4 +1,4 @@
 pub mod Answering
-pub mod Ending
+pub mod Ended
 pub mod Loading
 pub mod Reporting

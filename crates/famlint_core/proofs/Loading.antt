@@ -1,7 +1,7 @@
 -- What a load or a reading is refused for refuses what stands on it.
-use Rattle.std.proofs.Common.{◌≡◌, ◌<◌, ℕ, List, [], length, refl, sym, subst, arith}
+use Rattle.std.proofs.Common.{◌≡◌, ◌<◌, ℕ, List, [], length, refl, sym, subst, arith, inl}
 use Rattle.std.proofs.lemmas.Bool.{lt-ltb}
-use Rattle.std.specs.Prelude.{⊤, inl, Result, Ok, Err, Some, None}
+use Rattle.std.specs.Prelude.{⊤, Result, Ok, Err, Some, None}
 use Rattle.fam_outer.specs.Limits.{file_bytes}
 use Rattle.fam_outer.specs.declared.faults.FileCode.TheVariants.{TooLong}
 use Rattle.fam_outer.specs.declared.faults.FileCode.{FileCode}
@@ -10,7 +10,7 @@ use Rattle.cpp_conditions.specs.declared.models.Model.{Model}
 use Rattle.cpp_lines.specs.Whole.{blanked_file, file_place}
 use Rattle.feature_model.specs.declared.faults.ModelFault.{ModelFault}
 use Rattle.feature_model.specs.declared.faults.ModelFault.TheVariants as model_faults
-use Rattle.feature_model.specs.Models.{IsReadAs}
+use Rattle.feature_model.specs.Models as models
 use Rattle.feature_model.specs.Stages.{told_of}
 use Rattle.c_parser.specs.Reading.{Reads}
 use Rattle.c_parser.specs.declared.family.Family.{Family}
@@ -28,7 +28,7 @@ use Rattle.famlint_core.specs.declared.selected.Selected.{Selected}
 use Rattle.famlint_core.specs.Answers.{Contents, AnswersPlain, AnswersVariant}
 use Rattle.famlint_core.specs.Loads.{Comes, IsText, IsFileText, IsModel, IsFamilyFile, IsFamily, long_file}
 use Rattle.famlint_core.specs.Selected.{IsSelected, IsSettled}
-use Rattle.famlint_core.specs.Selected.IsRefused as refused
+use Rattle.famlint_core.specs.Selected as refused
 
 -- ---- a content over the limit
 
@@ -39,47 +39,47 @@ long_blanked : (bytes : List ℕ) → file_bytes < length bytes → blanked_file
 long_blanked bytes h = rw (lt-ltb file_bytes (length bytes) h) refl
 
 -- a model's text that is refused
-pub model_refused : (bytes : List ℕ) (s : Stop) → Comes {List ℕ} (IsText 65536 (fault.Model model_faults.TooLong) bytes) (Err s) → Comes {Model} (IsModel bytes) (Err s)
+pub model_refused : (bytes : List ℕ) (s : Stop) → Comes {X = List ℕ} (IsText 65536 (fault.Model model_faults.TooLong) bytes) (Err s) → Comes {X = Model} (IsModel bytes) (Err s)
 model_refused bytes (stop.Refused given) h =
-    subst (λ (x : Fault). IsModel bytes (Err x)) (sym h.1) (IsReadAs.untold model_faults.TooLong (long_model bytes h.0))
+    subst (λ (x : Fault). IsModel bytes (Err x)) (sym h.1) (models.untold model_faults.TooLong (long_model bytes h.0))
 model_refused bytes stop.ReadFault h = h
 model_refused bytes stop.NoMemory h = h
 
 -- a file's text that is refused, for `plain`
-pub plain_refused : (options : Options) (bytes : List ℕ) (s : Stop) → Comes {List ℕ} (IsFileText bytes) (Err s) → Comes {Done} (AnswersPlain options bytes) (Err s)
+pub plain_refused : (options : Options) (bytes : List ℕ) (s : Stop) → Comes {X = List ℕ} (IsFileText bytes) (Err s) → Comes {X = Done} (AnswersPlain options bytes) (Err s)
 plain_refused options bytes (stop.Refused given) h =
     subst (λ (x : Fault). AnswersPlain options bytes (Err x)) (sym h.1) (reads_too_long [] bytes h.0, refl)
 plain_refused options bytes stop.ReadFault h = h
 plain_refused options bytes stop.NoMemory h = h
 
 -- the same, for a family
-pub family_refused : (model : Model) (bytes : List ℕ) (s : Stop) → Comes {List ℕ} (IsFileText bytes) (Err s) → Comes {FamilyFile} (IsFamilyFile model bytes) (Err s)
+pub family_refused : (model : Model) (bytes : List ℕ) (s : Stop) → Comes {X = List ℕ} (IsFileText bytes) (Err s) → Comes {X = FamilyFile} (IsFamilyFile model bytes) (Err s)
 family_refused model bytes (stop.Refused given) h =
-    subst (λ (x : Fault). IsFamily model bytes (Err x)) (sym h.1) (refl, inl (long_blanked bytes h.0))
+    subst (λ (x : Fault). IsFamily model bytes (Err x)) (sym h.1) (refl, inl (inl (long_blanked bytes h.0)))
 family_refused model bytes stop.ReadFault h = h
 family_refused model bytes stop.NoMemory h = h
 
 -- ---- MODEL, FILE and settings
 
-pub no_model : (m f : List ℕ) (settings : List (List ℕ)) (s : Stop) → Comes {Model} (IsModel m) (Err s) → Comes {Selected} (IsSelected m f settings) (Err s)
-no_model m f settings (stop.Refused given) h = refused.model h
+pub no_model : (m f : List ℕ) (settings : List (List ℕ)) (s : Stop) → Comes {X = Model} (IsModel m) (Err s) → Comes {X = Selected} (IsSelected m f settings) (Err s)
+no_model m f settings (stop.Refused given) h = refused.no_model h
 no_model m f settings stop.ReadFault h = h
 no_model m f settings stop.NoMemory h = h
 
 pub no_family : (m f : List ℕ) (settings : List (List ℕ)) (model : Model) (s : Stop) → IsModel m (Ok model)
-    → Comes {FamilyFile} (IsFamilyFile model f) (Err s) → Comes {Selected} (IsSelected m f settings) (Err s)
-no_family m f settings model (stop.Refused given) read h = refused.file model read h
+    → Comes {X = FamilyFile} (IsFamilyFile model f) (Err s) → Comes {X = Selected} (IsSelected m f settings) (Err s)
+no_family m f settings model (stop.Refused given) read h = refused.no_family model read h
 no_family m f settings model stop.ReadFault read h = h
 no_family m f settings model stop.NoMemory read h = h
 
 pub no_settings : (m f : List ℕ) (settings : List (List ℕ)) (model : Model) (family : Family) (s : Stop) → IsModel m (Ok model) → IsFamily model f (Ok family)
-    → Comes {Config} (IsSettled model settings) (Err s) → Comes {Selected} (IsSelected m f settings) (Err s)
-no_settings m f settings model family (stop.Refused given) read spelled h = refused.settings model family read spelled h
+    → Comes {X = Config} (IsSettled model settings) (Err s) → Comes {X = Selected} (IsSelected m f settings) (Err s)
+no_settings m f settings model family (stop.Refused given) read spelled h = refused.no_settings model family read spelled h
 no_settings m f settings model family stop.ReadFault read spelled h = h
 no_settings m f settings model family stop.NoMemory read spelled h = h
 
 pub variant_refused : (task : VariantTask) (settings : List (List ℕ)) (told : Contents) (s : Stop)
-    → Comes {Selected} (IsSelected told.model told.file settings) (Err s) → Comes {Done} (AnswersVariant task settings told) (Err s)
+    → Comes {X = Selected} (IsSelected told.model told.file settings) (Err s) → Comes {X = Done} (AnswersVariant task settings told) (Err s)
 variant_refused task settings told (stop.Refused given) h = h
 variant_refused task settings told stop.ReadFault h = h
 variant_refused task settings told stop.NoMemory h = h

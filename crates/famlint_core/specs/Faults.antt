@@ -39,7 +39,7 @@ name_of features (config.Missing number) = name_at features (number - 1)
 name_of features _ = []
 
 abbrev pub fault_of_settings : List Feature → ConfigFault → Fault
-fault_of_settings features fault = fault.Settings fault (name_of features fault)
+fault_of_settings features given = fault.Settings given (name_of features given)
 
 -- ---- lines
 

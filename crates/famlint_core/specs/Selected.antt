@@ -1,6 +1,5 @@
 -- The variant that settings select: a model, a family over it, and a valid configuration, or the first refusal of these.
 use Rattle.std.specs.Prelude.{ℕ, ℤ, ◌≡◌, ◌⊎◌, List, Bool, Option, Some, Result, Ok, Err}
-use Rattle.cpp_conditions.specs.Numbering.{vector_at}
 use Rattle.cpp_conditions.specs.declared.models.Model.{Model}
 use Rattle.linear_atoms.specs.declared.atoms.Config.{Config}
 use Rattle.feature_model.specs.declared.faults.ConfigFault.{ConfigFault}
@@ -9,7 +8,7 @@ use Rattle.c_tree.specs.Project.{projected_program}
 use Rattle.c_tree.specs.Tree.{Whole}
 use Rattle.c_tree.specs.View.{whole}
 use Rattle.c_parser.specs.declared.family.Family.{Family}
-use Rattle.family_names.specs.Names.{truths_on}
+use Rattle.cpp_lines.specs.Sections.{truths_on}
 use Rattle.famlint_core.specs.declared.fault.Fault.{Fault}
 use Rattle.famlint_core.specs.declared.selected.Selected.{Selected}
 use Rattle.famlint_core.specs.Faults.{fault_of_settings}
@@ -22,9 +21,9 @@ IsSettled model settings (Err fault) = (given : ConfigFault) × (config_of model
 
 -- the model is refused, or else the file, or else the settings
 pub data IsRefused (m f : List ℕ) (settings : List (List ℕ)) (fault : Fault) : Type 0 where
-  model : IsModel m (Err fault) → IsRefused m f settings fault
-  file : (model : Model) → IsModel m (Ok model) → IsFamily model f (Err fault) → IsRefused m f settings fault
-  settings : (model : Model) (family : Family) → IsModel m (Ok model) → IsFamily model f (Ok family) → IsSettled model settings (Err fault)
+  no_model : IsModel m (Err fault) → IsRefused m f settings fault
+  no_family : (model : Model) → IsModel m (Ok model) → IsFamily model f (Err fault) → IsRefused m f settings fault
+  no_settings : (model : Model) (family : Family) → IsModel m (Ok model) → IsFamily model f (Ok family) → IsSettled model settings (Err fault)
       → IsRefused m f settings fault
 
 -- the model, the family and the configuration are those of the bytes and the settings
@@ -46,7 +45,7 @@ IsLoadedFor model_path file_path m failed = (failed ≡ Some model_path) ⊎ ((f
 
 -- the truths of a family's conditions at values of the features
 abbrev pub truths_of : Family → List ℤ → List Bool
-truths_of family values = truths_on family.conditions (vector_at family.atoms values)
+truths_of family values = truths_on family.atoms values family.conditions
 
 -- the program of the variant that values of the features select
 abbrev pub program_at : Family → List ℤ → Whole

@@ -24,7 +24,10 @@ pub enum Fault {
         example: Option<Text>,
     },
     /// With the name of the feature that has no value, if that is the fault.
-    Settings { fault: ConfigFault, name: Text },
+    Settings {
+        fault: ConfigFault,
+        name: Text,
+    },
 }
 
 /// Why the work stops before its output.

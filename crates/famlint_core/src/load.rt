@@ -2,9 +2,7 @@
 #![tactic(auto)]
 
 ghost use Rattle.std.specs.Prelude.{◌≡◌, ℕ, List, [], ◌∷◌, Some, IfOk, length};
-ghost use Rattle.fam_outer.specs.declared.faults.FileCode.TheVariants.{TooLong};
-ghost use Rattle.famlint_core.specs.declared.fault.Fault.{Fault as Refused};
-ghost use Rattle.famlint_core.specs.Loads.{Comes, IsReadOf, IsText, IsFileText, IsModel, IsFamilyFile, IsUsable, IsUsableFamily, long_file, long_model};
+ghost use Rattle.famlint_core.specs.Loads.{Comes, IsReadOf, IsText, IsFileText, IsModel, IsFamilyFile, IsUsable, IsUsableFamily, IsReadFault, long_file};
 
 use crate::fault::{Fault, Stop, file_fault};
 use c_parser::{Family, read_family};
@@ -76,7 +74,13 @@ pub fn load_model<F: Files>(alloc: Global, path: &str, files: &mut F) -> Result<
     ensures kept { F.content files.new ≡ F.content files.old }
     ensures read { IsReadOf (path.now ∷ []) (F.faults files.old) (F.faults files.new) (F.failed files.new) result }
 {
-    let text = load_text(alloc, path, MODEL_BYTES, Fault::Model(ModelFault::TooLong), files)?;
+    let text = load_text(
+        alloc,
+        path,
+        MODEL_BYTES,
+        Fault::Model(ModelFault::TooLong),
+        files,
+    )?;
     model_of(alloc, text.bytes())
 }
 

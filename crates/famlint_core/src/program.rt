@@ -13,9 +13,9 @@ ghost use Rattle.famlint_core.specs.Faults.{usage_line, memory_line};
 ghost use Rattle.famlint_core.specs.Loads.{IsOneOf};
 ghost use Rattle.famlint_core.specs.Requests.{reading, paths_of, role_of};
 
-use crate::work::work;
 use crate::ending::{end, give_up, refuse};
 use crate::request::read_request;
+use crate::work::work;
 use command_words::WordsRefusal;
 use fam_outer::{Files, Sink};
 use std::alloc::Global;

@@ -4,8 +4,6 @@
 mod options;
 mod reading;
 
-pub use reading::read_request;
-
 ghost use Rattle.std.specs.Option.{option_copied};
 ghost use Rattle.std.specs.Prelude.{◌≡◌, ◌++◌, ◌∷◌, [], IfOk, OnOk, map, string_bytes};
 ghost use Rattle.famlint_core.specs.Requests.{role_of, is_path};
@@ -14,6 +12,7 @@ use c_tree::Mode;
 use command_words::Word;
 use fam_outer::{NoMemory, Text, Values};
 use plain_analysis::Options;
+pub use reading::read_request;
 use std::alloc::Global;
 use std::marker::Model;
 
@@ -21,7 +20,10 @@ use std::marker::Model;
 #[derive(Debug, Drop)]
 pub enum Request {
     /// The report on the program of FILE.
-    Plain { file: Word, options: Options },
+    Plain {
+        file: Word,
+        options: Options,
+    },
     /// Something of the variant of FILE that the settings select among those of MODEL.
     Variant {
         model: Word,

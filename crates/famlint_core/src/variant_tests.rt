@@ -16,13 +16,13 @@ const FILES: [(&str, &str); 19] = [
     ),
     ("void", "{\"features\":[],\"constraints\":[\"0\"]}\n"),
     ("m1", "{\n"),
-    ("m3", "{\"features\":[{\"name\":\"A\"},{\"name\":\"int\"}]}\n"),
+    (
+        "m3",
+        "{\"features\":[{\"name\":\"A\"},{\"name\":\"int\"}]}\n",
+    ),
     ("m7", "{\"features\":[],\"constraints\":[\"1\",\"1 +\"]}\n"),
     ("f1", "int main(void) { }\n"),
-    (
-        "f2",
-        "int x;\nint main(void) {\nx = 1 / x;\n}\n",
-    ),
+    ("f2", "int x;\nint main(void) {\nx = 1 / x;\n}\n"),
     (
         "f6",
         "int x;\nint main(void) {\nwhile (x < 10) x++;\nassert(x == 10);\n}\n",
@@ -112,8 +112,16 @@ fn variants_are_reported(rt: HostRuntime) -> Result<(), Fail> {
     let alloc = rt.alloc();
     let rows = [
         ("variant ma f8 A=1", 0, "alarms: 0\n"),
-        ("variant ma f8 A=0", 1, "9:1: overflow\n12:1: assertion\nalarms: 2\n"),
-        ("variant ma f8", 1, "9:1: overflow\n12:1: assertion\nalarms: 2\n"),
+        (
+            "variant ma f8 A=0",
+            1,
+            "9:1: overflow\n12:1: assertion\nalarms: 2\n",
+        ),
+        (
+            "variant ma f8",
+            1,
+            "9:1: overflow\n12:1: assertion\nalarms: 2\n",
+        ),
         ("variant mc f10 A N=0", 0, "alarms: 0\n"),
         (
             "variant queue.json queue.c FAST RETRY SIZE=4 LIMIT=2",
@@ -176,7 +184,11 @@ fn texts_of_variants(rt: HostRuntime) -> Result<(), Fail> {
 fn models_files_and_settings_are_refused(rt: HostRuntime) -> Result<(), Fail> {
     let alloc = rt.alloc();
     let rows = [
-        ("variant mc f10 A=1 A=1 N=0", 5, "configuration: K3 at word 2\n"),
+        (
+            "variant mc f10 A=1 A=1 N=0",
+            5,
+            "configuration: K3 at word 2\n",
+        ),
         ("variant mc f10 A=1 N=8", 5, "configuration: K4 at word 2\n"),
         ("variant mc f10 A=1", 5, "configuration: K2 N\n"),
         ("variant mc f10 A=0 N=0", 5, "configuration: K5\n"),
@@ -220,7 +232,8 @@ fn loads_fail(rt: HostRuntime) -> Result<(), Fail> {
 #[test]
 fn other_options_are_refused(rt: HostRuntime) -> Result<(), Fail> {
     let alloc = rt.alloc();
-    let usage = "usage: famlint plain FILE, project MODEL FILE SETTINGS, variant MODEL FILE SETTINGS, run MODEL FILE SETTINGS, analyse MODEL FILE, invariants MODEL FILE, generate NUMBER, certify MODEL FILE, check MODEL FILE CERTIFICATE, advise MODEL FILE SETTINGS, features MODEL\n";
+    let usage =
+        "usage: famlint plain FILE, project MODEL FILE SETTINGS, variant MODEL FILE SETTINGS, run MODEL FILE SETTINGS, analyse MODEL FILE, invariants MODEL FILE, generate NUMBER, certify MODEL FILE, check MODEL FILE CERTIFICATE, advise MODEL FILE SETTINGS, features MODEL\n";
     let lines = [
         "project ma",
         "variant",

@@ -35,6 +35,6 @@ pub fn work<F: Files>(alloc: Global, request: &Request, files: &mut F) -> Result
             file,
             settings,
             task,
-        } => variant(alloc, (model, file), settings, task, files),
+        } => variant(alloc, model, file, settings, task, files),
     }
 }

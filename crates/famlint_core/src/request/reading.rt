@@ -1,10 +1,12 @@
 //! What the words ask for.
 #![tactic(auto)]
 
-ghost use Rattle.std.specs.Prelude.{◌≡◌};
+ghost use Rattle.std.specs.Prelude.{IfOk};
+ghost use Rattle.std.specs.List.{All};
+ghost use Rattle.c_tree.specs.Value.{IsInt};
 ghost use Rattle.command_words.specs.Arguments.{texts_of, Reads};
 ghost use Rattle.famlint_core.specs.Requests as specs;
-ghost use Rattle.famlint_core.specs.Requests.{reading};
+ghost use Rattle.famlint_core.specs.Requests.{reading, HasInts, HaveInts};
 
 use crate::request::options::{Command, mode_of, options_of, suits};
 use crate::request::{Request, SettingWords, VariantTask};
@@ -17,7 +19,8 @@ fn plain_request(
     settings: &Settings,
     words: &[Word],
 ) -> Result<Request, WordsRefusal>
-    ensures { Reads (specs.plain_request settings.now words.now) result }
+    ensures answer { Reads (specs.plain_request settings.now words.now) result }
+    ensures ints { IfOk result (λ request. HasInts request) }
 {
     match words {
         [file] => Ok(Request::Plain {
@@ -34,7 +37,9 @@ fn variant_request(
     task: VariantTask,
     words: &[Word],
 ) -> Result<Request, WordsRefusal>
-    ensures { Reads (specs.variant_request task words.now) result }
+    requires { HaveInts task }
+    ensures answer { Reads (specs.variant_request task words.now) result }
+    ensures ints { IfOk result (λ request. HasInts request) }
 {
     match words {
         [model, file, rest @ ..] => Ok(Request::Variant {
@@ -49,7 +54,9 @@ fn variant_request(
 
 /// The run that the options ask for.
 fn run_task(alloc: Global, settings: &Settings) -> Result<VariantTask, WordsRefusal>
-    ensures { Reads (specs.run_task settings.now) result }
+    requires { All IsInt settings.now.inputs }
+    ensures answer { Reads (specs.run_task settings.now) result }
+    ensures ints { IfOk result (λ task. HaveInts task) }
 {
     Ok(VariantTask::Run {
         steps: settings.steps,
@@ -65,7 +72,9 @@ fn request_for(
     settings: &Settings,
     words: &[Word],
 ) -> Result<Request, WordsRefusal>
-    ensures { Reads (specs.request_for command settings.now words.now) result }
+    requires { All IsInt settings.now.inputs }
+    ensures answer { Reads (specs.request_for command settings.now words.now) result }
+    ensures ints { IfOk result (λ request. HasInts request) }
 {
     match command {
         Command::Plain => plain_request(alloc, settings, words),
@@ -87,7 +96,9 @@ fn suited(
     arguments: &Arguments,
     words: &[Word],
 ) -> Result<Request, WordsRefusal>
-    ensures { Reads (specs.suited command arguments.now words.now) result }
+    requires { All IsInt arguments.now.settings.inputs }
+    ensures answer { Reads (specs.suited command arguments.now words.now) result }
+    ensures ints { IfOk result (λ request. HasInts request) }
 {
     if suits(command, arguments) {
         request_for(alloc, command, &arguments.settings, words)
@@ -98,7 +109,9 @@ fn suited(
 
 /// What the positional words ask for.
 fn request_of(alloc: Global, arguments: &Arguments) -> Result<Request, WordsRefusal>
-    ensures { Reads (specs.request_of arguments.now) result }
+    requires { All IsInt arguments.now.settings.inputs }
+    ensures answer { Reads (specs.request_of arguments.now) result }
+    ensures ints { IfOk result (λ request. HasInts request) }
 {
     match arguments.positional.items() {
         [] => Err(WordsRefusal::Fault(Usage)),
@@ -111,7 +124,8 @@ fn request_of(alloc: Global, arguments: &Arguments) -> Result<Request, WordsRefu
 
 /// What the words ask for.
 pub fn read_request(alloc: Global, words: &[String]) -> Result<Request, WordsRefusal>
-    ensures { Reads (reading (texts_of words.now)) result }
+    ensures answer { Reads (reading (texts_of words.now)) result }
+    ensures ints { IfOk result (λ request. HasInts request) }
 {
     let arguments = read_words(alloc, words)?;
     request_of(alloc, &arguments)

@@ -11,8 +11,7 @@ ghost use Rattle.famlint_core.specs.Answers.{AnswersVariant, PromisedVariant, Pr
 ghost use Rattle.famlint_core.specs.Loads.{Comes, IsReadFault, IsReadOf, IsUsable, IsUsableFamily};
 ghost use Rattle.famlint_core.specs.Requests.{HaveInts};
 ghost use Rattle.famlint_core.specs.RunText.{run_text, front_text, store_text};
-ghost use Rattle.famlint_core.specs.declared.request.VariantTask.TheVariants.{Text};
-ghost use Rattle.c_parser.specs.FamilyReading.{IsFamilyOf};
+ghost use Rattle.famlint_core.specs.declared.request.VariantTask.TheVariants as tasks;
 ghost use Rattle.famlint_core.specs.Selected.{AreSelected, IsLoadedFor, program_of};
 ghost use Rattle.run_meaning.specs.View.{end_of};
 
@@ -111,8 +110,7 @@ fn run_for(
 fn text_of(alloc: Global, selected: &Selected) -> Result<Done, NoMemory>
     requires model { IsUsable selected.now.model }
     requires config { IsConfig selected.now.model.features selected.now.config.values }
-    requires family { IsFamilyOf selected.now.model selected.now.text selected.now.family }
-    ensures { IfOk result (λ done. IsDone Text selected.now done) }
+    ensures { IfOk result (λ done. IsDone tasks.Text selected.now done) }
 {
     let Selected {
         model,
@@ -122,6 +120,7 @@ fn text_of(alloc: Global, selected: &Selected) -> Result<Done, NoMemory>
     } = selected;
     match variant_text(alloc, text.bytes(), model, config) {
         Ok(text) => Ok(Done { text, status: 0 }),
+        // A file whose family was read has no other refusal.
         Err(_) => Err(NoMemory),
     }
 }
@@ -130,7 +129,6 @@ fn text_of(alloc: Global, selected: &Selected) -> Result<Done, NoMemory>
 fn done_for(alloc: Global, selected: &Selected, task: &VariantTask) -> Result<Done, NoMemory>
     requires model { IsUsable selected.now.model }
     requires family { IsUsableFamily (length selected.now.model.features) selected.now.family }
-    requires read { IsFamilyOf selected.now.model selected.now.text selected.now.family }
     requires config { IsConfig selected.now.model.features selected.now.config.values }
     requires ints { HaveInts task.now }
     ensures answer { IfOk result (λ done. IsDone task.now selected.now done) }
@@ -157,23 +155,29 @@ fn done_for(alloc: Global, selected: &Selected, task: &VariantTask) -> Result<Do
 /// The work of `project`, `variant` and `run`.
 pub fn variant<F: Files>(
     alloc: Global,
-    paths: (&Word, &Word),
+    model: &Word,
+    file: &Word,
     settings: &SettingWords,
     task: &VariantTask,
     files: &mut F,
 ) -> Result<Done, Stop>
     requires { HaveInts task.now }
-    ensures answer { (told : Contents) → F.content files.old paths.0.now ≡ Some told.model → F.content files.old paths.1.now ≡ Some told.file
+    ensures answer { (told : Contents) → F.content files.old model.now ≡ Some told.model → F.content files.old file.now ≡ Some told.file
         → Comes (AnswersVariant task.now settings.now told) result }
-    ensures promise { (told : Contents) → F.content files.old paths.0.now ≡ Some told.model → F.content files.old paths.1.now ≡ Some told.file
+    ensures promise { (told : Contents) → F.content files.old model.now ≡ Some told.model → F.content files.old file.now ≡ Some told.file
         → IfOk result (λ done. PromisedVariant task.now settings.now told done.status done.text) }
     ensures status { IfOk result (λ done. done.status ≤ 1) }
-    ensures order { (m : List ℕ) → F.content files.old paths.0.now ≡ Some m → IsReadFault result
-        → IsLoadedFor paths.0.now paths.1.now m (F.failed files.new) }
+    ensures order { (m : List ℕ) → F.content files.old model.now ≡ Some m → IsReadFault result
+        → IsLoadedFor model.now file.now m (F.failed files.new) }
     ensures kept { F.content files.new ≡ F.content files.old }
-    ensures read { IsReadOf (paths.0.now ∷ paths.1.now ∷ []) (F.faults files.old) (F.faults files.new) (F.failed files.new) result }
+    ensures read { IsReadOf (model.now ∷ file.now ∷ []) (F.faults files.old) (F.faults files.new) (F.failed files.new) result }
 {
-    let (model, file) = paths;
-    let selected = select(alloc, model.as_str(), file.as_str(), settings.items(), files)?;
+    let selected = select(
+        alloc,
+        model.as_str(),
+        file.as_str(),
+        settings.items(),
+        files,
+    )?;
     Ok(done_for(alloc, &selected, task)?)
 }

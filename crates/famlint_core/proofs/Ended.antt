@@ -17,20 +17,21 @@ use Rattle.famlint_core.specs.declared.request.Role.{Role}
 use Rattle.famlint_core.specs.declared.request.VariantTask.{VariantTask}
 use Rattle.famlint_core.specs.declared.request.VariantTask.TheVariants as task
 use Rattle.famlint_core.specs.declared.selected.Selected.{Selected}
-use Rattle.famlint_core.specs.Answers.{Contents, IsAccepted, IsDone, Answers, plain_done}
-use Rattle.famlint_core.specs.Endings.{IsEnded, EndsWith}
+use Rattle.famlint_core.specs.Answers.{Contents, IsAccepted, IsDone, IsTold, Answers, plain_done}
+use Rattle.famlint_core.specs.Endings.{IsEnded, EndsWith, status_at}
 use Rattle.famlint_core.specs.Faults.{status_of}
 use Rattle.famlint_core.specs.Loads.{Comes}
 use Rattle.interval_leaf.specs.Intervals.{intervals}
 use Rattle.famlint_core.specs.Report.{report_status, some_alarm, start_alarms}
+use Rattle.famlint_core.specs.Requests.{role_of}
 use Rattle.famlint_core.specs.Selected.{program_of}
 
 -- what the work came to is what the program ended with
 pub ends_with : (MayBe : Result Done Fault → Type 0) (came : Result Done Stop) (role : Role) (status : ℕ)
     (out out' err err' : Option (List ℕ)) (outs outs' errs errs' : ℕ)
     → Comes MayBe came → IsEnded came role status out out' err err' outs outs' errs errs' → EndsWith MayBe role status out out' err err' errs errs'
-ends_with MayBe (Ok done) role status out out' err err' outs outs' errs errs' comes ended = inr (inr (Ok done, (comes, ended.ends)))
-ends_with MayBe (Err (stop.Refused given)) role status out out' err err' outs outs' errs errs' comes ended = inr (inr (Err given, (comes, ended.ends)))
+ends_with MayBe (Ok done) role status out out' err err' outs outs' errs errs' comes ended = inr (inr (Ok done, comes, ended.ends))
+ends_with MayBe (Err (stop.Refused given)) role status out out' err err' outs outs' errs errs' comes ended = inr (inr (Err given, comes, ended.ends))
 ends_with MayBe (Err stop.ReadFault) role status out out' err err' outs outs' errs errs' comes ended = inl ended.ends.0
 ends_with MayBe (Err stop.NoMemory) role status out out' err err' outs outs' errs errs' comes ended = inr (inl ended.ends.0)
 
@@ -85,6 +86,24 @@ pub completed : (r : Request) (told : Contents) (role : Role) (status : ℕ) (ou
     → (status ≡ 6 → ⊥) → (status ≡ 7 → ⊥) → (status ≤ 1) ⊎ (status ≡ 8)
 completed r told role status out out' err err' errs errs' accepted (inl read) six seven = absurd (six read)
 completed r told role status out out' err err' errs errs' accepted (inr (inl memory)) six seven = inr memory
-completed r told role status out out' err err' errs errs' accepted (inr (inr (Ok done, (answers, ends)))) six seven =
+completed r told role status out out' err err' errs errs' accepted (inr (inr (Ok done, answers, ends))) six seven =
     by_exact status done.status (answered_low r told done answers) six seven ends.exact
-completed r told role status out out' err err' errs errs' accepted (inr (inr (Err given, (answers, ends)))) six seven = absurd (accepted given answers)
+completed r told role status out out' err err' errs errs' accepted (inr (inr (Err given, answers, ends))) six seven = absurd (accepted given answers)
+
+-- the program ended with an answer to the request that was read
+pub by_role : (mine request : Request) (content : List ℕ → Option (List ℕ)) (told : Contents) (came : Result Done Stop) (failed : Option (List ℕ)) (role : Role) (status : ℕ)
+    (out out' err err' : Option (List ℕ)) (outs outs' errs errs' : ℕ) → mine ≡ request → (IsTold mine content told → Comes (Answers mine told) came)
+    → role ≡ role_of mine failed → IsEnded came role status out out' err err' outs outs' errs errs' → IsTold request content told
+    → EndsWith (Answers request told) (role_of request failed) status out out' err err' errs errs'
+by_role mine request content told came failed role status out out' err err' outs outs' errs errs' same comes role_is ended is_told =
+    let P : Request → Type 0 = λ r. IsTold r content told → EndsWith (Answers r told) (role_of r failed) status out out' err err' errs errs' in
+    subst P same (λ t. subst (λ x. EndsWith (Answers mine told) x status out out' err err' errs errs') role_is
+    (ends_with (Answers mine told) came role status out out' err err' outs outs' errs errs' (comes t) ended)) is_told
+
+-- where no load failed and memory did not run out, the status is that of an answer, if no write failed
+pub exactly : (MayBe : Result Done Fault → Type 0) (role : Role) (status : ℕ) (out out' err err' : Option (List ℕ)) (errs errs' : ℕ)
+    → EndsWith MayBe role status out out' err err' errs errs' → status ≢ 6 → status ≢ 7 → status ≢ 8
+    → (answer : Result Done Fault) × MayBe answer × (status ≡ status_at answer)
+exactly MayBe role status out out' err err' errs errs' (inl read) six seven eight = absurd (six read)
+exactly MayBe role status out out' err err' errs errs' (inr (inl memory)) six seven eight = absurd (eight memory)
+exactly MayBe role status out out' err err' errs errs' (inr (inr (answer, may, ends))) six seven eight = (answer, may, ends.exact six seven eight)

@@ -1,0 +1,20 @@
+use Rattle.std.proofs.Common.{subst, sym}
+use Rattle.std.specs.Prelude.{IfOk}
+use Rattle.famlint_core.specs.Answers.{IsTold, Answers, Promised}
+use Rattle.famlint_core.specs.Loads.{Comes}
+use Rattle.famlint_core.proofs.work.work.Goals as goal
+
+pub returns-in-Plain-clause-promise : goal.returns-in-Plain-clause-promise
+returns-in-Plain-clause-promise g c = λ told is_told.
+    let content = g.F.Files.content c.args.files.now in
+    subst (λ r. IsTold r content told → IfOk c.plain.result (λ done. Promised r told done.status done.text)) (sym c.in-Plain.is) (λ t. c.plain.ensures.promise told.file t) is_told
+
+pub returns-in-Variant-clause-answer : goal.returns-in-Variant-clause-answer
+returns-in-Variant-clause-answer g c = λ told is_told.
+    let content = g.F.Files.content c.args.files.now in
+    subst (λ r. IsTold r content told → Comes (Answers r told) c.variant.result) (sym c.in-Variant.is) (λ t. c.variant.ensures.answer told t.0 t.1) is_told
+
+pub returns-in-Variant-clause-promise : goal.returns-in-Variant-clause-promise
+returns-in-Variant-clause-promise g c = λ told is_told.
+    let content = g.F.Files.content c.args.files.now in
+    subst (λ r. IsTold r content told → IfOk c.variant.result (λ done. Promised r told done.status done.text)) (sym c.in-Variant.is) (λ t. c.variant.ensures.promise told t.0 t.1) is_told
