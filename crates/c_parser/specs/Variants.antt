@@ -11,7 +11,7 @@ use Rattle.c_grammar.specs.declared.items.Item.{Item}
 use Rattle.c_grammar.specs.Within.{SpellsWithin}
 use Rattle.c_parser.specs.declared.family.Family.{Family}
 use Rattle.c_parser.specs.FamilyReading.{IsFamilyOf}
-use Rattle.c_parser.specs.Items.{Listed, AreDistinct}
+use Rattle.c_parser.specs.Items.{AreDistinct}
 use Rattle.c_parser.specs.Reading.{items_of, ReadsOver, DeclaresAmong}
 
 -- the program of a family where its conditions have these truths

@@ -3,17 +3,24 @@
 
 ghost use Rattle.c_parser.specs.Variants.{FamiliesAreReadOnce, FamilyNamesAreFew, TextsSpellProjections, VariantsAreRead, VariantsAreTexts, VariantsDeclareAmong};
 
-use c_grammar::laws::{leaving_out_makes_nothing_deeper, spells_at_most_one, within_the_limits_is_a_file};
-use c_tokens::laws::{lines_are_apart, literals_are_decimal, one_reading, reads_longest_lexemes};
-use cpp_conditions::laws::bytes_have_one_reading;
 use crate::laws::family_names_occur;
+use c_grammar::laws::{
+    leaving_out_makes_nothing_deeper, spells_at_most_one, within_the_limits_is_a_file,
+};
+use c_tokens::laws::{lines_are_apart, literals_are_decimal, one_reading, reads_longest_lexemes};
+use cpp_lines::laws::{families_are_told_once, variants_are_plain};
 use fam_outer::places_rise;
 
 /// A file is read as one family: with one program, and with one truth of each condition at each configuration.
 pub fn families_are_read_once()
     ensures { FamiliesAreReadOnce }
 {
-    bytes_have_one_reading();
+    reads_longest_lexemes();
+    literals_are_decimal();
+    places_rise();
+    lines_are_apart();
+    one_reading();
+    families_are_told_once();
     spells_at_most_one();
     within_the_limits_is_a_file();
 }
@@ -22,6 +29,12 @@ pub fn families_are_read_once()
 pub fn family_names_are_few()
     ensures { FamilyNamesAreFew }
 {
+    reads_longest_lexemes();
+    literals_are_decimal();
+    places_rise();
+    lines_are_apart();
+    one_reading();
+    families_are_told_once();
     family_names_occur();
 }
 
@@ -35,12 +48,13 @@ pub fn variants_are_projections()
     ensures declared { VariantsDeclareAmong }
     ensures read { VariantsAreRead }
 {
-    leaving_out_makes_nothing_deeper();
-    bytes_have_one_reading();
-    family_names_are_few();
     reads_longest_lexemes();
     literals_are_decimal();
     places_rise();
     lines_are_apart();
     one_reading();
+    families_are_told_once();
+    variants_are_plain();
+    leaving_out_makes_nothing_deeper();
+    within_the_limits_is_a_file();
 }

@@ -8,7 +8,10 @@ use Rattle.fam_outer.specs.Results.{and_then}
 use Rattle.linear_atoms.specs.declared.atoms.Atom.{Atom}
 use Rattle.cpp_conditions.specs.Propositions.{Proposition}
 use Rattle.cpp_conditions.specs.Validity.{Plain}
+use Rattle.cpp_lines.specs.declared.line.Line.{Line}
+use Rattle.cpp_lines.specs.Code.{code_of}
 use Rattle.cpp_lines.specs.Faults.{without_comments}
+use Rattle.cpp_lines.specs.Lines.{plain_lines_of}
 use Rattle.cpp_lines.specs.Preprocessed.{preprocessed}
 use Rattle.cpp_lines.specs.Sections.{Told, TextIsRead}
 
@@ -36,3 +39,10 @@ pub record IsPreprocessed (model : Plain) (truths : List (Proposition Atom) → 
   pub without_comments : blanked_file bytes ≡ Ok blanked
   pub read : TextIsRead model blanked (Ok told)
   pub is : text ≡ preprocessed (truths told.conditions) told.lines blanked
+
+-- a text without comments, splices and directive lines: it is its own blanked text, and its own code
+pub record IsPlainText (text : List ℕ) : Type 0 where
+  pub lines : List Line
+  pub blanked : blanked_file text ≡ Ok text
+  pub lines_are : plain_lines_of text ≡ Ok lines
+  pub code : code_of text ≡ text
