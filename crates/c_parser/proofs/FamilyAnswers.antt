@@ -1,5 +1,5 @@
 -- What the phases of reading a family say of its answer.
-use Rattle.std.proofs.Common.{◌≡◌, ℕ, ◌≤◌, ◌<◌, true, List, length, Option, Some, None, Ok, Err, refl, sym, ap, subst, ◌∙◌, inl, inr}
+use Rattle.std.proofs.Common.{◌≡◌, ℕ, ◌≤◌, ◌<◌, true, List, length, Some, None, Ok, Err, sym, ap, subst, inl, inr}
 use Rattle.fam_outer.specs.declared.faults.Place.{Place}
 use Rattle.fam_outer.specs.declared.faults.FileCode.{FileCode}
 use Rattle.fam_outer.specs.declared.faults.FileRefusal.{FileRefusal}
@@ -10,8 +10,6 @@ use Rattle.cpp_conditions.specs.Validity.{plain, Plain}
 use Rattle.cpp_lines.specs.Sections.{Told}
 use Rattle.c_tree.specs.Tree.{Whole}
 use Rattle.c_tree.specs.View.{whole}
-use Rattle.c_tree.specs.Whole.{IsProgram}
-use Rattle.c_tree.specs.declared.tree.Program.{Program}
 use Rattle.c_grammar.specs.Within.{SpellsWithin}
 use Rattle.family_names.specs.Names.{IsFirstNameFault}
 use Rattle.c_parser.specs.declared.families.FamilyItems.{FamilyItems}

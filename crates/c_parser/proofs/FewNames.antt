@@ -1,7 +1,6 @@
 -- A family without a fault of a name has at most 16 names.
 use Rattle.std.proofs.Common.{◌≡◌, ◌⊎◌, inl, inr, ℕ, zero, suc, ◌+◌, ◌≤◌, ◌<◌, nat_eq, nat_le, Bool, true, false, not, ◌||◌, ◌&&◌, cond, List, [], ◌∷◌, ◌++◌, length, Option, Some, None, refl, sym, ap, subst, ◌∙◌, append_assoc, append-nil, arith}
 use Rattle.std.specs.Prelude.{ℤ, if◌then◌else◌}
-use Rattle.std.specs.List.{list_any}
 use Rattle.std.proofs.lemmas.Bool.{or_right}
 use Rattle.std.proofs.lemmas.Bool.Decides.{nat_tests}
 use Rattle.std.proofs.lemmas.List.{length-append}
@@ -23,7 +22,7 @@ names_both : (xs ys : List Item) → names_of (xs ++ ys) ≡ names_of xs ++ name
 names_both [] ys = refl
 names_both (x ∷ xs) ys = ap (λ (ns : List ℕ). name_of x.sign ++ ns) (names_both xs ys) ∙ sym (append_assoc (name_of x.sign) (names_of xs) (names_of ys))
 
-neither : (a b : Bool) → (a || b) ≡ false → (a ≡ false) × (b ≡ false)
+pub neither : (a b : Bool) → (a || b) ≡ false → (a ≡ false) × (b ≡ false)
 neither true b e = absurd cc
 neither false b e = (refl, e)
 
@@ -33,10 +32,10 @@ before_main (x ∷ xs) more h =
     let n = neither (is_main x.sign) (has_main xs) h in
     ap (λ (b : Bool). cond b [] (x ∷ until_main (xs ++ more))) n.0 ∙ ap (λ (ys : List Item). x ∷ ys) (before_main xs more n.1)
 
-none_more : (xs : List Item) → has_main xs ≡ false → until_main xs ≡ xs
+pub none_more : (xs : List Item) → has_main xs ≡ false → until_main xs ≡ xs
 none_more xs h = ap until_main (sym (append-nil xs)) ∙ before_main xs [] h ∙ append-nil xs
 
-declared_more : (before more : List Item) → has_main before ≡ false → declared_by (before ++ more) ≡ declared_by before ++ declared_by more
+pub declared_more : (before more : List Item) → has_main before ≡ false → declared_by (before ++ more) ≡ declared_by before ++ declared_by more
 declared_more before more h =
     ap names_of (before_main before more h) ∙ names_both before (until_main more) ∙ ap (λ (ys : List Item). names_of ys ++ declared_by more) (sym (none_more before h))
 
@@ -47,7 +46,7 @@ behind_main (x ∷ xs) more h = elim (is_main x.sign) as (λ b. (b || has_main x
   | false ↦ λ e. ap (λ (ys : List Item). x ∷ ys) (behind_main xs more e)
 ] h
 
-declared_same : (before more : List Item) → has_main before ≡ true → declared_by (before ++ more) ≡ declared_by before
+pub declared_same : (before more : List Item) → has_main before ≡ true → declared_by (before ++ more) ≡ declared_by before
 declared_same before more h = ap names_of (behind_main before more h)
 
 among_front : (x : ℕ) (xs ys : List ℕ) → is_among x xs ≡ true → is_among x (xs ++ ys) ≡ true
@@ -66,7 +65,7 @@ once_more : (seen ds : List ℕ) (x : ℕ) → each_once seen (ds ++ x ∷ []) �
 once_more seen [] x = refl
 once_more seen (d ∷ ds) x = once_more (with_number seen d) ds x
 
-same_number : (x : ℕ) → nat_eq x x ≡ true
+pub same_number : (x : ℕ) → nat_eq x x ≡ true
 same_number x = grind (arith, nat_tests)
 
 with_keeps : (x y : ℕ) (seen : List ℕ) → is_among x seen ≡ true → is_among x (with_number seen y) ≡ true
@@ -82,10 +81,10 @@ once_keeps : (x : ℕ) (seen ds : List ℕ) → is_among x seen ≡ true → is_
 once_keeps x seen [] h = h
 once_keeps x seen (d ∷ ds) h = once_keeps x (with_number seen d) ds (with_keeps x d seen h)
 
-is_same : (x y : ℕ) → nat_eq x y ≡ true → x ≡ y
+pub is_same : (x y : ℕ) → nat_eq x y ≡ true → x ≡ y
 is_same x y e = grind (arith, nat_tests)
 
-once_has : (x : ℕ) (seen ds : List ℕ) → is_among x ds ≡ true → is_among x (each_once seen ds) ≡ true
+pub once_has : (x : ℕ) (seen ds : List ℕ) → is_among x ds ≡ true → is_among x (each_once seen ds) ≡ true
 once_has x seen [] h = absurd cc
 once_has x seen (d ∷ ds) h = elim (nat_eq x d) as (λ b. nat_eq x d ≡ b → (b || is_among x ds) ≡ true → is_among x (each_once (with_number seen d) ds) ≡ true) [
   | true ↦ λ e k. once_keeps x (with_number seen d) ds (subst (λ (y : ℕ). is_among x (with_number seen y) ≡ true) (is_same x d e) (with_it x seen))
@@ -104,7 +103,7 @@ used setting before x h = elim (family.is_feature setting x) as (λ a. IsEither 
       ] k)
     ] h
 
-no_other : (code : Option (List ℤ) → FileCode) (other : Option FileCode) (found : Option Config) → None ≡ code_with code other found → other ≡ None
+pub no_other : (code : Option (List ℤ) → FileCode) (other : Option FileCode) (found : Option Config) → None ≡ code_with code other found → other ≡ None
 no_other code other None e = sym e
 no_other code other (Some config) e = absurd cc
 
@@ -122,19 +121,19 @@ with_room x seen le (inl e) = subst (λ (b : Bool). length (cond b seen (seen ++
 with_room x seen le (inr lt) = elim (is_among x seen) as (λ b. length (cond b seen (seen ++ x ∷ [])) ≤ 16) [ true ↦ le | false ↦ omega (arith, length-append seen (x ∷ [])) ]
 
 -- the item names nothing, or this
-names_this : (s : Sign) → (name_of s ≡ []) ⊎ ((n : ℕ) × (s ≡ signs.Name n))
+pub names_this : (s : Sign) → (name_of s ≡ []) ⊎ ((n : ℕ) × (s ≡ signs.Name n))
 names_this (signs.Name n) = inr (n, refl)
 names_this _ = inl refl
 
 -- the names that are declared behind an item are few, and so far those that are named are declared
-record IsFine (before : List Item) (x : Item) : Type 0 where
-  few : length (each_once [] (declared_by (before ++ x ∷ []))) ≤ 16
-  named : (n : ℕ) → is_name n x.sign ≡ true → is_among n (declared_by (before ++ x ∷ [])) ≡ true
+pub record IsFine (before : List Item) (x : Item) : Type 0 where
+  pub few : length (each_once [] (declared_by (before ++ x ∷ []))) ≤ 16
+  pub named : (n : ℕ) → is_name n x.sign ≡ true → is_among n (declared_by (before ++ x ∷ [])) ≡ true
 
-silent_one : (x : Item) → name_of x.sign ≡ [] → declared_by (x ∷ []) ≡ []
+pub silent_one : (x : Item) → name_of x.sign ≡ [] → declared_by (x ∷ []) ≡ []
 silent_one x e = elim (is_main x.sign) as (λ b. names_of (cond b [] (x ∷ [])) ≡ []) [ true ↦ refl | false ↦ append-nil (name_of x.sign) ∙ e ]
 
-silent_same : (before : List Item) (x : Item) → declared_by (x ∷ []) ≡ [] → declared_by (before ++ x ∷ []) ≡ declared_by before
+pub silent_same : (before : List Item) (x : Item) → declared_by (x ∷ []) ≡ [] → declared_by (before ++ x ∷ []) ≡ declared_by before
 silent_same before x one = elim (has_main before) as (λ b. has_main before ≡ b → declared_by (before ++ x ∷ []) ≡ declared_by before) [
   | true ↦ λ m. declared_same before (x ∷ []) m
   | false ↦ λ m. declared_more before (x ∷ []) m ∙ ap (λ (ns : List ℕ). declared_by before ++ ns) one ∙ append-nil (declared_by before)
@@ -189,7 +188,7 @@ name_step setting before x n e h le =
       | false ↦ λ m k. declaration_step setting before x n e m k le
     ] refl h
 
-step : (setting : Setting) (before : List Item) (x : Item) → IsNameFault setting before x.sign None → length (each_once [] (declared_by before)) ≤ 16 → IsFine before x
+pub step : (setting : Setting) (before : List Item) (x : Item) → IsNameFault setting before x.sign None → length (each_once [] (declared_by before)) ≤ 16 → IsFine before x
 step setting before x h le = elim (names_this x.sign) [
   | inl e ↦ silent_step before x e le
   | inr e ↦ name_step setting before x e.0 e.1 (subst (λ (s : Sign). IsNameFault setting before s None) e.1 h) le
@@ -216,7 +215,7 @@ all_steps before x xs f a =
       ]);
     }
 
-later_of : (code : Option FileCode) (place : Place) (later : Type 0) → IsThisOr code place None later → (code ≡ None) × later
+pub later_of : (code : Option FileCode) (place : Place) (later : Type 0) → IsThisOr code place None later → (code ≡ None) × later
 later_of None place later h = (refl, h)
 later_of (Some code) place later h = absurd cc
 
@@ -232,11 +231,11 @@ walk setting before (x ∷ xs) h le =
 
 -- ---- so many numbers, each among a list
 
-without : ℕ → List ℕ → List ℕ
+pub without : ℕ → List ℕ → List ℕ
 without x [] = []
 without x (y ∷ ys) = if nat_eq x y then ys else y ∷ without x ys
 
-one_less : (x : ℕ) (ys : List ℕ) → is_among x ys ≡ true → length (without x ys) + 1 ≡ length ys
+pub one_less : (x : ℕ) (ys : List ℕ) → is_among x ys ≡ true → length (without x ys) + 1 ≡ length ys
 unfolding without
 one_less x [] h = absurd cc
 one_less x (y ∷ ys) h = elim (nat_eq x y) as (λ b. (b || is_among x ys) ≡ true → length (cond b ys (y ∷ without x ys)) + 1 ≡ suc (length ys)) [
@@ -248,7 +247,7 @@ not_first : (a b : Bool) → a ≡ false → (a || b) ≡ true → b ≡ true
 not_first true b e h = absurd cc
 not_first false b e h = h
 
-others_stay : (x z : ℕ) (ys : List ℕ) → nat_eq z x ≡ false → is_among z ys ≡ true → is_among z (without x ys) ≡ true
+pub others_stay : (x z : ℕ) (ys : List ℕ) → nat_eq z x ≡ false → is_among z ys ≡ true → is_among z (without x ys) ≡ true
 unfolding without
 others_stay x z [] n h = absurd cc
 others_stay x z (y ∷ ys) n h = elim (nat_eq x y) as (λ b. nat_eq x y ≡ b → is_among z (cond b ys (y ∷ without x ys)) ≡ true) [

@@ -13,25 +13,14 @@ use Rattle.c_tokens.specs.declared.token.Token.{Token}
 use Rattle.c_tokens.specs.Reading.{tokens_of, StandBetween}
 use Rattle.c_grammar.specs.declared.items.Item.{Item}
 use Rattle.cpp_lines.specs.declared.line.Line.{Line}
-use Rattle.cpp_lines.specs.Lines.{pieces, AreCounted}
-use Rattle.cpp_lines.proofs.Coding.{last_piece, next_piece}
+use Rattle.cpp_lines.specs.Lines.{AreCounted}
+use Rattle.cpp_lines.proofs.CodeLines.{AreLines}
 use Rattle.c_parser.specs.Families.{stands_in, group_sign, or_directive, by_line}
 use Rattle.c_parser.specs.Items.{items_over}
 use Rattle.c_parser.proofs.ByLine.{none_in, lines_same}
 use Rattle.c_parser.proofs.FamilyFacts.{AreOn, AreFrom, from_on, from_both}
 use Rattle.c_parser.proofs.Lexical.{TokenLaws, stand}
 use Rattle.c_parser.proofs.TokenLines.{item_below, alone_of, alone, by_piece}
-
--- ---- lines have no newline
-
-abbrev pub AreLines : List (List ℕ) → Type 0
-AreLines [] = Unit {0}
-AreLines (p ∷ ps) = (list_any is_newline p ≡ false) × AreLines ps
-
-pub pieces_are_lines : (text : List ℕ) (ps : List (List ℕ)) → pieces text ≡ ps → AreLines ps
-pieces_are_lines text [] e = tt
-pieces_are_lines text (p ∷ []) e = ((last_piece text p e).1, tt)
-pieces_are_lines text (p ∷ q ∷ qs) e = let k = next_piece text p q qs e in (k.2, pieces_are_lines k.0 (q ∷ qs) k.3)
 
 none_in_front : (k : ℕ) (xs : List ℕ) → list_any is_newline xs ≡ false → list_any is_newline (take k xs) ≡ false
 none_in_front zero xs h = refl

@@ -48,7 +48,7 @@ token_distinct names (kinds.Number n) w h = h
 token_distinct names kinds.Word w h = word_distinct names w (keyword_of w) h
 token_distinct names kinds.Mark w h = h
 
-distinct_from : (text : List ℕ) (names : List (List ℕ)) (ts : List Token) → AreDistinct names → AreDistinct (names_from text names ts)
+pub distinct_from : (text : List ℕ) (names : List (List ℕ)) (ts : List Token) → AreDistinct names → AreDistinct (names_from text names ts)
 distinct_from text names [] h = h
 distinct_from text names (t ∷ ts) h = distinct_from text (names_with names t.kind (lexeme_in text t)) ts (token_distinct names t.kind (lexeme_in text t) h)
 

@@ -8,3 +8,4 @@ pub mod Stages
 pub mod Families
 pub mod FamilyStages
 pub mod FamilyReading
+pub mod Variants

@@ -8,6 +8,7 @@ mod names;
 mod numbering;
 pub mod plain;
 mod signs;
+pub mod variants;
 
 pub use family::{Family, read_family};
 pub use plain::{read_plain, read_plain_with};

@@ -1,3 +1,7 @@
+pub mod ReadOnce
+pub mod CodeLines
+pub mod Clean
+pub mod VariantTexts
 pub mod LineNumbers
 pub mod KeptLines
 pub mod Numbering

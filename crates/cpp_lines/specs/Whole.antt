@@ -1,13 +1,19 @@
 -- A whole file without its comments, or its first fault before its lines are read.
-use Rattle.std.specs.Prelude.{◌≡◌, ℕ, nat_lt, List, length, Result, Ok, Err, if◌then◌else◌}
+use Rattle.std.specs.Prelude.{◌≡◌, ℕ, nat_lt, Bool, List, length, Result, Ok, Err, if◌then◌else◌}
 use Rattle.fam_outer.specs.declared.faults.Place.{Place}
 use Rattle.fam_outer.specs.declared.faults.FileCode.{FileCode}
 use Rattle.fam_outer.specs.declared.faults.FileCode.TheVariants.{TooLong}
 use Rattle.fam_outer.specs.Limits.{file_bytes}
 use Rattle.fam_outer.specs.Results.{and_then}
+use Rattle.linear_atoms.specs.declared.atoms.Atom.{Atom}
+use Rattle.cpp_conditions.specs.Propositions.{Proposition}
 use Rattle.cpp_conditions.specs.Validity.{Plain}
+use Rattle.cpp_lines.specs.declared.line.Line.{Line}
+use Rattle.cpp_lines.specs.Code.{code_of}
 use Rattle.cpp_lines.specs.Faults.{without_comments}
-use Rattle.cpp_lines.specs.Sections.{TextIsRead}
+use Rattle.cpp_lines.specs.Lines.{plain_lines_of}
+use Rattle.cpp_lines.specs.Preprocessed.{preprocessed}
+use Rattle.cpp_lines.specs.Sections.{Told, TextIsRead}
 
 -- where a file is refused whole
 abbrev pub file_place : Place
@@ -25,3 +31,18 @@ pub record HasLineFault (model : Plain) (bytes : List ℕ) (fault : FileCode × 
   pub blanked : List ℕ
   pub without_comments : blanked_file bytes ≡ Ok blanked
   pub read : TextIsRead model blanked (Err fault)
+
+-- the file is read as these lines and conditions, and this is the text that stays of it where the conditions have these truths
+pub record IsPreprocessed (model : Plain) (truths : List (Proposition Atom) → List Bool) (bytes text : List ℕ) : Type 0 where
+  pub blanked : List ℕ
+  pub told : Told
+  pub without_comments : blanked_file bytes ≡ Ok blanked
+  pub read : TextIsRead model blanked (Ok told)
+  pub is : text ≡ preprocessed (truths told.conditions) told.lines blanked
+
+-- a text without comments, splices and directive lines: it is its own blanked text, and its own code
+pub record IsPlainText (text : List ℕ) : Type 0 where
+  pub lines : List Line
+  pub blanked : blanked_file text ≡ Ok text
+  pub lines_are : plain_lines_of text ≡ Ok lines
+  pub code : code_of text ≡ text

@@ -1,15 +1,22 @@
 //! Laws of comments and lines, for the crates above: each function does nothing, and its contract is the law.
 #![tactic(auto)]
 
-ghost use Rattle.std.specs.Prelude.{◌≡◌, ◌↔◌, ◌<◌, ℕ, List, length, Ok, Some};
+ghost use Rattle.std.specs.Prelude.{◌≡◌, ◌↔◌, ◌<◌, ℕ, Bool, List, length, Ok, Some};
 ghost use Rattle.fam_outer.specs.Places.{place_at};
 ghost use Rattle.fam_outer.specs.declared.faults.FileCode.{FileCode};
+ghost use Rattle.linear_atoms.specs.declared.atoms.Atom.{Atom};
+ghost use Rattle.cpp_conditions.specs.Propositions.{Proposition};
+ghost use Rattle.cpp_conditions.specs.Validity.{Plain};
 ghost use Rattle.cpp_lines.specs.Code.{code_of};
 ghost use Rattle.cpp_lines.specs.Comments.{blank};
 ghost use Rattle.cpp_lines.specs.declared.line.Line as declared;
 ghost use Rattle.cpp_lines.specs.Lines.{ArePlaced, plain_lines_of};
 ghost use Rattle.cpp_lines.specs.Faults.{IsFirstFault, fault_of, first_fault};
+ghost use Rattle.cpp_lines.specs.Sections.{Told, TextIsRead};
+ghost use Rattle.cpp_lines.specs.Whole.{IsPlainText, IsPreprocessed};
 ghost use Rattle.cpp_lines.specs.Pieces.{HasFault, Piece, IsRead, IsReadOnce, joined};
+
+use cpp_conditions::laws::bytes_have_one_reading;
 
 /// A blanked text and its code have as many bytes as the text, each at the place where it was.
 pub fn places_stay()
@@ -45,4 +52,18 @@ pub fn faults_are_of_pieces()
     ensures { (text : List ℕ) (ps : List Piece) (unclosed : List ℕ) (offset : ℕ) (code : FileCode)
         → IsRead text ps unclosed → offset < length text
         → ((fault_of text offset ≡ Some code) ↔ HasFault text ps unclosed offset code) }
+{}
+
+/// A text is read as one list of lines and conditions.
+pub fn families_are_told_once()
+    ensures { (model : Plain) (text : List ℕ) (a b : Told) → TextIsRead model text (Ok a) → TextIsRead model text (Ok b) → a ≡ b }
+{
+    bytes_have_one_reading();
+}
+
+/// The text of a variant has no comment, no splice and no directive line, and no more bytes than a file may have: it is its
+/// own blanked text and its own code, and a file without groups.
+pub fn variants_are_plain()
+    ensures { (model : Plain) (truths : List (Proposition Atom) → List Bool) (bytes text : List ℕ)
+        → IsPreprocessed model truths bytes text → IsPlainText text }
 {}

@@ -17,7 +17,7 @@ use Rattle.family_names.specs.Names.{Setting, truths_at, has_main, until_main, n
 use Rattle.family_names.specs.Laws.{has_groups, plain_use_fault, PlainNames}
 use Rattle.family_names.proofs.Answering.{found_same}
 
-no_directive : (s : Sign) → is_group s ≡ false → directive_of s ≡ None
+pub no_directive : (s : Sign) → is_group s ≡ false → directive_of s ≡ None
 no_directive (signs.GroupIf n) h = absurd cc
 no_directive (signs.GroupElif n) h = absurd cc
 no_directive signs.GroupElse h = absurd cc

@@ -5,17 +5,12 @@ use Rattle.fam_outer.specs.declared.faults.FileCode.{FileCode}
 use Rattle.fam_outer.specs.declared.faults.FileRefusal.{FileRefusal}
 use Rattle.fam_outer.specs.declared.faults.FileRefusal.TheVariants as refusals
 use Rattle.cpp_conditions.specs.Validity.{Plain}
-use Rattle.cpp_lines.specs.Preprocessed.{preprocessed}
-use Rattle.cpp_lines.specs.Sections.{Told, TextIsRead, truths_at}
-use Rattle.cpp_lines.specs.Whole.{blanked_file, HasLineFault}
+use Rattle.cpp_lines.specs.Sections.{truths_at}
+use Rattle.cpp_lines.specs.Whole.{blanked_file, HasLineFault, IsPreprocessed}
 
--- the file is read as these lines and conditions, and this is its text at the truths of the conditions at the values
-pub record IsVariant (model : Plain) (values : List ℤ) (bytes text : List ℕ) : Type 0 where
-  pub blanked : List ℕ
-  pub told : Told
-  pub without_comments : blanked_file bytes ≡ Ok blanked
-  pub read : TextIsRead model blanked (Ok told)
-  pub is : text ≡ preprocessed (truths_at values told.conditions) told.lines blanked
+-- the text of a file at the truths of its conditions at these values
+abbrev pub IsVariant : Plain → List ℤ → List ℕ → List ℕ → Type 0
+IsVariant model values bytes text = IsPreprocessed model (truths_at values) bytes text
 
 -- the file has this fault at its length or its comments, or at a line
 abbrev pub IsFaulty : Plain → List ℕ → FileCode × Place → Type 0

@@ -1,0 +1,77 @@
+-- `main` stands in no group.
+use Rattle.std.proofs.Common.{◌≡◌, ℕ, Bool, true, false, ◌||◌, cond, List, [], ◌∷◌, ◌++◌, length, refl, sym, ap, subst, ◌∙◌, append-nil, arith}
+use Rattle.std.specs.Prelude.{ℤ}
+use Rattle.std.proofs.lemmas.List.{length-append}
+use Rattle.std.proofs.lemmas.List.Folds.{list_any-append}
+use Rattle.fam_outer.specs.declared.faults.Place.{Place}
+use Rattle.cpp_groups.specs.declared.section.Section.{Section}
+use Rattle.cpp_groups.specs.Kept.{all_kept, sections_after}
+use Rattle.c_tree.specs.declared.tree.Declared.{Declared}
+use Rattle.c_tree.specs.Tree.{Code}
+use Rattle.c_grammar.specs.declared.items.Item.{Item}
+use Rattle.c_grammar.specs.declared.items.Sign.TheVariants as signs
+use Rattle.c_grammar.specs.Grammar.{at, Optional, absent, present, Declarator, bare, positive, negative, Part, Outer, Declares, nothing, variables, prototype, section, last_var, next_var, end_part, else_part, elif_part, Main, main, File, Forms, file}
+use Rattle.c_grammar.specs.Kept.{directive_of, kept_from}
+use Rattle.c_grammar.proofs.Preprocess.{leaves}
+use Rattle.family_names.specs.Names.{is_main, has_main, sections_behind, IsEither}
+use Rattle.c_parser.proofs.FewNames.{neither}
+use Rattle.c_parser.proofs.KeptNames.{MainStays, kept_more}
+
+none_both : (us vs : List Item) → has_main us ≡ false → has_main vs ≡ false → has_main (us ++ vs) ≡ false
+none_both us vs h k = list_any-append (λ (x : Item). is_main x.sign) us vs ∙ ap (λ (b : Bool). b || has_main vs) h ∙ k
+
+static_none : {us : List Item} → Optional signs.Static us → has_main us ≡ false
+static_none (absent _) = refl
+static_none (present p _) = refl
+
+extern_none : {us : List Item} → Optional signs.Extern us → has_main us ≡ false
+extern_none (absent _) = refl
+extern_none (present p _) = refl
+
+void_none : {us : List Item} → Optional signs.Void us → has_main us ≡ false
+void_none (absent _) = refl
+void_none (present p _) = refl
+
+declarator_none : {us : List Item} {x : ℕ} {n : ℤ} → Declarator us x n → has_main us ≡ false
+declarator_none (bare p x) = refl
+declarator_none (positive p q r x n) = refl
+declarator_none (negative p q r s x n) = refl
+
+-- no declaration has it
+no_main : {part : Part} {us : List Item} {ds : List Declared} → Declares part us ds → has_main us ≡ false
+no_main (nothing gs) = refl
+no_main (variables p gs {us} {vs} {ws} o v d) = none_both us (at p signs.Int ∷ (vs ++ ws)) (static_none o) (none_both vs ws (no_main v) (no_main d))
+no_main (prototype p q r s t gs {us} {vs} {ws} o v d) =
+    none_both us (at p signs.Int ∷ at q signs.Input ∷ at r signs.Open ∷ (vs ++ at s signs.Close ∷ at t signs.Semicolon ∷ ws)) (extern_none o)
+    (none_both vs (at s signs.Close ∷ at t signs.Semicolon ∷ ws) (void_none v) (no_main d))
+no_main (section p n gs {us} {vs} {ws} a b d) = none_both us (vs ++ ws) (no_main a) (none_both vs ws (no_main b) (no_main d))
+no_main (last_var p gs {us} d) = none_both us (at p signs.Semicolon ∷ []) (declarator_none d) refl
+no_main (next_var p gs {us} {vs} d v) = none_both us (at p signs.Comma ∷ vs) (declarator_none d) (no_main v)
+no_main (end_part p gs) = refl
+no_main (else_part p q gs {us} d) = none_both us (at q signs.GroupEnd ∷ []) (no_main d) refl
+no_main (elif_part p n gs {us} {vs} a b) = none_both us vs (no_main a) (no_main b)
+
+behind : (truths : List Bool) (sections : List Section) (us vs : List Item) → has_main us ≡ false → MainStays truths (sections_behind truths sections us) vs → MainStays truths sections (us ++ vs)
+behind truths sections [] vs h m = m
+behind truths sections (x ∷ us) vs h m =
+    let n = neither (is_main x.sign) (has_main us) h in
+    subst (λ (b : Bool). IsEither b (all_kept sections ≡ true) (MainStays truths (sections_after truths sections (directive_of x.sign)) (us ++ vs))) (sym n.0)
+    (behind truths (sections_after truths sections (directive_of x.sign)) us vs n.1 m)
+
+one_longer : (ks vs : List Item) (x : Item) (b : Bool) → length ks ≡ length vs → ks ++ cond b (x ∷ []) [] ≡ vs ++ x ∷ [] → b ≡ true
+one_longer ks vs x true e h = refl
+one_longer ks vs x false e h = absurd (omega (arith, e, ap length h, length-append ks [], length-append vs (x ∷ [])))
+
+-- what stands behind declarations stays
+all_closed : (truths : List Bool) (q : Place) {us : List Item} {ds : List Declared} → Declares (Outer []) us ds → all_kept (sections_behind truths [] us) ≡ true
+all_closed truths q {us} {ds} d =
+    let x = leaves truths d [] refl in
+    let it : Item = at q signs.Main in
+    let same : kept_from truths [] us ≡ x.0 = ap (kept_from truths []) (sym (append-nil us)) ∙ x.2 [] ∙ append-nil x.0 in
+    one_longer (kept_from truths [] us) x.0 it (all_kept (sections_behind truths [] us)) (ap length same) (sym (kept_more truths [] us (it ∷ [])) ∙ x.2 (it ∷ []))
+
+main_first : (truths : List Bool) (sections : List Section) {vs : List Item} {c : Code} {p : Place} → Main vs c p → all_kept sections ≡ true → MainStays truths sections vs
+main_first truths sections (main p q r s t u o b) h = h
+
+pub main_stays : (truths : List Bool) {items : List Item} {f : File} → Forms items f → MainStays truths [] items
+main_stays truths (file {us} {vs} {ds} {c} {p} d m) = behind truths [] us vs (no_main d) (main_first truths (sections_behind truths [] us) m (all_closed truths p d))

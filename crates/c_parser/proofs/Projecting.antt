@@ -1,0 +1,139 @@
+-- Preprocessing and then reading is reading and then projecting: the laws of variants.
+use Rattle.std.proofs.Common.{◌≡◌, ℕ, ◌≤◌, ◌<◌, nat_eq, Bool, true, false, ◌||◌, cond, List, [], ◌∷◌, ◌++◌, length, Result, Ok, refl, sym, ap, subst, ◌∙◌}
+use Rattle.std.specs.List.{list_any}
+use Rattle.fam_outer.specs.declared.faults.FileCode.{FileCode}
+use Rattle.fam_outer.specs.declared.faults.Place.{Place}
+use Rattle.linear_atoms.specs.declared.atoms.Atom.{Atom}
+use Rattle.cpp_conditions.specs.declared.models.Model.{Model}
+use Rattle.cpp_conditions.specs.Propositions.{Proposition}
+use Rattle.cpp_conditions.specs.Validity.{Plain, plain}
+use Rattle.cpp_lines.specs.Code.{code_of}
+use Rattle.cpp_lines.specs.Preprocessed.{preprocessed}
+use Rattle.cpp_lines.specs.Sections.{Told, truths_at}
+use Rattle.cpp_lines.specs.Whole.{IsPreprocessed, IsPlainText}
+use Rattle.c_tree.specs.Tree.{Whole}
+use Rattle.c_tree.specs.View.{whole}
+use Rattle.c_grammar.specs.declared.items.Item.{Item}
+use Rattle.c_grammar.specs.declared.items.Sign.{Sign}
+use Rattle.c_grammar.specs.declared.items.Sign.TheVariants as signs
+use Rattle.c_grammar.specs.Facts.{IsFit, AreFit}
+use Rattle.c_grammar.specs.Kept.{kept}
+use Rattle.c_grammar.specs.Laws.{AtMostOne}
+use Rattle.c_grammar.specs.Within.{SpellsWithin, KeepsWithin, WithinIsFile}
+use Rattle.c_parser.specs.declared.family.Family.{Family}
+use Rattle.c_parser.specs.Families.{family_listed}
+use Rattle.c_parser.specs.FamilyReading.{IsFamilyOf, setting_of}
+use Rattle.c_parser.specs.Items.{Listed, AreDistinct}
+use Rattle.c_parser.specs.Names.{is_main, name_of, declared_by}
+use Rattle.c_parser.specs.Reading.{items_of, items_of_code, AreAmong}
+use Rattle.c_parser.specs.Variants.{projection, truths_in, names_in, TextsSpellProjections, VariantsAreTexts, FamilyNamesAreFew, VariantsDeclareAmong, VariantsAreRead, FamiliesAreReadOnce}
+use Rattle.c_parser.proofs.FamilyAnswers.{NamesOccur}
+use Rattle.c_parser.proofs.FamilyNames.{by_line_of}
+use Rattle.c_parser.proofs.FewNames.{few_names, is_same}
+use Rattle.c_parser.proofs.KeptItems.{fit_kept}
+use Rattle.c_parser.proofs.KeptNames.{kept_fine}
+use Rattle.c_parser.proofs.MainItems.{main_stays}
+use Rattle.c_parser.proofs.KeptTexts.{TextLaws, same_told, family_fit, variant_items}
+use Rattle.c_parser.proofs.OwnNames.{distinct_from}
+
+-- what a law of lines says of the text of a variant
+abbrev pub VariantsArePlain : Type 0
+VariantsArePlain = (model : Plain) (truths : List (Proposition Atom) → List Bool) (bytes text : List ℕ) → IsPreprocessed model truths bytes text → IsPlainText text
+
+pub names_are : (model : Model) (bytes : List ℕ) (f : Family) → (o : IsFamilyOf model bytes f) → names_in f ≡ o.listed.names
+names_are model bytes f o = ap (λ (w : Whole). w.names) o.judged.spelled.is
+
+pub spelled : TextLaws → KeepsWithin → VariantsArePlain → TextsSpellProjections
+spelled laws keeps are_plain model bytes text f truths o q =
+    let l = o.listed in
+    let same = names_are model bytes f o in
+    record {
+      items = kept truths l.items;
+      are = subst (λ (ns : List (List ℕ)). items_of ns text ≡ Ok (record { names = ns; items = kept truths l.items })) (sym same)
+          (variant_items laws (plain model) bytes text o.told l truths o.items q (are_plain (plain model) (λ conditions. truths) bytes text q));
+      spelled = subst (λ (ns : List (List ℕ)). SpellsWithin ns (projection f truths) (kept truths l.items)) (sym same) (keeps l.names l.items (whole f.code) truths o.judged.spelled);
+    }
+
+pub texts : TextLaws → VariantsAreTexts
+texts laws model bytes text f values o q =
+    let same = same_told laws (plain model) bytes q.blanked o.items.blanked q.told o.told q.without_comments o.items.without_comments q.read o.items.read in
+    let now : truths_at values q.told.conditions ≡ truths_in f values = ap (λ (t : Told). truths_at values t.conditions) same.told ∙ sym (o.judged.conditions_are.truths values) in
+    record {
+      blanked = q.blanked;
+      told = q.told;
+      without_comments = q.without_comments;
+      read = q.read;
+      is = q.is ∙ ap (λ (ts : List Bool). preprocessed ts q.told.lines q.blanked) now;
+    }
+
+-- ---- the names
+
+pub few : TextLaws → NamesOccur → FamilyNamesAreFew
+few laws occur model bytes f o =
+    let l = o.listed in
+    let same = names_are model bytes f o in
+    let s = (by_line_of laws.tokens laws.apart (plain model) bytes o.told l o.items).stands in
+    let distinct : AreDistinct o.items.tokens.names = subst AreDistinct (sym s.names) (distinct_from _ [] s.tokens tt) in (
+      subst (λ (ns : List (List ℕ)). length ns ≤ 16) (sym same) (few_names _ l.items (length l.names) o.judged.names (λ x lt. occur (plain model) bytes o.told l x o.items lt)),
+      subst AreDistinct (sym (same ∙ ap (λ (k : Listed). k.names) o.items.is)) distinct,
+    )
+
+name_below : (count : ℕ) (s : Sign) (x : ℕ) (ns : List ℕ) → IsFit count s → (list_any (nat_eq x) ns ≡ true → x < count) → list_any (nat_eq x) (name_of s ++ ns) ≡ true → x < count
+name_below count (signs.Name n) x ns f go h = elim (nat_eq x n) as (λ b. nat_eq x n ≡ b → (b || list_any (nat_eq x) ns) ≡ true → x < count) [
+  | true ↦ λ e k. subst (λ (m : ℕ). m < count) (sym (is_same x n e)) f
+  | false ↦ λ e k. go k
+] refl h
+name_below count _ x ns f go h = go h
+
+declared_below : (count : ℕ) (xs : List Item) (x : ℕ) → AreFit count xs → list_any (nat_eq x) (declared_by xs) ≡ true → x < count
+declared_below count [] x f h = absurd cc
+declared_below count (y ∷ ys) x f h = elim (is_main y.sign) as (λ b. list_any (nat_eq x) (cond b [] (name_of y.sign ++ declared_by ys)) ≡ true → x < count) [
+  | true ↦ λ k. absurd cc
+  | false ↦ λ k. name_below count y.sign x (declared_by ys) f.0 (declared_below count ys x f.1) k
+] h
+
+abbrev listed_ok : Listed → Result Listed (FileCode × Place)
+listed_ok l = Ok l
+
+pub same_listed : (r : Result Listed (FileCode × Place)) (l m : Listed) → r ≡ listed_ok l → r ≡ listed_ok m → l ≡ m
+same_listed r l m h k = let e : listed_ok l ≡ listed_ok m = sym h ∙ k in cc
+
+pub declared : TextLaws → KeepsWithin → VariantsArePlain → VariantsDeclareAmong
+unfolding spelled
+declared laws keeps are_plain model bytes text f truths o q l is =
+    let t = spelled laws keeps are_plain model bytes text f truths o q in
+    let same = names_are model bytes f o in
+    let e : l ≡ record { names = names_in f; items = kept truths o.listed.items } = same_listed (items_of (names_in f) text) l (record { names = names_in f; items = kept truths o.listed.items }) is t.are in
+    let fit : AreFit (length (names_in f)) (kept truths o.listed.items) =
+    subst (λ (ns : List (List ℕ)). AreFit (length ns) (kept truths o.listed.items)) (sym same) (fit_kept (length o.listed.names) truths [] o.listed.items (family_fit laws (plain model) bytes o.told o.listed o.items)) in
+    subst (λ (k : Listed). AreAmong (names_in f) k.items) (sym e) (λ x h. declared_below (length (names_in f)) (kept truths o.listed.items) x fit h)
+
+-- ---- one reading
+
+pub once : TextLaws → AtMostOne → WithinIsFile → FamiliesAreReadOnce
+once laws most is_file model bytes f g o p =
+    let same = same_told laws (plain model) bytes o.items.blanked p.items.blanked o.told p.told o.items.without_comments p.items.without_comments o.items.read p.items.read in
+    let tokens : o.items.tokens ≡ p.items.tokens =
+    same_listed (items_of_code [] (code_of p.items.blanked)) o.items.tokens p.items.tokens (ap (λ (b : List ℕ). items_of_code [] (code_of b)) (sym same.blanked) ∙ o.items.tokens_are) p.items.tokens_are in
+    let list : o.listed ≡ p.listed = o.items.is ∙ ap (λ (t : Told). family_listed t.lines o.items.tokens) same.told ∙ ap (family_listed p.told.lines) tokens ∙ sym p.items.is in
+    let first = subst (λ (l : Listed). SpellsWithin l.names (whole f.code) l.items) list o.judged.spelled in
+    record {
+      code = most p.listed.names p.listed.items (whole f.code) (whole g.code) (is_file p.listed.names p.listed.items (whole f.code) first) (is_file p.listed.names p.listed.items (whole g.code) p.judged.spelled);
+      truths = λ values. o.judged.conditions_are.truths values ∙ ap (λ (t : Told). truths_at values t.conditions) same.told ∙ sym (p.judged.conditions_are.truths values);
+    }
+
+-- ---- reading a variant
+
+pub read : TextLaws → KeepsWithin → VariantsArePlain → WithinIsFile → VariantsAreRead
+unfolding spelled
+read laws keeps are_plain is_file model bytes text f values o v q =
+    let l = o.listed in
+    let t = spelled laws keeps are_plain model bytes text f (truths_in f values) o (texts laws model bytes text f values o q) in
+    let forms = (is_file l.names l.items (whole f.code) o.judged.spelled).forms in (
+      record { names = names_in f; items = kept (truths_in f values) l.items },
+      t.are,
+      record {
+        spelled = t.spelled;
+        names = kept_fine (setting_of model f.atoms f.conditions l.names) l.items values o.judged.names v (main_stays (truths_in f values) forms);
+      },
+    )

@@ -1,0 +1,65 @@
+-- Preprocessing and then reading is reading and then projecting (ISO/IEC 9899:2011, 5.1.1.2 and 6.10.1).
+use Rattle.std.specs.Prelude.{◌≡◌, ◌≤◌, ℕ, ℤ, Bool, List, length, Ok}
+use Rattle.cpp_conditions.specs.declared.models.Model.{Model}
+use Rattle.cpp_conditions.specs.Validity.{plain, IsValid}
+use Rattle.cpp_lines.specs.Sections.{truths_at, truths_on}
+use Rattle.cpp_lines.specs.Whole.{IsPreprocessed}
+use Rattle.c_tree.specs.Project.{projected_program}
+use Rattle.c_tree.specs.Tree.{Whole}
+use Rattle.c_tree.specs.View.{whole}
+use Rattle.c_grammar.specs.declared.items.Item.{Item}
+use Rattle.c_grammar.specs.Within.{SpellsWithin}
+use Rattle.c_parser.specs.declared.family.Family.{Family}
+use Rattle.c_parser.specs.FamilyReading.{IsFamilyOf}
+use Rattle.c_parser.specs.Items.{AreDistinct}
+use Rattle.c_parser.specs.Reading.{items_of, ReadsOver, DeclaresAmong}
+
+-- the program of a family where its conditions have these truths
+abbrev pub projection : Family → List Bool → Whole
+projection f truths = projected_program truths (whole f.code)
+
+-- the truths of its conditions at the values of a configuration
+abbrev pub truths_in : Family → List ℤ → List Bool
+truths_in f values = truths_on f.atoms values f.conditions
+
+-- the names of a family
+abbrev pub names_in : Family → List (List ℕ)
+names_in f = (whole f.code).names
+
+-- a text has these names at most, and its items over them spell this program within the limits
+pub record TextSpells (names : List (List ℕ)) (text : List ℕ) (p : Whole) : Type 0 where
+  pub items : List Item
+  pub are : items_of names text ≡ Ok (record { names = names; items = items })
+  pub spelled : SpellsWithin names p items
+
+-- for every list of truths, what stays of a family's text spells the family's projection over its names
+abbrev pub TextsSpellProjections : Type 0
+TextsSpellProjections = (model : Model) (bytes text : List ℕ) (f : Family) (truths : List Bool) → IsFamilyOf model bytes f → IsPreprocessed (plain model) (λ conditions. truths) bytes text
+    → TextSpells (names_in f) text (projection f truths)
+
+-- what stays of it at the values of a configuration stays at the truths of the family's conditions there
+abbrev pub VariantsAreTexts : Type 0
+VariantsAreTexts = (model : Model) (bytes text : List ℕ) (f : Family) (values : List ℤ) → IsFamilyOf model bytes f → IsPreprocessed (plain model) (truths_at values) bytes text
+    → IsPreprocessed (plain model) (λ conditions. truths_in f values) bytes text
+
+-- at every valid configuration it is read as the family's projection over its names
+abbrev pub VariantsAreRead : Type 0
+VariantsAreRead = (model : Model) (bytes text : List ℕ) (f : Family) (values : List ℤ) → IsFamilyOf model bytes f → IsValid (plain model) values → IsPreprocessed (plain model) (truths_at values) bytes text
+    → ReadsOver (names_in f) text (Ok (projection f (truths_in f values)))
+
+-- a family has at most 16 names, all distinct
+abbrev pub FamilyNamesAreFew : Type 0
+FamilyNamesAreFew = (model : Model) (bytes : List ℕ) (f : Family) → IsFamilyOf model bytes f → (length (names_in f) ≤ 16) × AreDistinct (names_in f)
+
+-- among them are all names that a variant's text declares
+abbrev pub VariantsDeclareAmong : Type 0
+VariantsDeclareAmong = (model : Model) (bytes text : List ℕ) (f : Family) (truths : List Bool) → IsFamilyOf model bytes f → IsPreprocessed (plain model) (λ conditions. truths) bytes text
+    → DeclaresAmong (names_in f) text
+
+-- two families that a file is read as have one program, and the same truths at each configuration
+pub record AreSameFamily (f g : Family) : Type 0 where
+  pub code : whole f.code ≡ whole g.code
+  pub truths : (values : List ℤ) → truths_in f values ≡ truths_in g values
+
+abbrev pub FamiliesAreReadOnce : Type 0
+FamiliesAreReadOnce = (model : Model) (bytes : List ℕ) (f g : Family) → IsFamilyOf model bytes f → IsFamilyOf model bytes g → AreSameFamily f g

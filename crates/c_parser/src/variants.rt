@@ -1,0 +1,60 @@
+//! Laws of the variants of a family, for the crates above: each function does nothing, and its contract is the law.
+#![tactic(auto)]
+
+ghost use Rattle.c_parser.specs.Variants.{FamiliesAreReadOnce, FamilyNamesAreFew, TextsSpellProjections, VariantsAreRead, VariantsAreTexts, VariantsDeclareAmong};
+
+use crate::laws::family_names_occur;
+use c_grammar::laws::{
+    leaving_out_makes_nothing_deeper, spells_at_most_one, within_the_limits_is_a_file,
+};
+use c_tokens::laws::{lines_are_apart, literals_are_decimal, one_reading, reads_longest_lexemes};
+use cpp_lines::laws::{families_are_told_once, variants_are_plain};
+use fam_outer::places_rise;
+
+/// A file is read as one family: with one program, and with one truth of each condition at each configuration.
+pub fn families_are_read_once()
+    ensures { FamiliesAreReadOnce }
+{
+    reads_longest_lexemes();
+    literals_are_decimal();
+    places_rise();
+    lines_are_apart();
+    one_reading();
+    families_are_told_once();
+    spells_at_most_one();
+    within_the_limits_is_a_file();
+}
+
+/// The names of a family are distinct, and there are at most 16.
+pub fn family_names_are_few()
+    ensures { FamilyNamesAreFew }
+{
+    reads_longest_lexemes();
+    literals_are_decimal();
+    places_rise();
+    lines_are_apart();
+    one_reading();
+    families_are_told_once();
+    family_names_occur();
+}
+
+/// Preprocessing and then reading is reading and then projecting. What stays of the text of an accepted family spells,
+/// over the family's names, the family's projection, for every list of truths of its conditions: so no variant is deeper
+/// than the limits. At a valid configuration that text is read over these names as this program: so no name of a variant
+/// has a fault.
+pub fn variants_are_projections()
+    ensures spelled { TextsSpellProjections }
+    ensures texts { VariantsAreTexts }
+    ensures declared { VariantsDeclareAmong }
+    ensures read { VariantsAreRead }
+{
+    reads_longest_lexemes();
+    literals_are_decimal();
+    places_rise();
+    lines_are_apart();
+    one_reading();
+    families_are_told_once();
+    variants_are_plain();
+    leaving_out_makes_nothing_deeper();
+    within_the_limits_is_a_file();
+}
