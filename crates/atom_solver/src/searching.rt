@@ -13,7 +13,7 @@ ghost use Rattle.atom_solver.specs.Spans.{ranges, meets, FindsIn};
 use crate::branching::are_untrue;
 use crate::deciding::is_ruled_out;
 use crate::freeing::reduced;
-use crate::points::at_point;
+use crate::points::at_lows;
 use crate::refuting::are_opposed;
 use crate::spans::cut_box;
 use cpp_conditions::{Condition, Model};
@@ -38,11 +38,14 @@ fn search(
     }
     let narrower = reduced(alloc, spans, constraints, wanted)?;
     let inner = narrower.as_slice();
-    match cut_box(alloc, inner)? {
-        None => at_point(alloc, inner, constraints, wanted),
-        Some(halves) => match search(alloc, &halves.lower, constraints, wanted)? {
-            Some(config) => Ok(Some(config)),
-            None => search(alloc, &halves.upper, constraints, wanted),
+    match at_lows(alloc, inner, constraints, wanted)? {
+        Some(config) => Ok(Some(config)),
+        None => match cut_box(alloc, inner)? {
+            None => Ok(None),
+            Some(halves) => match search(alloc, &halves.lower, constraints, wanted)? {
+                Some(config) => Ok(Some(config)),
+                None => search(alloc, &halves.upper, constraints, wanted),
+            },
         },
     }
 }
