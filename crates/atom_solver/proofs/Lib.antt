@@ -6,6 +6,8 @@ pub mod EqualTerms
 pub mod Freed
 pub mod Gathered
 pub mod Known
+pub mod Learned
+pub mod Listed
 pub mod Narrowed
 pub mod Ordered
 pub mod Pointing

@@ -4,4 +4,5 @@ pub mod Narrowing
 pub mod Plausible
 pub mod Solutions
 pub mod Spans
+pub mod Truths
 pub mod Wanted

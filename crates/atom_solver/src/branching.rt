@@ -1,216 +1,174 @@
-//! Truths of tests tried both ways: conditions that no choice of truths makes true are refuted.
+//! Truths of tests tried both ways: a question that no truths answer is refuted.
 #![tactic(auto)]
 
-ghost use Rattle.std.specs.Prelude.{◌≡◌, ℤ, List, Bool, true, false, not, ◌∷◌, ◌++◌, [], IfOk};
-ghost use Rattle.linear_atoms.specs.Atoms.{holds};
-ghost use Rattle.cpp_conditions.specs.Propositions.{true_at};
-ghost use Rattle.cpp_conditions.specs.View.{proposition};
-ghost use Rattle.atom_solver.specs.Solutions.{all_hold};
-ghost use Rattle.atom_solver.specs.Spans.{Agrees, meets};
+ghost use Rattle.std.specs.Prelude.{◌≡◌, ℤ, List, Bool, true, false, length, slice_index_or, IfOk};
+ghost use Rattle.linear_atoms.specs.Atoms.{AreRanges, AreAtoms, IsWithin};
+ghost use Rattle.cpp_conditions.specs.Numbering.{vector_at};
+ghost use Rattle.cpp_conditions.specs.Propositions.{Const, true_on};
+ghost use Rattle.cpp_conditions.specs.View.{formula};
+ghost use Rattle.atom_solver.specs.Spans.{ranges};
+ghost use Rattle.atom_solver.specs.Truths.{Knows, IsVoid};
 
-use crate::clashing::test_denies;
-use crate::deciding::{both, either, negation};
-use cpp_conditions::Condition;
+use crate::refuting::is_clash;
+use crate::truths::{learn, propagated};
+use cpp_conditions::Formula;
 use fam_outer::NoMemory;
-use linear_atoms::slices::cut;
-use linear_atoms::{Atom, Literal};
+use linear_atoms::{Atom, Span};
 use std::alloc::Global;
 
 /// How many choices are made at most.
 const MOST_TURNS: u32 = 1_000;
 
-/// Whether literals deny an atom one truth, by tests of equal terms.
-#[tactic(auto, using(crate::proofs::Chosen::first_says, crate::proofs::Chosen::later_hold))]
-fn is_denied(chosen: &[Literal], atom: &Atom, positive: bool) -> bool
-    ensures { result ≡ true → (values : List ℤ) → all_hold chosen.now values ≡ true → holds atom.now values ≡ not positive }
+/// Whether nothing of a formula is left but that it is false.
+fn is_false(part: &Formula) -> bool
+    ensures { result ≡ true → formula part.now ≡ Const false }
 {
-    match cut(chosen) {
-        None => false,
-        Some((first, behind)) => {
-            if test_denies(&first.atom, first.positive, atom, positive) {
-                true
-            } else {
-                is_denied(behind, atom, positive)
-            }
+    match part {
+        Formula::Const(truth) => !*truth,
+        _ => false,
+    }
+}
+
+/// How many tests stand in a formula.
+fn size(part: &Formula) -> usize {
+    match part {
+        Formula::Const(_truth) => 0,
+        Formula::Test(_number) => 1,
+        Formula::Not(inner) => size(inner),
+        Formula::And(left, right) => size(left).saturating_add(size(right)),
+        Formula::Or(left, right) => size(left).saturating_add(size(right)),
+    }
+}
+
+/// Of the formulas that must all be true, one with the fewest tests, and how many they are.
+fn narrowest(part: &Formula) -> (&Formula, usize) {
+    match part {
+        Formula::And(left, right) => {
+            let first = narrowest(left);
+            let second = narrowest(right);
+            if second.1 < first.1 { second } else { first }
         }
+        _ => (part, size(part)),
     }
 }
 
-/// What literals say of an atom.
-fn known(chosen: &[Literal], atom: &Atom) -> Option<bool>
-    ensures { (values : List ℤ) → all_hold chosen.now values ≡ true → Agrees result (holds atom.now values) }
-{
-    if is_denied(chosen, atom, true) {
-        Some(false)
-    } else if is_denied(chosen, atom, false) {
-        Some(true)
-    } else {
-        None
-    }
-}
-
-/// What literals say of a condition.
-fn told(condition: &Condition, chosen: &[Literal]) -> Option<bool>
-    ensures { (values : List ℤ) → all_hold chosen.now values ≡ true → Agrees result (true_at values (proposition condition.now)) }
-{
-    match condition {
-        Condition::Const(truth) => Some(*truth),
-        Condition::Test(atom) => known(chosen, atom),
-        Condition::Not(inner) => negation(told(inner, chosen)),
-        Condition::And(left, right) => both(told(left, chosen), told(right, chosen)),
-        Condition::Or(left, right) => either(told(left, chosen), told(right, chosen)),
-    }
-}
-
-/// Whether literals make a condition false.
-fn is_false(condition: &Condition, chosen: &[Literal]) -> bool
-    ensures { result ≡ true → (values : List ℤ) → all_hold chosen.now values ≡ true → true_at values (proposition condition.now) ≡ false }
-{
-    match told(condition, chosen) {
-        None => false,
-        Some(truth) => !truth,
-    }
-}
-
-/// Whether literals make a constraint or what is wanted false.
-fn is_broken(constraints: &[Condition], wanted: &Condition, chosen: &[Literal]) -> bool
-    ensures { result ≡ true → (values : List ℤ) → all_hold chosen.now values ≡ true → meets constraints.now (proposition wanted.now) values ≡ false }
-{
-    match cut(constraints) {
-        None => is_false(wanted, chosen),
-        Some((first, behind)) => {
-            if is_false(first, chosen) {
-                true
-            } else {
-                is_broken(behind, wanted, chosen)
-            }
-        }
-    }
-}
-
-/// How many tests of a condition the literals leave open; 0 where they decide it.
-fn open_count(condition: &Condition, chosen: &[Literal]) -> usize {
-    match condition {
-        Condition::Const(_truth) => 0,
-        Condition::Test(atom) => { if known(chosen, atom).is_none() { 1 } else { 0 } }
-        Condition::Not(inner) => open_count(inner, chosen),
-        Condition::And(left, right) => {
-            open_count(left, chosen).saturating_add(open_count(right, chosen))
-        }
-        Condition::Or(left, right) => {
-            open_count(left, chosen).saturating_add(open_count(right, chosen))
-        }
-    }
-}
-
-/// A test of a condition that the literals leave open.
-fn open_test<'a>(condition: &'a Condition, chosen: &[Literal]) -> Option<&'a Atom> {
-    match condition {
-        Condition::Const(_truth) => None,
-        Condition::Test(atom) => {
-            if known(chosen, atom).is_none() {
-                Some(atom)
-            } else {
-                None
-            }
-        }
-        Condition::Not(inner) => open_test(inner, chosen),
-        Condition::And(left, right) => match open_test(left, chosen) {
-            Some(atom) => Some(atom),
-            None => open_test(right, chosen),
+/// A test of a formula.
+fn test_of(part: &Formula) -> Option<u32> {
+    match part {
+        Formula::Const(_truth) => None,
+        Formula::Test(number) => Some(*number),
+        Formula::Not(inner) => test_of(inner),
+        Formula::And(left, right) => match test_of(left) {
+            None => test_of(right),
+            Some(number) => Some(number),
         },
-        Condition::Or(left, right) => match open_test(left, chosen) {
-            Some(atom) => Some(atom),
-            None => open_test(right, chosen),
+        Formula::Or(left, right) => match test_of(left) {
+            None => test_of(right),
+            Some(number) => Some(number),
         },
     }
 }
 
-/// The condition with the fewest open tests, of those that the literals leave open.
-fn narrowest<'a>(
-    constraints: &'a [Condition],
-    wanted: &'a Condition,
-    chosen: &[Literal],
-) -> &'a Condition {
-    let mut best = wanted;
-    let mut fewest = usize::MAX;
-    if told(wanted, chosen).is_none() {
-        fewest = open_count(wanted, chosen);
-    }
-    for condition in constraints {
-        if told(condition, chosen).is_none() {
-            let count = open_count(condition, chosen);
-            if count < fewest {
-                best = condition;
-                fewest = count;
-            }
-        }
-    }
-    best
-}
-
-/// The literals and one more.
-fn with_literal(
+/// The truths that are known, and one more.
+fn with_truth(
     alloc: Global,
-    chosen: &[Literal],
-    atom: &Atom,
-    positive: bool,
-) -> Result<Vec<Literal>, NoMemory>
-    ensures { IfOk result (λ made. made.items ≡ chosen.now ++ (record { atom = atom.now; positive = positive }) ∷ []) }
+    known: &[Option<bool>],
+    number: u32,
+    truth: bool,
+) -> Result<Vec<Option<bool>>, NoMemory>
+    ensures { IfOk result (λ made. (v : List Bool) → Knows known.now v → slice_index_or v number false ≡ truth → Knows made.items v) }
 {
-    let mut made = Vec::new(alloc);
-    for literal in chosen {
-        made.push(Literal {
-            atom: literal.atom.copy(alloc)?,
-            positive: literal.positive,
-        })?;
-    }
-    made.push(Literal {
-        atom: atom.copy(alloc)?,
-        positive,
-    })?;
+    let mut made = Vec::from_slice(alloc, known)?;
+    learn(&mut made, number, truth);
     Ok(made)
 }
 
-/// Whether no choice of truths makes the constraints and what is wanted true where the literals hold. A false answer
-/// says nothing.
+#[tactic(auto, using(crate::proofs::Learned::void_false, crate::proofs::Learned::void_clash))]
+/// Whether no truths, with those that are known, make the formula true. A false answer says nothing. It answers too how
+/// many choices are left.
 fn is_refuted(
     alloc: Global,
-    constraints: &[Condition],
-    wanted: &Condition,
-    chosen: &[Literal],
+    atoms: &[Atom],
+    part: &Formula,
+    known: &mut [Option<bool>],
     turns: u32,
 ) -> Result<(bool, u32), NoMemory>
-    ensures { IfOk result (λ answer. answer.0 ≡ true → (values : List ℤ) → all_hold chosen.now values ≡ true → meets constraints.now (proposition wanted.now) values ≡ false) }
+    ensures { IfOk result (λ answer. answer.0 ≡ true → IsVoid atoms.now known.old (formula part.now)) }
 {
-    if is_broken(constraints, wanted, chosen) {
+    let left = propagated(alloc, atoms, part, known, atoms.len())?;
+    if is_false(&left) {
+        return Ok((true, turns));
+    }
+    if is_clash(alloc, atoms, known)? {
         return Ok((true, turns));
     }
     if turns == 0 {
         return Ok((false, 0));
     }
-    match open_test(narrowest(constraints, wanted, chosen), chosen) {
+    match test_of(narrowest(&left).0) {
         None => Ok((false, turns)),
-        Some(atom) => {
-            let on = with_literal(alloc, chosen, atom, true)?;
-            let (is_out, left) = is_refuted(alloc, constraints, wanted, &on, turns - 1)?;
+        Some(number) => {
+            let mut on = with_truth(alloc, known, number, true)?;
+            let (is_out, rest) = is_refuted(alloc, atoms, &left, &mut on, turns - 1)?;
             if !is_out {
-                return Ok((false, left));
+                return Ok((false, rest));
             }
-            let off = with_literal(alloc, chosen, atom, false)?;
-            is_refuted(alloc, constraints, wanted, &off, left.min(turns - 1))
+            let mut off = with_truth(alloc, known, number, false)?;
+            is_refuted(alloc, atoms, &left, &mut off, rest.min(turns - 1))
         }
     }
 }
 
-/// Whether no choice of truths makes the constraints and what is wanted true together.
-pub(crate) fn are_untrue(
-    alloc: Global,
-    constraints: &[Condition],
-    wanted: &Condition,
-) -> Result<bool, NoMemory>
-    ensures { IfOk result (λ answer. answer ≡ true → (values : List ℤ) → meets constraints.now (proposition wanted.now) values ≡ false) }
+/// Adds the truths that atoms have at each configuration of a box, from a place on.
+#[tactic(auto, using(crate::proofs::Learned::decided_at))]
+fn learn_within(atoms: &[Atom], spans: &[Span], place: u32, known: &mut [Option<bool>])
+    requires atoms { AreAtoms (length spans.now) atoms.now }
+    requires ranges { AreRanges (ranges spans.now) }
+    ensures { (values : List ℤ) → IsWithin (ranges spans.now) values → Knows known.old (vector_at atoms.now values) → Knows known.new (vector_at atoms.now values) }
 {
-    let (is_out, _turns) = is_refuted(alloc, constraints, wanted, &[], MOST_TURNS)?;
+    if place as usize >= atoms.len() || place == u32::MAX {
+        return;
+    }
+    if let Some(truth) = atoms[place as usize].decided_within(spans) {
+        learn(known, place, truth);
+    }
+    learn_within(atoms, spans, place + 1, known);
+}
+
+/// Nothing known of so many tests.
+fn unknown(alloc: Global, count: usize) -> Result<Vec<Option<bool>>, NoMemory>
+    ensures { IfOk result (λ made. (v : List Bool) → Knows made.items v) }
+{
+    Ok(vec![in alloc; None; count]?)
+}
+
+/// What a box says of the truths of atoms.
+fn known_within(
+    alloc: Global,
+    spans: &[Span],
+    atoms: &[Atom],
+) -> Result<Vec<Option<bool>>, NoMemory>
+    requires atoms { AreAtoms (length spans.now) atoms.now }
+    requires ranges { AreRanges (ranges spans.now) }
+    ensures { IfOk result (λ made. (values : List ℤ) → IsWithin (ranges spans.now) values → Knows made.items (vector_at atoms.now values)) }
+{
+    let mut known = unknown(alloc, atoms.len())?;
+    learn_within(atoms, spans, 0, &mut known);
+    Ok(known)
+}
+
+/// Whether no configuration of the box makes the formula true. A false answer says nothing.
+pub(crate) fn is_untrue(
+    alloc: Global,
+    spans: &[Span],
+    atoms: &[Atom],
+    asked: &Formula,
+) -> Result<bool, NoMemory>
+    requires atoms { AreAtoms (length spans.now) atoms.now }
+    requires ranges { AreRanges (ranges spans.now) }
+    ensures { IfOk result (λ answer. answer ≡ true → (values : List ℤ) → IsWithin (ranges spans.now) values → true_on (vector_at atoms.now values) (formula asked.now) ≡ true → ⊥) }
+{
+    let mut known = known_within(alloc, spans, atoms)?;
+    let (is_out, _turns) = is_refuted(alloc, atoms, asked, &mut known, MOST_TURNS)?;
     Ok(is_out)
 }

@@ -7,6 +7,7 @@ ghost use Rattle.linear_atoms.specs.Forms.{IsRising};
 ghost use Rattle.cpp_conditions.specs.Propositions.{Test};
 ghost use Rattle.cpp_conditions.specs.View.{proposition};
 ghost use Rattle.atom_solver.specs.Facts.{IsTimes, IsNumber, IsTerm, IsMore, IsFact, Adds, AddsAll};
+ghost use Rattle.atom_solver.specs.Truths.{AddsKnown};
 
 use crate::refuting::sum;
 use cpp_conditions::Condition;
@@ -41,7 +42,7 @@ fn times(alloc: Global, form: &Linear, by: i64) -> Result<Option<Linear>, NoMemo
 
 /// A number as a form; None where it is too large.
 #[tactic(auto, using(crate::proofs::Stated::number_is))]
-fn number(alloc: Global, n: i64) -> Result<Option<Linear>, NoMemory>
+pub(crate) fn number(alloc: Global, n: i64) -> Result<Option<Linear>, NoMemory>
     ensures { IfOk result (λ made. MatchOption made (Unit {0}) (λ f. IsNumber n f)) }
 {
     match Linear::constant(alloc, n) {
@@ -219,5 +220,49 @@ pub(crate) fn gather_all(
             gather(alloc, first, true, facts)?;
             gather_all(alloc, behind, wanted, facts)
         }
+    }
+}
+
+/// Adds the form of an atom with what is known of its truth.
+#[tactic(auto, using(crate::proofs::Gathered::adds_none, crate::proofs::Gathered::adds_fact))]
+fn add_fact(
+    alloc: Global,
+    atom: &Atom,
+    truth: bool,
+    facts: &mut Vec<Linear>,
+) -> Result<(), NoMemory>
+    ensures { IfOk result (λ _. Adds (Test atom.now) truth facts.old.items facts.new.items) }
+{
+    match of_atom(alloc, atom, truth)? {
+        None => Ok(()),
+        Some(form) => {
+            facts.push(form)?;
+            Ok(())
+        }
+    }
+}
+
+/// Adds the forms of the atoms whose truths are known.
+#[tactic(auto, using(crate::proofs::Gathered::known_none, crate::proofs::Gathered::known_skip, crate::proofs::Gathered::known_more))]
+pub(crate) fn gather_known(
+    alloc: Global,
+    atoms: &[Atom],
+    known: &[Option<bool>],
+    facts: &mut Vec<Linear>,
+) -> Result<(), NoMemory>
+    ensures { IfOk result (λ _. AddsKnown atoms.now known.now facts.old.items facts.new.items) }
+{
+    match cut(atoms) {
+        None => Ok(()),
+        Some((atom, others)) => match cut(known) {
+            None => Ok(()),
+            Some((truth, behind)) => match *truth {
+                None => gather_known(alloc, others, behind, facts),
+                Some(is_true) => {
+                    add_fact(alloc, atom, is_true, facts)?;
+                    gather_known(alloc, others, behind, facts)
+                }
+            },
+        },
     }
 }

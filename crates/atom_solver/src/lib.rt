@@ -3,11 +3,13 @@
 
 mod branching;
 mod clashing;
+mod cycles;
 mod deciding;
 mod ends;
 mod facts;
 mod freeing;
 mod narrowing;
+mod numbering;
 pub mod plausibility;
 mod points;
 pub mod prepared;
@@ -15,6 +17,7 @@ mod refuting;
 mod searching;
 pub mod solving;
 mod spans;
+mod truths;
 mod wanted;
 
 pub use plausibility::plausible;

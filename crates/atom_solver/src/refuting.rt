@@ -5,13 +5,16 @@ ghost use Rattle.std.specs.Prelude.{◌≡◌, ℤ, pos, ◌≤ℤ◌, ◌<ℤ�
 ghost use Rattle.linear_atoms.specs.Forms.{IsRising, form_at};
 ghost use Rattle.cpp_conditions.specs.View.{proposition};
 ghost use Rattle.atom_solver.specs.Spans.{meets};
+ghost use Rattle.cpp_conditions.specs.Numbering.{vector_at};
 ghost use Rattle.atom_solver.specs.Facts.{AreMet, AreRising, IsSum};
+ghost use Rattle.atom_solver.specs.Truths.{Knows};
 
-use crate::facts::gather_all;
+use crate::cycles::cycle;
+use crate::facts::{gather_all, gather_known, number};
 use cpp_conditions::Condition;
 use fam_outer::NoMemory;
 use linear_atoms::slices::cut;
-use linear_atoms::{Linear, LinearFault};
+use linear_atoms::{Atom, Linear, LinearFault};
 use std::alloc::Global;
 
 /// The sum of two forms; None where a number becomes too large.
@@ -129,4 +132,72 @@ pub(crate) fn are_opposed(
     let mut facts = Vec::new(alloc);
     gather_all(alloc, constraints, wanted, &mut facts)?;
     any_clashes(alloc, &facts, &facts)
+}
+
+/// The form at a place.
+#[tactic(auto, using(crate::proofs::Refuted::first_met, crate::proofs::Refuted::later_met))]
+fn form_of(forms: &[Linear], place: usize) -> Option<&Linear>
+    requires { AreRising forms.now }
+    ensures rising { MatchOption result (Unit {0}) (λ f. IsRising f.now.terms) }
+    ensures met { MatchOption result (Unit {0}) (λ f. (values : List ℤ) → AreMet values forms.now → pos 0 ≤ℤ form_at f.now values) }
+{
+    match cut(forms) {
+        None => None,
+        Some((first, behind)) => {
+            if place == 0 {
+                Some(first)
+            } else {
+                form_of(behind, place - 1)
+            }
+        }
+    }
+}
+
+/// Whether a form, with those at some places added to it, becomes a number below 0.
+fn adds_up(
+    alloc: Global,
+    start: &Linear,
+    forms: &[Linear],
+    places: &[usize],
+) -> Result<bool, NoMemory>
+    requires start { IsRising start.now.terms }
+    requires rising { AreRising forms.now }
+    ensures { IfOk result (λ answer. answer ≡ true → (values : List ℤ) → AreMet values forms.now → pos 0 ≤ℤ form_at start.now values → ⊥) }
+{
+    match cut(places) {
+        None => Ok(is_negative(start)),
+        Some((place, behind)) => match form_of(forms, *place) {
+            None => Ok(false),
+            Some(other) => match sum(alloc, start, other)? {
+                None => Ok(false),
+                Some(more) => adds_up(alloc, &more, forms, behind),
+            },
+        },
+    }
+}
+
+/// Whether forms clash, by the sum of a cycle of them.
+#[tactic(auto, using(crate::proofs::Refuted::from_zero))]
+fn is_cyclic(alloc: Global, forms: &[Linear]) -> Result<bool, NoMemory>
+    requires { AreRising forms.now }
+    ensures { IfOk result (λ answer. answer ≡ true → (values : List ℤ) → AreMet values forms.now → ⊥) }
+{
+    let places = cycle(alloc, forms)?;
+    match number(alloc, 0)? {
+        None => Ok(false),
+        Some(zero) => adds_up(alloc, &zero, forms, &places),
+    }
+}
+
+/// Whether no values give the atoms the truths that are known, by the sum of a cycle of them.
+pub(crate) fn is_clash(
+    alloc: Global,
+    atoms: &[Atom],
+    known: &[Option<bool>],
+) -> Result<bool, NoMemory>
+    ensures { IfOk result (λ answer. answer ≡ true → (values : List ℤ) → Knows known.now (vector_at atoms.now values) → ⊥) }
+{
+    let mut facts = Vec::new(alloc);
+    gather_known(alloc, atoms, known, &mut facts)?;
+    is_cyclic(alloc, &facts)
 }

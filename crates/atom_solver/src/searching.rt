@@ -1,48 +1,60 @@
-//! The search: a box is ruled out by bounds, or narrowed by them and cut in two, the lower half first.
+//! The search: a box is ruled out by bounds or by truths, or narrowed by bounds and cut in two, the lower half first.
 #![tactic(auto)]
 
 ghost use Rattle.std.specs.Prelude.{ℤ, List, IfOk, IfSome, length};
 ghost use Rattle.linear_atoms.specs.Atoms.{AreRanges};
 ghost use Rattle.cpp_conditions.specs.Propositions.{IsFit, true_at};
 ghost use Rattle.cpp_conditions.specs.Validity.{AreFit, IsConfig};
-ghost use Rattle.cpp_conditions.specs.View.{proposition};
+ghost use Rattle.cpp_conditions.specs.View.{formula, proposition};
 ghost use Rattle.atom_solver.specs.Solutions.{Finds};
 ghost use Rattle.atom_solver.specs.Narrowing.{HasAllValid};
 ghost use Rattle.atom_solver.specs.Spans.{ranges, meets, FindsIn};
+ghost use Rattle.atom_solver.specs.Truths.{StandsFor};
 
-use crate::branching::are_untrue;
+use crate::branching::is_untrue;
 use crate::deciding::is_ruled_out;
 use crate::freeing::reduced;
-use crate::points::at_point;
+use crate::numbering::numbered;
+use crate::points::at_lows;
 use crate::refuting::are_opposed;
 use crate::spans::cut_box;
-use cpp_conditions::{Condition, Model};
+use cpp_conditions::{Condition, Formula, Model};
 use fam_outer::NoMemory;
-use linear_atoms::{Config, Span};
+use linear_atoms::{Atom, Config, Span};
 use std::alloc::Global;
 
 /// The first configuration of the box at which the constraints and what is wanted are true.
+#[tactic(auto, using(crate::proofs::Learned::out_by))]
 fn search(
     alloc: Global,
     spans: &[Span],
     constraints: &[Condition],
     wanted: &Condition,
+    atoms: &[Atom],
+    asked: &Formula,
 ) -> Result<Option<Config>, NoMemory>
     requires constraints { AreFit (length spans.now) constraints.now }
     requires wanted { IsFit (length spans.now) (proposition wanted.now) }
     requires ranges { AreRanges (ranges spans.now) }
+    requires asked { StandsFor constraints.now (proposition wanted.now) atoms.now (formula asked.now) }
     ensures { IfOk result (λ found. FindsIn (ranges spans.now) (meets constraints.now (proposition wanted.now)) found) }
 {
     if is_ruled_out(spans, constraints, wanted) {
         return Ok(None);
     }
+    if is_untrue(alloc, spans, atoms, asked)? {
+        return Ok(None);
+    }
     let narrower = reduced(alloc, spans, constraints, wanted)?;
     let inner = narrower.as_slice();
-    match cut_box(alloc, inner)? {
-        None => at_point(alloc, inner, constraints, wanted),
-        Some(halves) => match search(alloc, &halves.lower, constraints, wanted)? {
-            Some(config) => Ok(Some(config)),
-            None => search(alloc, &halves.upper, constraints, wanted),
+    match at_lows(alloc, inner, constraints, wanted)? {
+        Some(config) => Ok(Some(config)),
+        None => match cut_box(alloc, inner)? {
+            None => Ok(None),
+            Some(halves) => match search(alloc, &halves.lower, constraints, wanted, atoms, asked)? {
+                Some(config) => Ok(Some(config)),
+                None => search(alloc, &halves.upper, constraints, wanted, atoms, asked),
+            },
         },
     }
 }
@@ -65,8 +77,13 @@ pub(crate) fn first_valid(
     if are_opposed(alloc, constraints, wanted)? {
         return Ok(None);
     }
-    if are_untrue(alloc, constraints, wanted)? {
-        return Ok(None);
-    }
-    search(alloc, spans, constraints, wanted)
+    let question = numbered(alloc, constraints, wanted)?;
+    search(
+        alloc,
+        spans,
+        constraints,
+        wanted,
+        &question.atoms,
+        &question.asked,
+    )
 }

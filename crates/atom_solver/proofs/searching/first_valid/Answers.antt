@@ -38,6 +38,3 @@ returns-clause-config c =
 
 pub returns-then-branch-clause-first : goal.returns-then-branch-clause-first
 returns-then-branch-clause-first c = none_meets c.args.model.now (proposition c.args.wanted.now) c.items-constraints.result.now c.items-constraints.ensures (c.in_ok-are_opposed.ensures c.if-branch.true)
-
-pub returns-then-branch-2-clause-first : goal.returns-then-branch-2-clause-first
-returns-then-branch-2-clause-first c = none_meets c.args.model.now (proposition c.args.wanted.now) c.items-constraints.result.now c.items-constraints.ensures (c.in_ok-are_untrue.ensures c.if-branch-2.true)

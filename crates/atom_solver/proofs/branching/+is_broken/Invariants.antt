@@ -1,5 +1,0 @@
-use Rattle.std.proofs.Common.{length}
-use Rattle.atom_solver.proofs.branching.+is_broken.Given as goal
-
-abbrev pub decreases-is_broken : goal.decreases-is_broken
-decreases-is_broken l = length l.constraints.now

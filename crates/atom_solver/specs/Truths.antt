@@ -1,0 +1,42 @@
+-- What is known of the truths of numbered tests.
+use Rattle.std.specs.Prelude.{◌≡◌, ℕ, ◌<◌, ℤ, Bool, true, false, List, length, map, slice_index_or, Option, None}
+use Rattle.linear_atoms.specs.declared.atoms.Atom.{Atom}
+use Rattle.linear_atoms.specs.declared.forms.Linear.{Linear}
+use Rattle.linear_atoms.specs.Atoms.{AreAtoms}
+use Rattle.cpp_conditions.specs.declared.conditions.Condition.{Condition}
+use Rattle.cpp_conditions.specs.Numbering.{AreAmong, AreAllAmong, vector_at}
+use Rattle.cpp_conditions.specs.Propositions.{Proposition, IsFit, true_on}
+use Rattle.cpp_conditions.specs.Validity.{AreFit}
+use Rattle.cpp_conditions.specs.View.{proposition}
+use Rattle.atom_solver.specs.Facts.{AreMet, AreRising}
+use Rattle.atom_solver.specs.Spans.{Agrees, meets}
+
+-- each truth that is known is the vector's
+abbrev pub Knows : List (Option Bool) → List Bool → Type 0
+Knows known vector = (n : ℕ) → Agrees (slice_index_or known n None) (slice_index_or vector n false)
+
+-- no values give the atoms such truths and make the formula true
+abbrev pub IsVoid : List Atom → List (Option Bool) → Proposition ℕ → Type 0
+IsVoid atoms known p = (values : List ℤ) → Knows known (vector_at atoms values) → true_on (vector_at atoms values) p ≡ true → ⊥
+
+-- the values that give the atoms such truths and make the formula true do so for the new ones
+pub record Keeps (atoms : List Atom) (known : List (Option Bool)) (p : Proposition ℕ) (more : List (Option Bool)) (q : Proposition ℕ) : Type 0 where
+  pub knows : (values : List ℤ) → Knows known (vector_at atoms values) → true_on (vector_at atoms values) p ≡ true → Knows more (vector_at atoms values)
+  pub true_still : (values : List ℤ) → Knows known (vector_at atoms values) → true_on (vector_at atoms values) p ≡ true → true_on (vector_at atoms values) q ≡ true
+
+-- the new forms are met too where the atoms have these truths
+pub record AddsKnown (atoms : List Atom) (known : List (Option Bool)) (old new : List Linear) : Type 0 where
+  pub rising : AreRising old → AreRising new
+  pub met : (values : List ℤ) → AreMet values old → Knows known (vector_at atoms values) → AreMet values new
+
+-- atoms that the constraints and what is wanted are over, few enough to be numbered
+pub record ListsAtoms (constraints : List Condition) (wanted : Proposition Atom) (atoms : List Atom) : Type 0 where
+  pub all : AreAllAmong atoms (map proposition constraints)
+  pub last : AreAmong atoms wanted
+  pub few : length atoms < 4294967296
+  pub fit : (n : ℕ) → AreFit n constraints → IsFit n wanted → AreAtoms n atoms
+
+-- a formula over numbers of atoms that is true where the constraints and what is wanted are
+pub record StandsFor (constraints : List Condition) (wanted : Proposition Atom) (atoms : List Atom) (f : Proposition ℕ) : Type 0 where
+  pub met : (values : List ℤ) → meets constraints wanted values ≡ true → true_on (vector_at atoms values) f ≡ true
+  pub fit : (n : ℕ) → AreFit n constraints → IsFit n wanted → AreAtoms n atoms
