@@ -24,7 +24,6 @@ use Rattle.famlint_core.specs.Loads.{Comes}
 use Rattle.interval_leaf.specs.Intervals.{intervals}
 use Rattle.famlint_core.specs.Report.{report_status, some_alarm, start_alarms}
 use Rattle.famlint_core.specs.Requests.{role_of}
-use Rattle.famlint_core.specs.Selected.{program_of}
 
 -- what the work came to is what the program ended with
 pub ends_with : (MayBe : Result Done Fault → Type 0) (came : Result Done Stop) (role : Role) (status : ℕ)
@@ -67,8 +66,8 @@ plain_low options p done e = rw e (report_status_low (start_alarms intervals opt
 
 done_low : (t : VariantTask) (s : Selected) (done : Done) → IsDone t s done → done.status ≤ 1
 done_low task.Text s done h = omega (arith, h.1)
-done_low (task.Report options) s done h = plain_low options (program_of s) done h
-done_low (task.Run steps inputs mode) s done h = rw h (omega arith)
+done_low (task.Report options) s done (p, is, e) = plain_low options p done e
+done_low (task.Run steps inputs mode) s done (p, is, e) = rw e (omega arith)
 
 answered_low : (r : Request) (told : Contents) (done : Done) → Answers r told (Ok done) → done.status ≤ 1
 answered_low (request.Plain file options) told done (p, reads, e) = plain_low options p done e

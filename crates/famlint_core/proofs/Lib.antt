@@ -2,3 +2,4 @@ pub mod Answering
 pub mod Ended
 pub mod Loading
 pub mod Reporting
+pub mod Selecting

@@ -18,7 +18,7 @@ use Rattle.famlint_core.specs.declared.request.VariantTask.TheVariants.{Text, Re
 use Rattle.famlint_core.specs.declared.selected.Selected.{Selected}
 use Rattle.famlint_core.specs.Report.{report_done, IsReport}
 use Rattle.famlint_core.specs.RunText.{run_text}
-use Rattle.famlint_core.specs.Selected.{AreSelected, IsRefused, IsLoadedFor, program_of}
+use Rattle.famlint_core.specs.Selected.{AreSelected, IsRefused, IsLoadedFor, IsProgramOf}
 
 -- the bytes that are told for the paths of a request: of MODEL, if it has one, and of FILE
 pub record Contents : Type 0 where
@@ -51,8 +51,8 @@ run_done inputs steps mode p = record { text = run_text p.names (run_of p inputs
 -- what is asked of a variant is this
 abbrev pub IsDone : VariantTask → Selected → Done → Type 0
 IsDone Text s done = IsVariant (plain s.model) s.config.values s.text done.text × (done.status ≡ 0)
-IsDone (Report options) s done = done ≡ plain_done options (program_of s)
-IsDone (Run steps inputs mode) s done = done ≡ run_done inputs steps mode (program_of s)
+IsDone (Report options) s done = (p : Whole) × IsProgramOf s p × (done ≡ plain_done options p)
+IsDone (Run steps inputs mode) s done = (p : Whole) × IsProgramOf s p × (done ≡ run_done inputs steps mode p)
 
 -- what is asked of the variant that settings select, or the refusal of the model, the file or the settings
 abbrev pub AnswersVariant : VariantTask → List (List ℕ) → Contents → Result Done Fault → Type 0
@@ -84,7 +84,7 @@ PromisedPlain options bytes status text = (p : Whole) × Reads bytes (Ok p) × I
 -- a report is one on the program of the variant; a text or a run is exactly its answer, and no more is promised of it
 abbrev pub PromisedOf : VariantTask → Selected → ℕ → List ℕ → Type 0
 PromisedOf Text s status text = status ≡ 0
-PromisedOf (Report options) s status text = IsReport options.mode (program_of s) status text
+PromisedOf (Report options) s status text = (p : Whole) × IsProgramOf s p × IsReport options.mode p status text
 PromisedOf (Run steps inputs mode) s status text = status ≡ 0
 
 abbrev pub PromisedVariant : VariantTask → List (List ℕ) → Contents → ℕ → List ℕ → Type 0

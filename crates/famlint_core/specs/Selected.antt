@@ -1,14 +1,15 @@
 -- The variant that settings select: a model, a family over it, and a valid configuration, or the first refusal of these.
-use Rattle.std.specs.Prelude.{ℕ, ℤ, ◌≡◌, ◌⊎◌, List, Bool, Option, Some, Result, Ok, Err}
+use Rattle.std.specs.Prelude.{ℕ, ◌≡◌, ◌⊎◌, List, Option, Some, Result, Ok, Err}
 use Rattle.cpp_conditions.specs.declared.models.Model.{Model}
 use Rattle.linear_atoms.specs.declared.atoms.Config.{Config}
 use Rattle.feature_model.specs.declared.faults.ConfigFault.{ConfigFault}
 use Rattle.feature_model.specs.Settings.{config_of}
-use Rattle.c_tree.specs.Project.{projected_program}
 use Rattle.c_tree.specs.Tree.{Whole}
-use Rattle.c_tree.specs.View.{whole}
 use Rattle.c_parser.specs.declared.family.Family.{Family}
-use Rattle.cpp_lines.specs.Sections.{truths_on}
+use Rattle.c_parser.specs.Reading.{ReadsOver}
+use Rattle.c_parser.specs.Variants.{names_in}
+use Rattle.cpp_conditions.specs.Validity.{plain}
+use Rattle.variant_projector.specs.Variant.{IsVariant}
 use Rattle.famlint_core.specs.declared.fault.Fault.{Fault}
 use Rattle.famlint_core.specs.declared.selected.Selected.{Selected}
 use Rattle.famlint_core.specs.Faults.{fault_of_settings}
@@ -43,13 +44,8 @@ IsLoadedFor model_path file_path m failed = (failed ≡ Some model_path) ⊎ ((f
 
 -- ---- the program of the variant
 
--- the truths of a family's conditions at values of the features
-abbrev pub truths_of : Family → List ℤ → List Bool
-truths_of family values = truths_on family.atoms values family.conditions
-
--- the program of the variant that values of the features select
-abbrev pub program_at : Family → List ℤ → Whole
-program_at family values = projected_program (truths_of family values) (whole family.code)
-
-abbrev pub program_of : Selected → Whole
-program_of s = program_at s.family s.config.values
+-- the program of the variant that is selected: its text is read as it, over the names of the family
+pub record IsProgramOf (s : Selected) (p : Whole) : Type 0 where
+  pub text : List ℕ
+  pub preprocessed : IsVariant (plain s.model) s.config.values s.text text
+  pub read : ReadsOver (names_in s.family) text (Ok p)

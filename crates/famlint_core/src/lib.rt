@@ -14,10 +14,3 @@ mod work;
 
 pub use program::famlint;
 pub use steady::famlint_over_steady;
-
-#[cfg(test)]
-mod analysis_tests;
-#[cfg(test)]
-mod tests;
-#[cfg(test)]
-mod variant_tests;

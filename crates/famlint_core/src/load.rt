@@ -2,6 +2,7 @@
 #![tactic(auto)]
 
 ghost use Rattle.std.specs.Prelude.{◌≡◌, ℕ, List, [], ◌∷◌, Some, IfOk, length};
+ghost use Rattle.c_parser.specs.FamilyReading.{IsFamilyOf};
 ghost use Rattle.famlint_core.specs.Loads.{Comes, IsReadOf, IsText, IsFileText, IsModel, IsFamilyFile, IsUsable, IsUsableFamily, IsReadFault, long_file};
 
 use crate::fault::{Fault, Stop, file_fault};
@@ -95,6 +96,7 @@ pub struct FamilyFile {
 fn family_of(alloc: Global, model: &Model, text: Text) -> Result<FamilyFile, Stop>
     requires { IsUsable model.now }
     ensures family { Comes (IsFamilyFile model.now text) result }
+    ensures spelled { IfOk result (λ made. IsFamilyOf model.now made.text made.family) }
     ensures usable { IfOk result (λ made. IsUsableFamily (length model.now.features) made.family) }
     ensures read { IsReadFault result → ⊥ }
 {
@@ -119,6 +121,7 @@ pub fn load_family<F: Files>(
 ) -> Result<FamilyFile, Stop>
     requires { IsUsable model.now }
     ensures family { (bytes : List ℕ) → F.content files.old path.now ≡ Some bytes → Comes (IsFamilyFile model.now bytes) result }
+    ensures spelled { IfOk result (λ made. IsFamilyOf model.now made.text made.family) }
     ensures usable { IfOk result (λ made. IsUsableFamily (length model.now.features) made.family) }
     ensures kept { F.content files.new ≡ F.content files.old }
     ensures read { IsReadOf (path.now ∷ []) (F.faults files.old) (F.faults files.new) (F.failed files.new) result }

@@ -3,6 +3,7 @@
 
 ghost use Rattle.std.specs.Prelude.{◌≡◌, ℕ, List, [], ◌∷◌, map, string_bytes, length, Some, IfOk};
 ghost use Rattle.cpp_conditions.specs.Validity.{plain, IsValid, IsConfig};
+ghost use Rattle.c_parser.specs.FamilyReading.{IsFamilyOf};
 ghost use Rattle.famlint_core.specs.Loads.{Comes, IsReadFault, IsReadOf, IsUsable, IsUsableFamily};
 ghost use Rattle.famlint_core.specs.Selected.{IsSelected, IsSettled, IsLoadedFor};
 
@@ -55,6 +56,8 @@ pub fn select<F: Files>(
         → Comes (IsSelected m f (map string_bytes settings.now)) result }
     ensures usable { IfOk result (λ made. IsUsable made.model) }
     ensures family { IfOk result (λ made. IsUsableFamily (length made.model.features) made.family) }
+    ensures spelled { IfOk result (λ made. IsFamilyOf made.model made.text made.family) }
+    ensures valid { IfOk result (λ made. IsValid (plain made.model) made.config.values) }
     ensures config { IfOk result (λ made. IsConfig made.model.features made.config.values) }
     ensures kept { F.content files.new ≡ F.content files.old }
     ensures read { IsReadOf (model_path.now ∷ file_path.now ∷ []) (F.faults files.old) (F.faults files.new) (F.failed files.new) result }

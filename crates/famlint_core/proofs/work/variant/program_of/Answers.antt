@@ -1,11 +1,14 @@
-use Rattle.std.proofs.Common.{◌≡◌, ◌∙◌, ap, subst, map}
+use Rattle.std.proofs.Common.{◌≡◌, ◌∙◌, ap, map, Ok}
 use Rattle.std.specs.Prelude.{IfOk}
+use Rattle.std.proofs.lemmas.Result.{IfOk-weaker}
 use Rattle.cpp_conditions.specs.Numbering.{vector_at}
 use Rattle.cpp_conditions.specs.Propositions.{true_on}
 use Rattle.cpp_conditions.specs.View.{formula}
 use Rattle.c_tree.specs.Project.{projected_program}
 use Rattle.c_tree.specs.View.{whole}
-use Rattle.famlint_core.specs.Selected.{truths_of}
+use Rattle.c_parser.specs.Variants.{truths_in}
+use Rattle.famlint_core.specs.Selected.{IsProgramOf}
+use Rattle.famlint_core.proofs.Selecting.{is_program_of}
 use Rattle.famlint_core.proofs.work.variant.program_of.Goals as goal
 
 pub returns-clause-is : goal.returns-clause-is
@@ -13,7 +16,9 @@ returns-clause-is c =
     let s = c.args.selected.now in
     let values = s.config.values in
     let vector : c.deref.result.now ≡ vector_at s.family.atoms values = c.deref.ensures.value ∙ c.in_ok-vector.ensures ∙ ap (λ xs. vector_at xs values) c.items.ensures in
-    let truths : c.deref-2.result.now ≡ truths_of s.family values =
+    let truths : c.deref-2.result.now ≡ truths_in s.family values =
     c.deref-2.ensures.value ∙ c.in_ok-truths.ensures ∙ ap (λ v. map (λ f. true_on v (formula f)) c.items-2.result.now) vector
     ∙ ap (λ fs. map (λ f. true_on (vector_at s.family.atoms values) (formula f)) fs) c.items-2.ensures in
-    subst (λ ts. IfOk c.project.result (λ p. whole p ≡ projected_program ts (whole s.family.code))) truths c.project.ensures.value
+    IfOk-weaker c.project.result (λ p. whole p ≡ projected_program c.deref-2.result.now (whole s.family.code)) (λ p. IsProgramOf s (whole p))
+    (λ p e. is_program_of c.variants_are_projections.ensures.read s (whole p) c.requires.spelled c.requires.valid (e ∙ ap (λ ts. projected_program ts (whole s.family.code)) truths))
+    c.project.ensures.value

@@ -1,6 +1,6 @@
 //! `project`, `variant` and `run` over files in memory.
 
-use crate::program::famlint;
+use famlint_core::famlint;
 use fam_outer::{CallNumbers, Entries, MemoryFiles, MemorySink, NoMemory, Text};
 use std::alloc::Global;
 use std::process::Abort;

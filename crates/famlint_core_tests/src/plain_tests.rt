@@ -1,6 +1,6 @@
 //! The program over files and sinks in memory.
 
-use crate::program::famlint;
+use famlint_core::famlint;
 use fam_outer::{CallNumbers, Entries, MemoryFiles, MemorySink, NoMemory, Text};
 use std::alloc::Global;
 use std::test::Fail;

@@ -1,0 +1,9 @@
+//! Tests of `famlint_core`, in a crate of their own: so they are proved over its contracts, and it is not proved a second time.
+#![tactic(auto)]
+
+#[cfg(test)]
+mod analysis_tests;
+#[cfg(test)]
+mod plain_tests;
+#[cfg(test)]
+mod variant_tests;
