@@ -10,6 +10,11 @@ use Rattle.octagon_leaf.specs.declared.meets.Meet.{Meet}
 use Rattle.octagon_leaf.specs.Greatest.{leaf_of}
 use Rattle.octagon_leaf.specs.Octagons.{octagon_best}
 
+-- a number whose double and quadruple are no large ones
+pub record IsSmall (n : ℤ) : Type 0 where
+  pub low : neg_ℤ (pos (2 ^ 50)) ≤ℤ n
+  pub high : n ≤ℤ pos (2 ^ 50)
+
 -- two different terms of so many variables
 pub record IsMeet (n : ℕ) (e : Meet) : Type 0 where
   pub first : e.first < 2 * n
@@ -20,17 +25,16 @@ abbrev pub AreMeets : ℕ → List Meet → Type 0
 AreMeets n [] = ⊤
 AreMeets n (e ∷ es) = IsMeet n e × AreMeets n es
 
+abbrev pub AreSmall : List Meet → Type 0
+AreSmall [] = ⊤
+AreSmall (e ∷ es) = IsSmall e.bound × AreSmall es
+
 -- the terms of a form over so many variables
 pub record IsEdge (n : ℕ) (e : Edge) : Type 0 where
   pub first : e.first < 2 * n
   pub second : e.second < 2 * n
   pub apart : e.first ≢ e.second
   pub constant : IsFormNumber e.constant
-
--- a number whose double and quadruple are no large ones
-pub record IsSmall (n : ℤ) : Type 0 where
-  pub low : neg_ℤ (pos (2 ^ 50)) ≤ℤ n
-  pub high : n ≤ℤ pos (2 ^ 50)
 
 pub record IsSmallRange (r : Range) : Type 0 where
   pub low : IsSmall r.low

@@ -1,7 +1,7 @@
 //! Matrices made entry by entry.
 #![tactic(auto)]
 
-ghost use Rattle.std.specs.Prelude.{◌≡◌, ◌≢◌, ◌≤◌, ◌<◌, ◌*◌, ◌/◌, ◌^◌, ℕ, ℤ, List, pos, neg_ℤ, ◌≤ℤ◌, ◌+ℤ◌, IfOk, length, All, false};
+ghost use Rattle.std.specs.Prelude.{◌≡◌, ◌≢◌, ◌≤◌, ◌<◌, ◌*◌, ◌/◌, ◌^◌, ℕ, ℤ, List, pos, neg_ℤ, ◌≤ℤ◌, ◌+ℤ◌, ◌*ℤ◌, ◌||◌, IfOk, length, All, false};
 ghost use Rattle.c_tree.specs.Value.{IsInt};
 ghost use Rattle.leaf_domain.specs.Ranges.{IsInInt, is_empty_range};
 ghost use Rattle.leaf_domain.specs.Forms.{IsFormNumber};
@@ -10,9 +10,11 @@ ghost use Rattle.octagon_matrix.specs.Stores.{Holds, term_value};
 ghost use Rattle.octagon_closure.specs.Best.{IsBest};
 ghost use Rattle.octagon_leaf.specs.Greatest.{difference};
 ghost use Rattle.octagon_leaf.specs.Shapes.{between};
-ghost use Rattle.octagon_leaf.specs.Octagons.{least_entry, met_all, dropped, renamed, sign_of, moved_entry, greater, widened, narrowed};
-ghost use Rattle.octagon_leaf.specs.Filling.{IsFull, greatest_set};
+ghost use Rattle.octagon_leaf.specs.Octagons.{has_variable, least_entry, met_all, dropped, renamed, sign_of, moved_entry, greater, widened, narrowed};
+ghost use Rattle.octagon_leaf.specs.Meeting.{IsSmall};
+ghost use Rattle.octagon_leaf.specs.Filling.{IsFull, AreLarge, greatest_set, set_entry};
 
+use crate::shape::half;
 use fam_outer::NoMemory;
 use leaf_domain::Range;
 use octagon_matrix::{Matrix, opposite, type_bound};
@@ -73,6 +75,7 @@ pub(crate) fn joined(alloc: Global, first: &Matrix, second: &Matrix) -> Result<M
     ensures entries { IfOk result (λ m. HasEntries m first.now.variables (greater first.now second.now)) }
     ensures kept { IfOk result (λ m. IsMatrix m) }
 {
+    let _same = second.variables();
     filled(alloc, first.variables(), |a, b| {
         first.entry(a, b).max(second.entry(a, b))
     })
@@ -84,6 +87,7 @@ pub(crate) fn widened(alloc: Global, x: &Matrix, g: &Matrix) -> Result<Matrix, N
     ensures entries { IfOk result (λ m. HasEntries m x.now.variables (widened x.now g.now)) }
     ensures kept { IfOk result (λ m. IsMatrix m) }
 {
+    let _same = g.variables();
     filled(alloc, x.variables(), |a, b| {
         let own = x.entry(a, b);
         if g.entry(a, b) <= own {
@@ -100,6 +104,7 @@ pub(crate) fn narrowed(alloc: Global, x: &Matrix, g: &Matrix) -> Result<Matrix, 
     ensures entries { IfOk result (λ m. HasEntries m x.now.variables (narrowed x.now g.now)) }
     ensures kept { IfOk result (λ m. IsMatrix m) }
 {
+    let _same = g.variables();
     filled(alloc, x.variables(), |a, b| {
         let own = x.entry(a, b);
         if own == type_bound(a, b) {
@@ -115,15 +120,39 @@ pub(crate) fn narrowed(alloc: Global, x: &Matrix, g: &Matrix) -> Result<Matrix, 
 fn greatest(matrix: &Matrix, x: u32, r: Range, a: u32) -> i64
     requires term { a < 2 * matrix.now.variables }
     requires int { IsInInt r }
-    ensures { result ≡ greatest_set matrix.now x r a }
+    ensures value { result ≡ greatest_set matrix.now x r a }
+    ensures small { IsSmall result }
 {
     let _variables = matrix.variables();
     if a / 2 != x {
-        matrix.entry(a, opposite(a)).div_euclid(2)
+        half(matrix.entry(a, opposite(a)))
     } else if a % 2 == 0 {
         r.high
     } else {
         -r.low
+    }
+}
+
+/// Whether one of the terms is of variable `x`.
+fn has_either(x: u32, a: u32, b: u32) -> bool
+    ensures { result ≡ (has_variable x a || has_variable x b) }
+{
+    a / 2 == x || b / 2 == x
+}
+
+/// The entry of two different terms where variable `x` is any number of the range.
+fn set_entry(matrix: &Matrix, x: u32, r: Range, a: u32, b: u32) -> i64
+    requires first { a < 2 * matrix.now.variables }
+    requires second { b < 2 * matrix.now.variables }
+    requires apart { a ≢ b }
+    requires int { IsInInt r }
+    ensures { result ≡ set_entry matrix.now x r a b }
+{
+    let _variables = matrix.variables();
+    if has_either(x, a, b) {
+        greatest(matrix, x, r, a) + greatest(matrix, x, r, opposite(b))
+    } else {
+        matrix.entry(a, b)
     }
 }
 
@@ -137,13 +166,7 @@ pub(crate) fn with_range(alloc: Global, matrix: &Matrix, x: u32, r: Range) -> Re
     ensures best { IfOk result (λ m. IsBest (met_all (dropped matrix.now x) (between x r)) m) }
     ensures kept { IfOk result (λ m. IsMatrix m) }
 {
-    filled(alloc, matrix.variables(), |a, b| {
-        if a / 2 == x || b / 2 == x {
-            greatest(matrix, x, r, a) + greatest(matrix, x, r, opposite(b))
-        } else {
-            matrix.entry(a, b)
-        }
-    })
+    filled(alloc, matrix.variables(), move |a, b| set_entry(matrix, x, r, a, b))
 }
 
 /// The term `t` for `+x`, its opposite for `-x`, and every other term itself.
@@ -160,33 +183,49 @@ fn renamed(x: u32, t: u32, a: u32) -> u32
     }
 }
 
-/// 1 for `+x`, -1 for `-x`, and 0 for every other term.
-fn sign_of(x: u32, a: u32) -> i64
-    ensures value { result ≡ sign_of x a }
-    ensures least { neg_ℤ (pos 1) ≤ℤ result }
-    ensures most { result ≤ℤ pos 1 }
+/// The constant for `+x`, its negation for `-x`, and 0 for every other term.
+fn signed(x: u32, c: i64, a: u32) -> i64
+    requires { IsFormNumber c }
+    ensures value { result ≡ c *ℤ sign_of x a }
+    ensures small { IsSmall result }
 {
     if a / 2 != x {
         0
     } else if a % 2 == 0 {
-        1
+        c
     } else {
-        -1
+        -c
     }
 }
 
-/// The entries of a best matrix moved to where variable `x` takes the value of its term `t` plus `c`, which
-/// is within `int` at each store that meets the matrix. So the answer is best, and no closing is needed.
-pub(crate) fn moved(alloc: Global, matrix: &Matrix, x: u32, t: u32, c: i64) -> Result<Matrix, NoMemory>
-    requires best { IsBest matrix.now matrix.now }
+/// The entry where variable `x` takes the value of its term `t` plus `c`.
+fn moved_entry(matrix: &Matrix, x: u32, t: u32, c: i64, a: u32, b: u32) -> i64
     requires term { t < 2 * matrix.now.variables }
-    requires own { t / 2 ≡ x }
+    requires first { a < 2 * matrix.now.variables }
+    requires second { b < 2 * matrix.now.variables }
     requires constant { IsFormNumber c }
-    requires int { (s : List ℤ) → Holds matrix.now s → IsInt (term_value s t +ℤ c) }
+    ensures { result ≡ moved_entry matrix.now x t c a b }
+{
+    let _variables = matrix.variables();
+    let entry = matrix.entry(renamed(x, t, a), renamed(x, t, b));
+    entry + (signed(x, c, a) - signed(x, c, b))
+}
+
+/// The entries of a best matrix moved to where variable `x` takes the value of its term `t` plus `c`. They
+/// are best again where some matrix has them as its best, and no closing is needed.
+pub(crate) fn moved(
+    alloc: Global,
+    matrix: &Matrix,
+    x: u32,
+    t: u32,
+    c: i64,
+) -> Result<Matrix, NoMemory>
+    requires term { t < 2 * matrix.now.variables }
+    requires constant { IsFormNumber c }
+    requires full { IsFull matrix.now.variables (moved_entry matrix.now x t c) }
+    requires large { AreLarge matrix.now.variables (moved_entry matrix.now x t c) }
     ensures entries { IfOk result (λ m. HasEntries m matrix.now.variables (moved_entry matrix.now x t c)) }
     ensures kept { IfOk result (λ m. IsMatrix m) }
 {
-    filled(alloc, matrix.variables(), |a, b| {
-        matrix.entry(renamed(x, t, a), renamed(x, t, b)) + c * (sign_of(x, a) - sign_of(x, b))
-    })
+    filled(alloc, matrix.variables(), move |a, b| moved_entry(matrix, x, t, c, a, b))
 }

@@ -17,7 +17,7 @@ ghost use Rattle.octagon_leaf.specs.Laws.{octagon_laws, leaf_alike};
 
 use crate::filled::{differences, joined, moved, narrowed, widened, with_range};
 use crate::meets::met;
-use crate::shape::{Shape, between, compared, edge_range, equal_to, shape_of, term_between};
+use crate::shape::{Shape, between, compared, edge_range, equal_to, half, shape_of, term_between};
 use fam_outer::NoMemory;
 use leaf_domain::{Compare, Form, Leaf, Range};
 use octagon_closure::{Closed, close};
@@ -180,7 +180,9 @@ fn is_below(first: &Matrix, second: &Matrix) -> bool
     requires { first.now.variables ≡ second.now.variables }
     ensures { result ≡ is_below first.now second.now }
 {
-    for a in 0..2 * first.variables() {
+    let variables = first.variables();
+    let _same = second.variables();
+    for a in 0..2 * variables {
         for b in 0..2 * (a / 2) + 2 {
             if first.entry(a, b) > second.entry(a, b) {
                 return false;
@@ -326,8 +328,8 @@ impl Leaf for OctagonLeaf {
         match self.best_matrix() {
             None => Range::EMPTY,
             Some(matrix) => Range {
-                low: -matrix.entry(2 * x + 1, 2 * x).div_euclid(2),
-                high: matrix.entry(2 * x, 2 * x + 1).div_euclid(2),
+                low: -half(matrix.entry(2 * x + 1, 2 * x)),
+                high: half(matrix.entry(2 * x, 2 * x + 1)),
             },
         }
     }

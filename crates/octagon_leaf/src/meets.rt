@@ -4,7 +4,7 @@
 ghost use Rattle.std.specs.Prelude.{◌≡◌};
 ghost use Rattle.octagon_closure.specs.Best.{IsBest};
 ghost use Rattle.octagon_leaf.specs.Octagons.{met_all};
-ghost use Rattle.octagon_leaf.specs.Meeting.{AreMeets, IsSettled};
+ghost use Rattle.octagon_leaf.specs.Meeting.{AreMeets, AreSmall, IsSettled};
 
 use octagon_closure::{Closed, close_after_one};
 use octagon_matrix::Matrix;
@@ -25,6 +25,7 @@ pub(crate) struct Meet {
 pub(crate) fn met(mut matrix: Matrix, meets: &[Meet]) -> Option<Matrix>
     requires best { IsBest matrix matrix }
     requires meets { AreMeets matrix.variables meets.now }
+    requires small { AreSmall meets.now }
     ensures { IsSettled (met_all matrix meets.now) result }
 {
     let _variables = matrix.variables();

@@ -5,6 +5,7 @@ ghost use Rattle.std.specs.Prelude.{◌≡◌, ◌≤◌, ◌<◌, ◌*◌, ◌^
 ghost use Rattle.leaf_domain.specs.Forms.{IsForm, IsFormNumber};
 ghost use Rattle.leaf_domain.specs.declared.compare.Compare.TheVariants.{Ne};
 ghost use Rattle.octagon_matrix.specs.Matrices.{entry_of};
+ghost use Rattle.octagon_closure.specs.Sweeps.{half};
 ghost use Rattle.octagon_closure.specs.Best.{IsBest};
 ghost use Rattle.octagon_leaf.specs.Shapes.{is_unit, term_of, single, double, shape_of, scaled, halved, edge_range, at_most, at_least, compared, between, term_between, equal_to};
 ghost use Rattle.octagon_leaf.specs.Octagons.{met_all};
@@ -102,15 +103,28 @@ pub(crate) fn shape_of(f: &Form, variables: u32) -> Shape
 /// A number, twice where the terms are twice the form.
 fn scaled(is_double: bool, n: i64) -> i64
     requires { IsSmall n }
-    ensures { result ≡ scaled is_double n }
+    ensures value { result ≡ scaled is_double n }
+    ensures low { neg_ℤ (pos (2 ^ 51)) ≤ℤ result }
+    ensures high { result ≤ℤ pos (2 ^ 51) }
 {
     if is_double { 2 * n } else { n }
 }
 
-fn halved(is_double: bool, n: i64) -> i64
-    ensures { result ≡ halved is_double n }
+/// Half of a number, rounded down.
+#[tactic(auto, unfolding(octagon_closure::specs::Sweeps::half))]
+pub(crate) fn half(n: i64) -> i64
+    ensures { result ≡ half n }
 {
-    if is_double { n.div_euclid(2) } else { n }
+    n.div_euclid(2)
+}
+
+/// A number, its half where the terms are twice the form.
+fn halved(is_double: bool, n: i64) -> i64
+    requires { IsSmall n }
+    ensures value { result ≡ halved is_double n }
+    ensures small { IsSmall result }
+{
+    if is_double { half(n) } else { n }
 }
 
 /// The range of a form by the entries of a best matrix.

@@ -158,6 +158,9 @@ narrowed-full x g p q e = record {
   most = λ a b h k. narrowed-by (entry_of g a b) (entry_of x a b) (type_bound a b) (q.most a b (rw (← e) h) (rw (← e) k)) (p.most a b h k);
 }
 
+pub narrowed-large : (x g : MatrixValue) (a b : ℕ) → IsMatrix x → IsMatrix g → x.variables ≡ g.variables → a < 2 * x.variables → b < 2 * x.variables → least_entry ≤ℤ narrowed x g a b
+narrowed-large x g a b p q e h k = narrowed-least (entry_of g a b) (entry_of x a b) (type_bound a b) least_entry (q.least a b (rw (← e) h) (rw (← e) k)) (p.least a b h k)
+
 pub narrowed-kept : (x g : MatrixValue) → IsMatrix x → IsMatrix g → x.variables ≡ g.variables → IsMatrix (matrix_of x.variables (narrowed x g))
 narrowed-kept x g p q e =
     full-kept x.variables (narrowed x g) p.few (narrowed-full x g p q e)

@@ -252,10 +252,10 @@ term-bound v d h = omega (arith, ints, half-above d)
 bound-exact : (v d : ℤ) → (v -ℤ neg_ℤ v) ≡ d → half d ≡ v
 bound-exact v d e = omega (arith, ints, half-above d, half-below d)
 
-plus-difference : (s : List ℤ) (x : ℕ) → difference s (2 * x) (2 * x + 1) ≡ value_at s x -ℤ neg_ℤ (value_at s x)
+pub plus-difference : (s : List ℤ) (x : ℕ) → difference s (2 * x) (2 * x + 1) ≡ value_at s x -ℤ neg_ℤ (value_at s x)
 plus-difference s x = rw (plus-value s x, minus-value s x) refl
 
-minus-difference : (s : List ℤ) (x : ℕ) → difference s (2 * x + 1) (2 * x) ≡ neg_ℤ (value_at s x) -ℤ neg_ℤ (neg_ℤ (value_at s x))
+pub minus-difference : (s : List ℤ) (x : ℕ) → difference s (2 * x + 1) (2 * x) ≡ neg_ℤ (value_at s x) -ℤ neg_ℤ (neg_ℤ (value_at s x))
 minus-difference s x = rw (plus-value s x, minus-value s x) (omega (arith, ints))
 
 bounds-hold : (n : ℕ) (c : Option (List ℤ)) (x : ℕ) (s : List ℤ) → IsOctagon (at n c) → x < n → ContentHolds n c s → Within (at_store s x) (octagon_bounds (at n c) x)
@@ -314,7 +314,7 @@ form-nothing n (Constant c) r e = rw (← some-same empty_range r e) refl
 form-nothing n (Terms q) r e = rw (← some-same empty_range r e) refl
 
 -- ---- meets
-between-meets : (n x : ℕ) (r : Range) → x < n → AreMeets n (between x r)
+pub between-meets : (n x : ℕ) (r : Range) → x < n → AreMeets n (between x r)
 between-meets n x r h = (
   record { first = omega arith; second = omega arith; apart = omega arith },
   (record { first = omega arith; second = omega arith; apart = omega arith }, tt),
@@ -390,10 +390,10 @@ meet-form-holds n None f op s p g h e = absurd h
 meet-form-holds n (Some us) f op s p g h e = meet-shape-holds n us (shape_of f) op s (form_at f s) p h (shape-holds n f s g) e
 
 -- ---- one variable put as numbers of a range
-within-int : (v : ℤ) (r : Range) → IsInInt r → Within v r → IsInt v
+pub within-int : (v : ℤ) (r : Range) → IsInInt r → Within v r → IsInt v
 within-int v r i w = record { low = omega (arith, ints, i.low.low, w.low); high = omega (arith, ints, i.high.high, w.high) }
 
-set-met : (n : ℕ) (x : ℕ) (r : Range) (s : List ℤ) (v : ℤ) → length s ≡ n → x < n → Within v r → AllMet (between x r) (slice_set s x v)
+pub set-met : (n : ℕ) (x : ℕ) (r : Range) (s : List ℤ) (v : ℤ) → length s ≡ n → x < n → Within v r → AllMet (between x r) (slice_set s x v)
 set-met n x r s v e l w = between-met x r (slice_set s x v) (rw (set-here n s x v e l) w)
 
 dropped-met : (y : MatrixValue) (es : List Meet) (x : ℕ) (s : List ℤ) (v : ℤ) → IsMatrix y → Holds y s → x < y.variables → IsInt v → AreMeets y.variables es → AllMet es (slice_set s x v) → octagon_holds (best_of (met_all (dropped y x) es)) (slice_set s x v)

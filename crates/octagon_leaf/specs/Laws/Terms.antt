@@ -123,7 +123,7 @@ moved-term n s x t a c e h =
 abbrev sign_by : Bool → Bool → ℤ
 sign_by i j = if i then (if j then pos 1 else negsuc 0) else pos 0
 
-times_apart : (c : ℤ) (i j k l : Bool) → c *ℤ (sign_by i j -ℤ sign_by k l) ≡ (c *ℤ sign_by i j) -ℤ (c *ℤ sign_by k l)
+pub times_apart : (c : ℤ) (i j k l : Bool) → c *ℤ (sign_by i j -ℤ sign_by k l) ≡ (c *ℤ sign_by i j) -ℤ (c *ℤ sign_by k l)
 times_apart c true true true true = omega (arith, ints)
 times_apart c true true true false = omega (arith, ints)
 times_apart c true true false l = omega (arith, ints)
