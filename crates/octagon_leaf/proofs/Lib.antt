@@ -3,6 +3,7 @@ pub mod Filling
 pub mod MeetSteps
 pub mod Below
 pub mod Closed
+pub mod Meanings
 pub mod Full
 pub mod Setting
 pub mod Moving

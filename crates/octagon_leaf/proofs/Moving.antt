@@ -1,25 +1,28 @@
 -- A best matrix moved to where a variable takes the value of its own term and a constant is best.
-use Rattle.std.proofs.Common.{◌≡◌, ◌≢◌, ◌⊎◌, inl, inr, ℕ, zero, suc, ◌+◌, ◌*◌, ◌/◌, ◌%◌, ◌^◌, ◌<◌, ◌≤◌, ℤ, pos, neg_ℤ, ◌+ℤ◌, ◌-ℤ◌, ◌*ℤ◌, ◌≤ℤ◌, Bool, true, false, nat_eq, if◌then◌else◌, List, [], ◌∷◌, slice_set, slice_index_or, length, refl, sym, ◌∙◌, ap, subst, arith}
+use Rattle.std.proofs.Common.{◌≡◌, ◌≢◌, ◌⊎◌, inl, inr, ℕ, zero, suc, ◌+◌, ◌*◌, ◌/◌, ◌%◌, ◌^◌, ◌<◌, ◌≤◌, ℤ, pos, neg_ℤ, ◌+ℤ◌, ◌-ℤ◌, ◌*ℤ◌, ◌≤ℤ◌, Bool, true, false, nat_eq, if◌then◌else◌, List, [], ◌∷◌, slice_set, slice_index_or, length, refl, sym, ◌∙◌, ap, subst, to_z, of_z, w64, arith}
 use Rattle.std.proofs.lemmas.Int.{ints, clamps}
 use Rattle.std.proofs.lemmas.Bool.Decides.{nat_tests}
 use Rattle.c_tree.specs.Value.{IsInt}
 use Rattle.leaf_domain.specs.declared.range.Range.{Range}
 use Rattle.leaf_domain.specs.Ranges.{Within, IsInInt}
+use Rattle.leaf_domain.specs.Forms.{IsFormNumber}
 use Rattle.octagon_matrix.specs.Terms.{opposite, type_bound}
-use Rattle.octagon_matrix.specs.Matrices.{MatrixValue, entry_of, IsMatrix}
+use Rattle.octagon_matrix.specs.Matrices.{MatrixValue, entry_of, IsMatrix, HasEntries}
 use Rattle.octagon_matrix.specs.Stores.{value_at, term_value, IsStore, Holds}
 use Rattle.octagon_matrix.proofs.Terms.{opposite-opposite, opposite-below, opposite-differs}
 use Rattle.octagon_matrix.proofs.Stores.{term-opposite}
-use Rattle.octagon_closure.specs.Best.{Reaches, IsBest}
+use Rattle.octagon_closure.specs.Best.{IsUnmet, Reaches, IsBest}
 use Rattle.octagon_leaf.specs.declared.meets.Meet.{Meet}
 use Rattle.octagon_leaf.specs.Greatest.{matrix_of, difference}
 use Rattle.octagon_leaf.specs.Shapes.{between, term_between}
 use Rattle.octagon_leaf.specs.Octagons.{met_all, moved, moved_entry, kept_entry, has_variable, renamed, sign_of}
-use Rattle.octagon_leaf.specs.Meeting.{AreMeets}
+use Rattle.octagon_leaf.specs.Meeting.{AreMeets, AreSmall}
+use Rattle.octagon_leaf.specs.Filling.{IsFull, AreLarge}
 use Rattle.octagon_leaf.specs.Laws.Best.{of-entry, of-bounds, of-holds, IsBounded, bounded-store, store-below, store-above}
 use Rattle.octagon_leaf.specs.Laws.Meets.{bounded-kept, bounded-all, variables-all, AllMet, all-holds, holds-all}
 use Rattle.octagon_leaf.specs.Laws.Terms.{bounded-moved, moved-holds, moved-difference, renamed-below, set-own, set-length, set-store}
 use Rattle.octagon_leaf.specs.Laws.OctagonLaws.{between-meets, set-met, within-int}
+use Rattle.octagon_leaf.proofs.Full.{best-full, best-large, best-made}
 use Rattle.octagon_leaf.proofs.Setting.{met-within}
 
 -- ---- back to the store before
@@ -193,3 +196,48 @@ moved-unmet m x t c r s k l j f h =
     let o : Holds m u.store = unmoved-holds m s x t c u k l j (same-variable x t f) g in
     (u.store, all-holds m (term_between t (r.low -ℤ c) (r.high -ℤ c)) u.store (bounded-kept m k) (term-meets n t (r.low -ℤ c) (r.high -ℤ c) j) o
     (term-met t (r.low -ℤ c) (r.high -ℤ c) u.store (omega (arith, ints, u.term, w.low)) (omega (arith, ints, u.term, w.high))))
+
+-- ---- as the code has them
+shifted : (n c : ℤ) → IsInt n → IsFormNumber c → to_z w64 (of_z w64 (to_z w64 (of_z w64 n) -ℤ to_z w64 (of_z w64 c))) ≡ n -ℤ c
+shifted n c h k = omega (arith, ints, h.low, h.high, k.low, k.high)
+
+pub term-list : (t : ℕ) (r : Range) (c : ℤ) (es : List Meet) → IsInInt r → IsFormNumber c
+    → es ≡ term_between t (to_z w64 (of_z w64 (to_z w64 (of_z w64 r.low) -ℤ to_z w64 (of_z w64 c)))) (to_z w64 (of_z w64 (to_z w64 (of_z w64 r.high) -ℤ to_z w64 (of_z w64 c))))
+    → es ≡ term_between t (r.low -ℤ c) (r.high -ℤ c)
+term-list t r c es h k e =
+    e
+    ∙ (ap (λ l. term_between t l (to_z w64 (of_z w64 (to_z w64 (of_z w64 r.high) -ℤ to_z w64 (of_z w64 c))))) (shifted r.low c h.low k) ∙ ap (λ u. term_between t (r.low -ℤ c) u) (shifted r.high c h.high k))
+
+pub term-small : (t : ℕ) (r : Range) (c : ℤ) → IsInInt r → IsFormNumber c → AreSmall (term_between t (r.low -ℤ c) (r.high -ℤ c))
+term-small t r c h k = (
+  record { low = omega (arith, ints, h.high.low, h.high.high, k.low, k.high); high = omega (arith, ints, h.high.low, h.high.high, k.low, k.high) },
+  (record { low = omega (arith, ints, h.low.low, h.low.high, k.low, k.high); high = omega (arith, ints, h.low.low, h.low.high, k.low, k.high) }, tt),
+)
+
+pub held-of : (m k held : MatrixValue) (es fs : List Meet) → k ≡ m → es ≡ fs → IsBest (met_all k es) held → IsBest (met_all m fs) held
+held-of m k held es fs e f q =
+    let P : MatrixValue → Type 0 = λ d. IsBest (met_all d es) held in let Q : List Meet → Type 0 = λ gs. IsBest (met_all m gs) held in subst Q f (subst P e q)
+
+pub unmet-of : (m k : MatrixValue) (es fs : List Meet) → k ≡ m → es ≡ fs → IsUnmet (met_all k es) → IsUnmet (met_all m fs)
+unmet-of m k es fs e f q =
+    let P : MatrixValue → Type 0 = λ d. IsUnmet (met_all d es) in let Q : List Meet → Type 0 = λ gs. IsUnmet (met_all m gs) in subst Q f (subst P e q)
+
+pub moved-full : (m held : MatrixValue) (x t : ℕ) (c k : ℤ) (r : Range) → k ≡ c → IsMatrix m → IsBest (HeldMatrix m t c r) held → x < m.variables → t < 2 * m.variables → has_variable x t ≡ true → IsInInt r
+    → IsFull held.variables (moved_entry held x t k) × AreLarge held.variables (moved_entry held x t k)
+moved-full m held x t c k r g z q l j f i =
+    let n : ℕ = m.variables in
+    let p : IsBest (MovedMatrix m x t c r) (matrix_of n (moved_entry held x t c)) = moved-best m held x t c r z q l j f i in
+    let b : IsBounded (MovedMatrix m x t c r) = bounded-all (moved m x t c) (between x r) (bounded-moved m x t c (bounded-kept m z)) in
+    let e : held.variables ≡ n = q.variables ∙ variables-all m (term_between t (r.low -ℤ c) (r.high -ℤ c)) in
+    let P : ℕ → Type 0 = λ d. IsFull d (moved_entry held x t c) × AreLarge d (moved_entry held x t c) in
+    let Q : ℤ → Type 0 = λ d. IsFull held.variables (moved_entry held x t d) × AreLarge held.variables (moved_entry held x t d) in
+    subst Q (sym g) (subst P (sym e) (best-full (MovedMatrix m x t c r) n (moved_entry held x t c) b p, λ a d u v. best-large (MovedMatrix m x t c r) n (moved_entry held x t c) a d b p u v))
+
+pub moved-made : (m held made : MatrixValue) (x t : ℕ) (c k : ℤ) (r : Range) → k ≡ c → IsMatrix m → IsBest (HeldMatrix m t c r) held → x < m.variables → t < 2 * m.variables → has_variable x t ≡ true → IsInInt r
+    → IsMatrix made → HasEntries made held.variables (moved_entry held x t k) → IsBest (MovedMatrix m x t c r) made
+moved-made m held made x t c k r g z q l j f i y h =
+    let n : ℕ = m.variables in
+    let e : held.variables ≡ n = q.variables ∙ variables-all m (term_between t (r.low -ℤ c) (r.high -ℤ c)) in
+    let P : ℕ → Type 0 = λ d. HasEntries made d (moved_entry held x t c) in
+    let Q : ℤ → Type 0 = λ d. HasEntries made held.variables (moved_entry held x t d) in
+    best-made (MovedMatrix m x t c r) made n (moved_entry held x t c) (moved-best m held x t c r z q l j f i) y (subst P e (subst Q g h))

@@ -1,6 +1,7 @@
 -- What the code asks of meets and forms.
 use Rattle.std.specs.Prelude.{◌≡◌, ◌≢◌, ℕ, ◌*◌, ◌<◌, ◌^◌, ℤ, pos, neg_ℤ, ◌≤ℤ◌, false, List, [], ◌∷◌, Option, Some, None, ⊤}
 use Rattle.octagon_matrix.specs.Matrices.{MatrixValue, IsMatrix}
+use Rattle.octagon_matrix.specs.Stores.{Holds}
 use Rattle.octagon_closure.specs.Best.{IsUnmet, IsBest}
 use Rattle.leaf_domain.specs.Leaves.{LeafValue, nothing_of, is_nothing_of}
 use Rattle.leaf_domain.specs.Forms.{IsFormNumber}
@@ -67,3 +68,11 @@ pub record IsClosedOf (v : LeafValue) (m : MatrixValue) : Type 0 where
 pub record IsStandingOf (v : LeafValue) (m : MatrixValue) : Type 0 where
   pub is : v ≡ leaf_of m
   pub kept : IsMatrix m
+  pub met : (s : List ℤ) × Holds m s
+
+-- a range whose ends are no large numbers
+pub record IsKnownRange (r : Range) : Type 0 where
+  pub low_least : neg_ℤ (pos (2 ^ 51)) ≤ℤ r.low
+  pub low_most : r.low ≤ℤ pos (2 ^ 51)
+  pub high_least : neg_ℤ (pos (2 ^ 51)) ≤ℤ r.high
+  pub high_most : r.high ≤ℤ pos (2 ^ 51)

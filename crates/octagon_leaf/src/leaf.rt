@@ -1,7 +1,7 @@
 //! A leaf with a matrix of bounds.
 #![tactic(auto)]
 
-ghost use Rattle.std.specs.Prelude.{◌≡◌, ◌≤◌, ◌<◌, ◌*◌, IfOk, IfSome, IfNone, false, pos, refl};
+ghost use Rattle.std.specs.Prelude.{◌≡◌, ◌≤◌, ◌<◌, ◌*◌, IfOk, IfSome, IfNone, true, false, pos, ◌++◌, refl};
 ghost use Rattle.leaf_domain.specs.Ranges.{IsInInt, is_empty_range};
 ghost use Rattle.leaf_domain.specs.Compares.{holds_between};
 ghost use Rattle.leaf_domain.specs.Forms.{IsFormNumber};
@@ -10,13 +10,14 @@ ghost use Rattle.leaf_domain.proofs.LeafEquality.{leaf_decides, leaf_partial, le
 ghost use Rattle.octagon_matrix.specs.Matrices.{IsMatrix};
 ghost use Rattle.octagon_closure.specs.Best.{IsBest};
 ghost use Rattle.octagon_leaf.specs.Greatest.{standing};
-ghost use Rattle.octagon_leaf.specs.Octagons.{octagons, IsOctagon, octagon_set_range, set_term, is_below};
-ghost use Rattle.octagon_leaf.specs.Meeting.{IsSettled, IsOwnBest, leaf_from, IsClosedOf, IsStandingOf};
+ghost use Rattle.octagon_leaf.specs.Octagons.{octagons, IsOctagon, octagon_set_range, met_all, dropped, moved, has_variable, set_term, is_below};
+ghost use Rattle.octagon_leaf.specs.Shapes.{between};
+ghost use Rattle.octagon_leaf.specs.Meeting.{AreMeets, AreSmall, IsSettled, IsOwnBest, leaf_from, IsClosedOf, IsStandingOf};
 ghost use Rattle.octagon_leaf.specs.Hashing.{fed_leaf};
 ghost use Rattle.octagon_leaf.specs.Laws.{octagon_laws, leaf_alike};
 
 use crate::filled::{differences, joined, moved, narrowed, widened, with_range};
-use crate::meets::met;
+use crate::meets::{Meet, met};
 use crate::shape::{Shape, between, compared, edge_range, equal_to, half, shape_of, term_between};
 use fam_outer::NoMemory;
 use leaf_domain::{Compare, Form, Leaf, Range};
@@ -145,6 +146,53 @@ impl OctagonLeaf {
     }
 }
 
+/// The best matrix of the stores of a best one with `x` put as any number of the range, of those that meet
+/// the bounds; none where none does.
+fn set_met(
+    alloc: Global,
+    matrix: &Matrix,
+    x: u32,
+    r: Range,
+    meets: &[Meet],
+) -> Result<Option<Matrix>, NoMemory>
+    requires best { IsBest matrix.now matrix.now }
+    requires x { x < matrix.now.variables }
+    requires int { IsInInt r }
+    requires some { is_empty_range r ≡ false }
+    requires meets { AreMeets matrix.now.variables meets.now }
+    requires small { AreSmall meets.now }
+    ensures { IfOk result (λ set. IsSettled (met_all (dropped matrix.now x) (meets.now ++ between x r)) set) }
+{
+    let _variables = matrix.variables();
+    Ok(met(with_range(alloc, matrix, x, r)?, meets))
+}
+
+/// The best matrix of the stores of a best one with `x` put as the value of its term `t` plus `c` where
+/// that lies in the range; none where there is none.
+fn moved_within(
+    alloc: Global,
+    matrix: &Matrix,
+    x: u32,
+    t: u32,
+    c: i64,
+    r: Range,
+) -> Result<Option<Matrix>, NoMemory>
+    requires best { IsBest matrix.now matrix.now }
+    requires x { x < matrix.now.variables }
+    requires term { t < 2 * matrix.now.variables }
+    requires own { has_variable x t ≡ true }
+    requires constant { IsFormNumber c }
+    requires int { IsInInt r }
+    ensures { IfOk result (λ set. IsSettled (met_all (moved matrix.now x t c) (between x r)) set) }
+{
+    let _variables = matrix.variables();
+    let copy = matrix.copy(alloc)?;
+    match met(copy, &term_between(t, r.low - c, r.high - c)) {
+        None => Ok(None),
+        Some(held) => Ok(Some(moved(alloc, &held, x, t, c)?)),
+    }
+}
+
 /// The best matrix of the stores of a best one with `x` put as the value of the term `t` plus `c` where that
 /// lies in the range; none where there is none.
 fn set_term(
@@ -164,14 +212,10 @@ fn set_term(
     ensures { IfOk result (λ set. IsSettled (set_term matrix.now x t c r) set) }
 {
     let _variables = matrix.variables();
-    if t / 2 != x {
-        let set = with_range(alloc, matrix, x, r)?;
-        return Ok(met(set, &equal_to(x, t, c)));
-    }
-    let copy = matrix.copy(alloc)?;
-    match met(copy, &term_between(t, r.low - c, r.high - c)) {
-        None => Ok(None),
-        Some(held) => Ok(Some(moved(alloc, &held, x, t, c)?)),
+    if t / 2 == x {
+        moved_within(alloc, matrix, x, t, c, r)
+    } else {
+        set_met(alloc, matrix, x, r, &equal_to(x, t, c))
     }
 }
 
@@ -400,7 +444,11 @@ impl Leaf for OctagonLeaf {
         }
         match shape_of(f, self.count()) {
             Shape::Other => self.with(alloc, x, r),
-            Shape::Constant(c) => self.with(alloc, x, r.meet(Range { low: c, high: c })),
+            Shape::Constant(c) => {
+                let value = Range { low: c, high: c };
+                let set = set_met(alloc, matrix, x, r, &between(x, value))?;
+                Ok(OctagonLeaf::from_best(self.count(), set))
+            }
             Shape::Terms(e) => {
                 if !e.is_double {
                     return self.with(alloc, x, r);

@@ -9,7 +9,7 @@ ghost use Rattle.octagon_closure.specs.Sweeps.{half};
 ghost use Rattle.octagon_closure.specs.Best.{IsBest};
 ghost use Rattle.octagon_leaf.specs.Shapes.{is_unit, term_of, single, double, shape_of, scaled, halved, edge_range, at_most, at_least, compared, between, term_between, equal_to};
 ghost use Rattle.octagon_leaf.specs.Octagons.{met_all};
-ghost use Rattle.octagon_leaf.specs.Meeting.{IsEdge, IsSettled, IsSmall, IsSmallRange};
+ghost use Rattle.octagon_leaf.specs.Meeting.{IsEdge, IsSettled, IsSmall, IsSmallRange, IsKnownRange};
 
 use crate::meets::{Meet, met};
 use leaf_domain::{Compare, Form, Range};
@@ -130,7 +130,8 @@ fn halved(is_double: bool, n: i64) -> i64
 /// The range of a form by the entries of a best matrix.
 pub(crate) fn edge_range(matrix: &Matrix, e: Edge) -> Range
     requires edge { IsEdge matrix.now.variables e }
-    ensures { result ≡ edge_range (entry_of matrix.now) e }
+    ensures value { result ≡ edge_range (entry_of matrix.now) e }
+    ensures known { IsKnownRange result }
 {
     let _variables = matrix.variables();
     Range {
@@ -170,6 +171,7 @@ fn at_least(e: Edge, n: i64) -> Meet
 pub(crate) fn compared(matrix: Matrix, e: Edge, op: Compare, range: Range) -> Option<Matrix>
     requires best { IsBest matrix matrix }
     requires edge { IsEdge matrix.variables e }
+    requires range { IsKnownRange range }
     ensures { IsSettled (met_all matrix (compared e op range)) result }
 {
     match op {
@@ -186,6 +188,7 @@ pub(crate) fn compared(matrix: Matrix, e: Edge, op: Compare, range: Range) -> Op
 fn different(matrix: Matrix, e: Edge, range: Range) -> Option<Matrix>
     requires best { IsBest matrix matrix }
     requires edge { IsEdge matrix.variables e }
+    requires range { IsKnownRange range }
     ensures { IsSettled (met_all matrix (compared e Ne range)) result }
 {
     match (range.low == 0, range.high == 0) {

@@ -422,11 +422,11 @@ set-holds n (Some us) x r s v p l i h w =
     (dropped-met z.matrix (between x r) x s v z.kept (closed-holds n us z s h) l' (within-int v r i w) (between-meets z.matrix.variables x r l') (set-met n x r s v h.size l w))
 
 -- ---- one variable put as the value of a form
-set-term-bounded : (y : MatrixValue) (x t : ℕ) (c : ℤ) (r : Range) (b : Bool) → IsBounded y → IsBounded (if b then met_all (moved y x t c) (between x r) else met_all (dropped y x) (equal_to x t c ++ between x r))
+pub set-term-bounded : (y : MatrixValue) (x t : ℕ) (c : ℤ) (r : Range) (b : Bool) → IsBounded y → IsBounded (if b then met_all (moved y x t c) (between x r) else met_all (dropped y x) (equal_to x t c ++ between x r))
 set-term-bounded y x t c r true b = bounded-all (moved y x t c) (between x r) (bounded-moved y x t c b)
 set-term-bounded y x t c r false b = bounded-all (dropped y x) (equal_to x t c ++ between x r) (bounded-dropped y x b)
 
-set-term-variables : (y : MatrixValue) (x t : ℕ) (c : ℤ) (r : Range) (b : Bool) → (if b then met_all (moved y x t c) (between x r) else met_all (dropped y x) (equal_to x t c ++ between x r)).variables ≡ y.variables
+pub set-term-variables : (y : MatrixValue) (x t : ℕ) (c : ℤ) (r : Range) (b : Bool) → (if b then met_all (moved y x t c) (between x r) else met_all (dropped y x) (equal_to x t c ++ between x r)).variables ≡ y.variables
 set-term-variables y x t c r true = variables-all (moved y x t c) (between x r)
 set-term-variables y x t c r false = variables-all (dropped y x) (equal_to x t c ++ between x r)
 
