@@ -21,7 +21,27 @@ compared-kept-requires-clause-edge c =
     rw (c.in_ok-copy-in-Terms.ensures) (subst P (sym c.in-Some.ensures.best.variables) (shape-edge c.args.self.now.variables c.args.f.now c.in-Terms.e c.requires (sym c.shape_of.ensures ∙ c.in-Terms.is)))
 
 pub from_best-requires-clause-best : goal.from_best-requires-clause-best
-from_best-requires-clause-best c = ?
+from_best-requires-clause-best c =
+    let m = c.in-Some.matrix.now in
+    let e = c.in-Terms.e in
+    let op = c.args.op in
+    let es : List Meet = compared e op (edge_range (entry_of m) e) in
+    let P : MatrixValue → Type 0 = λ k. IsSettled (met_all k (compared e op c.edge_range-range.result)) c.compared-kept.result in
+    let Q : Range → Type 0 = λ r. IsSettled (met_all m (compared e op r)) c.compared-kept.result in
+    let h : IsSettled (met_all m es) c.compared-kept.result = subst Q c.edge_range-range.ensures.value (subst P c.in_ok-copy-in-Terms.ensures c.compared-kept.ensures) in
+    let f = variables-all m es ∙ (c.in-Some.ensures.best.variables ∙ sym c.count-in-Terms.ensures.value) in
+    settled-best c.count-in-Terms.result (met_all m es) c.compared-kept.result f h
 
 pub returns-in_ok-copy-in-Terms : goal.returns-in_ok-copy-in-Terms
-returns-in_ok-copy-in-Terms c = ?
+returns-in_ok-copy-in-Terms c =
+    let m = c.in-Some.matrix.now in
+    let e = c.in-Terms.e in
+    let op = c.args.op in
+    let es : List Meet = compared e op (edge_range (entry_of m) e) in
+    let P : MatrixValue → Type 0 = λ k. IsSettled (met_all k (compared e op c.edge_range-range.result)) c.compared-kept.result in
+    let Q : Range → Type 0 = λ r. IsSettled (met_all m (compared e op r)) c.compared-kept.result in
+    let h : IsSettled (met_all m es) c.compared-kept.result = subst Q c.edge_range-range.ensures.value (subst P c.in_ok-copy-in-Terms.ensures c.compared-kept.ensures) in
+    let f = variables-all m es ∙ (c.in-Some.ensures.best.variables ∙ sym c.count-in-Terms.ensures.value) in
+    c.from_best.ensures
+    ∙ (settled-is c.count-in-Terms.result (met_all m es) c.compared-kept.result (bounded-all m es (bounded-kept m c.in-Some.ensures.best.kept)) f h
+    ∙ sym (meet-form-is c.args.self.now m c.args.f.now e op c.in-Some.ensures.best (sym c.shape_of.ensures ∙ c.in-Terms.is)))
