@@ -1,8 +1,11 @@
 -- Regions of paths.
 use Rattle.std.proofs.Common.{◌≡◌, ◌<◌, ◌≤◌, ℕ, zero, suc, ℤ, Bool, true, false, not, ◌&&◌, List, [], ◌∷◌, ◌++◌, length, map, take, refl, sym, subst, ap, ◌∙◌, arith, slice_index_or}
-use Rattle.std.specs.List.{All}
+use Rattle.std.specs.List.{All, filter}
+use Rattle.decision_tree.specs.Paths.{paths_from}
+use Rattle.decision_tree.specs.Plain.{Plain, leaf, node, TestsBelow}
+use Rattle.alarm_report.specs.declared.region.Region.{Region}
 use Rattle.std.proofs.Math.Bool.{and_assoc}
-use Rattle.std.proofs.lemmas.List.Elements.{All-head, All-tail}
+use Rattle.std.proofs.lemmas.List.Elements.{All-head, All-tail, All-cons, All-nil}
 use Rattle.std.proofs.lemmas.List.{append-nil, append_assoc}
 use Rattle.std.specs.Prelude.{Some, None, slice_get}
 use Rattle.linear_atoms.specs.declared.atoms.Atom.{Atom}
@@ -11,7 +14,7 @@ use Rattle.linear_atoms.specs.Atoms.{AreAtoms, AreLiterals, IsAtom, literal_hold
 use Rattle.cpp_conditions.specs.declared.models.Model.{Model}
 use Rattle.cpp_conditions.specs.Validity.{plain, IsValid}
 use Rattle.atom_solver.specs.Solutions.{IsFirst, IsImplied, all_hold, IsBefore}
-use Rattle.alarm_report.specs.Regions.{literal_of, literals_of, AreStanding}
+use Rattle.alarm_report.specs.Regions.{literal_of, literals_of, AreStanding, AreRegionsOf, IsRegionOf}
 use Rattle.alarm_report.specs.Regions as of
 
 -- the literals of a path are well formed
@@ -57,3 +60,60 @@ first_same model xs ys values same f = record {
   met = sym (same values f.valid) ∙ f.met;
   first = λ others valid met. f.first others valid (same others valid ∙ met);
 }
+
+-- ---- the paths of a tree
+
+-- the turns of those that lead to true
+abbrev pub to_true : List (List (ℕ × Bool) × Bool) → List (List (ℕ × Bool))
+to_true ps = map (λ (p : List (ℕ × Bool) × Bool). p.0) (filter (λ (p : List (ℕ × Bool) × Bool). p.1) ps)
+
+-- the turns' tests are below a count
+abbrev pub AreBelow : ℕ → List (ℕ × Bool) → Type 0
+AreBelow m turns = All (λ (t : ℕ × Bool). t.0 < m) turns
+
+one_below : (m test : ℕ) (side : Bool) → test < m → AreBelow m ((test, side) ∷ [])
+one_below m test side h = All-cons (λ (t : ℕ × Bool). t.0 < m) (test, side) [] h (All-nil (λ (t : ℕ × Bool). t.0 < m))
+
+both_below : (m : ℕ) (turns more : List (ℕ × Bool)) → AreBelow m turns → AreBelow m more → AreBelow m (turns ++ more)
+both_below m [] more h k = k
+both_below m (t ∷ turns) more h k =
+    let P : ℕ × Bool → Type 0 = λ t. t.0 < m in
+    All-cons P t (turns ++ more) (All-head P t turns h) (both_below m turns more (All-tail P t turns h) k)
+
+-- those of each path are
+abbrev pub PathsBelow : ℕ → List (List (ℕ × Bool) × Bool) → Type 0
+PathsBelow m ps = (i : ℕ) (p : List (ℕ × Bool) × Bool) → slice_get ps i ≡ Some p → AreBelow m p.0
+
+joined_at : (m : ℕ) (ps qs : List (List (ℕ × Bool) × Bool)) → PathsBelow m ps → PathsBelow m qs
+    → (i : ℕ) (q : List (ℕ × Bool) × Bool) → slice_get (ps ++ qs) i ≡ Some q → AreBelow m q.0
+joined_at m [] qs h k i q e = k i q e
+joined_at m (p ∷ ps) qs h k zero q e = h zero q e
+joined_at m (p ∷ ps) qs h k (suc i) q e = joined_at m ps qs (λ j r f. h (suc j) r f) k i q e
+
+only_one : (m : ℕ) (turns : List (ℕ × Bool)) (x : Bool) → AreBelow m turns → (i : ℕ) (p : List (ℕ × Bool) × Bool) → slice_get ((turns, x) ∷ []) i ≡ Some p → AreBelow m p.0
+only_one m turns x h zero p e = let f : (turns, x) ≡ p = cc in subst (λ (q : List (ℕ × Bool) × Bool). AreBelow m q.0) f h
+only_one m turns x h (suc i) p e = cc
+
+joined_below : (m : ℕ) (ps qs : List (List (ℕ × Bool) × Bool)) → PathsBelow m ps → PathsBelow m qs → PathsBelow m (ps ++ qs)
+joined_below m ps qs h k = λ i q e. joined_at m ps qs h k i q e
+
+pub paths_below : (m : ℕ) (turns : List (ℕ × Bool)) (t : Plain Bool) → AreBelow m turns → TestsBelow m t → PathsBelow m (paths_from turns t)
+paths_below m turns (leaf x) h below = λ i p e. only_one m turns x h i p e
+paths_below m turns (node test low high) h below =
+    joined_below m (paths_from (turns ++ (test, false) ∷ []) low) (paths_from (turns ++ (test, true) ∷ []) high)
+    (paths_below m (turns ++ (test, false) ∷ []) low (both_below m turns ((test, false) ∷ []) h (one_below m test false below.0)) below.1)
+    (paths_below m (turns ++ (test, true) ∷ []) high (both_below m turns ((test, true) ∷ []) h (one_below m test true below.0)) below.2)
+
+-- ---- regions, one path after another
+
+pub no_more : (model : Model) (atoms : List Atom) (paths : List (List (ℕ × Bool))) (turns : List (ℕ × Bool)) (rs : List Region) → AreRegionsOf model atoms paths rs
+    → IsRegionOf model atoms turns None → AreRegionsOf model atoms (paths ++ turns ∷ []) rs
+no_more model atoms _ turns _ of.no_path k = of.void turns [] [] k of.no_path
+no_more model atoms _ turns rs (of.void t ps qs v h) k = of.void t (ps ++ turns ∷ []) rs v (no_more model atoms ps turns rs h k)
+no_more model atoms _ turns _ (of.region t ps r qs v h) k = of.region t (ps ++ turns ∷ []) r qs v (no_more model atoms ps turns qs h k)
+
+pub one_more_region : (model : Model) (atoms : List Atom) (paths : List (List (ℕ × Bool))) (turns : List (ℕ × Bool)) (rs : List Region) (r : Region) → AreRegionsOf model atoms paths rs
+    → IsRegionOf model atoms turns (Some r) → AreRegionsOf model atoms (paths ++ turns ∷ []) (rs ++ r ∷ [])
+one_more_region model atoms _ turns _ r of.no_path k = of.region turns [] r [] k of.no_path
+one_more_region model atoms _ turns rs r (of.void t ps qs v h) k = of.void t (ps ++ turns ∷ []) (rs ++ r ∷ []) v (one_more_region model atoms ps turns rs r h k)
+one_more_region model atoms _ turns _ r (of.region t ps q qs v h) k = of.region t (ps ++ turns ∷ []) q (qs ++ r ∷ []) v (one_more_region model atoms ps turns qs r h k)

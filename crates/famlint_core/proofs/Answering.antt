@@ -5,7 +5,7 @@ use Rattle.fam_outer.specs.declared.faults.FileCode.{FileCode}
 use Rattle.fam_outer.specs.declared.faults.Place.{Place}
 use Rattle.c_tree.specs.Tree.{Whole}
 use Rattle.c_parser.specs.Reading.{Reads, ReadsOver}
-use Rattle.plain_analysis.specs.declared.options.Options.{Options}
+use Rattle.famlint_core.specs.declared.request.Analysis.{Analysis}
 use Rattle.famlint_core.specs.declared.fault.Done.{Done}
 use Rattle.famlint_core.specs.declared.fault.Fault.{Fault}
 use Rattle.famlint_core.specs.declared.fault.Fault.TheVariants as fault
@@ -19,32 +19,32 @@ one_program : OneReading → (bytes : List ℕ) (p q : Whole) → Reads bytes (O
 one_program once bytes p q h k = let e : (let r : Result Whole (FileCode × Place) = Ok p in r) ≡ Ok q = once [] bytes (Ok p) (Ok q) h k in cc
 
 -- bytes are answered once
-pub one_answer : OneReading → (options : Options) (bytes : List ℕ) (a b : Result Done Fault) → AnswersPlain options bytes a → AnswersPlain options bytes b → a ≡ b
-one_answer once options bytes (Ok d) (Ok e) (p, h, i) (q, k, j) =
-    ap (λ (x : Done). Ok x) (i ∙ ap (plain_done options) (one_program once bytes p q h k) ∙ sym j)
-one_answer once options bytes (Ok d) (Err (fault.File code place example)) (p, h, i) (k, none) =
+pub one_answer : OneReading → (analysis : Analysis) (bytes : List ℕ) (a b : Result Done Fault) → AnswersPlain analysis bytes a → AnswersPlain analysis bytes b → a ≡ b
+one_answer once analysis bytes (Ok d) (Ok e) (p, h, i) (q, k, j) =
+    ap (λ (x : Done). Ok x) (i ∙ ap (plain_done analysis) (one_program once bytes p q h k) ∙ sym j)
+one_answer once analysis bytes (Ok d) (Err (fault.File code place example)) (p, h, i) (k, none) =
     let e : (let r : Result Whole (FileCode × Place) = Ok p in r) ≡ Err (code, place) = once [] bytes (Ok p) (Err (code, place)) h k in cc
-one_answer once options bytes (Err (fault.File code place example)) (Ok d) (h, none) (q, k, j) =
+one_answer once analysis bytes (Err (fault.File code place example)) (Ok d) (h, none) (q, k, j) =
     let e : (let r : Result Whole (FileCode × Place) = Err (code, place) in r) ≡ Ok q = once [] bytes (Err (code, place)) (Ok q) h k in cc
-one_answer once options bytes (Err (fault.File code place example)) (Err (fault.File c p x)) (h, none) (k, nothing) =
+one_answer once analysis bytes (Err (fault.File code place example)) (Err (fault.File c p x)) (h, none) (k, nothing) =
     let e : (let r : Result Whole (FileCode × Place) = Err (code, place) in r) ≡ Err (c, p) = once [] bytes (Err (code, place)) (Err (c, p)) h k in
     let f : (code, place) ≡ (c, p) = cc in
     ap (λ (y : FileCode × Place). Err (fault.File y.0 y.1 example)) f ∙ ap (λ (y : Option (List ℕ)). Err (fault.File c p y)) (none ∙ sym nothing)
-one_answer once options bytes (Ok d) (Err (fault.Model given)) h k = elim k [ ]
-one_answer once options bytes (Ok d) (Err (fault.Settings given name)) h k = elim k [ ]
-one_answer once options bytes (Err (fault.Model given)) b h k = elim h [ ]
-one_answer once options bytes (Err (fault.Settings given name)) b h k = elim h [ ]
-one_answer once options bytes (Err (fault.File code place example)) (Err (fault.Model given)) h k = elim k [ ]
-one_answer once options bytes (Err (fault.File code place example)) (Err (fault.Settings given name)) h k = elim k [ ]
+one_answer once analysis bytes (Ok d) (Err (fault.Model given)) h k = elim k [ ]
+one_answer once analysis bytes (Ok d) (Err (fault.Settings given name)) h k = elim k [ ]
+one_answer once analysis bytes (Err (fault.Model given)) b h k = elim h [ ]
+one_answer once analysis bytes (Err (fault.Settings given name)) b h k = elim h [ ]
+one_answer once analysis bytes (Err (fault.File code place example)) (Err (fault.Model given)) h k = elim k [ ]
+one_answer once analysis bytes (Err (fault.File code place example)) (Err (fault.Settings given name)) h k = elim k [ ]
 
 -- each file is read as a program, or has a refusal
 abbrev pub SomeReading : Type 0
 SomeReading = (given : List (List ℕ)) (bytes : List ℕ) → (r : Result Whole (FileCode × Place)) × ReadsOver given bytes r
 
-answer_by : (options : Options) (bytes : List ℕ) (r : Result Whole (FileCode × Place)) → Reads bytes r → (answer : Result Done Fault) × AnswersPlain options bytes answer
-answer_by options bytes (Ok p) h = (Ok (plain_done options p), (p, h, refl))
-answer_by options bytes (Err (code, place)) h = (Err (fault.File code place None), (h, refl))
+answer_by : (analysis : Analysis) (bytes : List ℕ) (r : Result Whole (FileCode × Place)) → Reads bytes r → (answer : Result Done Fault) × AnswersPlain analysis bytes answer
+answer_by analysis bytes (Ok p) h = (Ok (plain_done analysis p), (p, h, refl))
+answer_by analysis bytes (Err (code, place)) h = (Err (fault.File code place None), (h, refl))
 
 -- bytes are answered
-pub some_answer : SomeReading → (options : Options) (bytes : List ℕ) → (answer : Result Done Fault) × AnswersPlain options bytes answer
-some_answer some options bytes = let read = some [] bytes in answer_by options bytes read.0 read.1
+pub some_answer : SomeReading → (analysis : Analysis) (bytes : List ℕ) → (answer : Result Done Fault) × AnswersPlain analysis bytes answer
+some_answer some analysis bytes = let read = some [] bytes in answer_by analysis bytes read.0 read.1

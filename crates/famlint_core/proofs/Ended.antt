@@ -5,7 +5,7 @@ use Rattle.std.specs.Prelude.{Option, Some, Result, Ok, Err, IfOk, if◌then◌e
 use Rattle.std.specs.Io.KnownBytes.{append_known}
 use Rattle.c_tree.specs.Tree.{Whole}
 use Rattle.plain_analysis.specs.declared.alarm.Alarm.{Alarm}
-use Rattle.plain_analysis.specs.declared.options.Options.{Options}
+use Rattle.famlint_core.specs.declared.request.Analysis.{Analysis}
 use Rattle.famlint_core.specs.declared.fault.Done.{Done}
 use Rattle.famlint_core.specs.declared.fault.Fault.{Fault}
 use Rattle.famlint_core.specs.declared.fault.Fault.TheVariants as fault
@@ -17,11 +17,10 @@ use Rattle.famlint_core.specs.declared.request.Role.{Role}
 use Rattle.famlint_core.specs.declared.request.VariantTask.{VariantTask}
 use Rattle.famlint_core.specs.declared.request.VariantTask.TheVariants as task
 use Rattle.famlint_core.specs.declared.selected.Selected.{Selected}
-use Rattle.famlint_core.specs.Answers.{Contents, IsAccepted, IsDone, IsTold, Answers, plain_done}
+use Rattle.famlint_core.specs.Answers.{Contents, IsAccepted, IsDone, IsTold, Answers, plain_done, meaning_of}
 use Rattle.famlint_core.specs.Endings.{IsEnded, EndsWith, status_at}
 use Rattle.famlint_core.specs.Faults.{status_of}
 use Rattle.famlint_core.specs.Loads.{Comes}
-use Rattle.interval_leaf.specs.Intervals.{intervals}
 use Rattle.famlint_core.specs.Report.{report_status, some_alarm, start_alarms}
 use Rattle.famlint_core.specs.Requests.{role_of}
 
@@ -61,16 +60,16 @@ same_request o r s h k = let e : (let x : Option Request = Some r in x) ≡ Some
 report_status_low : (alarms : List Alarm) → report_status alarms ≤ 1
 report_status_low alarms = elim (some_alarm alarms) as (λ b. (if b then 1 else 0) ≤ 1) [ true ↦ omega arith | false ↦ omega arith ]
 
-plain_low : (options : Options) (p : Whole) (done : Done) → done ≡ plain_done options p → done.status ≤ 1
-plain_low options p done e = rw e (report_status_low (start_alarms intervals options p))
+plain_low : (analysis : Analysis) (p : Whole) (done : Done) → done ≡ plain_done analysis p → done.status ≤ 1
+plain_low analysis p done e = rw e (report_status_low (start_alarms (meaning_of analysis.leaf) analysis.options p))
 
 done_low : (t : VariantTask) (s : Selected) (done : Done) → IsDone t s done → done.status ≤ 1
 done_low task.Text s done h = omega (arith, h.1)
-done_low (task.Report options) s done (p, is, e) = plain_low options p done e
+done_low (task.Report analysis) s done (p, is, e) = plain_low analysis p done e
 done_low (task.Run steps inputs mode) s done (p, is, e) = rw e (omega arith)
 
 answered_low : (r : Request) (told : Contents) (done : Done) → Answers r told (Ok done) → done.status ≤ 1
-answered_low (request.Plain file options) told done (p, reads, e) = plain_low options p done e
+answered_low (request.Plain file analysis) told done (p, reads, e) = plain_low analysis p done e
 answered_low (request.Variant model file settings t) told done (s, selected, is) = done_low t s done is
 
 by_exact : (status low : ℕ) → low ≤ 1 → (status ≡ 6 → ⊥) → (status ≡ 7 → ⊥) → (status ≢ 6 → status ≢ 7 → status ≢ 8 → status ≡ low) → (status ≤ 1) ⊎ (status ≡ 8)

@@ -16,7 +16,7 @@ use Rattle.c_parser.specs.Reading.{Reads}
 use Rattle.c_parser.specs.declared.family.Family.{Family}
 use Rattle.c_parser.proofs.Readings.{reads_too_long}
 use Rattle.linear_atoms.specs.declared.atoms.Config.{Config}
-use Rattle.plain_analysis.specs.declared.options.Options.{Options}
+use Rattle.famlint_core.specs.declared.request.Analysis.{Analysis}
 use Rattle.famlint_core.specs.declared.fault.Done.{Done}
 use Rattle.famlint_core.specs.declared.fault.Fault.{Fault}
 use Rattle.famlint_core.specs.declared.fault.Fault.TheVariants as fault
@@ -46,11 +46,11 @@ model_refused bytes stop.ReadFault h = h
 model_refused bytes stop.NoMemory h = h
 
 -- a file's text that is refused, for `plain`
-pub plain_refused : (options : Options) (bytes : List ℕ) (s : Stop) → Comes {X = List ℕ} (IsFileText bytes) (Err s) → Comes {X = Done} (AnswersPlain options bytes) (Err s)
-plain_refused options bytes (stop.Refused given) h =
-    subst (λ (x : Fault). AnswersPlain options bytes (Err x)) (sym h.1) (reads_too_long [] bytes h.0, refl)
-plain_refused options bytes stop.ReadFault h = h
-plain_refused options bytes stop.NoMemory h = h
+pub plain_refused : (analysis : Analysis) (bytes : List ℕ) (s : Stop) → Comes {X = List ℕ} (IsFileText bytes) (Err s) → Comes {X = Done} (AnswersPlain analysis bytes) (Err s)
+plain_refused analysis bytes (stop.Refused given) h =
+    subst (λ (x : Fault). AnswersPlain analysis bytes (Err x)) (sym h.1) (reads_too_long [] bytes h.0, refl)
+plain_refused analysis bytes stop.ReadFault h = h
+plain_refused analysis bytes stop.NoMemory h = h
 
 -- the same, for a family
 pub family_refused : (model : Model) (bytes : List ℕ) (s : Stop) → Comes {X = List ℕ} (IsFileText bytes) (Err s) → Comes {X = FamilyFile} (IsFamilyFile model bytes) (Err s)

@@ -7,7 +7,11 @@ use Rattle.cpp_conditions.specs.Validity.{plain}
 use Rattle.c_parser.specs.Reading.{Reads}
 use Rattle.variant_projector.specs.Variant.{IsVariant}
 use Rattle.interval_leaf.specs.Intervals.{intervals}
-use Rattle.plain_analysis.specs.declared.options.Options.{Options}
+use Rattle.leaf_domain.specs.Leaves.{LeafMeaning}
+use Rattle.octagon_leaf.specs.Octagons.{octagons}
+use Rattle.famlint_core.specs.declared.request.Analysis.{Analysis}
+use Rattle.famlint_core.specs.declared.request.LeafKind.{LeafKind}
+use Rattle.famlint_core.specs.declared.request.LeafKind.TheVariants as leaves
 use Rattle.famlint_core.specs.declared.fault.Done.{Done}
 use Rattle.famlint_core.specs.declared.fault.Fault.{Fault}
 use Rattle.famlint_core.specs.declared.fault.Fault.TheVariants as fault
@@ -27,20 +31,25 @@ pub record Contents : Type 0 where
 
 -- the contents of the paths of a request are told, and are these
 abbrev pub IsTold : Request → (List ℕ → Option (List ℕ)) → Contents → Type 0
-IsTold (Plain file options) content told = content file ≡ Some told.file
+IsTold (Plain file analysis) content told = content file ≡ Some told.file
 IsTold (Variant model file settings task) content told = (content model ≡ Some told.model) × (content file ≡ Some told.file)
 
 -- ---- `plain FILE`
 
--- the report on a program, by intervals
-abbrev pub plain_done : Options → Whole → Done
-plain_done options p = report_done intervals options p
+-- what the leaves of a kind mean
+abbrev pub meaning_of : LeafKind → LeafMeaning
+meaning_of leaves.Interval = intervals
+meaning_of leaves.Octagon = octagons
+
+-- the report on a program, over leaves of this kind
+abbrev pub plain_done : Analysis → Whole → Done
+plain_done analysis p = report_done (meaning_of analysis.leaf) analysis.options p
 
 -- the report on the program that the bytes spell, or their refusal
-abbrev pub AnswersPlain : Options → List ℕ → Result Done Fault → Type 0
-AnswersPlain options bytes (Ok done) = (p : Whole) × Reads bytes (Ok p) × (done ≡ plain_done options p)
-AnswersPlain options bytes (Err (fault.File code place example)) = Reads bytes (Err (code, place)) × (example ≡ Option.None)
-AnswersPlain options bytes (Err other) = ⊥
+abbrev pub AnswersPlain : Analysis → List ℕ → Result Done Fault → Type 0
+AnswersPlain analysis bytes (Ok done) = (p : Whole) × Reads bytes (Ok p) × (done ≡ plain_done analysis p)
+AnswersPlain analysis bytes (Err (fault.File code place example)) = Reads bytes (Err (code, place)) × (example ≡ Option.None)
+AnswersPlain analysis bytes (Err other) = ⊥
 
 -- ---- `project`, `variant` and `run`
 
@@ -51,7 +60,7 @@ run_done inputs steps mode p = record { text = run_text p.names (run_of p inputs
 -- what is asked of a variant is this
 abbrev pub IsDone : VariantTask → Selected → Done → Type 0
 IsDone Text s done = IsVariant (plain s.model) s.config.values s.text done.text × (done.status ≡ 0)
-IsDone (Report options) s done = (p : Whole) × IsProgramOf s p × (done ≡ plain_done options p)
+IsDone (Report analysis) s done = (p : Whole) × IsProgramOf s p × (done ≡ plain_done analysis p)
 IsDone (Run steps inputs mode) s done = (p : Whole) × IsProgramOf s p × (done ≡ run_done inputs steps mode p)
 
 -- what is asked of the variant that settings select, or the refusal of the model, the file or the settings
@@ -63,7 +72,7 @@ AnswersVariant task settings told (Err fault) = IsRefused told.model told.file s
 
 -- a request is answered this where the paths that it names hold this
 abbrev pub Answers : Request → Contents → Result Done Fault → Type 0
-Answers (Plain file options) told answer = AnswersPlain options told.file answer
+Answers (Plain file analysis) told answer = AnswersPlain analysis told.file answer
 Answers (Variant model file settings task) told answer = AnswersVariant task settings told answer
 
 -- what a request names is accepted: no fault answers it
@@ -72,19 +81,19 @@ IsAccepted request told = (fault : Fault) → Answers request told (Err fault) �
 
 -- a path that is loaded for a request
 abbrev pub IsLoaded : Request → Contents → Option (List ℕ) → Type 0
-IsLoaded (Plain file options) told failed = failed ≡ Some file
+IsLoaded (Plain file analysis) told failed = failed ≡ Some file
 IsLoaded (Variant model file settings task) told failed = IsLoadedFor model file told.model failed
 
 -- ---- what is promised of the output, beside its text
 
 -- the report is one on the program that the bytes spell
-abbrev pub PromisedPlain : Options → List ℕ → ℕ → List ℕ → Type 0
-PromisedPlain options bytes status text = (p : Whole) × Reads bytes (Ok p) × IsReport options.mode p status text
+abbrev pub PromisedPlain : Analysis → List ℕ → ℕ → List ℕ → Type 0
+PromisedPlain analysis bytes status text = (p : Whole) × Reads bytes (Ok p) × IsReport analysis.options.mode p status text
 
 -- a report is one on the program of the variant; a text or a run is exactly its answer, and no more is promised of it
 abbrev pub PromisedOf : VariantTask → Selected → ℕ → List ℕ → Type 0
 PromisedOf Text s status text = status ≡ 0
-PromisedOf (Report options) s status text = (p : Whole) × IsProgramOf s p × IsReport options.mode p status text
+PromisedOf (Report analysis) s status text = (p : Whole) × IsProgramOf s p × IsReport analysis.options.mode p status text
 PromisedOf (Run steps inputs mode) s status text = status ≡ 0
 
 abbrev pub PromisedVariant : VariantTask → List (List ℕ) → Contents → ℕ → List ℕ → Type 0
@@ -92,5 +101,5 @@ PromisedVariant task settings told status text = (s : Selected) × AreSelected t
 
 -- what is promised of the output to a request
 abbrev pub Promised : Request → Contents → ℕ → List ℕ → Type 0
-Promised (Plain file options) told status text = PromisedPlain options told.file status text
+Promised (Plain file analysis) told status text = PromisedPlain analysis told.file status text
 Promised (Variant model file settings task) told status text = PromisedVariant task settings told status text

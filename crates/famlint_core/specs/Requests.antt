@@ -1,5 +1,5 @@
 -- What the words ask for.
-use Rattle.std.specs.Prelude.{ℕ, Bool, ⊤, true, false, not, ◌&&◌, ◌||◌, List, [], ◌∷◌, codes, if◌then◌else◌, Option, Some, None}
+use Rattle.std.specs.Prelude.{ℕ, Bool, ⊤, true, false, not, ◌&&◌, ◌||◌, List, [], ◌∷◌, codes, if◌then◌else◌, Option, Some, None, option_map}
 use Rattle.std.specs.Option.{option_and_then}
 use Rattle.std.specs.Str.{bytes_eq}
 use Rattle.std.specs.List.{All}
@@ -14,7 +14,9 @@ use Rattle.command_words.specs.declared.settings.Given.{Given}
 use Rattle.command_words.specs.declared.settings.Overflow.{Overflow}
 use Rattle.command_words.specs.declared.settings.Overflow.TheVariants as overflows
 use Rattle.command_words.specs.declared.settings.Settings.{Settings}
-use Rattle.plain_analysis.specs.declared.options.Options.{Options}
+use Rattle.famlint_core.specs.declared.request.Analysis.{Analysis}
+use Rattle.famlint_core.specs.declared.request.LeafKind.{LeafKind}
+use Rattle.famlint_core.specs.declared.request.LeafKind.TheVariants as leaves
 use Rattle.famlint_core.specs.declared.request.options.Command.{Command}
 use Rattle.famlint_core.specs.declared.request.options.Command.TheVariants as command
 use Rattle.famlint_core.specs.declared.request.Request.{Request}
@@ -47,23 +49,25 @@ are_taken given taken =
     (not given.domain || taken.domain) && (not given.delay || taken.delay) && (not given.narrow || taken.narrow)
     && (not given.overflow || taken.overflow) && (not given.steps || taken.steps) && (not given.inputs || taken.inputs)
 
--- the analyses over this domain are built
-abbrev pub is_built : Domain → Bool
-is_built domains.Interval = true
-is_built domains.Octagon = false
-is_built domains.Stride = false
-
 -- the options suit a command
 abbrev pub suits : Command → Arguments → Bool
-suits command arguments = are_taken arguments.given (taken_by command) && is_built arguments.settings.domain
+suits command arguments = are_taken arguments.given (taken_by command)
+
+-- the kind of leaf of a domain, if it is built
+abbrev pub leaf_kind : Domain → Option LeafKind
+leaf_kind domains.Interval = Some leaves.Interval
+leaf_kind domains.Octagon = Some leaves.Octagon
+leaf_kind domains.Stride = None
 
 abbrev pub mode_of : Overflow → Mode
 mode_of overflows.Stop = modes.Stop
 mode_of overflows.Wrap = modes.Wrap
 
--- how programs are analysed
-abbrev pub options_of : Settings → Options
-options_of settings = record { delay = settings.delay; narrow = settings.narrow; mode = mode_of settings.overflow }
+-- how programs are analysed, where the domain is built
+abbrev pub analysis_of : Settings → Option Analysis
+analysis_of settings = option_map
+    (λ leaf. record { leaf = leaf; options = record { delay = settings.delay; narrow = settings.narrow; mode = mode_of settings.overflow } })
+    (leaf_kind settings.domain)
 
 -- ---- commands
 
@@ -76,10 +80,10 @@ command_of word =
     else (if bytes_eq word (codes "run") then Some command.Run else None)))
 
 -- what `plain` asks for with these words; nothing, where they are refused
-abbrev pub plain_request : Settings → List (List ℕ) → Option Request
-plain_request settings [] = None
-plain_request settings (file ∷ []) = Some (request.Plain file (options_of settings))
-plain_request settings (file ∷ more ∷ words) = None
+abbrev pub plain_request : Analysis → List (List ℕ) → Option Request
+plain_request analysis [] = None
+plain_request analysis (file ∷ []) = Some (request.Plain file analysis)
+plain_request analysis (file ∷ more ∷ words) = None
 
 -- what is asked of a variant with these words
 abbrev pub variant_request : VariantTask → List (List ℕ) → Option Request
@@ -93,9 +97,9 @@ run_task settings = Some (task.Run settings.steps settings.inputs (mode_of setti
 
 -- what a command asks for with these words
 abbrev pub request_for : Command → Settings → List (List ℕ) → Option Request
-request_for command.Plain settings words = plain_request settings words
+request_for command.Plain settings words = option_and_then (λ analysis. plain_request analysis words) (analysis_of settings)
 request_for command.Project settings words = variant_request task.Text words
-request_for command.Variant settings words = variant_request (task.Report (options_of settings)) words
+request_for command.Variant settings words = option_and_then (λ analysis. variant_request (task.Report analysis) words) (analysis_of settings)
 request_for command.Run settings words = option_and_then (λ t. variant_request t words) (run_task settings)
 
 -- what a command asks for, where the options suit it
@@ -123,7 +127,7 @@ reading words = option_and_then request_of (arguments_of words)
 
 -- the paths of a request
 abbrev pub paths_of : Request → List (List ℕ)
-paths_of (request.Plain file options) = file ∷ []
+paths_of (request.Plain file analysis) = file ∷ []
 paths_of (request.Variant model file settings task) = model ∷ file ∷ []
 
 -- the failed path is this one
@@ -133,7 +137,7 @@ is_path (Some failed) path = bytes_eq failed path
 
 -- what the path of a failed load is to a request: where MODEL and FILE are one path, it is MODEL
 abbrev pub role_of : Request → Option (List ℕ) → Role
-role_of (request.Plain file options) failed = role.File
+role_of (request.Plain file analysis) failed = role.File
 role_of (request.Variant model file settings task) failed = if is_path failed model then role.Model else role.File
 
 -- ---- inputs
@@ -141,9 +145,9 @@ role_of (request.Variant model file settings task) failed = if is_path failed mo
 -- the inputs of a run are within `int`
 abbrev pub HaveInts : VariantTask → Type 0
 HaveInts task.Text = ⊤
-HaveInts (task.Report options) = ⊤
+HaveInts (task.Report analysis) = ⊤
 HaveInts (task.Run steps inputs mode) = All IsInt inputs
 
 abbrev pub HasInts : Request → Type 0
-HasInts (request.Plain file options) = ⊤
+HasInts (request.Plain file analysis) = ⊤
 HasInts (request.Variant model file settings task) = HaveInts task

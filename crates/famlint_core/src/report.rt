@@ -4,12 +4,16 @@
 ghost use Rattle.std.specs.Prelude.{◌≡◌, ◌++◌, ◌≤◌, string_bytes, IfOk};
 ghost use Rattle.c_tree.specs.View.{whole};
 ghost use Rattle.c_tree.specs.Whole.{IsProgram, IsPlainProgram};
+ghost use Rattle.famlint_core.specs.Answers.{plain_done};
 ghost use Rattle.famlint_core.specs.Report.{kind_text as text_of_kind, alarm_line, report_status as status_of, variant_text, report_done, IsReport};
 
 use crate::fault::Done;
+use crate::request::{Analysis, LeafKind};
 use c_tree::{Kind, Program};
 use fam_outer::{NoMemory, Text};
+use interval_leaf::IntervalLeaf;
 use leaf_domain::Leaf;
+use octagon_leaf::OctagonLeaf;
 use plain_analysis::{Alarm, Options, analyse_one};
 use std::alloc::Global;
 
@@ -56,11 +60,7 @@ fn report(alloc: Global, alarms: &[Alarm]) -> Result<Text, NoMemory>
 }
 
 /// The report on a program, over a kind of leaf.
-pub fn report_on<L: Leaf>(
-    alloc: Global,
-    program: &Program,
-    options: &Options,
-) -> Result<Done, NoMemory>
+fn report_on<L: Leaf>(alloc: Global, program: &Program, options: &Options) -> Result<Done, NoMemory>
     requires program { IsProgram (whole program.now) }
     requires plain { IsPlainProgram (whole program.now) }
     ensures answer { IfOk result (λ done. done ≡ report_done L.meaning options.now (whole program.now)) }
@@ -74,4 +74,18 @@ pub fn report_on<L: Leaf>(
         text: report(alloc, alarms)?,
         status: report_status(alarms),
     })
+}
+
+/// The report on a program, over the kind of leaf that is asked for.
+pub fn report_by(alloc: Global, program: &Program, analysis: &Analysis) -> Result<Done, NoMemory>
+    requires program { IsProgram (whole program.now) }
+    requires plain { IsPlainProgram (whole program.now) }
+    ensures answer { IfOk result (λ done. done ≡ plain_done analysis.now (whole program.now)) }
+    ensures report { IfOk result (λ done. IsReport analysis.now.options.mode (whole program.now) done.status done.text) }
+    ensures status { IfOk result (λ done. done.status ≤ 1) }
+{
+    match analysis.leaf {
+        LeafKind::Interval => report_on::<IntervalLeaf>(alloc, program, &analysis.options),
+        LeafKind::Octagon => report_on::<OctagonLeaf>(alloc, program, &analysis.options),
+    }
 }

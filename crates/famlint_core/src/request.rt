@@ -22,7 +22,7 @@ pub enum Request {
     /// The report on the program of FILE.
     Plain {
         file: Word,
-        options: Options,
+        analysis: Analysis,
     },
     /// Something of the variant of FILE that the settings select among those of MODEL.
     Variant {
@@ -33,13 +33,27 @@ pub enum Request {
     },
 }
 
+/// The kinds of leaf over which programs are analysed.
+#[derive(Clone, Copy, Debug, PartialEq, Eq)]
+pub enum LeafKind {
+    Interval,
+    Octagon,
+}
+
+/// How programs are analysed.
+#[derive(Clone, Copy, Debug, PartialEq, Eq)]
+pub struct Analysis {
+    pub leaf: LeafKind,
+    pub options: Options,
+}
+
 /// What is asked of a variant.
 #[derive(Debug, Drop)]
 pub enum VariantTask {
     /// Its text.
     Text,
     /// The report on its program.
-    Report(Options),
+    Report(Analysis),
     /// How a run of its program stands after at most so many steps.
     Run {
         steps: u64,
@@ -107,7 +121,7 @@ impl Request {
         match self {
             Request::Plain {
                 file: _,
-                options: _,
+                analysis: _,
             } => Role::File,
             Request::Variant {
                 model,

@@ -29,7 +29,7 @@ pub fn work<F: Files>(alloc: Global, request: &Request, files: &mut F) -> Result
     ensures read { IsReadOf (paths_of request.now) (F.faults files.old) (F.faults files.new) (F.failed files.new) result }
 {
     match request {
-        Request::Plain { file, options } => plain(alloc, file, options, files),
+        Request::Plain { file, analysis } => plain(alloc, file, analysis, files),
         Request::Variant {
             model,
             file,

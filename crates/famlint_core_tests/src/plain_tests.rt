@@ -50,6 +50,9 @@ const ROW_7: &[u8] =
 const ROW_11: &[u8] =
     b"int x;\nint y;\nint main(void) {\nx = input();\ny = input();\nif (x >= -1000 && x <= 1000 && y >= -1000 && y <= 1000 && x + y <= 1 && x - y <= 0)\nassert(x <= 0);\n}\n";
 
+const ROW_36: &[u8] =
+    b"int x;\nint y;\nint main(void) {\nx = input();\ny = x + 1;\nassert(y > x);\n}\n";
+
 const ROW_35: &[u8] = b"int x;\nint main(void) {\nx = 2147483647;\nx = x + 1;\nassert(x < 0);\n}\n";
 
 /// What the program answers and writes for the words of a line, with one file under a path.
@@ -89,7 +92,6 @@ fn refuses_words(rt: HostRuntime) -> Result<(), Fail> {
         "plain f --narrow 0 --narrow 0",
         "plain -- f --narrow 0",
         "plain f --overflow halt",
-        "plain f --domain octagon",
         "plain f --domain=stride",
     ];
     for line in lines {
@@ -222,6 +224,10 @@ fn reports(rt: HostRuntime) -> Result<(), Fail> {
             b"7:1: overflow\n9:1: assertion\nalarms: 2\n",
         ),
         ("plain f", ROW_11, 1, b"7:1: assertion\nalarms: 1\n"),
+        ("plain --domain octagon f", ROW_7, 0, none),
+        ("plain --domain=octagon f", ROW_11, 0, none),
+        ("plain --domain octagon f", ROW_36, 1, b"5:1: overflow\nalarms: 1\n"),
+        ("plain --domain octagon --overflow wrap f", ROW_36, 1, b"6:1: assertion\nalarms: 1\n"),
         ("plain f", b"/*\n#endif\n*/\nint main(void) { }\n", 0, none),
         (
             "plain f --overflow wrap",

@@ -4,6 +4,7 @@
 ghost use Rattle.std.specs.Prelude.{◌≡◌};
 ghost use Rattle.famlint_core.specs.Requests as specs;
 
+use crate::request::{Analysis, LeafKind};
 use c_tree::Mode;
 use command_words::{Arguments, Domain, Given, Overflow, Settings};
 use plain_analysis::Options;
@@ -76,13 +77,14 @@ fn are_taken(given: Given, taken: Given) -> bool
         && (!given.inputs || taken.inputs)
 }
 
-/// Whether the analyses over a domain are built.
-fn is_built(domain: Domain) -> bool
-    ensures { result ≡ specs.is_built domain }
+/// The kind of leaf of a domain, if it is built.
+fn leaf_kind(domain: Domain) -> Option<LeafKind>
+    ensures { result ≡ specs.leaf_kind domain }
 {
     match domain {
-        Domain::Interval => true,
-        Domain::Octagon | Domain::Stride => false,
+        Domain::Interval => Some(LeafKind::Interval),
+        Domain::Octagon => Some(LeafKind::Octagon),
+        Domain::Stride => None,
     }
 }
 
@@ -90,7 +92,7 @@ fn is_built(domain: Domain) -> bool
 pub fn suits(command: Command, arguments: &Arguments) -> bool
     ensures { result ≡ specs.suits command arguments.now }
 {
-    are_taken(arguments.given, command.options()) && is_built(arguments.settings.domain)
+    are_taken(arguments.given, command.options())
 }
 
 /// What becomes of an overflow.
@@ -103,13 +105,17 @@ pub fn mode_of(overflow: Overflow) -> Mode
     }
 }
 
-/// How programs are analysed.
-pub fn options_of(settings: &Settings) -> Options
-    ensures { result ≡ specs.options_of settings.now }
+/// How programs are analysed, where the domain is built.
+pub fn analysis_of(settings: &Settings) -> Option<Analysis>
+    ensures { result ≡ specs.analysis_of settings.now }
 {
-    Options {
-        delay: settings.delay,
-        narrow: settings.narrow,
-        mode: mode_of(settings.overflow),
-    }
+    let leaf = leaf_kind(settings.domain)?;
+    Some(Analysis {
+        leaf,
+        options: Options {
+            delay: settings.delay,
+            narrow: settings.narrow,
+            mode: mode_of(settings.overflow),
+        },
+    })
 }

@@ -8,24 +8,20 @@ ghost use Rattle.command_words.specs.Arguments.{texts_of, Reads};
 ghost use Rattle.famlint_core.specs.Requests as specs;
 ghost use Rattle.famlint_core.specs.Requests.{reading, HasInts, HaveInts};
 
-use crate::request::options::{Command, mode_of, options_of, suits};
-use crate::request::{Request, SettingWords, VariantTask};
+use crate::request::options::{Command, analysis_of, mode_of, suits};
+use crate::request::{Analysis, Request, SettingWords, VariantTask};
 use command_words::{Arguments, Settings, Usage, Word, WordsRefusal, read_words};
 use std::alloc::Global;
 
 /// What `plain` asks for with these words.
-fn plain_request(
-    alloc: Global,
-    settings: &Settings,
-    words: &[Word],
-) -> Result<Request, WordsRefusal>
-    ensures answer { Reads (specs.plain_request settings.now words.now) result }
+fn plain_request(alloc: Global, analysis: Analysis, words: &[Word]) -> Result<Request, WordsRefusal>
+    ensures answer { Reads (specs.plain_request analysis words.now) result }
     ensures ints { IfOk result (λ request. HasInts request) }
 {
     match words {
         [file] => Ok(Request::Plain {
             file: Word::from_str(alloc, file.as_str())?,
-            options: options_of(settings),
+            analysis,
         }),
         _ => Err(WordsRefusal::Fault(Usage)),
     }
@@ -76,13 +72,14 @@ fn request_for(
     ensures answer { Reads (specs.request_for command settings.now words.now) result }
     ensures ints { IfOk result (λ request. HasInts request) }
 {
-    match command {
-        Command::Plain => plain_request(alloc, settings, words),
-        Command::Project => variant_request(alloc, VariantTask::Text, words),
-        Command::Variant => {
-            variant_request(alloc, VariantTask::Report(options_of(settings)), words)
+    match (command, analysis_of(settings)) {
+        (Command::Plain, Some(analysis)) => plain_request(alloc, analysis, words),
+        (Command::Variant, Some(analysis)) => {
+            variant_request(alloc, VariantTask::Report(analysis), words)
         }
-        Command::Run => {
+        (Command::Plain | Command::Variant, None) => Err(WordsRefusal::Fault(Usage)),
+        (Command::Project, _) => variant_request(alloc, VariantTask::Text, words),
+        (Command::Run, _) => {
             let task = run_task(alloc, settings)?;
             variant_request(alloc, task, words)
         }

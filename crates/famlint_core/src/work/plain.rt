@@ -9,18 +9,17 @@ ghost use Rattle.famlint_core.specs.Loads.{Comes, IsReadFault, IsReadOf};
 
 use crate::fault::{Done, Fault, Stop};
 use crate::load::load_file;
-use crate::report::report_on;
+use crate::report::report_by;
+use crate::request::Analysis;
 use c_parser::read_plain;
 use command_words::Word;
 use fam_outer::{FileRefusal, Files};
-use interval_leaf::IntervalLeaf;
-use plain_analysis::Options;
 use std::alloc::Global;
 
 /// The report on the program that the bytes spell.
-fn report_on_bytes(alloc: Global, bytes: &[u8], options: &Options) -> Result<Done, Stop>
-    ensures answer { Comes (AnswersPlain options.now bytes.now) result }
-    ensures promise { IfOk result (λ done. PromisedPlain options.now bytes.now done.status done.text) }
+fn report_on_bytes(alloc: Global, bytes: &[u8], analysis: &Analysis) -> Result<Done, Stop>
+    ensures answer { Comes (AnswersPlain analysis.now bytes.now) result }
+    ensures promise { IfOk result (λ done. PromisedPlain analysis.now bytes.now done.status done.text) }
     ensures status { IfOk result (λ done. done.status ≤ 1) }
     ensures read { IsReadFault result → ⊥ }
 {
@@ -31,7 +30,7 @@ fn report_on_bytes(alloc: Global, bytes: &[u8], options: &Options) -> Result<Don
             place,
             example: None,
         })),
-        Ok(program) => Ok(report_on::<IntervalLeaf>(alloc, &program, options)?),
+        Ok(program) => Ok(report_by(alloc, &program, analysis)?),
     }
 }
 
@@ -39,16 +38,16 @@ fn report_on_bytes(alloc: Global, bytes: &[u8], options: &Options) -> Result<Don
 pub fn plain<F: Files>(
     alloc: Global,
     file: &Word,
-    options: &Options,
+    analysis: &Analysis,
     files: &mut F,
 ) -> Result<Done, Stop>
-    ensures answer { (bytes : List ℕ) → F.content files.old file.now ≡ Some bytes → Comes (AnswersPlain options.now bytes) result }
+    ensures answer { (bytes : List ℕ) → F.content files.old file.now ≡ Some bytes → Comes (AnswersPlain analysis.now bytes) result }
     ensures promise { (bytes : List ℕ) → F.content files.old file.now ≡ Some bytes
-        → IfOk result (λ done. PromisedPlain options.now bytes done.status done.text) }
+        → IfOk result (λ done. PromisedPlain analysis.now bytes done.status done.text) }
     ensures status { IfOk result (λ done. done.status ≤ 1) }
     ensures kept { F.content files.new ≡ F.content files.old }
     ensures read { IsReadOf (file.now ∷ []) (F.faults files.old) (F.faults files.new) (F.failed files.new) result }
 {
     let text = load_file(alloc, file.as_str(), files)?;
-    report_on_bytes(alloc, text.bytes(), options)
+    report_on_bytes(alloc, text.bytes(), analysis)
 }

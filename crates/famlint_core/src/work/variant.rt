@@ -17,15 +17,13 @@ ghost use Rattle.famlint_core.specs.Selected.{AreSelected, IsLoadedFor, IsProgra
 ghost use Rattle.run_meaning.specs.View.{end_of};
 
 use crate::fault::{Done, Stop};
-use crate::report::{kind_text, report_on};
+use crate::report::{kind_text, report_by};
 use crate::request::{SettingWords, VariantTask};
 use crate::selected::{Selected, select};
 use c_parser::variants::variants_are_projections;
 use c_tree::{Mode, Program, project};
 use command_words::Word;
 use fam_outer::{Files, NoMemory, Place, Text, Values};
-use interval_leaf::IntervalLeaf;
-use plain_analysis::Options;
 use run_meaning::{RunEnd, run};
 use setting_texts::push_settings;
 use std::alloc::Global;
@@ -145,9 +143,9 @@ fn done_for(alloc: Global, selected: &Selected, task: &VariantTask) -> Result<Do
 {
     match task {
         VariantTask::Text => text_of(alloc, selected),
-        VariantTask::Report(options) => {
+        VariantTask::Report(analysis) => {
             let program = program_of(alloc, selected)?;
-            report_on::<IntervalLeaf>(alloc, &program, options)
+            report_by(alloc, &program, analysis)
         }
         VariantTask::Run {
             steps,
