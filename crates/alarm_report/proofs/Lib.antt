@@ -1,3 +1,0 @@
-pub mod Dropped
-pub mod Fitting
-pub mod Covering
