@@ -14,5 +14,4 @@ pub mod Pointing
 pub mod Refuted
 pub mod Splitting
 pub mod Stated
-pub mod Tested
 pub mod Wants

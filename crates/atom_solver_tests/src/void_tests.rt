@@ -7,7 +7,7 @@ ghost use Rattle.cpp_conditions.specs.Propositions.{IsFit};
 ghost use Rattle.cpp_conditions.specs.Validity.{AreFit};
 ghost use Rattle.cpp_conditions.specs.View.{proposition};
 
-use crate::least;
+use atom_solver::least;
 use cpp_conditions::conditions::{both, either, negation};
 use cpp_conditions::{Condition, Conditions, Features, Model};
 use fam_outer::Text;
