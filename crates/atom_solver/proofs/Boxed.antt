@@ -9,7 +9,7 @@ use Rattle.cpp_conditions.specs.declared.models.Model.{Model}
 use Rattle.cpp_conditions.specs.Propositions.{Proposition, Const, IsFit, true_at}
 use Rattle.cpp_conditions.specs.Validity.{AreFit, all_true}
 use Rattle.cpp_conditions.specs.View.{proposition}
-use Rattle.atom_solver.specs.Narrowing.{Narrows, HasAllValid, IsPrepared}
+use Rattle.atom_solver.specs.Narrowing.{Narrows, HasAllValid}
 use Rattle.atom_solver.specs.Solutions.{Finds}
 use Rattle.atom_solver.specs.Truths.{StandsFor}
 use Rattle.atom_solver.specs.Spans.{ranges, span_of, meets, FindsIn}

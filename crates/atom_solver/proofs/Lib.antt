@@ -1,6 +1,5 @@
 pub mod Below
 pub mod Boxed
-pub mod Chosen
 pub mod Cutting
 pub mod EqualTerms
 pub mod Freed
