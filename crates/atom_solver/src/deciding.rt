@@ -92,51 +92,6 @@ fn has_truth(condition: &Condition, truth: bool, spans: &[Span]) -> bool
     }
 }
 
-/// Whether terms name a feature.
-fn reads(terms: &[(u32, i64)], place: usize) -> bool {
-    for (number, _coefficient) in terms {
-        if *number as usize == place {
-            return true;
-        }
-    }
-    false
-}
-
-/// Whether a test of a condition names a feature.
-fn names(condition: &Condition, place: usize) -> bool {
-    match condition {
-        Condition::Const(_truth) => false,
-        Condition::Test(atom) => reads(atom.terms.items(), place),
-        Condition::Not(inner) => names(inner, place),
-        Condition::And(left, right) => names(left, place) || names(right, place),
-        Condition::Or(left, right) => names(left, place) || names(right, place),
-    }
-}
-
-/// Whether a constraint that names a feature, or what is wanted, is known to be false on the whole box.
-pub(crate) fn is_ruled_out_at(
-    spans: &[Span],
-    place: usize,
-    constraints: &[Condition],
-    wanted: &Condition,
-) -> bool
-    requires constraints { AreFit (length spans.now) constraints.now }
-    requires wanted { IsFit (length spans.now) (proposition wanted.now) }
-    requires ranges { AreRanges (ranges spans.now) }
-    ensures { result ≡ true → (values : List ℤ) → IsWithin (ranges spans.now) values → meets constraints.now (proposition wanted.now) values ≡ false }
-{
-    match cut(constraints) {
-        None => has_truth(wanted, false, spans),
-        Some((first, behind)) => {
-            if names(first, place) && has_truth(first, false, spans) {
-                true
-            } else {
-                is_ruled_out_at(spans, place, behind, wanted)
-            }
-        }
-    }
-}
-
 /// Whether a constraint or what is wanted is known to be false on the whole box.
 pub(crate) fn is_ruled_out(spans: &[Span], constraints: &[Condition], wanted: &Condition) -> bool
     requires constraints { AreFit (length spans.now) constraints.now }
