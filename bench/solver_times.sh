@@ -1,6 +1,7 @@
 #!/usr/bin/env bash
-# Builds and runs solver_times.txt as a program over feature_model, in a temporary repository, and prints the times of
-# reading three models of 32 features and of finding their least valid configurations. No gate runs this.
+# Builds and runs solver_times.txt as a program over feature_model, in a temporary repository, and prints a line a case: the
+# times of reading a model, of finding its least valid configuration, and of asking a prepared model once more. Turns of the
+# search are not counted. No gate runs this.
 set -euo pipefail
 bench=$(cd "$(dirname "$0")" && pwd)
 top=$(dirname "$bench")

@@ -2,17 +2,18 @@
 use Rattle.std.proofs.Common.{◌≡◌, ℕ, ℤ, Bool, true, false, ◌&&◌, List, length, map, Option, sym, ap, subst, refl, ◌∙◌}
 use Rattle.linear_atoms.specs.declared.atoms.Config.{Config}
 use Rattle.linear_atoms.specs.declared.atoms.Atom.{Atom}
-use Rattle.linear_atoms.specs.Atoms.{AreRanges}
+use Rattle.linear_atoms.specs.Atoms.{AreRanges, AreAtoms}
 use Rattle.linear_atoms.specs.declared.ranges.Span.{Span}
 use Rattle.cpp_conditions.specs.declared.conditions.Condition.{Condition}
 use Rattle.cpp_conditions.specs.declared.models.Model.{Model}
 use Rattle.cpp_conditions.specs.Propositions.{Proposition, Const, IsFit, true_at}
 use Rattle.cpp_conditions.specs.Validity.{AreFit, all_true}
 use Rattle.cpp_conditions.specs.View.{proposition}
-use Rattle.atom_solver.specs.Narrowing.{Narrows, HasAllValid, IsPrepared}
+use Rattle.atom_solver.specs.Narrowing.{Narrows, HasAllValid}
 use Rattle.atom_solver.specs.Solutions.{Finds}
+use Rattle.atom_solver.specs.Truths.{StandsFor}
 use Rattle.atom_solver.specs.Spans.{ranges, span_of, meets, FindsIn}
-use Rattle.atom_solver.proofs.Narrowed.{narrowed_finds}
+use Rattle.atom_solver.proofs.Narrowed.{narrows_none, narrowed_finds}
 use Rattle.atom_solver.proofs.Pointing.{length_box, box_ranges, found_model}
 
 without : (a b : Bool) → (a && b) ≡ true → (a && true) ≡ true
@@ -43,3 +44,12 @@ pub found_box : (model : Model) (p : Proposition Atom) (spans : List Span) (cs :
 found_box model p spans cs found h e f =
     found_model model p (map span_of model.features) model.constraints found refl refl
     (narrowed_finds model.constraints p (map span_of model.features) spans found (narrows_wanted model.constraints p (map span_of model.features) spans h) (subst (λ x. FindsIn (ranges spans) (meets x p) found) e f))
+
+pub whole_box : (model : Model) (box : List Span) → box ≡ map span_of model.features → AreRanges model.features → HasAllValid model box
+whole_box model box e h = subst (HasAllValid model) (sym e) (narrows_none model.constraints (Const true) (map span_of model.features) (box_ranges model.features h))
+
+pub atoms_box : (model : Model) (box whole : List Span) (cs : List Condition) (p : Proposition Atom) (atoms : List Atom) (f : Proposition ℕ) → box ≡ whole → whole ≡ map span_of model.features → cs ≡ model.constraints → p ≡ Const true → AreFit (length model.features) model.constraints
+    → StandsFor cs p atoms f → AreAtoms (length box) atoms
+atoms_box model box whole cs p atoms f g e d w h s =
+    let n : length model.features ≡ length box = sym (ap length (g ∙ e) ∙ length_box model.features) in
+    subst (λ x. AreAtoms x atoms) n (s.fit (length model.features) (subst (AreFit (length model.features)) (sym d) h) (subst (IsFit (length model.features)) (sym w) tt))

@@ -1,5 +1,5 @@
 -- Forms of conditions.
-use Rattle.std.proofs.Common.{◌≡◌, ℕ, suc, Option, None, Some, ℤ, pos, ◌≤ℤ◌, Bool, true, false, not, ◌&&◌, ◌||◌, List, [], ◌∷◌, map, ◌++◌, sym, ap, subst, refl, ◌∙◌}
+use Rattle.std.proofs.Common.{◌≡◌, suc, Option, Some, ℤ, pos, ◌≤ℤ◌, Bool, true, false, not, ◌&&◌, ◌||◌, List, [], ◌∷◌, map, ◌++◌, sym, ap, subst, refl, ◌∙◌}
 use Rattle.linear_atoms.specs.declared.forms.Linear.{Linear}
 use Rattle.linear_atoms.specs.declared.atoms.Atom.{Atom}
 use Rattle.linear_atoms.specs.Forms.{IsRising, form_at}
@@ -9,8 +9,7 @@ use Rattle.cpp_conditions.specs.declared.conditions.Condition.{Condition}
 use Rattle.cpp_conditions.specs.View.{proposition}
 use Rattle.cpp_conditions.specs.Validity.{all_true}
 use Rattle.atom_solver.specs.Spans.{meets}
-use Rattle.atom_solver.specs.Truths.{Knows, AddsKnown}
-use Rattle.cpp_conditions.specs.Numbering.{vector_at}
+use Rattle.atom_solver.specs.Truths.{AddsKnown}
 
 pub adds_none : (p : Proposition Atom) (truth : Bool) (fs : List Linear) → Adds p truth fs fs
 adds_none p truth fs = record { rising = λ h. h; met = λ vs h e. h }

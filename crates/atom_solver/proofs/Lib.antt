@@ -1,6 +1,5 @@
 pub mod Below
 pub mod Boxed
-pub mod Chosen
 pub mod Cutting
 pub mod EqualTerms
 pub mod Freed
@@ -14,5 +13,4 @@ pub mod Pointing
 pub mod Refuted
 pub mod Splitting
 pub mod Stated
-pub mod Tested
 pub mod Wants

@@ -9,7 +9,6 @@ use Rattle.cpp_conditions.specs.Propositions.{Proposition, Const, Test, Not, And
 use Rattle.cpp_conditions.specs.Validity.{AreFit, all_true}
 use Rattle.cpp_conditions.specs.View.{proposition}
 use Rattle.atom_solver.specs.Plausible.{IsConjunction}
-use Rattle.atom_solver.specs.Spans.{meets}
 use Rattle.atom_solver.specs.Truths.{ListsAtoms, StandsFor}
 use Rattle.atom_solver.proofs.Ordered.{all_numbered_true}
 

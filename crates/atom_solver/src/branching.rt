@@ -83,9 +83,9 @@ fn with_truth(
     Ok(made)
 }
 
-#[tactic(auto, using(crate::proofs::Learned::void_false, crate::proofs::Learned::void_clash))]
 /// Whether no truths, with those that are known, make the formula true. A false answer says nothing. It answers too how
 /// many choices are left.
+#[tactic(auto, using(crate::proofs::Learned::void_false, crate::proofs::Learned::void_clash))]
 fn is_refuted(
     alloc: Global,
     atoms: &[Atom],

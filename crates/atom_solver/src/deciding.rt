@@ -61,15 +61,34 @@ pub(crate) fn decided(condition: &Condition, spans: &[Span]) -> Option<bool>
     }
 }
 
-/// Whether a condition is known to be false on the whole box.
-fn is_false(condition: &Condition, spans: &[Span]) -> bool
+/// Whether a condition is known to have this truth on the whole box. It looks no further than it must.
+#[tactic(auto, using(crate::proofs::Known::right_false, crate::proofs::Known::right_true))]
+fn has_truth(condition: &Condition, truth: bool, spans: &[Span]) -> bool
     requires fit { IsFit (length spans.now) (proposition condition.now) }
     requires ranges { AreRanges (ranges spans.now) }
-    ensures { result ≡ true → (values : List ℤ) → IsWithin (ranges spans.now) values → true_at values (proposition condition.now) ≡ false }
+    ensures { result ≡ true → (values : List ℤ) → IsWithin (ranges spans.now) values → true_at values (proposition condition.now) ≡ truth }
 {
-    match decided(condition, spans) {
-        None => false,
-        Some(truth) => !truth,
+    match condition {
+        Condition::Const(value) => *value == truth,
+        Condition::Test(atom) => match atom.decided_within(spans) {
+            None => false,
+            Some(value) => value == truth,
+        },
+        Condition::Not(inner) => has_truth(inner, !truth, spans),
+        Condition::And(left, right) => {
+            if truth {
+                has_truth(left, true, spans) && has_truth(right, true, spans)
+            } else {
+                has_truth(left, false, spans) || has_truth(right, false, spans)
+            }
+        }
+        Condition::Or(left, right) => {
+            if truth {
+                has_truth(left, true, spans) || has_truth(right, true, spans)
+            } else {
+                has_truth(left, false, spans) && has_truth(right, false, spans)
+            }
+        }
     }
 }
 
@@ -81,9 +100,9 @@ pub(crate) fn is_ruled_out(spans: &[Span], constraints: &[Condition], wanted: &C
     ensures { result ≡ true → (values : List ℤ) → IsWithin (ranges spans.now) values → meets constraints.now (proposition wanted.now) values ≡ false }
 {
     match cut(constraints) {
-        None => is_false(wanted, spans),
+        None => has_truth(wanted, false, spans),
         Some((first, behind)) => {
-            if is_false(first, spans) {
+            if has_truth(first, false, spans) {
                 true
             } else {
                 is_ruled_out(spans, behind, wanted)

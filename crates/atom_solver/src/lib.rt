@@ -23,8 +23,3 @@ mod wanted;
 pub use plausibility::plausible;
 pub use prepared::Prepared;
 pub use solving::{implied, least, least_where};
-
-#[cfg(test)]
-mod tests;
-#[cfg(test)]
-mod void_tests;

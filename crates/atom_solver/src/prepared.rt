@@ -10,7 +10,9 @@ ghost use Rattle.cpp_conditions.specs.View.{formula};
 ghost use Rattle.atom_solver.specs.Narrowing.{HasAllValid};
 ghost use Rattle.atom_solver.specs.Solutions.{Finds, IsImplied, all_hold};
 
+use crate::branching::is_untrue;
 use crate::narrowing::narrowed;
+use crate::numbering::numbered;
 use crate::searching::first_valid;
 use crate::spans::spans_of;
 use crate::wanted::{denial, of_formula, of_literals};
@@ -43,19 +45,21 @@ impl<'a> marker::Model for Prepared<'a> {
     ghost invariant = { λ prepared. IsPrepared prepared.model.now prepared.spans.items };
 }
 
-/// The box of all valid configurations that bounds leave of the ranges of a model.
+/// The box of all valid configurations that bounds leave of the ranges of a model. Where there is none, bounds are not
+/// asked: they may take long to show it.
 fn valid_box(alloc: Global, model: &Model) -> Result<Vec<Span>, NoMemory>
     requires constraints { AreFit (length model.now.features) model.now.constraints }
     requires ranges { AreRanges model.now.features }
     ensures { IfOk result (λ made. HasAllValid model.now made.items) }
 {
     let whole = spans_of(alloc, model.features.items())?;
-    narrowed(
-        alloc,
-        &whole,
-        model.constraints.items(),
-        &Condition::Const(true),
-    )
+    let constraints = model.constraints.items();
+    let every = Condition::Const(true);
+    let question = numbered(alloc, constraints, &every)?;
+    if is_untrue(alloc, &whole, &question.atoms, &question.asked)? {
+        return Ok(whole);
+    }
+    narrowed(alloc, &whole, constraints, &every)
 }
 
 impl<'a> Prepared<'a> {

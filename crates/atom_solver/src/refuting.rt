@@ -189,6 +189,21 @@ fn is_cyclic(alloc: Global, forms: &[Linear]) -> Result<bool, NoMemory>
     }
 }
 
+/// Whether the truth of an atom of more than one feature is known: with less there is no cycle but of equal terms, whose
+/// order says it already.
+fn are_linked(atoms: &[Atom], known: &[Option<bool>]) -> bool {
+    let mut place: usize = 0;
+    for atom in atoms {
+        if atom.terms.items().len() > 1 {
+            if let Some(Some(_truth)) = known.get(place) {
+                return true;
+            }
+        }
+        place = place.saturating_add(1);
+    }
+    false
+}
+
 /// Whether no values give the atoms the truths that are known, by the sum of a cycle of them.
 pub(crate) fn is_clash(
     alloc: Global,
@@ -197,6 +212,9 @@ pub(crate) fn is_clash(
 ) -> Result<bool, NoMemory>
     ensures { IfOk result (λ answer. answer ≡ true → (values : List ℤ) → Knows known.now (vector_at atoms.now values) → ⊥) }
 {
+    if !are_linked(atoms, known) {
+        return Ok(false);
+    }
     let mut facts = Vec::new(alloc);
     gather_known(alloc, atoms, known, &mut facts)?;
     is_cyclic(alloc, &facts)

@@ -49,7 +49,7 @@ fn search(
     let inner = narrower.as_slice();
     match at_lows(alloc, inner, constraints, wanted)? {
         Some(config) => Ok(Some(config)),
-        None => match cut_box(alloc, inner)? {
+        None => match cut_box(alloc, inner, atoms)? {
             None => Ok(None),
             Some(halves) => match search(alloc, &halves.lower, constraints, wanted, atoms, asked)? {
                 Some(config) => Ok(Some(config)),

@@ -7,11 +7,11 @@ ghost use Rattle.cpp_conditions.specs.Propositions.{IsFit};
 ghost use Rattle.cpp_conditions.specs.Validity.{AreFit};
 ghost use Rattle.cpp_conditions.specs.View.{proposition};
 
-use crate::least;
+use atom_solver::least;
 use cpp_conditions::conditions::{both, either, negation};
 use cpp_conditions::{Condition, Conditions, Features, Model};
 use fam_outer::Text;
-use linear_atoms::{Atom, Feature, Linear};
+use linear_atoms::{Atom, Config, Feature, Linear};
 use std::alloc::Global;
 use std::test::Fail;
 
@@ -183,5 +183,26 @@ fn denials_are_refuted(rt: HostRuntime) -> Result<(), Fail> {
     let second = negation(alloc, choice(alloc)?)?;
     let model = wide(alloc, vec![in alloc; first, second]?)?;
     assert!(rt; least(alloc, &model, &[])?.is_none());
+    Ok(())
+}
+
+/// The values of four features.
+fn four(found: Option<Config>) -> Option<(i64, i64, i64, i64)> {
+    match found?.values.items() {
+        [first, second, third, fourth] => Some((*first, *second, *third, *fourth)),
+        _ => None,
+    }
+}
+
+/// The first feature is greater than the second, or the others are a ring.
+#[test]
+fn rings_are_refuted_in_the_search(rt: HostRuntime) -> Result<(), Fail> {
+    let alloc = rt.alloc();
+    let first = negation(alloc, exceeds(alloc, 1, 2)?)?;
+    let second = negation(alloc, exceeds(alloc, 2, 3)?)?;
+    let ring = both(alloc, both(alloc, first, second)?, exceeds(alloc, 1, 3)?)?;
+    let either = either(alloc, exceeds(alloc, 0, 1)?, ring)?;
+    let model = wide(alloc, vec![in alloc; either]?)?;
+    assert!(rt; four(least(alloc, &model, &[])?) == Some((1, 0, 0, 0)));
     Ok(())
 }

@@ -1,7 +1,7 @@
 use Rattle.std.proofs.Common.{◌+◌, ◌<◌, ap, ◌∙◌, arith}
 use Rattle.linear_atoms.specs.declared.forms.Linear.{Linear}
-use Rattle.atom_solver.proofs.Tested.{single}
-use Rattle.atom_solver.proofs.void_tests.is_on.Goals as goal
+use Rattle.atom_solver_tests.proofs.Tested.{single}
+use Rattle.atom_solver_tests.proofs.void_tests.is_on.Goals as goal
 
 pub returns : goal.returns
 returns c =
