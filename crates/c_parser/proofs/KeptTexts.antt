@@ -41,7 +41,7 @@ pub record TextLaws : Type 0 where
 abbrev blanked_ok : List ℕ → Result (List ℕ) (FileCode × Place)
 blanked_ok b = Ok b
 
-same_blanked : (bytes a b : List ℕ) → blanked_file bytes ≡ blanked_ok a → blanked_file bytes ≡ blanked_ok b → a ≡ b
+pub same_blanked : (bytes a b : List ℕ) → blanked_file bytes ≡ blanked_ok a → blanked_file bytes ≡ blanked_ok b → a ≡ b
 same_blanked bytes a b h k = let e : blanked_ok a ≡ blanked_ok b = sym h ∙ k in cc
 
 -- both readings of the file are one

@@ -1,5 +1,5 @@
 -- Preprocessing and then reading is reading and then projecting: the laws of variants.
-use Rattle.std.proofs.Common.{◌≡◌, ℕ, ◌≤◌, ◌<◌, nat_eq, Bool, true, false, ◌||◌, cond, List, [], ◌∷◌, ◌++◌, length, Result, Ok, refl, sym, ap, subst, ◌∙◌}
+use Rattle.std.proofs.Common.{◌≡◌, ℕ, ◌≤◌, ◌<◌, nat_eq, Bool, true, false, ◌||◌, cond, List, [], ◌∷◌, ◌++◌, length, Result, Ok, Err, inl, inr, refl, sym, ap, subst, ◌∙◌}
 use Rattle.std.specs.List.{list_any}
 use Rattle.fam_outer.specs.declared.faults.FileCode.{FileCode}
 use Rattle.fam_outer.specs.declared.faults.Place.{Place}
@@ -9,8 +9,8 @@ use Rattle.cpp_conditions.specs.Propositions.{Proposition}
 use Rattle.cpp_conditions.specs.Validity.{Plain, plain}
 use Rattle.cpp_lines.specs.Code.{code_of}
 use Rattle.cpp_lines.specs.Preprocessed.{preprocessed}
-use Rattle.cpp_lines.specs.Sections.{Told, truths_at}
-use Rattle.cpp_lines.specs.Whole.{IsPreprocessed, IsPlainText}
+use Rattle.cpp_lines.specs.Sections.{Told, TextIsRead, truths_at}
+use Rattle.cpp_lines.specs.Whole.{blanked_file, IsPreprocessed, IsPlainText}
 use Rattle.c_tree.specs.Tree.{Whole}
 use Rattle.c_tree.specs.View.{whole}
 use Rattle.c_grammar.specs.declared.items.Item.{Item}
@@ -26,14 +26,14 @@ use Rattle.c_parser.specs.FamilyReading.{IsFamilyOf, setting_of}
 use Rattle.c_parser.specs.Items.{Listed, AreDistinct}
 use Rattle.c_parser.specs.Names.{is_main, name_of, declared_by}
 use Rattle.c_parser.specs.Reading.{items_of, items_of_code, AreAmong}
-use Rattle.c_parser.specs.Variants.{projection, truths_in, names_in, TextsSpellProjections, VariantsAreTexts, FamilyNamesAreFew, VariantsDeclareAmong, VariantsAreRead, FamiliesAreReadOnce}
+use Rattle.c_parser.specs.Variants.{projection, truths_in, names_in, TextsSpellProjections, VariantsAreTexts, FamilyNamesAreFew, VariantsDeclareAmong, VariantsAreRead, FamiliesAreReadOnce, FamiliesHaveTexts}
 use Rattle.c_parser.proofs.FamilyAnswers.{NamesOccur}
 use Rattle.c_parser.proofs.FamilyNames.{by_line_of}
 use Rattle.c_parser.proofs.FewNames.{few_names, is_same}
 use Rattle.c_parser.proofs.KeptItems.{fit_kept}
 use Rattle.c_parser.proofs.KeptNames.{kept_fine}
 use Rattle.c_parser.proofs.MainItems.{main_stays}
-use Rattle.c_parser.proofs.KeptTexts.{TextLaws, same_told, family_fit, variant_items}
+use Rattle.c_parser.proofs.KeptTexts.{TextLaws, same_blanked, same_told, family_fit, variant_items}
 use Rattle.c_parser.proofs.OwnNames.{distinct_from}
 
 -- what a law of lines says of the text of a variant
@@ -137,3 +137,24 @@ read laws keeps are_plain is_file model bytes text f values o v q =
         names = kept_fine (setting_of model f.atoms f.conditions l.names) l.items values o.judged.names v (main_stays (truths_in f values) forms);
       },
     )
+
+-- ---- an accepted family is not refused by its lines
+
+abbrev blanked_ok : List ℕ → Result (List ℕ) (FileCode × Place)
+blanked_ok b = Ok b
+
+abbrev blanked_err : FileCode × Place → Result (List ℕ) (FileCode × Place)
+blanked_err f = Err f
+
+not_both : (r : Result (List ℕ) (FileCode × Place)) (b : List ℕ) (f : FileCode × Place) → r ≡ blanked_ok b → r ≡ blanked_err f → ⊥
+not_both r b f h k = let e : blanked_ok b ≡ blanked_err f = sym h ∙ k in cc
+
+-- what a law of lines says of refusals
+abbrev pub NotRefused : Type 0
+NotRefused = (model : Plain) (text : List ℕ) (told : Told) (fault : FileCode × Place) → TextIsRead model text (Ok told) → TextIsRead model text (Err fault) → ⊥
+
+pub accepted : NotRefused → FamiliesHaveTexts
+accepted never model bytes f fault o (inl e) = not_both (blanked_file bytes) o.items.blanked fault o.items.without_comments e
+accepted never model bytes f fault o (inr h) =
+    let same = same_blanked bytes h.blanked o.items.blanked h.without_comments o.items.without_comments in
+    never (plain model) o.items.blanked o.told fault o.items.read (subst (λ (b : List ℕ). TextIsRead (plain model) b (Err fault)) same h.read)

@@ -1,9 +1,11 @@
 -- Preprocessing and then reading is reading and then projecting (ISO/IEC 9899:2011, 5.1.1.2 and 6.10.1).
-use Rattle.std.specs.Prelude.{◌≡◌, ◌≤◌, ℕ, ℤ, Bool, List, length, Ok}
+use Rattle.std.specs.Prelude.{◌≡◌, ◌⊎◌, ◌≤◌, ℕ, ℤ, Bool, List, length, Ok, Err}
+use Rattle.fam_outer.specs.declared.faults.FileCode.{FileCode}
+use Rattle.fam_outer.specs.declared.faults.Place.{Place}
 use Rattle.cpp_conditions.specs.declared.models.Model.{Model}
 use Rattle.cpp_conditions.specs.Validity.{plain, IsValid}
 use Rattle.cpp_lines.specs.Sections.{truths_at, truths_on}
-use Rattle.cpp_lines.specs.Whole.{IsPreprocessed}
+use Rattle.cpp_lines.specs.Whole.{blanked_file, HasLineFault, IsPreprocessed}
 use Rattle.c_tree.specs.Project.{projected_program}
 use Rattle.c_tree.specs.Tree.{Whole}
 use Rattle.c_tree.specs.View.{whole}
@@ -46,6 +48,10 @@ VariantsAreTexts = (model : Model) (bytes text : List ℕ) (f : Family) (values 
 abbrev pub VariantsAreRead : Type 0
 VariantsAreRead = (model : Model) (bytes text : List ℕ) (f : Family) (values : List ℤ) → IsFamilyOf model bytes f → IsValid (plain model) values → IsPreprocessed (plain model) (truths_at values) bytes text
     → ReadsOver (names_in f) text (Ok (projection f (truths_in f values)))
+
+-- an accepted family has no fault of its length, its comments or its lines
+abbrev pub FamiliesHaveTexts : Type 0
+FamiliesHaveTexts = (model : Model) (bytes : List ℕ) (f : Family) (fault : FileCode × Place) → IsFamilyOf model bytes f → (blanked_file bytes ≡ Err fault) ⊎ HasLineFault (plain model) bytes fault → ⊥
 
 -- a family has at most 16 names, all distinct
 abbrev pub FamilyNamesAreFew : Type 0

@@ -1,7 +1,7 @@
 //! Laws of the variants of a family, for the crates above: each function does nothing, and its contract is the law.
 #![tactic(auto)]
 
-ghost use Rattle.c_parser.specs.Variants.{FamiliesAreReadOnce, FamilyNamesAreFew, TextsSpellProjections, VariantsAreRead, VariantsAreTexts, VariantsDeclareAmong};
+ghost use Rattle.c_parser.specs.Variants.{FamiliesAreReadOnce, FamiliesHaveTexts, FamilyNamesAreFew, TextsSpellProjections, VariantsAreRead, VariantsAreTexts, VariantsDeclareAmong};
 
 use crate::laws::family_names_occur;
 use c_grammar::laws::{
@@ -41,12 +41,13 @@ pub fn family_names_are_few()
 /// Preprocessing and then reading is reading and then projecting. What stays of the text of an accepted family spells,
 /// over the family's names, the family's projection, for every list of truths of its conditions: so no variant is deeper
 /// than the limits. At a valid configuration that text is read over these names as this program: so no name of a variant
-/// has a fault.
+/// has a fault. The lines of an accepted family have none either, so `variant_text` has no refusal but want of memory.
 pub fn variants_are_projections()
     ensures spelled { TextsSpellProjections }
     ensures texts { VariantsAreTexts }
     ensures declared { VariantsDeclareAmong }
     ensures read { VariantsAreRead }
+    ensures accepted { FamiliesHaveTexts }
 {
     reads_longest_lexemes();
     literals_are_decimal();

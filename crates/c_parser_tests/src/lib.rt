@@ -4,4 +4,12 @@
 #[cfg(test)]
 mod families;
 #[cfg(test)]
+mod family_limits;
+#[cfg(test)]
+mod family_reading;
+#[cfg(test)]
+mod family_refusals;
+#[cfg(test)]
 mod tests;
+#[cfg(test)]
+mod variants;

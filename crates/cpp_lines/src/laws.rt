@@ -1,7 +1,8 @@
 //! Laws of comments and lines, for the crates above: each function does nothing, and its contract is the law.
 #![tactic(auto)]
 
-ghost use Rattle.std.specs.Prelude.{◌≡◌, ◌↔◌, ◌<◌, ℕ, Bool, List, length, Ok, Some};
+ghost use Rattle.std.specs.Prelude.{◌≡◌, ◌↔◌, ◌<◌, ℕ, Bool, List, length, Ok, Err, Some};
+ghost use Rattle.fam_outer.specs.declared.faults.Place.{Place};
 ghost use Rattle.fam_outer.specs.Places.{place_at};
 ghost use Rattle.fam_outer.specs.declared.faults.FileCode.{FileCode};
 ghost use Rattle.linear_atoms.specs.declared.atoms.Atom.{Atom};
@@ -16,7 +17,7 @@ ghost use Rattle.cpp_lines.specs.Sections.{Told, TextIsRead};
 ghost use Rattle.cpp_lines.specs.Whole.{IsPlainText, IsPreprocessed};
 ghost use Rattle.cpp_lines.specs.Pieces.{HasFault, Piece, IsRead, IsReadOnce, joined};
 
-use cpp_conditions::laws::bytes_have_one_reading;
+use cpp_conditions::laws::{bytes_have_one_reading, few_atoms_are_not_more};
 
 /// A blanked text and its code have as many bytes as the text, each at the place where it was.
 pub fn places_stay()
@@ -54,11 +55,13 @@ pub fn faults_are_of_pieces()
         → ((fault_of text offset ≡ Some code) ↔ HasFault text ps unclosed offset code) }
 {}
 
-/// A text is read as one list of lines and conditions.
+/// A text is read as one list of lines and conditions, and where it is so read it has no fault.
 pub fn families_are_told_once()
-    ensures { (model : Plain) (text : List ℕ) (a b : Told) → TextIsRead model text (Ok a) → TextIsRead model text (Ok b) → a ≡ b }
+    ensures told { (model : Plain) (text : List ℕ) (a b : Told) → TextIsRead model text (Ok a) → TextIsRead model text (Ok b) → a ≡ b }
+    ensures refused { (model : Plain) (text : List ℕ) (told : Told) (fault : FileCode × Place) → TextIsRead model text (Ok told) → TextIsRead model text (Err fault) → ⊥ }
 {
     bytes_have_one_reading();
+    few_atoms_are_not_more();
 }
 
 /// The text of a variant has no comment, no splice and no directive line, and no more bytes than a file may have: it is its

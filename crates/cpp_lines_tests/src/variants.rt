@@ -73,7 +73,9 @@ fn configurations_select_variants(rt: HostRuntime) -> Result<(), Fail> {
     for (words, wanted) in cases {
         has_variant(&rt, rt.alloc(), words, file, wanted)?;
     }
-    Ok(())
+    let file = b"int x; // one\nint main(void) {\n#ifdef A\nx = 1;\n#else\nx = 2;\n#endif\n}\n";
+    let wanted = b"int x;       \nint main(void) {\n\nx = 1;\n\n\n\n}\n";
+    has_variant(&rt, rt.alloc(), ["A=1", "N=0"], file, wanted)
 }
 
 #[test]
