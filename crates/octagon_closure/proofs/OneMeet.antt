@@ -21,7 +21,7 @@ best-triangle x m q a b c h k l =
     let r : Reaches x a c (entry_of m a c) = q.reached a c h l in
     omega (arith, ints, r.reached, q.most r.store a b r.holds h k, q.most r.store b c r.holds k l)
 
-best-zero : (x m : MatrixValue) → IsBest x m → (a : ℕ) → a < 2 * x.variables → entry_of m a a ≡ pos 0
+pub best-zero : (x m : MatrixValue) → IsBest x m → (a : ℕ) → a < 2 * x.variables → entry_of m a a ≡ pos 0
 best-zero x m q a h =
     let r : Reaches x a a (entry_of m a a) = q.reached a a h h in
     omega (arith, ints, r.reached)
@@ -35,7 +35,7 @@ twin-below x m q a b h k =
 same-from_below : (x y : ℤ) → x ≤ℤ y → y ≤ℤ x → x ≡ y
 same-from_below x y h k = omega (arith, ints)
 
-best-coherent : (x m : MatrixValue) → IsBest x m → (a b : ℕ) → a < 2 * x.variables → b < 2 * x.variables → entry_of m (opposite b) (opposite a) ≡ entry_of m a b
+pub best-coherent : (x m : MatrixValue) → IsBest x m → (a b : ℕ) → a < 2 * x.variables → b < 2 * x.variables → entry_of m (opposite b) (opposite a) ≡ entry_of m a b
 best-coherent x m q a b h k =
     let e = twin-below x m q (opposite b) (opposite a) (opposite-below x.variables b k) (opposite-below x.variables a h) in
     same-from_below (entry_of m (opposite b) (opposite a)) (entry_of m a b) (twin-below x m q a b h k) (rw (opposite-opposite a, opposite-opposite b) at e)

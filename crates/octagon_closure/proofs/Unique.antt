@@ -24,7 +24,7 @@ index-split n i h =
     positive zero k = absurd (omega arith)
     positive (suc n) k = omega arith
 
-same-entries : (n : ℕ) (x y : List ℤ) → length x ≡ n * n → length y ≡ n * n → ((a b : ℕ) → a < n → b < n → slice_index_or x (a * n + b) (pos 0) ≡ slice_index_or y (a * n + b) (pos 0)) → x ≡ y
+pub same-entries : (n : ℕ) (x y : List ℤ) → length x ≡ n * n → length y ≡ n * n → ((a b : ℕ) → a < n → b < n → slice_index_or x (a * n + b) (pos 0) ≡ slice_index_or y (a * n + b) (pos 0)) → x ≡ y
 same-entries n x y h k e =
     let f : ℕ → ℤ = λ i. slice_index_or y i (pos 0) in
     fill_by_all f x (n * n) (pos 0) h (λ i l. let s = index-split n i l in rw (← s.0) (e (i / n) (i % n) (s.1) (s.2)))

@@ -120,8 +120,8 @@ fn least_value(a: u32) -> i64
     if a % 2 == 0 { -2147483648 } else { -2147483647 }
 }
 
-/// The bound that the type gives to term `a` minus term `b`, two different terms.
-fn type_bound(a: u32, b: u32) -> i64
+/// The bound that the values of `int` give to term `a` minus term `b`, two different terms.
+pub fn type_bound(a: u32, b: u32) -> i64
     requires { a ≢ b }
     ensures { result ≡ type_bound a b }
 {
