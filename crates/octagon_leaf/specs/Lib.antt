@@ -1,0 +1,9 @@
+pub mod Pairs
+pub mod Greatest
+pub mod Shapes
+pub mod Octagons
+pub mod Meeting
+pub mod Filling
+pub mod View
+pub mod Hashing
+pub mod Laws

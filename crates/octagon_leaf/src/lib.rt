@@ -1,0 +1,13 @@
+//! Leaves of octagons (after A. Miné, "The octagon abstract domain"): Nothing, or a matrix of bounds
+//! of the differences of signed variables.
+#![tactic(auto)]
+
+mod filled;
+mod leaf;
+mod meets;
+mod shape;
+
+pub use leaf::OctagonLeaf;
+
+#[cfg(test)]
+mod tests;
