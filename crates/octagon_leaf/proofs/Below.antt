@@ -1,10 +1,9 @@
 -- Whether each entry of a matrix is at most that of another, by one of each pair.
-use Rattle.std.proofs.Common.{◌≡◌, ◌⊎◌, inl, inr, ℕ, ℤ, ◌≤ℤ◌, ◌<ℤ◌, int_le, ◌+◌, ◌*◌, ◌/◌, ◌<◌, arith, ◌∙◌, sym, subst, refl, Bool, true, false}
+use Rattle.std.proofs.Common.{◌≡◌, ◌⊎◌, inl, inr, ℕ, ℤ, ◌≤ℤ◌, ◌<ℤ◌, int_le, ◌+◌, ◌*◌, ◌/◌, ◌<◌, arith, refl, Bool, true, false}
 use Rattle.std.proofs.lemmas.Int.{ints}
 use Rattle.octagon_matrix.specs.Terms.{opposite}
 use Rattle.octagon_matrix.specs.Matrices.{MatrixValue, entry_of, IsMatrix}
 use Rattle.octagon_matrix.proofs.Terms.{opposite-below}
-use Rattle.octagon_leaf.specs.Pairs.{all_pairs}
 use Rattle.octagon_leaf.specs.Octagons.{is_below}
 use Rattle.octagon_leaf.specs.Laws.OverPairs.{pairs-tell, tell-pairs}
 use Rattle.octagon_leaf.proofs.Filling.{kept_or_twin}

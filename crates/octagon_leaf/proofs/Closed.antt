@@ -1,12 +1,12 @@
 -- What the fields keep is what the leaf's value keeps.
-use Rattle.std.proofs.Common.{◌≡◌, ℕ, ◌≤◌, ℤ, List, [], ◌∷◌, ◌++◌, Option, Some, None, refl, sym, ◌∙◌, ap, subst, true, false}
+use Rattle.std.proofs.Common.{◌≡◌, ℕ, ◌≤◌, ℤ, List, [], ◌∷◌, ◌++◌, Option, Some, None, refl, sym, ◌∙◌, ap, subst}
 use Rattle.octagon_matrix.specs.Matrices.{MatrixValue, IsMatrix}
 use Rattle.octagon_matrix.specs.Stores.{Holds}
 use Rattle.octagon_leaf.specs.declared.meets.Meet.{Meet}
-use Rattle.octagon_closure.specs.Best.{IsUnmet, IsBest}
+use Rattle.octagon_closure.specs.Best.{IsBest}
 use Rattle.leaf_domain.specs.Leaves.{LeafValue, nothing_of}
-use Rattle.octagon_leaf.specs.Greatest.{leaf_of, best_of}
-use Rattle.octagon_leaf.specs.Octagons.{matrix_at, IsOctagonContent, IsOctagon, octagon_best, met_all}
+use Rattle.octagon_leaf.specs.Greatest.{best_of}
+use Rattle.octagon_leaf.specs.Octagons.{IsOctagonContent, IsOctagon, met_all}
 use Rattle.octagon_leaf.specs.Meeting.{AreMeets, IsSettled, IsOwnBest, leaf_from, IsClosedOf, IsStandingOf}
 use Rattle.octagon_leaf.specs.View.{content_of, view_of, IsClosedCopy, AreMatrices, IsSound}
 use Rattle.octagon_leaf.specs.declared.leaf.OctagonLeaf.TheInside.{Inside}
@@ -117,11 +117,11 @@ settled-set d m es fs o b p q h k s =
     let p' : AreMeets m.variables es = subst P (sym e) p in
     settled-by (met_all m es) (met_all d (es ++ fs)) o (variables-all d (es ++ fs) ∙ (sym e ∙ sym (variables-all m es)))
     (λ t i.
-        let j : Holds m t × AllMet es t = holds-all m es t (bounded-kept m k) p' i in
-        let l : Holds d t × AllMet fs t = holds-all d fs t b q (best-stores (met_all d fs) m t h j.0) in
-        all-holds d (es ++ fs) t b (both-meets d.variables es fs p q) l.0 (both-met es fs t j.1 l.1))
+    let j : Holds m t × AllMet es t = holds-all m es t (bounded-kept m k) p' i in
+    let l : Holds d t × AllMet fs t = holds-all d fs t b q (best-stores (met_all d fs) m t h j.0) in
+    all-holds d (es ++ fs) t b (both-meets d.variables es fs p q) l.0 (both-met es fs t j.1 l.1))
     (λ t i.
-        let j : Holds d t × AllMet (es ++ fs) t = holds-all d (es ++ fs) t b (both-meets d.variables es fs p q) i in
-        let l : AllMet es t × AllMet fs t = met-both es fs t j.1 in
-        all-holds m es t (bounded-kept m k) p' (stores-best (met_all d fs) m t h (all-holds d fs t b q j.0 l.1)) l.0)
+    let j : Holds d t × AllMet (es ++ fs) t = holds-all d (es ++ fs) t b (both-meets d.variables es fs p q) i in
+    let l : AllMet es t × AllMet fs t = met-both es fs t j.1 in
+    all-holds m es t (bounded-kept m k) p' (stores-best (met_all d fs) m t h (all-holds d fs t b q j.0 l.1)) l.0)
     s

@@ -1,5 +1,5 @@
 -- The sweep that lowers the type's bounds to given entries, step by step.
-use Rattle.std.proofs.Common.{◌≡◌, ◌≢◌, ◌⊎◌, inl, inr, ℕ, ℤ, pos, ◌≤ℤ◌, ◌+◌, ◌*◌, ◌/◌, ◌<◌, ◌≤◌, arith, ◌∙◌, sym, subst, refl, true, false}
+use Rattle.std.proofs.Common.{◌≡◌, ◌⊎◌, inl, inr, ℕ, ℤ, ◌≤ℤ◌, ◌+◌, ◌*◌, ◌/◌, ◌<◌, arith, ◌∙◌, sym, subst, true, false}
 use Rattle.std.specs.Int.{int_min}
 use Rattle.std.proofs.lemmas.Int.{ints, clamps}
 use Rattle.octagon_matrix.specs.Terms.{opposite, is_pair, type_bound}

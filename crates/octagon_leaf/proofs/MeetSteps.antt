@@ -1,9 +1,9 @@
 -- Meets one by one, each closed after it.
-use Rattle.std.proofs.Common.{◌≡◌, ◌≢◌, ◌↔◌, ℕ, zero, suc, ◌+◌, ◌*◌, ◌<◌, ◌≤◌, ℤ, pos, ◌-ℤ◌, ◌≤ℤ◌, List, [], ◌∷◌, ◌++◌, take, length, slice_index_or, arith, ◌∙◌, ap, sym, subst, refl}
+use Rattle.std.proofs.Common.{◌≡◌, ◌≢◌, ◌↔◌, ℕ, zero, suc, ◌+◌, ◌<◌, ◌≤◌, ℤ, ◌≤ℤ◌, List, [], ◌∷◌, ◌++◌, take, length, slice_index_or, arith, ◌∙◌, ap, sym, subst, refl}
 use Rattle.std.specs.Int.{int_max}
 use Rattle.std.proofs.lemmas.List.{take_more, take_all}
-use Rattle.octagon_matrix.specs.Matrices.{MatrixValue, entry_of, IsMatrix, HasEntries, met_entry}
-use Rattle.octagon_matrix.specs.Stores.{term_value, Holds}
+use Rattle.octagon_matrix.specs.Matrices.{MatrixValue, IsMatrix, HasEntries, met_entry}
+use Rattle.octagon_matrix.specs.Stores.{Holds}
 use Rattle.octagon_matrix.proofs.Stores.{met-stores}
 use Rattle.octagon_closure.specs.Best.{IsUnmet, IsBest, CameByOne}
 use Rattle.octagon_leaf.specs.declared.meets.Meet.{Meet}
@@ -11,7 +11,7 @@ use Rattle.octagon_leaf.specs.Greatest.{difference}
 use Rattle.octagon_leaf.specs.Octagons.{least_entry, met, met_all}
 use Rattle.octagon_leaf.specs.Meeting.{IsMeet, AreMeets, IsSmall, AreSmall}
 use Rattle.octagon_leaf.specs.Laws.Best.{IsBounded, best-stores, stores-best, best-by}
-use Rattle.octagon_leaf.specs.Laws.Meets.{bounded-kept, bounded-all, variables-all, met-entries, AllMet, all-holds, holds-all}
+use Rattle.octagon_leaf.specs.Laws.Meets.{bounded-kept, variables-all, met-entries, AllMet, all-holds, holds-all}
 
 -- the matrix is the best one of the first meets
 pub record IsMeeting (m : MatrixValue) (es : List Meet) (now : MatrixValue) (i : ℕ) : Type 0 where
@@ -44,8 +44,7 @@ more-stores m es now next i e s l q k =
     let f : d.variables ≡ m.variables = variables-all m (take i es) in
     let v : ℤ = int_max e.bound least_entry in
     let w : Holds next s ↔ (Holds now s × (difference s e.first e.second ≤ℤ v)) = met-stores now next e.first e.second v s k (rw (l.variables) q.first) (rw (l.variables) q.second) in
-    let u : Holds (met d e) s ↔ (Holds d s × (difference s e.first e.second ≤ℤ v)) = met-stores d (met d e) e.first e.second v s (met-entries d e) (rw (f) q.first) (rw (f) q.second) in
-    (
+    let u : Holds (met d e) s ↔ (Holds d s × (difference s e.first e.second ≤ℤ v)) = met-stores d (met d e) e.first e.second v s (met-entries d e) (rw (f) q.first) (rw (f) q.second) in (
       λ h. u.1 (best-stores d now s l.best (w.0 h).0, (w.0 h).1),
       λ h. w.1 (stores-best d now s l.best (u.0 h).0, (u.0 h).1),
     )

@@ -1,5 +1,5 @@
 -- A best matrix moved to where a variable takes the value of its own term and a constant is best.
-use Rattle.std.proofs.Common.{◌≡◌, ◌≢◌, ◌⊎◌, inl, inr, ℕ, zero, suc, ◌+◌, ◌*◌, ◌/◌, ◌%◌, ◌^◌, ◌<◌, ◌≤◌, ℤ, pos, neg_ℤ, ◌+ℤ◌, ◌-ℤ◌, ◌*ℤ◌, ◌≤ℤ◌, Bool, true, false, nat_eq, if◌then◌else◌, List, [], ◌∷◌, slice_set, slice_index_or, length, refl, sym, ◌∙◌, ap, subst, to_z, of_z, w64, arith}
+use Rattle.std.proofs.Common.{◌≡◌, ℕ, zero, suc, ◌+◌, ◌*◌, ◌/◌, ◌%◌, ◌^◌, ◌<◌, ℤ, pos, neg_ℤ, ◌+ℤ◌, ◌-ℤ◌, ◌*ℤ◌, ◌≤ℤ◌, Bool, true, false, nat_eq, if◌then◌else◌, List, [], ◌∷◌, slice_set, slice_index_or, length, refl, sym, ◌∙◌, ap, subst, to_z, of_z, w64, arith}
 use Rattle.std.proofs.lemmas.Int.{ints, clamps}
 use Rattle.std.proofs.lemmas.Bool.Decides.{nat_tests}
 use Rattle.c_tree.specs.Value.{IsInt}
@@ -9,7 +9,7 @@ use Rattle.leaf_domain.specs.Forms.{IsFormNumber}
 use Rattle.octagon_matrix.specs.Terms.{opposite, type_bound}
 use Rattle.octagon_matrix.specs.Matrices.{MatrixValue, entry_of, IsMatrix, HasEntries}
 use Rattle.octagon_matrix.specs.Stores.{value_at, term_value, IsStore, Holds}
-use Rattle.octagon_matrix.proofs.Terms.{opposite-opposite, opposite-below, opposite-differs}
+use Rattle.octagon_matrix.proofs.Terms.{opposite-below, opposite-differs}
 use Rattle.octagon_matrix.proofs.Stores.{term-opposite}
 use Rattle.octagon_closure.specs.Best.{IsUnmet, Reaches, IsBest}
 use Rattle.octagon_leaf.specs.declared.meets.Meet.{Meet}
@@ -18,9 +18,9 @@ use Rattle.octagon_leaf.specs.Shapes.{between, term_between}
 use Rattle.octagon_leaf.specs.Octagons.{met_all, moved, moved_entry, kept_entry, has_variable, renamed, sign_of}
 use Rattle.octagon_leaf.specs.Meeting.{AreMeets, AreSmall}
 use Rattle.octagon_leaf.specs.Filling.{IsFull, AreLarge}
-use Rattle.octagon_leaf.specs.Laws.Best.{of-entry, of-bounds, of-holds, IsBounded, bounded-store, store-below, store-above}
+use Rattle.octagon_leaf.specs.Laws.Best.{of-entry, of-bounds, IsBounded, bounded-store, store-above}
 use Rattle.octagon_leaf.specs.Laws.Meets.{bounded-kept, bounded-all, variables-all, AllMet, all-holds, holds-all}
-use Rattle.octagon_leaf.specs.Laws.Terms.{bounded-moved, moved-holds, moved-difference, renamed-below, set-own, set-length, set-store}
+use Rattle.octagon_leaf.specs.Laws.Terms.{bounded-moved, moved-holds, moved-difference, renamed-below, set-own, set-length}
 use Rattle.octagon_leaf.specs.Laws.OctagonLaws.{between-meets, set-met, within-int}
 use Rattle.octagon_leaf.proofs.Full.{best-full, best-large, best-made}
 use Rattle.octagon_leaf.proofs.Setting.{met-within}
@@ -108,9 +108,9 @@ unmoved-holds m s x t c u k l j f h =
           let i' : a' < 2 * n = renamed-below n x t a j i in
           let d' : b' < 2 * n = renamed-below n x t b j d in
           let g : difference s a' b' ≡ difference u.store (renamed x t a') (renamed x t b') +ℤ (c *ℤ (sign_of x a' -ℤ sign_of x b')) =
-              ap (λ w. difference w a' b') (sym u.back) ∙ moved-difference n u.store x t a' b' c z l in
+          ap (λ w. difference w a' b') (sym u.back) ∙ moved-difference n u.store x t a' b' c z l in
           let w : difference s a' b' ≤ℤ moved_entry m x t c a' b' =
-              kept-below (type_bound a' b') (moved_entry m x t c a' b') (difference s a' b') (store-above n s a' b' o i' d') (of-bounds n (λ p q. kept_entry (type_bound p q) (moved_entry m x t c p q)) s a' b' h i' d') in
+          kept-below (type_bound a' b') (moved_entry m x t c a' b') (difference s a' b') (store-above n s a' b' o i' d') (of-bounds n (λ p q. kept_entry (type_bound p q) (moved_entry m x t c p q)) s a' b' h i' d') in
           let y : difference u.store (renamed x t a') (renamed x t b') ≤ℤ entry_of m (renamed x t a') (renamed x t b') = omega (arith, ints, g, w) in
           rw (renamed-twice x t a f, renamed-twice x t b f) at y;
     }
@@ -156,11 +156,11 @@ moved-most m held x t c r s a b k q l j f i d h =
     let u : Unmoved s x t c = unmoved n s x t c g.size l f in
     let o : Holds m u.store = unmoved-holds m s x t c u k l j (same-variable x t f) g in
     let p : Holds (HeldMatrix m t c r) u.store =
-        all-holds m (term_between t (r.low -ℤ c) (r.high -ℤ c)) u.store (bounded-kept m k) (term-meets n t (r.low -ℤ c) (r.high -ℤ c) j) o
-        (term-met t (r.low -ℤ c) (r.high -ℤ c) u.store (omega (arith, ints, u.term, w.low)) (omega (arith, ints, u.term, w.high))) in
+    all-holds m (term_between t (r.low -ℤ c) (r.high -ℤ c)) u.store (bounded-kept m k) (term-meets n t (r.low -ℤ c) (r.high -ℤ c) j) o
+    (term-met t (r.low -ℤ c) (r.high -ℤ c) u.store (omega (arith, ints, u.term, w.low)) (omega (arith, ints, u.term, w.high))) in
     let v : (HeldMatrix m t c r).variables ≡ n = variables-all m (term_between t (r.low -ℤ c) (r.high -ℤ c)) in
     let y : difference u.store (renamed x t a) (renamed x t b) ≤ℤ entry_of held (renamed x t a) (renamed x t b) =
-        q.most u.store (renamed x t a) (renamed x t b) p (rw v (renamed-below n x t a j i)) (rw v (renamed-below n x t b j d)) in
+    q.most u.store (renamed x t a) (renamed x t b) p (rw v (renamed-below n x t a j i)) (rw v (renamed-below n x t b j d)) in
     let e : difference s a b ≡ difference u.store (renamed x t a) (renamed x t b) +ℤ (c *ℤ (sign_of x a -ℤ sign_of x b)) = ap (λ w. difference w a b) (sym u.back) ∙ moved-difference n u.store x t a b c (u.size ∙ g.size) l in
     omega (arith, ints, e, y)
 
@@ -193,9 +193,11 @@ moved-unmet m x t c r s k l j f h =
     let (g, z) = holds-all (moved m x t c) (between x r) s (bounded-moved m x t c (bounded-kept m k)) (between-meets m.variables x r l) h in
     let w : Within (value_at s x) r = met-within x r s z in
     let u : Unmoved s x t c = unmoved n s x t c g.size l f in
-    let o : Holds m u.store = unmoved-holds m s x t c u k l j (same-variable x t f) g in
-    (u.store, all-holds m (term_between t (r.low -ℤ c) (r.high -ℤ c)) u.store (bounded-kept m k) (term-meets n t (r.low -ℤ c) (r.high -ℤ c) j) o
-    (term-met t (r.low -ℤ c) (r.high -ℤ c) u.store (omega (arith, ints, u.term, w.low)) (omega (arith, ints, u.term, w.high))))
+    let o : Holds m u.store = unmoved-holds m s x t c u k l j (same-variable x t f) g in (
+      u.store,
+      all-holds m (term_between t (r.low -ℤ c) (r.high -ℤ c)) u.store (bounded-kept m k) (term-meets n t (r.low -ℤ c) (r.high -ℤ c) j) o
+          (term-met t (r.low -ℤ c) (r.high -ℤ c) u.store (omega (arith, ints, u.term, w.low)) (omega (arith, ints, u.term, w.high))),
+    )
 
 -- ---- as the code has them
 shifted : (n c : ℤ) → IsInt n → IsFormNumber c → to_z w64 (of_z w64 (to_z w64 (of_z w64 n) -ℤ to_z w64 (of_z w64 c))) ≡ n -ℤ c

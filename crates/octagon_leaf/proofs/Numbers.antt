@@ -3,7 +3,6 @@ use Rattle.std.proofs.Common.{◌≡◌, ℕ, ◌*◌, ◌^◌, ◌<◌, ℤ, po
 use Rattle.std.proofs.lemmas.Int.{ints}
 use Rattle.octagon_matrix.specs.Matrices.{MatrixValue, entry_of, IsMatrix}
 use Rattle.octagon_matrix.proofs.Terms.{type_bound-most}
-use Rattle.octagon_closure.specs.Sweeps.{half}
 use Rattle.octagon_closure.proofs.HalfNumbers.{half-below, half-above}
 use Rattle.c_tree.specs.Value.{IsInt}
 use Rattle.leaf_domain.specs.Forms.{IsFormNumber}

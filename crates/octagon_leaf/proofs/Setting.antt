@@ -1,8 +1,7 @@
 -- A best matrix with one variable put as any number of a range is best by one sweep.
-use Rattle.std.proofs.Common.{◌≡◌, ◌≢◌, ◌⊎◌, inl, inr, ℕ, ◌+◌, ◌*◌, ◌/◌, ◌%◌, ◌<◌, ◌≤◌, ℤ, pos, neg_ℤ, ◌+ℤ◌, ◌-ℤ◌, ◌*ℤ◌, ◌≤ℤ◌, Bool, true, false, ◌||◌, nat_eq, if◌then◌else◌, List, slice_set, length, refl, sym, ◌∙◌, ap, subst, arith}
-use Rattle.std.proofs.lemmas.Int.{ints, clamps}
+use Rattle.std.proofs.Common.{◌≡◌, ◌≢◌, ◌⊎◌, inl, inr, ℕ, ◌*◌, ◌/◌, ◌%◌, ◌<◌, ℤ, pos, neg_ℤ, ◌-ℤ◌, ◌*ℤ◌, ◌≤ℤ◌, Bool, true, false, ◌||◌, nat_eq, if◌then◌else◌, List, slice_set, length, refl, sym, ◌∙◌, ap, subst, arith}
+use Rattle.std.proofs.lemmas.Int.{ints}
 use Rattle.std.proofs.lemmas.Bool.Decides.{nat_tests, eqb_tells}
-use Rattle.c_tree.specs.Value.{IsInt}
 use Rattle.leaf_domain.specs.declared.range.Range.{Range}
 use Rattle.leaf_domain.specs.Ranges.{Within, IsInInt, is_empty_range}
 use Rattle.octagon_matrix.specs.Terms.{opposite}
@@ -17,7 +16,7 @@ use Rattle.octagon_leaf.specs.Greatest.{matrix_of, difference}
 use Rattle.octagon_leaf.specs.Shapes.{between}
 use Rattle.octagon_leaf.specs.Octagons.{met_all, dropped, has_variable}
 use Rattle.octagon_leaf.specs.Filling.{greatest_set, set_entry}
-use Rattle.octagon_leaf.specs.Laws.Best.{of-entry, IsBounded, bounded-store}
+use Rattle.octagon_leaf.specs.Laws.Best.{of-entry, IsBounded}
 use Rattle.octagon_leaf.specs.Laws.Meets.{bounded-kept, bounded-all, variables-all, AllMet, all-holds, holds-all}
 use Rattle.octagon_leaf.specs.Laws.Terms.{bounded-dropped, dropped-holds, holds-dropped, set-own, set-other}
 use Rattle.octagon_leaf.specs.Laws.OctagonLaws.{between-meets, set-met, within-int, plus-difference, minus-difference}

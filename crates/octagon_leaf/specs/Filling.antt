@@ -1,5 +1,5 @@
 -- Entries of matrices that the code makes.
-use Rattle.std.specs.Prelude.{◌≡◌, ◌≢◌, ℕ, ◌*◌, ◌/◌, ◌%◌, ◌<◌, ℤ, pos, neg_ℤ, ◌+ℤ◌, ◌≤ℤ◌, nat_eq, ◌||◌, if◌then◌else◌}
+use Rattle.std.specs.Prelude.{◌≡◌, ℕ, ◌*◌, ◌%◌, ◌<◌, ℤ, pos, neg_ℤ, ◌+ℤ◌, ◌≤ℤ◌, nat_eq, ◌||◌, if◌then◌else◌}
 use Rattle.leaf_domain.specs.declared.range.Range.{Range}
 use Rattle.octagon_matrix.specs.Terms.{opposite, type_bound}
 use Rattle.octagon_matrix.specs.Matrices.{MatrixValue, entry_of}

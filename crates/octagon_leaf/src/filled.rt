@@ -158,7 +158,12 @@ fn set_entry(matrix: &Matrix, x: u32, r: Range, a: u32, b: u32) -> i64
 
 /// The best matrix of the stores of a best one with variable `x` put as any number of the range. So
 /// no closing is needed.
-pub(crate) fn with_range(alloc: Global, matrix: &Matrix, x: u32, r: Range) -> Result<Matrix, NoMemory>
+pub(crate) fn with_range(
+    alloc: Global,
+    matrix: &Matrix,
+    x: u32,
+    r: Range,
+) -> Result<Matrix, NoMemory>
     requires best { IsBest matrix.now matrix.now }
     requires x { x < matrix.now.variables }
     requires int { IsInInt r }
@@ -166,7 +171,11 @@ pub(crate) fn with_range(alloc: Global, matrix: &Matrix, x: u32, r: Range) -> Re
     ensures best { IfOk result (λ m. IsBest (met_all (dropped matrix.now x) (between x r)) m) }
     ensures kept { IfOk result (λ m. IsMatrix m) }
 {
-    filled(alloc, matrix.variables(), move |a, b| set_entry(matrix, x, r, a, b))
+    filled(
+        alloc,
+        matrix.variables(),
+        move |a, b| set_entry(matrix, x, r, a, b),
+    )
 }
 
 /// The term `t` for `+x`, its opposite for `-x`, and every other term itself.
@@ -227,5 +236,9 @@ pub(crate) fn moved(
     ensures entries { IfOk result (λ m. HasEntries m matrix.now.variables (moved_entry matrix.now x t c)) }
     ensures kept { IfOk result (λ m. IsMatrix m) }
 {
-    filled(alloc, matrix.variables(), move |a, b| moved_entry(matrix, x, t, c, a, b))
+    filled(
+        alloc,
+        matrix.variables(),
+        move |a, b| moved_entry(matrix, x, t, c, a, b),
+    )
 }

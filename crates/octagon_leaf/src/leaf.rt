@@ -429,13 +429,7 @@ impl Leaf for OctagonLeaf {
         self.with(alloc, x, r)
     }
 
-    fn set_form(
-        &self,
-        alloc: Global,
-        x: u32,
-        f: &Form,
-        r: Range,
-    ) -> Result<OctagonLeaf, NoMemory> {
+    fn set_form(&self, alloc: Global, x: u32, f: &Form, r: Range) -> Result<OctagonLeaf, NoMemory> {
         let Some(matrix) = self.best_matrix() else {
             return Ok(OctagonLeaf::none(self.count()));
         };

@@ -1,23 +1,22 @@
 -- What `best_of` answers: best bounds by stores, and Nothing where no store meets the matrix.
-use Rattle.std.proofs.Common.{◌≡◌, ◌⊎◌, inl, inr, ◌↔◌, ℕ, zero, suc, ◌+◌, ◌*◌, ◌^◌, ◌<◌, ◌≤◌, ℤ, pos, neg_ℤ, ◌+ℤ◌, ◌-ℤ◌, ◌≤ℤ◌, ◌<ℤ◌, int_le, Bool, true, false, ◌&&◌, nat_eq, List, [], ◌∷◌, ◌++◌, map, length, slice_index_or, refl, sym, ◌∙◌, ap, subst, arith, Some}
+use Rattle.std.proofs.Common.{◌≡◌, ◌⊎◌, inl, inr, ℕ, zero, suc, ◌*◌, ◌^◌, ◌<◌, ◌≤◌, ℤ, pos, neg_ℤ, ◌+ℤ◌, ◌≤ℤ◌, ◌<ℤ◌, int_le, Bool, true, false, nat_eq, List, [], ◌∷◌, ◌++◌, map, length, refl, sym, ◌∙◌, ap, subst, arith}
 use Rattle.std.specs.Int.{int_max}
 use Rattle.std.specs.List.{filter}
 use Rattle.std.proofs.lemmas.Int.{ints, clamps}
-use Rattle.std.proofs.lemmas.Bool.Decides.{nat_tests, eqb_tells}
+use Rattle.std.proofs.lemmas.Bool.Decides.{nat_tests}
 use Rattle.octagon_matrix.specs.Terms.{opposite, int_least, int_greatest, type_bound}
-use Rattle.octagon_matrix.specs.Matrices.{MatrixValue, entry_of, IsMatrix, HasEntries}
-use Rattle.octagon_matrix.specs.Stores.{value_at, term_value, IsStore, Holds}
-use Rattle.octagon_matrix.specs.View.{table}
+use Rattle.octagon_matrix.specs.Matrices.{MatrixValue, entry_of, IsMatrix}
+use Rattle.octagon_matrix.specs.Stores.{IsStore, Holds}
 use Rattle.octagon_matrix.proofs.Cells.{table-entry, table-size}
 use Rattle.octagon_matrix.proofs.Terms.{opposite-below, type_bound-twin, type_bound-least, type_bound-most}
-use Rattle.octagon_matrix.proofs.Stores.{holds-store, store-holds, term-opposite}
+use Rattle.octagon_matrix.proofs.Stores.{holds-store, store-holds}
 use Rattle.octagon_closure.specs.Best.{IsUnmet, Reaches, IsBest, IsClosure}
 use Rattle.octagon_closure.specs.declared.Closed.TheVariants.{Closed as AllBest}
 use Rattle.octagon_closure.proofs.OneMeet.{best-zero, best-coherent}
 use Rattle.octagon_closure.proofs.Unique.{closure-same}
-use Rattle.leaf_domain.specs.Leaves.{LeafValue, nothing_of}
+use Rattle.leaf_domain.specs.Leaves.{nothing_of}
 use Rattle.octagon_leaf.specs.Pairs.{all_pairs}
-use Rattle.octagon_leaf.specs.Greatest.{matrix_of, leaf_of, numbers_from, int_numbers, put_before, stores_of, difference, meets, met_stores, greatest_difference, best_over, best_of, standing_over, standing}
+use Rattle.octagon_leaf.specs.Greatest.{matrix_of, leaf_of, numbers_from, int_numbers, put_before, stores_of, difference, meets, met_stores, greatest_difference, best_of, standing}
 use Rattle.octagon_leaf.specs.Laws.OverPairs.{both, pairs-tell, tell-pairs}
 
 -- ---- the matrix of a function

@@ -1,8 +1,8 @@
 -- What the shape of a form says of its value.
-use Rattle.std.proofs.Common.{◌≡◌, ◌≢◌, ◌⊎◌, inl, inr, ℕ, ◌+◌, ◌*◌, ◌<◌, ◌≤◌, ℤ, pos, negsuc, neg_ℤ, ◌+ℤ◌, ◌-ℤ◌, ◌*ℤ◌, ◌≤ℤ◌, Bool, true, false, ◌&&◌, ◌||◌, List, [], ◌∷◌, ◌++◌, refl, sym, ◌∙◌, ap, subst, arith, if◌then◌else◌}
+use Rattle.std.proofs.Common.{◌≡◌, ◌≢◌, ◌⊎◌, inl, inr, ℕ, ◌+◌, ◌*◌, ◌<◌, ℤ, pos, negsuc, neg_ℤ, ◌+ℤ◌, ◌-ℤ◌, ◌*ℤ◌, ◌≤ℤ◌, Bool, true, false, ◌&&◌, List, [], ◌∷◌, ◌++◌, refl, sym, arith, if◌then◌else◌}
 use Rattle.std.specs.Bool.{⊤}
 use Rattle.std.specs.Ordering.{int_eq}
-use Rattle.std.proofs.lemmas.Int.{ints, clamps}
+use Rattle.std.proofs.lemmas.Int.{ints}
 use Rattle.leaf_domain.specs.declared.form.Form.{Form}
 use Rattle.leaf_domain.specs.declared.range.Range.{Range}
 use Rattle.leaf_domain.specs.declared.compare.Compare.{Compare}
@@ -15,14 +15,13 @@ use Rattle.octagon_matrix.specs.Matrices.{MatrixValue, entry_of}
 use Rattle.octagon_matrix.specs.Stores.{value_at, term_value, Holds}
 use Rattle.octagon_matrix.proofs.Terms.{opposite-differs}
 use Rattle.octagon_matrix.proofs.Stores.{term-opposite}
-use Rattle.octagon_closure.specs.Sweeps.{half}
 use Rattle.octagon_closure.proofs.HalfNumbers.{half-below, half-above}
 use Rattle.octagon_leaf.specs.declared.shape.Edge.{Edge}
 use Rattle.octagon_leaf.specs.declared.shape.Shape.{Shape}
 use Rattle.octagon_leaf.specs.declared.shape.Shape.TheVariants.{Constant, Terms, Other}
 use Rattle.octagon_leaf.specs.declared.meets.Meet.{Meet}
 use Rattle.octagon_leaf.specs.Greatest.{difference}
-use Rattle.octagon_leaf.specs.Shapes.{is_unit, term_of, single, double, shape_by, shape_of, scaled, halved, edge_range, at_most, at_least, one_if, compared}
+use Rattle.octagon_leaf.specs.Shapes.{is_unit, term_of, shape_by, shape_of, scaled, halved, edge_range, at_most, at_least, one_if, compared}
 use Rattle.octagon_leaf.specs.Meeting.{IsEdge, AreMeets}
 use Rattle.octagon_leaf.specs.Laws.Meets.{AllMet}
 use Rattle.octagon_leaf.specs.Laws.Terms.{plus-value, minus-value}
@@ -191,12 +190,16 @@ compared-meets n e op r h = by_op op
   where
     there : AreMeets n (at_most e (pos 0) ∷ [])
     there = (record { first = h.first; second = h.second; apart = h.apart }, tt)
+
     back : AreMeets n (at_least e (pos 0) ∷ [])
     back = (record { first = h.second; second = h.first; apart = λ g. h.apart (sym g) }, tt)
+
     more : AreMeets n (at_most e (pos 1) ∷ [])
     more = (record { first = h.first; second = h.second; apart = h.apart }, tt)
+
     less : AreMeets n (at_least e (pos 1) ∷ [])
     less = (record { first = h.second; second = h.first; apart = λ g. h.apart (sym g) }, tt)
+
     by_op : (q : Compare) → AreMeets n (compared e q r)
     by_op Lt = more
     by_op Le = there

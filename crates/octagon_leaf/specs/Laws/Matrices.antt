@@ -1,19 +1,19 @@
 -- Matrices that operations describe, and the stores that meet them.
-use Rattle.std.proofs.Common.{◌≡◌, ◌≢◌, ◌⊎◌, inl, inr, ◌↔◌, ℕ, zero, suc, ◌+◌, ◌*◌, ◌^◌, ◌<◌, ◌≤◌, ℤ, pos, neg_ℤ, ◌+ℤ◌, ◌-ℤ◌, ◌*ℤ◌, ◌≤ℤ◌, int_le, Bool, true, false, not, List, [], ◌∷◌, All, length, slice_index_or, refl, sym, ◌∙◌, ap, subst, arith, if◌then◌else◌}
+use Rattle.std.proofs.Common.{◌≡◌, ◌⊎◌, inl, inr, ℕ, suc, ◌+◌, ◌*◌, ◌<◌, ◌≤◌, ℤ, pos, neg_ℤ, ◌-ℤ◌, ◌≤ℤ◌, int_le, List, [], ◌∷◌, All, length, refl, sym, ◌∙◌, ap, arith, if◌then◌else◌}
 use Rattle.std.specs.Int.{int_max}
 use Rattle.std.specs.Ordering.{int_eq}
 use Rattle.std.proofs.lemmas.Int.{ints, clamps}
 use Rattle.c_tree.specs.Value.{IsInt}
 use Rattle.octagon_matrix.specs.Terms.{opposite, type_bound}
-use Rattle.octagon_matrix.specs.Matrices.{MatrixValue, entry_of, IsMatrix, HasEntries}
-use Rattle.octagon_matrix.specs.Stores.{value_at, term_value, IsStore, Holds}
+use Rattle.octagon_matrix.specs.Matrices.{MatrixValue, entry_of, IsMatrix}
+use Rattle.octagon_matrix.specs.Stores.{value_at, IsStore, Holds}
 use Rattle.octagon_matrix.proofs.Cells.{table-size}
-use Rattle.octagon_matrix.proofs.Terms.{opposite-below, type_bound-twin, type_bound-least}
+use Rattle.octagon_matrix.proofs.Terms.{opposite-below, type_bound-twin}
 use Rattle.octagon_closure.specs.Best.{Reaches, IsBest}
 use Rattle.octagon_leaf.specs.Greatest.{matrix_of, difference}
 use Rattle.octagon_leaf.specs.Octagons.{least_entry, greater, widened, narrowed}
 use Rattle.octagon_leaf.specs.Filling.{IsFull}
-use Rattle.octagon_leaf.specs.Laws.Best.{of-entry, of-holds, of-bounds, IsBounded, bounded-store, store-below, best-kept, type_bound-same}
+use Rattle.octagon_leaf.specs.Laws.Best.{of-entry, of-holds, of-bounds, IsBounded, store-below, best-kept, type_bound-same}
 use Rattle.octagon_leaf.specs.Laws.Terms.{plus-value, minus-value}
 
 -- ---- full entries make a matrix

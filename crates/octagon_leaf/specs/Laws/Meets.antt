@@ -1,14 +1,14 @@
 -- The stores that meet a matrix after meets of its entries.
-use Rattle.std.proofs.Common.{◌≡◌, ◌⊎◌, inl, inr, ◌↔◌, ℕ, ◌+◌, ◌*◌, ◌^◌, ◌<◌, ◌≤◌, ℤ, pos, neg_ℤ, ◌+ℤ◌, ◌-ℤ◌, ◌≤ℤ◌, Bool, true, false, List, [], ◌∷◌, refl, sym, ◌∙◌, ap, arith, if◌then◌else◌}
+use Rattle.std.proofs.Common.{◌≡◌, ◌↔◌, ◌^◌, ℤ, pos, neg_ℤ, ◌≤ℤ◌, Bool, true, false, List, [], ◌∷◌, refl, arith, if◌then◌else◌}
 use Rattle.std.specs.Bool.{⊤}
 use Rattle.std.specs.Int.{int_min, int_max}
 use Rattle.std.proofs.lemmas.Int.{ints, clamps}
-use Rattle.octagon_matrix.specs.Terms.{is_pair, type_bound}
+use Rattle.octagon_matrix.specs.Terms.{is_pair}
 use Rattle.octagon_matrix.specs.Matrices.{MatrixValue, entry_of, IsMatrix, HasEntries, met_entry}
-use Rattle.octagon_matrix.specs.Stores.{IsStore, Holds}
+use Rattle.octagon_matrix.specs.Stores.{Holds}
 use Rattle.octagon_matrix.proofs.Stores.{met-stores}
 use Rattle.octagon_leaf.specs.declared.meets.Meet.{Meet}
-use Rattle.octagon_leaf.specs.Greatest.{matrix_of, difference}
+use Rattle.octagon_leaf.specs.Greatest.{difference}
 use Rattle.octagon_leaf.specs.Octagons.{least_entry, met, met_all}
 use Rattle.octagon_leaf.specs.Meeting.{IsMeet, AreMeets}
 use Rattle.octagon_leaf.specs.Laws.Best.{of-entry, IsBounded, bounded-store, store-above}
@@ -50,8 +50,7 @@ below-either d v h = omega (arith, ints, clamps)
 pub met-holds : (m : MatrixValue) (e : Meet) (s : List ℤ) → IsBounded m → IsMeet m.variables e → Holds (met m e) s ↔ (Holds m s × (difference s e.first e.second ≤ℤ e.bound))
 met-holds m e s p q =
     let v : ℤ = int_max e.bound least_entry in
-    let w : Holds (met m e) s ↔ (Holds m s × (difference s e.first e.second ≤ℤ v)) = met-stores m (met m e) e.first e.second v s (met-entries m e) q.first q.second in
-    (
+    let w : Holds (met m e) s ↔ (Holds m s × (difference s e.first e.second ≤ℤ v)) = met-stores m (met m e) e.first e.second v s (met-entries m e) q.first q.second in (
       λ h. let k : Holds m s × (difference s e.first e.second ≤ℤ v) = w.0 h in
           (k.0, above-least (difference s e.first e.second) e.bound (store-above m.variables s e.first e.second (bounded-store m s p k.0) q.first q.second) k.1),
       λ k. w.1 (k.0, below-either (difference s e.first e.second) e.bound k.1),

@@ -1,7 +1,7 @@
 -- The laws of octagons.
-use Rattle.std.proofs.Common.{◌≡◌, ◌⊎◌, inl, inr, ◌↔◌, ℕ, ◌+◌, ◌*◌, ◌/◌, ◌≤◌, ◌<◌, ℤ, pos, negsuc, neg_ℤ, ◌+ℤ◌, ◌-ℤ◌, ◌*ℤ◌, ◌≤ℤ◌, int_le, Bool, true, false, not, ◌||◌, List, [], ◌∷◌, ◌++◌, Option, Some, None, All, length, slice_set, refl, sym, ◌∙◌, ap, subst, arith, if◌then◌else◌}
+use Rattle.std.proofs.Common.{◌≡◌, ◌⊎◌, inl, inr, ◌↔◌, ℕ, ◌+◌, ◌*◌, ◌/◌, ◌≤◌, ◌<◌, ℤ, pos, neg_ℤ, ◌+ℤ◌, ◌-ℤ◌, ◌*ℤ◌, ◌≤ℤ◌, int_le, Bool, true, false, not, List, ◌++◌, Option, Some, None, All, length, slice_set, refl, sym, ◌∙◌, subst, arith, if◌then◌else◌}
 use Rattle.std.specs.Ordering.{int_eq}
-use Rattle.std.proofs.lemmas.Int.{ints, clamps}
+use Rattle.std.proofs.lemmas.Int.{ints}
 use Rattle.std.proofs.lemmas.Bool.Decides.{nat_tests}
 use Rattle.c_tree.specs.Value.{IsInt}
 use Rattle.leaf_domain.specs.declared.form.Form.{Form}
@@ -10,28 +10,27 @@ use Rattle.leaf_domain.specs.declared.compare.Compare.{Compare}
 use Rattle.leaf_domain.specs.Compares.{holds_between}
 use Rattle.leaf_domain.specs.Ranges.{Within, IsInInt, is_empty_range, empty_range, range_at}
 use Rattle.leaf_domain.specs.Forms.{form_at, IsForm}
-use Rattle.leaf_domain.specs.Leaves.{LeafValue, LeafLaws, Answers, Alike, nothing_of, is_nothing_of, at_store}
-use Rattle.octagon_matrix.specs.Terms.{opposite, type_bound}
+use Rattle.leaf_domain.specs.Leaves.{LeafValue, LeafLaws, Answers, nothing_of, is_nothing_of, at_store}
+use Rattle.octagon_matrix.specs.Terms.{type_bound}
 use Rattle.octagon_matrix.specs.Matrices.{MatrixValue, entry_of, IsMatrix}
 use Rattle.octagon_matrix.specs.Stores.{value_at, term_value, IsStore, Holds}
-use Rattle.octagon_closure.specs.Best.{IsUnmet, Reaches, IsBest}
+use Rattle.octagon_closure.specs.Best.{Reaches, IsBest}
 use Rattle.octagon_closure.specs.Sweeps.{half}
 use Rattle.octagon_closure.proofs.HalfNumbers.{half-below, half-above}
 use Rattle.octagon_leaf.specs.Pairs.{count_pairs}
 use Rattle.octagon_leaf.specs.Greatest.{matrix_of, leaf_of, difference, best_of, standing}
-use Rattle.octagon_leaf.specs.declared.shape.Edge.{Edge}
 use Rattle.octagon_leaf.specs.declared.shape.Shape.{Shape}
 use Rattle.octagon_leaf.specs.declared.shape.Shape.TheVariants.{Constant, Terms, Other}
 use Rattle.octagon_leaf.specs.declared.meets.Meet.{Meet}
 use Rattle.octagon_leaf.specs.Shapes.{shape_of, edge_range, compared, between, equal_to}
-use Rattle.octagon_leaf.specs.Octagons.{octagons, matrix_at, matrix_in, IsOctagon, ContentHolds, octagon_holds, octagon_best, best_matrix, best_entry, own_entry, met_all, octagon_start, is_below, octagon_leq, greater, octagon_join, widened, octagon_widen, narrowed, octagon_narrow, octagon_own_bounds, octagon_bounds, shape_range, octagon_form_range, octagon_meet_range, meet_shape, octagon_meet_form, dropped, has_variable, octagon_set_range, moved, set_term, set_edge, set_shape, octagon_set_form}
-use Rattle.octagon_leaf.specs.Meeting.{IsMeet, AreMeets, IsEdge}
+use Rattle.octagon_leaf.specs.Octagons.{octagons, matrix_at, IsOctagon, ContentHolds, octagon_holds, octagon_best, best_matrix, met_all, octagon_start, is_below, octagon_leq, greater, octagon_join, widened, octagon_widen, narrowed, octagon_narrow, octagon_own_bounds, octagon_bounds, shape_range, octagon_form_range, octagon_meet_range, meet_shape, octagon_meet_form, dropped, has_variable, octagon_set_range, moved, set_term, set_shape, octagon_set_form}
+use Rattle.octagon_leaf.specs.Meeting.{AreMeets}
 use Rattle.octagon_leaf.specs.Laws.OverPairs.{pairs-tell, pairs-fail, count-less, count-most}
 use Rattle.octagon_leaf.specs.Laws.Best.{of-entry, IsBounded, bounded-store, Answered, unmet, held, answered, best-stores, stores-best, standing-is}
 use Rattle.octagon_leaf.specs.Laws.Meets.{bounded-kept, bounded-all, variables-all, AllMet, all-holds}
 use Rattle.octagon_leaf.specs.Laws.Terms.{plus-value, minus-value, bounded-dropped, dropped-holds, bounded-moved, moved-holds, set-here, set-other}
-use Rattle.octagon_leaf.specs.Laws.Forms.{ShapeHolds, shape-holds, EdgeHolds, edge-within, compared-met, compared-meets}
-use Rattle.octagon_leaf.specs.Laws.Matrices.{start-alone, start-itself, start-kept, greater-bounded, greater-first, greater-second, widened-by, widened-kept, widened-first, widened-second, narrowed-kept, narrowed-holds}
+use Rattle.octagon_leaf.specs.Laws.Forms.{ShapeHolds, shape-holds, edge-within, compared-met, compared-meets}
+use Rattle.octagon_leaf.specs.Laws.Matrices.{start-alone, start-itself, start-kept, greater-bounded, greater-first, greater-second, widened-kept, widened-first, widened-second, narrowed-kept, narrowed-holds}
 
 abbrev at : ℕ → Option (List ℤ) → LeafValue
 at n c = record { variables = n; content = c }
@@ -496,7 +495,7 @@ set-shape-holds n us x (Constant c) r s v p l i h k w =
     let z : IsClosed n us = closed n us p in
     let l' : x < z.matrix.variables = omega (arith, z.best.variables) in
     let q : AreMeets z.matrix.variables (between x (range_at c c) ++ between x r) =
-        ((between-meets z.matrix.variables x (range_at c c) l').0, ((between-meets z.matrix.variables x (range_at c c) l').1.0, between-meets z.matrix.variables x r l')) in
+    ((between-meets z.matrix.variables x (range_at c c) l').0, ((between-meets z.matrix.variables x (range_at c c) l').1.0, between-meets z.matrix.variables x r l')) in
     let o : Within v (range_at c c) = record { low = omega (arith, ints, k); high = omega (arith, ints, k) } in
     let a : AllMet (between x (range_at c c)) (slice_set s x v) = set-met n x (range_at c c) s v h.size l o in
     rw (z.is)

@@ -1,6 +1,5 @@
 -- The values of terms, and stores with one variable replaced.
-use Rattle.std.proofs.Common.{◌≡◌, ◌≢◌, ◌⊎◌, inl, inr, ℕ, ◌+◌, ◌-◌, ◌*◌, ◌/◌, ◌%◌, ◌^◌, ◌<◌, ◌≤◌, ℤ, pos, negsuc, neg_ℤ, ◌+ℤ◌, ◌-ℤ◌, ◌*ℤ◌, ◌≤ℤ◌, Bool, true, false, ◌||◌, nat_eq, List, length, slice_index_or, slice_set, refl, sym, ◌∙◌, ap, subst, arith, if◌then◌else◌}
-use Rattle.std.specs.Int.{int_min, int_max}
+use Rattle.std.proofs.Common.{◌≡◌, ◌≢◌, ◌⊎◌, inl, inr, ℕ, ◌+◌, ◌-◌, ◌*◌, ◌/◌, ◌%◌, ◌^◌, ◌<◌, ℤ, pos, negsuc, neg_ℤ, ◌+ℤ◌, ◌-ℤ◌, ◌*ℤ◌, ◌≤ℤ◌, Bool, true, false, ◌||◌, nat_eq, List, length, slice_set, refl, sym, ◌∙◌, ap, subst, arith, if◌then◌else◌}
 use Rattle.std.proofs.lemmas.Int.{ints, clamps}
 use Rattle.std.proofs.lemmas.Bool.Decides.{eqb_tells}
 use Rattle.std.proofs.lemmas.List.{get_or-set_same, get_or-set_other, length-set}
@@ -10,9 +9,9 @@ use Rattle.octagon_matrix.specs.Matrices.{MatrixValue, entry_of}
 use Rattle.octagon_matrix.specs.Stores.{value_at, term_value, IsStore, Holds}
 use Rattle.octagon_matrix.proofs.Terms.{type_bound-least}
 use Rattle.octagon_matrix.proofs.Stores.{term-opposite}
-use Rattle.octagon_leaf.specs.Greatest.{matrix_of, difference}
-use Rattle.octagon_leaf.specs.Octagons.{has_variable, dropped_entry, dropped, sign_of, renamed, moved_entry, kept_entry, moved, least_entry}
-use Rattle.octagon_leaf.specs.Laws.Best.{of-entry, of-holds, IsBounded, bounded-store, store-below, store-above}
+use Rattle.octagon_leaf.specs.Greatest.{difference}
+use Rattle.octagon_leaf.specs.Octagons.{has_variable, dropped_entry, dropped, sign_of, renamed, moved_entry, kept_entry, moved}
+use Rattle.octagon_leaf.specs.Laws.Best.{of-entry, of-holds, IsBounded, bounded-store, store-below}
 
 -- ---- the two terms of a variable
 pub plus-value : (s : List ℤ) (x : ℕ) → term_value s (2 * x) ≡ value_at s x
@@ -179,5 +178,5 @@ moved-holds m s x t c p h l k i =
     let o : IsStore m.variables u = set-store m.variables s x (term_value s t +ℤ c) (bounded-store m s p h) l i in
     of-holds m.variables (λ a b. kept_entry (type_bound a b) (moved_entry m x t c a b)) u o.size
     (λ a b d e.
-        kept-above (type_bound a b) (moved_entry m x t c a b) (difference u a b) (store-below m.variables u a b o d e)
-        (omega (arith, ints, moved-difference m.variables s x t a b c h.size l, h.bounds (renamed x t a) (renamed x t b) (renamed-below m.variables x t a k d) (renamed-below m.variables x t b k e))))
+    kept-above (type_bound a b) (moved_entry m x t c a b) (difference u a b) (store-below m.variables u a b o d e)
+    (omega (arith, ints, moved-difference m.variables s x t a b c h.size l, h.bounds (renamed x t a) (renamed x t b) (renamed-below m.variables x t a k d) (renamed-below m.variables x t b k e))))

@@ -1,5 +1,5 @@
 use Rattle.std.proofs.Common.{◌≡◌, ◌≢◌, ◌<◌, ◌*◌, ℕ, ℤ}
-use Rattle.octagon_matrix.specs.Matrices.{MatrixValue, IsMatrix}
+use Rattle.octagon_matrix.specs.Matrices.{IsMatrix}
 use Rattle.octagon_leaf.specs.Filling.{IsFull}
 use Rattle.octagon_leaf.proofs.Filling.{IsFilling}
 use Rattle.octagon_leaf.proofs.filled.filled.Given as goal

@@ -36,8 +36,8 @@ returns c =
     let u : c.signed.result ≡ c.args.c *ℤ sign_of x c.args.a = c.signed.ensures.value ∙ ap (λ w. w *ℤ sign_of x c.args.a) g in
     let v : c.signed-2.result ≡ c.args.c *ℤ sign_of x c.args.b = c.signed-2.ensures.value ∙ ap (λ w. w *ℤ sign_of x c.args.b) g in
     let t : c.args.c *ℤ (sign_of x c.args.a -ℤ sign_of x c.args.b) ≡ (c.args.c *ℤ sign_of x c.args.a) -ℤ (c.args.c *ℤ sign_of x c.args.b) =
-        times_apart c.args.c (has_variable x c.args.a) (nat_eq (c.args.a % 2) 0) (has_variable x c.args.b) (nat_eq (c.args.b % 2) 0) in
+    times_apart c.args.c (has_variable x c.args.a) (nat_eq (c.args.a % 2) 0) (has_variable x c.args.b) (nat_eq (c.args.b % 2) 0) in
     let e : c.entry-entry.result ≡ entry_of m (renamed x c.args.t c.args.a) (renamed x c.args.t c.args.b) =
-        c.entry-entry.ensures ∙ (ap (λ d. entry_of m d c.renamed-2.result) c.renamed.ensures ∙ ap (entry_of m (renamed x c.args.t c.args.a)) c.renamed-2.ensures) in
+    c.entry-entry.ensures ∙ (ap (λ d. entry_of m d c.renamed-2.result) c.renamed.ensures ∙ ap (entry_of m (renamed x c.args.t c.args.a)) c.renamed-2.ensures) in
     let f = c.entry-entry.ensures in
     omega (arith, ints, k.low, k.high, e, f, u, v, t, p.low, p.high, q.low, q.high)

@@ -1,4 +1,4 @@
-use Rattle.std.proofs.Common.{rules, ◌≡◌, ◌<◌, ◌*◌, ◌∙◌, arith}
+use Rattle.std.proofs.Common.{rules, ◌≡◌, ◌<◌, ◌*◌, arith}
 use Rattle.octagon_leaf.specs.Octagons.{narrowed}
 use Rattle.octagon_leaf.specs.Laws.Matrices.{narrowed-full, narrowed-large}
 use Rattle.octagon_leaf.proofs.filled.narrowed.Goals as goal

@@ -1,4 +1,4 @@
-use Rattle.std.proofs.Common.{◌≡◌, ℕ, ℤ, ◌+ℤ◌, ◌∙◌, ◌||◌, ap, sym, refl, true, false, nat_eq, arith}
+use Rattle.std.proofs.Common.{◌≡◌, ℕ, ◌+ℤ◌, ◌∙◌, ◌||◌, ap, sym, refl, true, false, nat_eq, arith}
 use Rattle.std.proofs.lemmas.Int.{ints}
 use Rattle.std.proofs.lemmas.Bool.{ne_eqb}
 use Rattle.leaf_domain.specs.declared.range.Range.{Range}
@@ -20,7 +20,7 @@ returns-then-has_either c =
     let m = c.args.matrix.now in
     let x : ℕ = c.args.x in
     let e : set_entry m x c.args.r c.args.a c.args.b ≡ greatest_set m x c.args.r c.args.a +ℤ greatest_set m x c.args.r (opposite c.args.b) =
-        entry-is m x c.args.r c.args.a c.args.b (ne_eqb c.args.a c.args.b c.requires.apart) (sym c.has_either.ensures ∙ c.if-has_either.true) in
+    entry-is m x c.args.r c.args.a c.args.b (ne_eqb c.args.a c.args.b c.requires.apart) (sym c.has_either.ensures ∙ c.if-has_either.true) in
     let f : c.greatest-then-has_either.result ≡ greatest_set m x c.args.r (opposite c.args.b) = c.greatest-then-has_either.ensures.value ∙ ap (greatest_set m x c.args.r) c.opposite.ensures in
     let p = c.greatest.ensures.small in
     let q = c.greatest-then-has_either.ensures.small in

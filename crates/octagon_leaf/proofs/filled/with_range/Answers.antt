@@ -1,5 +1,4 @@
 use Rattle.std.proofs.Common.{rules, ◌≡◌}
-use Rattle.octagon_matrix.specs.Matrices.{MatrixValue}
 use Rattle.octagon_leaf.specs.Greatest.{matrix_of}
 use Rattle.octagon_closure.specs.Best.{IsBest}
 use Rattle.octagon_leaf.specs.Filling.{set_entry}

@@ -1,4 +1,4 @@
-use Rattle.std.proofs.Common.{arith, sym, subst, ℕ, ◌≡◌, ◌<◌, ◌*◌}
+use Rattle.std.proofs.Common.{arith, sym, subst, ℕ, ◌≡◌, ◌*◌}
 use Rattle.std.proofs.lemmas.Int.{ints}
 use Rattle.octagon_leaf.proofs.Below.{IsComparing, comparing-next, comparing-end, comparing-fails}
 use Rattle.octagon_leaf.proofs.leaf.is_below.Goals as goal

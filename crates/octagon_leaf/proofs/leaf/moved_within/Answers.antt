@@ -1,7 +1,6 @@
 use Rattle.std.proofs.Common.{◌≡◌, ◌-ℤ◌, to_z, of_z, w64, arith}
 use Rattle.std.proofs.lemmas.Int.{ints}
 use Rattle.octagon_closure.specs.Best.{IsBest}
-use Rattle.octagon_leaf.specs.declared.meets.Meet.{Meet}
 use Rattle.octagon_leaf.specs.Shapes.{term_between}
 use Rattle.octagon_leaf.proofs.Moving.{HeldMatrix, term-list, term-small, term-meets, held-of, unmet-of, moved-full, moved-made, moved-unmet}
 use Rattle.octagon_leaf.proofs.leaf.moved_within.Goals as goal

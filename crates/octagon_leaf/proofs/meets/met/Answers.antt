@@ -5,7 +5,7 @@ use Rattle.octagon_leaf.specs.Octagons.{least_entry}
 use Rattle.octagon_matrix.specs.Matrices.{MatrixValue, HasEntries, met_entry}
 use Rattle.octagon_leaf.specs.declared.meets.Meet.{Meet}
 use Rattle.octagon_leaf.specs.Meeting.{IsMeet, IsSmall}
-use Rattle.octagon_leaf.proofs.MeetSteps.{meet-at, small-at, read-at, came, meeting-next, meeting-unmet, meeting-end}
+use Rattle.octagon_leaf.proofs.MeetSteps.{meet-at, small-at, read-at, came, meeting-next, meeting-unmet}
 use Rattle.octagon_leaf.proofs.meets.met.Goals as goal
 
 abbrev none : Meet

@@ -1,4 +1,4 @@
-use Rattle.std.proofs.Common.{◌≡◌, ◌∙◌, ap, sym, subst, refl, Some, Option, ℕ, ℤ, List}
+use Rattle.std.proofs.Common.{◌∙◌, ap, sym, subst, refl, Some, Option, ℕ, ℤ, List}
 use Rattle.octagon_matrix.specs.Matrices.{MatrixValue}
 use Rattle.octagon_closure.specs.Best.{IsUnmet, IsBest}
 use Rattle.leaf_domain.specs.Leaves.{LeafValue, nothing_of}

@@ -1,4 +1,4 @@
-use Rattle.std.proofs.Common.{◌≡◌, ◌<◌, ◌+◌, ◌*◌, ◌∙◌, ◌-ℤ◌, ap, sym, refl, true, ℕ, pos, neg_ℤ, to_z, of_z, w64, arith}
+use Rattle.std.proofs.Common.{◌≡◌, ◌<◌, ◌+◌, ◌*◌, ◌∙◌, ◌-ℤ◌, ap, sym, true, ℕ, pos, neg_ℤ, to_z, of_z, w64, arith}
 use Rattle.std.proofs.lemmas.Int.{ints}
 use Rattle.octagon_matrix.specs.Matrices.{entry_of}
 use Rattle.octagon_closure.specs.Sweeps.{half}

@@ -1,4 +1,4 @@
-use Rattle.std.proofs.Common.{◌≡◌, ◌∙◌, ℕ, sym, subst, List}
+use Rattle.std.proofs.Common.{◌∙◌, ℕ, sym, subst, List}
 use Rattle.leaf_domain.specs.declared.range.Range.{Range}
 use Rattle.octagon_matrix.specs.Matrices.{MatrixValue, entry_of}
 use Rattle.octagon_leaf.specs.declared.meets.Meet.{Meet}

@@ -1,4 +1,4 @@
-use Rattle.std.proofs.Common.{◌≡◌, ◌∙◌, sym, subst, List}
+use Rattle.std.proofs.Common.{◌∙◌, sym, subst, List}
 use Rattle.octagon_matrix.specs.Matrices.{MatrixValue}
 use Rattle.octagon_leaf.specs.declared.meets.Meet.{Meet}
 use Rattle.octagon_leaf.specs.Octagons.{met_all}

@@ -1,4 +1,4 @@
-use Rattle.std.proofs.Common.{◌≡◌, ◌∙◌, ◌++◌, ◌*ℤ◌, ℤ, pos, neg_ℤ, ◌≤ℤ◌, Bool, true, false, not, refl, ap, sym, subst, List, to_z, of_z, w64, arith}
+use Rattle.std.proofs.Common.{◌≡◌, ◌∙◌, ◌++◌, ℤ, Bool, true, false, not, refl, ap, sym, subst, List, to_z, of_z, w64, arith}
 use Rattle.std.proofs.lemmas.Int.{ints}
 use Rattle.leaf_domain.specs.Forms.{IsFormNumber}
 use Rattle.leaf_domain.specs.Ranges.{range_at}
@@ -22,8 +22,7 @@ is-double false e = cc
 pub set_met-requires-clause-small : goal.set_met-requires-clause-small
 set_met-requires-clause-small c =
     let h : IsFormNumber c.in-Constant.c = shape-constant c.args.self.now.variables c.args.f.now c.in-Constant.c c.requires.f (sym c.shape_of.ensures ∙ c.in-Constant.is) in
-    rw (c.between.ensures)
-    (
+    rw (c.between.ensures) (
       record { low = omega (arith, ints, h.low, h.high); high = omega (arith, ints, h.low, h.high) },
       (record { low = omega (arith, ints, h.low, h.high); high = omega (arith, ints, h.low, h.high) }, tt),
     )

@@ -1,4 +1,4 @@
-use Rattle.std.proofs.Common.{◌≡◌, ◌∙◌, ap, length}
+use Rattle.std.proofs.Common.{◌∙◌, ap, length}
 use Rattle.octagon_leaf.specs.Greatest.{leaf_of, difference}
 use Rattle.octagon_leaf.proofs.Full.{entries-are}
 use Rattle.octagon_leaf.proofs.leaf.OctagonLeafLeaf.start.Goals as goal

@@ -1,0 +1,177 @@
+//! The alarms of small programs by octagons, compared with alarms that were found by hand.
+
+ghost use Rattle.std.specs.Prelude.{◌≡◌, ◌≤ℤ◌, IfOk, [], ◌∷◌, pos, length};
+ghost use Rattle.c_tree.specs.Tree.{Binary};
+ghost use Rattle.c_tree.specs.Value.{IsInt};
+ghost use Rattle.c_tree.specs.View.{term, whole};
+ghost use Rattle.c_tree.specs.Whole.{IsProgram, IsPlainProgram};
+
+use c_tree::{Declarations, Expr, Kind, Mode, Names, Op, Program, Stmt};
+use fam_outer::{NoMemory, Place, Text, Values};
+use interval_leaf::IntervalLeaf;
+use leaf_domain::Leaf;
+use octagon_leaf::OctagonLeaf;
+use plain_analysis::{Alarms, Options, analyse_one};
+use std::alloc::Global;
+use std::test::Fail;
+
+fn at(line: u32, column: u32) -> Place
+    ensures { result ≡ record { line = line; column = column } }
+{
+    Place { line, column }
+}
+
+/// `a op b`.
+fn binary(alloc: Global, op: Op, a: Expr, b: Expr) -> Result<Expr, NoMemory>
+    ensures { IfOk result (λ e. term e ≡ Binary op (term a) (term b)) }
+{
+    let a = Box::new(alloc, a)?;
+    Ok(Expr::Binary(op, a, Box::new(alloc, b)?))
+}
+
+fn names(alloc: Global) -> Result<Names, NoMemory>
+    ensures { IfOk result (λ made. made ≡ (120 ∷ []) ∷ (121 ∷ []) ∷ []) }
+{
+    let mut list = Vec::new(alloc);
+    list.push(Text::from_bytes(alloc, b"x")?)?;
+    list.push(Text::from_bytes(alloc, b"y")?)?;
+    Ok(Names::from_vec(list))
+}
+
+fn starts(alloc: Global, x: i64) -> Result<Values, NoMemory>
+    ensures { IfOk result (λ made. made ≡ x ∷ pos 0 ∷ []) }
+{
+    let mut list = Vec::new(alloc);
+    list.push(x)?;
+    list.push(0)?;
+    Ok(Values::from_vec(list))
+}
+
+/// `while (x < LIMIT) { x = x + 1; y = y + 1; }` in line 3, and `assert(x == y);` in line 4.
+fn counting(alloc: Global, limit: i64) -> Result<Program, NoMemory>
+    requires int { IsInt limit }
+    requires positive { pos 0 ≤ℤ limit }
+    ensures program { IfOk result (λ p. IsProgram (whole p)) }
+    ensures plain { IfOk result (λ p. IsPlainProgram (whole p)) }
+{
+    let names = names(alloc)?;
+    let start = starts(alloc, 0)?;
+    let mut inner = Vec::new(alloc);
+    inner.push(Stmt::Assign {
+        place: at(3, 20),
+        target: 0,
+        value: binary(alloc, Op::Add, Expr::Var(0), Expr::Number(1))?,
+    })?;
+    inner.push(Stmt::Assign {
+        place: at(3, 31),
+        target: 1,
+        value: binary(alloc, Op::Add, Expr::Var(1), Expr::Number(1))?,
+    })?;
+    let mut body = Vec::new(alloc);
+    body.push(Stmt::While {
+        place: at(3, 1),
+        test: binary(alloc, Op::Lt, Expr::Var(0), Expr::Number(limit))?,
+        body: inner,
+    })?;
+    body.push(Stmt::Assert {
+        place: at(4, 1),
+        test: binary(alloc, Op::Eq, Expr::Var(0), Expr::Var(1))?,
+    })?;
+    Ok(Program {
+        names,
+        start,
+        declared: Declarations::from_vec(Vec::new(alloc)),
+        body,
+        end: at(5, 1),
+    })
+}
+
+/// `x = input();` in line 3, `y = x + 1;` in line 4 and `assert(y > x);` in line 5.
+fn above(alloc: Global) -> Result<Program, NoMemory>
+    ensures program { IfOk result (λ p. IsProgram (whole p)) }
+    ensures plain { IfOk result (λ p. IsPlainProgram (whole p)) }
+{
+    let names = names(alloc)?;
+    let start = starts(alloc, 0)?;
+    let mut body = Vec::new(alloc);
+    body.push(Stmt::Input {
+        place: at(3, 1),
+        target: 0,
+    })?;
+    body.push(Stmt::Assign {
+        place: at(4, 1),
+        target: 1,
+        value: binary(alloc, Op::Add, Expr::Var(0), Expr::Number(1))?,
+    })?;
+    body.push(Stmt::Assert {
+        place: at(5, 1),
+        test: binary(alloc, Op::Gt, Expr::Var(1), Expr::Var(0))?,
+    })?;
+    Ok(Program {
+        names,
+        start,
+        declared: Declarations::from_vec(Vec::new(alloc)),
+        body,
+        end: at(6, 1),
+    })
+}
+
+/// The alarms of a program from its start values, by a kind of leaf.
+fn alarms_of<L: Leaf>(
+    alloc: Global,
+    program: &Program,
+    start: &L,
+    mode: Mode,
+) -> Result<Alarms, NoMemory>
+    requires program { IsProgram (whole program.now) }
+    requires plain { IsPlainProgram (whole program.now) }
+    requires variables { (L.value start.now).variables ≡ length program.now.names }
+{
+    let options = Options {
+        delay: 0,
+        narrow: 1,
+        mode,
+    };
+    let findings = analyse_one(alloc, program, start, &options)?;
+    Ok(findings.alarms)
+}
+
+fn are(alarms: &Alarms, expected: &[(u32, u32, Kind)]) -> bool {
+    let found = alarms.items();
+    found.len() == expected.len()
+        && found.iter().zip(expected).all(|(a, e)| {
+            a.place.line == e.0 && a.place.column == e.1 && a.kind == e.2
+        })
+}
+
+// the difference of both counts stays 0, which intervals don't see
+#[test]
+fn counts_stay_equal(rt: HostRuntime) -> Result<(), Fail> {
+    let alloc = rt.alloc();
+    let program = counting(alloc, 100)?;
+    let octagon = OctagonLeaf::start(alloc, program.start.items())?;
+    let by_octagons = alarms_of(alloc, &program, &octagon, Mode::Stop)?;
+    assert!(rt; are(&by_octagons, &[]));
+    let interval = IntervalLeaf::start(alloc, program.start.items())?;
+    let by_intervals = alarms_of(alloc, &program, &interval, Mode::Stop)?;
+    assert!(rt;
+        are(
+            &by_intervals,
+            &[(3, 31, Kind::Overflow), (4, 1, Kind::Assertion)]
+        )
+    );
+    Ok(())
+}
+
+// where overflows stop, the sum is above x; where they wrap, it may be below
+#[test]
+fn a_sum_is_above(rt: HostRuntime) -> Result<(), Fail> {
+    let alloc = rt.alloc();
+    let program = above(alloc)?;
+    let start = OctagonLeaf::start(alloc, program.start.items())?;
+    let stopping = alarms_of(alloc, &program, &start, Mode::Stop)?;
+    assert!(rt; are(&stopping, &[(4, 1, Kind::Overflow)]));
+    let wrapping = alarms_of(alloc, &program, &start, Mode::Wrap)?;
+    assert!(rt; are(&wrapping, &[(5, 1, Kind::Assertion)]));
+    Ok(())
+}
