@@ -23,7 +23,7 @@ use crate::selected::{Selected, select};
 use c_parser::variants::variants_are_projections;
 use c_tree::{Mode, Program, project};
 use command_words::Word;
-use fam_outer::{Files, NoMemory, Place, Text, Values};
+use fam_outer::{FileRefusal, Files, NoMemory, Place, Text, Values};
 use run_meaning::{RunEnd, run};
 use setting_texts::push_settings;
 use std::alloc::Global;
@@ -113,9 +113,11 @@ fn run_for(
 /// The text of the variant.
 fn text_of(alloc: Global, selected: &Selected) -> Result<Done, NoMemory>
     requires model { IsUsable selected.now.model }
+    requires spelled { IsFamilyOf selected.now.model selected.now.text selected.now.family }
     requires config { IsConfig selected.now.model.features selected.now.config.values }
     ensures { IfOk result (λ done. IsDone tasks.Text selected.now done) }
 {
+    variants_are_projections();
     let Selected {
         model,
         family: _,
@@ -124,8 +126,8 @@ fn text_of(alloc: Global, selected: &Selected) -> Result<Done, NoMemory>
     } = selected;
     match variant_text(alloc, text.bytes(), model, config) {
         Ok(text) => Ok(Done { text, status: 0 }),
-        // A file whose family was read has no other refusal.
-        Err(_) => Err(NoMemory),
+        Err(FileRefusal::NoMemory) => Err(NoMemory),
+        Err(FileRefusal::Fault { code: _, place: _ }) => unreachable!(),
     }
 }
 
