@@ -1,18 +1,14 @@
 -- What a load or a reading is refused for refuses what stands on it.
-use Rattle.std.proofs.Common.{◌≡◌, ◌<◌, ℕ, List, [], length, refl, sym, subst, arith, inl}
+use Rattle.std.proofs.Common.{◌≡◌, ◌<◌, ℕ, List, [], length, refl, sym, subst, inl}
 use Rattle.std.proofs.lemmas.Bool.{lt-ltb}
-use Rattle.std.specs.Prelude.{⊤, Result, Ok, Err, Some, None}
+use Rattle.std.specs.Prelude.{Ok, Err}
 use Rattle.fam_outer.specs.Limits.{file_bytes}
 use Rattle.fam_outer.specs.declared.faults.FileCode.TheVariants.{TooLong}
-use Rattle.fam_outer.specs.declared.faults.FileCode.{FileCode}
-use Rattle.fam_outer.specs.declared.faults.Place.{Place}
 use Rattle.cpp_conditions.specs.declared.models.Model.{Model}
 use Rattle.cpp_lines.specs.Whole.{blanked_file, file_place}
-use Rattle.feature_model.specs.declared.faults.ModelFault.{ModelFault}
 use Rattle.feature_model.specs.declared.faults.ModelFault.TheVariants as model_faults
 use Rattle.feature_model.specs.Models as models
 use Rattle.feature_model.specs.Stages.{told_of}
-use Rattle.c_parser.specs.Reading.{Reads}
 use Rattle.c_parser.specs.declared.family.Family.{Family}
 use Rattle.c_parser.proofs.Readings.{reads_too_long}
 use Rattle.linear_atoms.specs.declared.atoms.Config.{Config}
@@ -26,7 +22,7 @@ use Rattle.famlint_core.specs.declared.load.FamilyFile.{FamilyFile}
 use Rattle.famlint_core.specs.declared.request.VariantTask.{VariantTask}
 use Rattle.famlint_core.specs.declared.selected.Selected.{Selected}
 use Rattle.famlint_core.specs.Answers.{Contents, AnswersPlain, AnswersVariant}
-use Rattle.famlint_core.specs.Loads.{Comes, IsText, IsFileText, IsModel, IsFamilyFile, IsFamily, long_file}
+use Rattle.famlint_core.specs.Loads.{Comes, IsText, IsFileText, IsModel, IsFamilyFile, IsFamily}
 use Rattle.famlint_core.specs.Selected.{IsSelected, IsSettled}
 use Rattle.famlint_core.specs.Selected as refused
 

@@ -1,5 +1,5 @@
 -- Each stop of each run is reported, and no run stops where there is no alarm.
-use Rattle.std.proofs.Common.{◌≡◌, ℕ, ℤ, true, List, [], ◌∷◌, length, refl, subst, sym, ◌∙◌, arith}
+use Rattle.std.proofs.Common.{◌≡◌, ℕ, true, List, [], ◌∷◌, length, refl, subst, sym, ◌∙◌, arith}
 use Rattle.std.proofs.lemmas.Bool.{lt-ltb}
 use Rattle.c_tree.specs.Tree.{Whole}
 use Rattle.c_tree.specs.declared.tree.Mode.{Mode}

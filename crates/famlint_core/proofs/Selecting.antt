@@ -1,5 +1,5 @@
 -- The program of a variant is what its text is read as.
-use Rattle.std.proofs.Common.{◌≡◌, ℕ, ℤ, List, refl, subst, sym}
+use Rattle.std.proofs.Common.{◌≡◌, refl, subst, sym}
 use Rattle.std.specs.Prelude.{Ok}
 use Rattle.c_tree.specs.Tree.{Whole}
 use Rattle.cpp_conditions.specs.Validity.{plain, IsValid}

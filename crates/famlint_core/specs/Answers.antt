@@ -1,5 +1,5 @@
 -- What a request is answered, for what is told of the paths that it names.
-use Rattle.std.specs.Prelude.{ℕ, ℤ, ◌≡◌, ◌⊎◌, ⊤, List, [], ◌∷◌, Option, Some, Result, Ok, Err}
+use Rattle.std.specs.Prelude.{ℕ, ℤ, ◌≡◌, List, Option, Some, Result, Ok, Err}
 use Rattle.c_tree.specs.Run.{run_of}
 use Rattle.c_tree.specs.Tree.{Whole}
 use Rattle.c_tree.specs.declared.tree.Mode.{Mode}

@@ -11,7 +11,6 @@ use Rattle.cpp_conditions.specs.Naming.{AreFeatures}
 use Rattle.cpp_conditions.specs.Propositions.{IsBelow}
 use Rattle.cpp_conditions.specs.Validity.{plain, AreFit}
 use Rattle.cpp_conditions.specs.View.{formula}
-use Rattle.feature_model.specs.declared.faults.ModelFault.TheVariants as model_faults
 use Rattle.feature_model.specs.Models.{IsReadAs}
 use Rattle.c_tree.specs.Project.{IsConditioned}
 use Rattle.c_tree.specs.View.{whole}

@@ -42,8 +42,8 @@ pub fn push_settings<N: Named>(
     Ok(())
 }
 
-/// The text of a configuration with these values: `NAME=VALUE` of each feature, in their order and joined by spaces; `-` where there is no
-/// feature. It answers an error only for want of memory.
+/// The text of a configuration with these values: `NAME=VALUE` of each feature, in their order and joined by spaces;
+/// `-` where there is no feature. It answers an error only for want of memory.
 pub fn config_text(alloc: Global, features: &[Feature], values: &[i64]) -> Result<Text, NoMemory>
     ensures { IfOk result (λ text. text ≡ config_text features.now values.now) }
 {

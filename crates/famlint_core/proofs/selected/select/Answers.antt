@@ -1,6 +1,6 @@
 use Rattle.std.proofs.Common.{◌≡◌, Ok, Err, Some, map, string_bytes, sym, subst, rules, ap, ◌∙◌}
-use Rattle.famlint_core.specs.Loads.{Comes, IsModel, IsFamily}
-use Rattle.famlint_core.specs.Selected.{IsSelected, IsSettled}
+use Rattle.famlint_core.specs.Loads.{Comes, IsFamily}
+use Rattle.famlint_core.specs.Selected.{IsSelected}
 use Rattle.famlint_core.proofs.Loading.{no_family, no_settings}
 use Rattle.famlint_core.proofs.selected.select.Goals as goal
 
