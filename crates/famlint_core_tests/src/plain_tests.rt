@@ -1,7 +1,7 @@
 //! The program over files and sinks in memory.
 
-use famlint_core::famlint;
 use fam_outer::{CallNumbers, Entries, MemoryFiles, MemorySink, NoMemory, Text};
+use famlint_core::famlint;
 use std::alloc::Global;
 use std::test::Fail;
 
@@ -181,7 +181,7 @@ fn refuses_files(rt: HostRuntime) -> Result<(), Fail> {
 #[test]
 fn reports(rt: HostRuntime) -> Result<(), Fail> {
     let none: &[u8] = b"alarms: 0\n";
-    let cases: [(&str, &[u8], u8, &[u8]); 20] = [
+    let cases: [(&str, &[u8], u8, &[u8]); 24] = [
         ("plain f", ROW_1, 0, none),
         (
             "plain f",
@@ -226,8 +226,18 @@ fn reports(rt: HostRuntime) -> Result<(), Fail> {
         ("plain f", ROW_11, 1, b"7:1: assertion\nalarms: 1\n"),
         ("plain --domain octagon f", ROW_7, 0, none),
         ("plain --domain=octagon f", ROW_11, 0, none),
-        ("plain --domain octagon f", ROW_36, 1, b"5:1: overflow\nalarms: 1\n"),
-        ("plain --domain octagon --overflow wrap f", ROW_36, 1, b"6:1: assertion\nalarms: 1\n"),
+        (
+            "plain --domain octagon f",
+            ROW_36,
+            1,
+            b"5:1: overflow\nalarms: 1\n",
+        ),
+        (
+            "plain --domain octagon --overflow wrap f",
+            ROW_36,
+            1,
+            b"6:1: assertion\nalarms: 1\n",
+        ),
         ("plain f", b"/*\n#endif\n*/\nint main(void) { }\n", 0, none),
         (
             "plain f --overflow wrap",

@@ -1,7 +1,7 @@
 //! `project`, `variant` and `run` over files in memory.
 
-use famlint_core::famlint;
 use fam_outer::{CallNumbers, Entries, MemoryFiles, MemorySink, NoMemory, Text};
+use famlint_core::famlint;
 use std::alloc::Global;
 use std::process::Abort;
 use std::test::Fail;
