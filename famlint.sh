@@ -9,10 +9,20 @@ if [ -x "$program" ]; then
 fi
 echo "famlint.sh: an unproved quick run; to prove and build the program: cd $top/crates/famlint && rt run -- plain FILE" >&2
 
-# The quick run works in another folder, so FILE, the second positional word, is given by its whole path. An option
-# without `=` has its value in the next word, and behind the first `--` each word is positional.
+# How many paths a command has, behind its name.
+paths_of() {
+    case $1 in
+    plain) echo 1 ;;
+    project | variant | run) echo 2 ;;
+    *) echo 0 ;;
+    esac
+}
+
+# The quick run works in another folder, so paths are given whole. An option without `=` has its value in the next word, and
+# behind the first `--` each word is positional.
 words=()
 positional=0
+paths=0
 is_value=no
 has_options=yes
 for word in "$@"; do
@@ -24,7 +34,11 @@ for word in "$@"; do
         [[ $word == *=* ]] || is_value=yes
     else
         positional=$((positional + 1))
-        if [ $positional = 2 ] && [[ $word != /* ]]; then word=$PWD/$word; fi
+        if [ $positional = 1 ]; then
+            paths=$(paths_of "$word")
+        elif [ $positional -le $((paths + 1)) ] && [[ $word != /* ]]; then
+            word=$PWD/$word
+        fi
     fi
     words+=("$word")
 done
