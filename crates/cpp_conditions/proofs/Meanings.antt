@@ -14,7 +14,7 @@ use Rattle.linear_atoms.specs.Normal.{normal_of, normal_holds}
 use Rattle.linear_atoms.specs.Ranges.{extreme_sum, decided_of}
 use Rattle.linear_atoms.specs.Texts.{boolean_at}
 use Rattle.linear_atoms.proofs.Extremes.{always, never}
-use Rattle.linear_atoms.proofs.Sums.{terms_sum_rises, terms_by_rises}
+use Rattle.linear_terms.proofs.Sums.{terms_sum_rises, terms_by_rises}
 use Rattle.linear_atoms.proofs.Truths.{truth_kept}
 use Rattle.linear_atoms.proofs.Values.{form_sum_at, form_by_at}
 use Rattle.cpp_conditions.specs.Propositions.{Proposition, Not, true_at}

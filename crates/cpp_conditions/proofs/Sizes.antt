@@ -8,10 +8,10 @@ use Rattle.std.specs.declared.cmp.Ordering.{Ordering}
 use Rattle.std.specs.declared.cmp.Ordering.TheVariants as orders
 use Rattle.linear_atoms.specs.declared.atoms.Feature.{Feature}
 use Rattle.linear_atoms.specs.declared.forms.Linear.{Linear}
-use Rattle.linear_atoms.specs.Atoms.{AreBelow}
-use Rattle.linear_atoms.specs.Forms.{one, placed, with_term, terms_sum, terms_by, constant_form, feature_form, form_sum, form_by, is_small, are_small, is_small_form}
-use Rattle.linear_atoms.proofs.Merges.{small-append}
-use Rattle.linear_atoms.proofs.Sums.{is_zero, terms_sum_rises, terms_by_rises}
+use Rattle.linear_atoms.specs.Forms.{one, terms_by, constant_form, feature_form, form_sum, form_by, is_small, are_small, is_small_form}
+use Rattle.linear_terms.proofs.Bounds.{terms_sum_below, terms_by_below}
+use Rattle.linear_terms.proofs.Merges.{within_append}
+use Rattle.linear_terms.proofs.Sums.{is_zero, terms_sum_rises, terms_by_rises}
 use Rattle.cpp_conditions.specs.Expressions.{found}
 use Rattle.cpp_conditions.specs.Forming.{IsOver, IsSmallOver}
 use Rattle.cpp_conditions.specs.Meaning.{difference}
@@ -120,7 +120,7 @@ small_negated_number a = ap is_small (minus_one a) ∙ ap (λ (n : ℕ). nat_le 
 pub small_negated_terms : (ts : List (ℕ × ℤ)) → are_small (terms_by (negsuc 0) ts) ≡ are_small ts
 small_negated_terms [] = refl
 small_negated_terms (t ∷ ts) =
-    small-append (one t.0 (t.1 *ℤ negsuc 0)) (terms_by (negsuc 0) ts)
+    within_append 2147483648 (one t.0 (t.1 *ℤ negsuc 0)) (terms_by (negsuc 0) ts)
     ∙ ap (λ (v : Bool). v && are_small (terms_by (negsuc 0) ts)) (small_one t.0 (t.1 *ℤ negsuc 0) ∙ small_negated_number t.1)
     ∙ ap (λ (v : Bool). is_small t.1 && v) (small_negated_terms ts)
 
@@ -130,34 +130,6 @@ small_negated a =
     ∙ ap (λ (v : Bool). are_small a.terms && v) (small_negated_number a.constant)
 
 -- ---- features' numbers
-
-one_below_by : (v : Bool) (c n : ℕ) (a : ℤ) (us : List (ℕ × ℤ)) → n < c → AreBelow c us → AreBelow c ((if v then [] else (n, a) ∷ []) ++ us)
-one_below_by true c n a us h b = b
-one_below_by false c n a us h b = (h, b)
-
-one_below : (c n : ℕ) (a : ℤ) (us : List (ℕ × ℤ)) → n < c → AreBelow c us → AreBelow c (one n a ++ us)
-one_below c n a us h b = one_below_by (int_eq a (pos 0)) c n a us h b
-
-single_below_by : (v : Bool) (c n : ℕ) (a : ℤ) → n < c → AreBelow c (if v then [] else (n, a) ∷ [])
-single_below_by true c n a h = tt
-single_below_by false c n a h = (h, tt)
-
-placed_below : (o : Ordering) (c n : ℕ) (a : ℤ) (t : ℕ × ℤ) (ts more : List (ℕ × ℤ)) → n < c → t.0 < c → AreBelow c ts → AreBelow c more → AreBelow c (placed o n a t ts more)
-placed_below orders.Less c n a t ts more h k b m = one_below c n a (t ∷ ts) h (k, b)
-placed_below orders.Equal c n a t ts more h k b m = one_below c n (a +ℤ t.1) ts h b
-placed_below orders.Greater c n a t ts more h k b m = (k, m)
-
-with_term_below : (c n : ℕ) (a : ℤ) (ts : List (ℕ × ℤ)) → n < c → AreBelow c ts → AreBelow c (with_term n a ts)
-with_term_below c n a [] h b = single_below_by (int_eq a (pos 0)) c n a h
-with_term_below c n a (t ∷ ts) h b = placed_below (nat_cmp n t.0) c n a t ts (with_term n a ts) h b.0 b.1 (with_term_below c n a ts h b.1)
-
-terms_sum_below : (c : ℕ) (ts us : List (ℕ × ℤ)) → AreBelow c ts → AreBelow c us → AreBelow c (terms_sum ts us)
-terms_sum_below c [] us b d = d
-terms_sum_below c (t ∷ ts) us b d = with_term_below c t.0 t.1 (terms_sum ts us) b.0 (terms_sum_below c ts us b.1 d)
-
-terms_by_below : (k : ℤ) (c : ℕ) (ts : List (ℕ × ℤ)) → AreBelow c ts → AreBelow c (terms_by k ts)
-terms_by_below k c [] b = tt
-terms_by_below k c (t ∷ ts) b = one_below c t.0 (t.1 *ℤ k) (terms_by k ts) b.0 (terms_by_below k c ts b.1)
 
 module _ (fs : List Feature) where
   pub over_constant : (n : ℤ) → IsOver fs (constant_form n)

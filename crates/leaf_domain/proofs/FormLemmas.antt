@@ -1,75 +1,46 @@
 -- Sums and multiples of rising terms rise, and the form of an expression is a form over its variables.
-use Rattle.std.proofs.Common.{◌≡◌, ◌≢◌, ℕ, ◌+◌, ◌<◌, ◌≤◌, ◌<ℤ◌, ℤ, pos, negsuc, ◌+ℤ◌, ◌*ℤ◌, int_le, Bool, true, false, ◌&&◌, if◌then◌else◌, List, [], ◌∷◌, ◌++◌, sym, subst, refl, arith, Option, Some, None, IfOk, Result, Ok, Err}
+use Rattle.std.proofs.Common.{◌≡◌, ◌≢◌, ℕ, suc, ◌+◌, ◌<◌, ◌≤◌, ℤ, pos, negsuc, unsigned_abs, Bool, true, false, ◌&&◌, if◌then◌else◌, List, [], ◌∷◌, subst, refl, arith, Option, Some, None, IfOk, Result, Ok, Err}
+use Rattle.std.proofs.lemmas.Bool.Decides.{nat_tests}
 use Rattle.std.proofs.lemmas.Int.{ints}
-use Rattle.std.proofs.lemmas.Cmp.{ranked, int_ranked}
-use Rattle.std.specs.declared.cmp.Ordering.{Ordering}
-use Rattle.std.specs.declared.cmp.Ordering.TheVariants.{Less, Equal, Greater}
-use Rattle.std.specs.Ordering.{nat_cmp, int_cmp, int_eq, is_eq, MatchOrdering}
 use Rattle.fam_outer.specs.declared.text.NoMemory.{NoMemory}
 use Rattle.c_tree.specs.declared.tree.Op.{Op}
 use Rattle.c_tree.specs.declared.tree.Op.TheVariants.{Add, Sub, Mul, Div, Rem, Lt, Le, Gt, Ge, Eq, Ne, And, Or}
 use Rattle.c_tree.specs.Tree.{Term, Number, Var, Neg, Not, Binary}
 use Rattle.c_tree.specs.Fit.{IsTermOf}
 use Rattle.leaf_domain.specs.declared.form.Form.{Form}
-use Rattle.leaf_domain.specs.Forms.{IsFormNumber, AreTerms, IsForm, one, placed, with_term, terms_sum, terms_by, constant_form, variable_form, form_sum, form_by, is_form_number, are_form_numbers, kept_form, sum_form, multiple_form, difference_form, has_no_term, product_form, binary_form, form_of_term}
+use Rattle.linear_terms.specs.Terms.{RisesFrom, IsRising, AreBelow, terms_sum, terms_by}
+use Rattle.linear_terms.proofs.Bounds.{terms_sum_below, terms_by_below}
+use Rattle.linear_terms.proofs.Sums.{rises_lower, terms_sum_rises, terms_by_rises}
+use Rattle.leaf_domain.specs.Forms.{IsFormNumber, AreTerms, IsForm, constant_form, variable_form, form_sum, form_by, is_form_number, are_form_numbers, kept_form, sum_form, multiple_form, difference_form, has_no_term, product_form, binary_form, form_of_term}
 use Rattle.leaf_domain.specs.Sums.{HasForm}
 use Rattle.leaf_domain.specs.Soundness.{FormsAreForms}
 
--- ---- the test for 0
+-- ---- terms over variables, whatever the size of their coefficients
 
-differs_by : (o : Ordering) (a : ℤ) → MatchOrdering o (a <ℤ pos 0) (a ≡ pos 0) (pos 0 <ℤ a) → is_eq o ≡ false → a ≢ pos 0
-differs_by Less a m e = λ h. omega (arith, ints)
-differs_by Equal a m e = cc
-differs_by Greater a m e = λ h. omega (arith, ints)
+-- the terms rise, and their variables are below a count
+pub record Rises (count : ℕ) (ts : List (ℕ × ℤ)) : Type 0 where
+  pub rising : IsRising ts
+  pub below : AreBelow count ts
 
-pub differs : (a : ℤ) → int_eq a (pos 0) ≡ false → a ≢ pos 0
-differs a e = differs_by (int_cmp a (pos 0)) a (int_ranked a (pos 0) _ refl) e
+rising_of : (from count : ℕ) (ts : List (ℕ × ℤ)) → AreTerms from count ts → RisesFrom from ts
+rising_of from count [] r = tt
+rising_of from count (t ∷ ts) r = (r.0, r.2, rises_lower (t.0 + 1) (suc t.0) ts (omega arith) (rising_of (t.0 + 1) count ts r.4))
 
--- ---- terms that rise, whatever the size of their coefficients
+below_of : (from count : ℕ) (ts : List (ℕ × ℤ)) → AreTerms from count ts → AreBelow count ts
+below_of from count [] r = tt
+below_of from count (t ∷ ts) r = (r.1, below_of (t.0 + 1) count ts r.4)
 
-abbrev pub Rises : ℕ → ℕ → List (ℕ × ℤ) → Type 0
-Rises from count [] = Unit {0}
-Rises from count (t ∷ ts) = (from ≤ t.0) × (t.0 < count) × (t.1 ≢ pos 0) × Rises (t.0 + 1) count ts
+pub rises_of : (count : ℕ) (ts : List (ℕ × ℤ)) → AreTerms 0 count ts → Rises count ts
+rises_of count ts r = record { rising = rising_of 0 count ts r; below = below_of 0 count ts r }
 
-pub rises_of : (from count : ℕ) (ts : List (ℕ × ℤ)) → AreTerms from count ts → Rises from count ts
-rises_of from count [] r = tt
-rises_of from count (t ∷ ts) r = (r.0, r.1, r.2, rises_of (t.0 + 1) count ts r.4)
+pub form_rises : (count : ℕ) (f : Form) → IsForm count f → IsRising f.terms
+form_rises count f h = rising_of 0 count f.terms h.terms
 
-pub rises_lower : (m n count : ℕ) (ts : List (ℕ × ℤ)) → n ≤ m → Rises m count ts → Rises n count ts
-rises_lower m n count [] h r = tt
-rises_lower m n count (t ∷ ts) h r = let k : m ≤ t.0 = r.0 in (omega arith, r.1, r.2, r.3)
+sum_rises : (count : ℕ) (ts us : List (ℕ × ℤ)) → Rises count ts → Rises count us → Rises count (terms_sum ts us)
+sum_rises count ts us r q = record { rising = terms_sum_rises 0 ts us r.rising q.rising; below = terms_sum_below count ts us r.below q.below }
 
-one_by : (b : Bool) (m n count : ℕ) (a : ℤ) (ts : List (ℕ × ℤ)) → b ≡ int_eq a (pos 0) → m ≤ n → n < count → Rises (n + 1) count ts → Rises m count ((if b then [] else (n, a) ∷ []) ++ ts)
-one_by true m n count a ts e h l r = rises_lower (n + 1) m count ts (omega arith) r
-one_by false m n count a ts e h l r = (h, l, differs a (sym e), r)
-
-pub one_rises : (m n count : ℕ) (a : ℤ) (ts : List (ℕ × ℤ)) → m ≤ n → n < count → Rises (n + 1) count ts → Rises m count (one n a ++ ts)
-one_rises m n count a ts h l r = one_by (int_eq a (pos 0)) m n count a ts refl h l r
-
-placed_rises : (o : Ordering) (m n count : ℕ) (a : ℤ) (t : ℕ × ℤ) (ts more : List (ℕ × ℤ)) → MatchOrdering o (n < t.0) (n ≡ t.0) (t.0 < n) → m ≤ n → n < count → Rises m count (t ∷ ts)
-    → (t.0 + 1 ≤ n → Rises (t.0 + 1) count more) → Rises m count (placed o n a t ts more)
-placed_rises Less m n count a t ts more o h l r k = one_rises m n count a (t ∷ ts) h l (omega arith, r.1, r.2, r.3)
-placed_rises Equal m n count a t ts more o h l r k = one_rises m n count (a +ℤ t.1) ts h l (rises_lower (t.0 + 1) (n + 1) count ts (omega arith) r.3)
-placed_rises Greater m n count a t ts more o h l r k = (r.0, r.1, r.2, k (omega arith))
-
-alone_by : (b : Bool) (m n count : ℕ) (a : ℤ) → b ≡ int_eq a (pos 0) → m ≤ n → n < count → Rises m count (if b then [] else (n, a) ∷ [])
-alone_by true m n count a e h l = tt
-alone_by false m n count a e h l = (h, l, differs a (sym e), tt)
-
-pub with_term_rises : (m n count : ℕ) (a : ℤ) (ts : List (ℕ × ℤ)) → m ≤ n → n < count → Rises m count ts → Rises m count (with_term n a ts)
-with_term_rises m n count a [] h l r = alone_by (int_eq a (pos 0)) m n count a refl h l
-with_term_rises m n count a (t ∷ ts) h l r =
-    placed_rises (nat_cmp n t.0) m n count a t ts (with_term n a ts) (ranked n t.0 _ refl) h l r (λ k. with_term_rises (t.0 + 1) n count a ts k l r.3)
-
-pub terms_sum_rises : (m count : ℕ) (ts us : List (ℕ × ℤ)) → Rises m count ts → Rises m count us → Rises m count (terms_sum ts us)
-terms_sum_rises m count [] us r q = q
-terms_sum_rises m count (t ∷ ts) us r q =
-    let h : m ≤ t.0 = r.0 in
-    with_term_rises m t.0 count t.1 (terms_sum ts us) h r.1 (terms_sum_rises m count ts us (rises_lower (t.0 + 1) m count ts (omega arith) r.3) q)
-
-pub terms_by_rises : (k : ℤ) (m count : ℕ) (ts : List (ℕ × ℤ)) → Rises m count ts → Rises m count (terms_by k ts)
-terms_by_rises k m count [] r = tt
-terms_by_rises k m count (t ∷ ts) r = one_rises m t.0 count (t.1 *ℤ k) (terms_by k ts) r.0 r.1 (terms_by_rises k (t.0 + 1) count ts r.3)
+multiple_rises : (k : ℤ) (count : ℕ) (ts : List (ℕ × ℤ)) → Rises count ts → Rises count (terms_by k ts)
+multiple_rises k count ts r = record { rising = terms_by_rises k 0 ts r.rising; below = terms_by_below k count ts r.below }
 
 -- ---- the test of sizes
 
@@ -78,21 +49,25 @@ both true true e = (refl, refl)
 both true false e = cc
 both false b e = cc
 
+size_is : (n : ℤ) → is_form_number n ≡ true → unsigned_abs n ≤ 1099511627776
+size_is n e = grind (arith, nat_tests)
+
 pub number_is : (n : ℤ) → is_form_number n ≡ true → IsFormNumber n
-number_is n e = let p = both (int_le (negsuc 1099511627775) n) (int_le n (pos 1099511627776)) e in grind (arith, ints)
+number_is n e = let p = size_is n e in record { low = omega (arith, ints); high = omega (arith, ints) }
 
-pub terms_are : (from count : ℕ) (ts : List (ℕ × ℤ)) → Rises from count ts → are_form_numbers ts ≡ true → AreTerms from count ts
-terms_are from count [] r e = tt
-terms_are from count (t ∷ ts) r e =
-    let p = both (is_form_number t.1) (are_form_numbers ts) e in (r.0, r.1, r.2, number_is t.1 p.0, terms_are (t.0 + 1) count ts r.3 p.1)
+terms_are : (from count : ℕ) (ts : List (ℕ × ℤ)) → RisesFrom from ts → AreBelow count ts → are_form_numbers ts ≡ true → AreTerms from count ts
+terms_are from count [] r b e = tt
+terms_are from count (t ∷ ts) r b e =
+    let p = both (is_form_number t.1) (are_form_numbers ts) e in
+    (r.0, b.0, r.1, number_is t.1 p.0, terms_are (t.0 + 1) count ts (rises_lower (suc t.0) (t.0 + 1) ts (omega arith) r.2) b.1 p.1)
 
-kept_by : (b : Bool) (count : ℕ) (f : Form) → (are_form_numbers f.terms && is_form_number f.constant) ≡ b → Rises 0 count f.terms → HasForm count (if b then Some f else None)
+kept_by : (b : Bool) (count : ℕ) (f : Form) → (are_form_numbers f.terms && is_form_number f.constant) ≡ b → Rises count f.terms → HasForm count (if b then Some f else None)
 kept_by true count f e r =
     let p = both (are_form_numbers f.terms) (is_form_number f.constant) e in
-    record { terms = terms_are 0 count f.terms r p.0; constant = number_is f.constant p.1 }
+    record { terms = terms_are 0 count f.terms r.rising r.below p.0; constant = number_is f.constant p.1 }
 kept_by false count f e r = tt
 
-pub kept_is_form : (count : ℕ) (f : Form) → Rises 0 count f.terms → HasForm count (kept_form f)
+pub kept_is_form : (count : ℕ) (f : Form) → Rises count f.terms → HasForm count (kept_form f)
 kept_is_form count f r = kept_by (are_form_numbers f.terms && is_form_number f.constant) count f refl r
 
 -- ---- operations on forms
@@ -100,11 +75,11 @@ kept_is_form count f r = kept_by (are_form_numbers f.terms && is_form_number f.c
 pub sum_is_form : (count : ℕ) (f g : Option Form) → HasForm count f → HasForm count g → HasForm count (sum_form f g)
 sum_is_form count None g h k = tt
 sum_is_form count (Some f) None h k = tt
-sum_is_form count (Some f) (Some g) h k = kept_is_form count (form_sum f g) (terms_sum_rises 0 count f.terms g.terms (rises_of 0 count f.terms h.terms) (rises_of 0 count g.terms k.terms))
+sum_is_form count (Some f) (Some g) h k = kept_is_form count (form_sum f g) (sum_rises count f.terms g.terms (rises_of count f.terms h.terms) (rises_of count g.terms k.terms))
 
 pub multiple_is_form : (count : ℕ) (k : ℤ) (f : Option Form) → HasForm count f → HasForm count (multiple_form k f)
 multiple_is_form count k None h = tt
-multiple_is_form count k (Some f) h = kept_is_form count (form_by k f) (terms_by_rises k 0 count f.terms (rises_of 0 count f.terms h.terms))
+multiple_is_form count k (Some f) h = kept_is_form count (form_by k f) (multiple_rises k count f.terms (rises_of count f.terms h.terms))
 
 pub difference_is_form : (count : ℕ) (f g : Option Form) → HasForm count f → HasForm count g → HasForm count (difference_form f g)
 difference_is_form count f g h k = sum_is_form count f (multiple_form (negsuc 0) g) h (multiple_is_form count (negsuc 0) g k)
@@ -137,7 +112,7 @@ binary_is_form count And f g h k = tt
 binary_is_form count Or f g h k = tt
 
 pub constant_is_form : (count : ℕ) (n : ℤ) → HasForm count (kept_form (constant_form n))
-constant_is_form count n = kept_is_form count (constant_form n) tt
+constant_is_form count n = kept_is_form count (constant_form n) (record { rising = tt; below = tt })
 
 variable_is_form : (count x : ℕ) → x < count → IsForm count (variable_form x)
 variable_is_form count x h = record {

@@ -1,73 +1,26 @@
 -- The value of an expression is that of its form.
 use Rattle.std.proofs.Common.{◌≡◌, ℕ, ◌<◌, ℤ, pos, negsuc, neg_ℤ, ◌+ℤ◌, ◌-ℤ◌, ◌*ℤ◌, Bool, true, false, ◌&&◌, if◌then◌else◌, List, [], ◌∷◌, ◌++◌, Option, Some, None, sym, ap, refl, ◌∙◌, subst, arith, slice_index_or}
 use Rattle.std.proofs.lemmas.Int.{ints}
-use Rattle.std.proofs.lemmas.Cmp.{ranked}
-use Rattle.std.proofs.Math.IntN.{zero-*ℤ, *ℤ_comm}
-use Rattle.std.specs.declared.cmp.Ordering.{Ordering}
-use Rattle.std.specs.declared.cmp.Ordering.TheVariants.{Less, Equal, Greater}
-use Rattle.std.specs.Ordering.{nat_cmp, int_eq, MatchOrdering}
+use Rattle.std.proofs.Math.IntN.{*ℤ_comm}
 use Rattle.c_tree.specs.declared.tree.Op.TheVariants.{Add, Sub, Mul}
 use Rattle.c_tree.specs.Tree.{Term, Number, Var, Neg, Binary}
 use Rattle.leaf_domain.specs.declared.form.Form.{Form}
-use Rattle.leaf_domain.specs.Forms.{terms_at, form_at, one, placed, with_term, terms_sum, terms_by, form_sum, form_by, are_form_numbers, is_form_number, kept_form, sum_form, multiple_form, difference_form, product_form, has_no_term, form_of_term}
-use Rattle.leaf_domain.proofs.Products.{sum_times, passed}
-
-zero_of : (a : ℤ) → int_eq a (pos 0) ≡ true → a ≡ pos 0
-zero_of a e = grind (arith, ints)
+use Rattle.leaf_domain.specs.Forms.{terms_at, form_at, form_sum, form_by, are_form_numbers, is_form_number, kept_form, sum_form, multiple_form, difference_form, product_form, has_no_term, form_of_term}
+use Rattle.linear_terms.specs.Terms.{terms_sum, terms_by}
+use Rattle.linear_terms.proofs.Integers.{sum-times}
+use Rattle.linear_terms.proofs.Values.{terms_sum_at, terms_by_at}
 
 module _ (s : List ℤ) where
   abbrev worth : ℕ → ℤ
   worth x = slice_index_or s x (pos 0)
 
-  one_by_test : (b : Bool) (x : ℕ) (a : ℤ) (ts : List (ℕ × ℤ)) → b ≡ int_eq a (pos 0) → terms_at ((if b then [] else (x, a) ∷ []) ++ ts) s ≡ a *ℤ worth x +ℤ terms_at ts s
-  one_by_test true x a ts e = let z : a ≡ pos 0 = zero_of a (sym e) in rw (z, zero-*ℤ (worth x)) (omega (arith, ints))
-  one_by_test false x a ts e = refl
-
-  one_at : (x : ℕ) (a : ℤ) (ts : List (ℕ × ℤ)) → terms_at (one x a ++ ts) s ≡ a *ℤ worth x +ℤ terms_at ts s
-  one_at x a ts = one_by_test (int_eq a (pos 0)) x a ts refl
-
-  alone_by_test : (b : Bool) (x : ℕ) (a : ℤ) → b ≡ int_eq a (pos 0) → terms_at (if b then [] else (x, a) ∷ []) s ≡ a *ℤ worth x +ℤ pos 0
-  alone_by_test true x a e = let z : a ≡ pos 0 = zero_of a (sym e) in rw (z, zero-*ℤ (worth x)) refl
-  alone_by_test false x a e = refl
-
-  placed_at : (o : Ordering) (x : ℕ) (a : ℤ) (t : ℕ × ℤ) (ts more : List (ℕ × ℤ)) → MatchOrdering o (x < t.0) (x ≡ t.0) (t.0 < x)
-      → terms_at more s ≡ a *ℤ worth x +ℤ terms_at ts s
-      → terms_at (placed o x a t ts more) s ≡ a *ℤ worth x +ℤ terms_at (t ∷ ts) s
-  placed_at Less x a t ts more o h = one_at x a (t ∷ ts)
-  placed_at Equal x a t ts more o h =
-      let e : terms_at (one x (a +ℤ t.1) ++ ts) s ≡ (a +ℤ t.1) *ℤ worth x +ℤ terms_at ts s = one_at x (a +ℤ t.1) ts in
-      let f : (a +ℤ t.1) *ℤ worth x ≡ a *ℤ worth x +ℤ t.1 *ℤ worth x = sum_times a t.1 (worth x) in
-      let g : t.1 *ℤ worth x ≡ t.1 *ℤ worth t.0 = ap (λ y. t.1 *ℤ worth y) o in
-      omega (arith, ints)
-  placed_at Greater x a t ts more o h = omega (arith, ints)
-
-  with_term_at : (x : ℕ) (a : ℤ) (ts : List (ℕ × ℤ)) → terms_at (with_term x a ts) s ≡ a *ℤ worth x +ℤ terms_at ts s
-  with_term_at x a [] = alone_by_test (int_eq a (pos 0)) x a refl
-  with_term_at x a (t ∷ ts) = placed_at (nat_cmp x t.0) x a t ts (with_term x a ts) (ranked x t.0 _ refl) (with_term_at x a ts)
-
-  terms_sum_at : (ts us : List (ℕ × ℤ)) → terms_at (terms_sum ts us) s ≡ terms_at ts s +ℤ terms_at us s
-  terms_sum_at [] us = omega (arith, ints)
-  terms_sum_at (t ∷ ts) us =
-      let e : terms_at (with_term t.0 t.1 (terms_sum ts us)) s ≡ t.1 *ℤ worth t.0 +ℤ terms_at (terms_sum ts us) s = with_term_at t.0 t.1 (terms_sum ts us) in
-      let f : terms_at (terms_sum ts us) s ≡ terms_at ts s +ℤ terms_at us s = terms_sum_at ts us in
-      omega (arith, ints)
-
-  terms_by_at : (k : ℤ) (ts : List (ℕ × ℤ)) → terms_at (terms_by k ts) s ≡ terms_at ts s *ℤ k
-  terms_by_at k [] = sym (zero-*ℤ k)
-  terms_by_at k (t ∷ ts) =
-      let e : terms_at (one t.0 (t.1 *ℤ k) ++ terms_by k ts) s ≡ (t.1 *ℤ k) *ℤ worth t.0 +ℤ terms_at (terms_by k ts) s = one_at t.0 (t.1 *ℤ k) (terms_by k ts) in
-      let f : terms_at (terms_by k ts) s ≡ terms_at ts s *ℤ k = terms_by_at k ts in
-      let g : (t.1 *ℤ k) *ℤ worth t.0 ≡ (t.1 *ℤ worth t.0) *ℤ k = passed t.1 k (worth t.0) in
-      let h : (t.1 *ℤ worth t.0 +ℤ terms_at ts s) *ℤ k ≡ (t.1 *ℤ worth t.0) *ℤ k +ℤ terms_at ts s *ℤ k = sum_times (t.1 *ℤ worth t.0) (terms_at ts s) k in
-      omega (arith, ints)
-
   form_sum_at : (f g : Form) → form_at (form_sum f g) s ≡ form_at f s +ℤ form_at g s
-  form_sum_at f g = let e : terms_at (terms_sum f.terms g.terms) s ≡ terms_at f.terms s +ℤ terms_at g.terms s = terms_sum_at f.terms g.terms in omega (arith, ints)
+  form_sum_at f g = let e : terms_at (terms_sum f.terms g.terms) s ≡ terms_at f.terms s +ℤ terms_at g.terms s = terms_sum_at s f.terms g.terms in omega (arith, ints)
 
   form_by_at : (k : ℤ) (f : Form) → form_at (form_by k f) s ≡ form_at f s *ℤ k
   form_by_at k f =
-      let e : terms_at (terms_by k f.terms) s ≡ terms_at f.terms s *ℤ k = terms_by_at k f.terms in
-      let g : (terms_at f.terms s +ℤ f.constant) *ℤ k ≡ terms_at f.terms s *ℤ k +ℤ f.constant *ℤ k = sum_times (terms_at f.terms s) f.constant k in
+      let e : terms_at (terms_by k f.terms) s ≡ terms_at f.terms s *ℤ k = terms_by_at s k f.terms in
+      let g : (terms_at f.terms s +ℤ f.constant) *ℤ k ≡ terms_at f.terms s *ℤ k +ℤ f.constant *ℤ k = sum-times (terms_at f.terms s) f.constant k in
       omega (arith, ints)
 
   -- ---- forms that are there

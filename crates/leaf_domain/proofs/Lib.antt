@@ -5,11 +5,9 @@ pub mod WrapEquations
 pub mod FoldLemmas
 pub mod LeafEquality
 pub mod FormLemmas
-pub mod TermEquations
 pub mod AtNothing
 pub mod Answered
 pub mod NodeEquations
-mod Products
 mod FormValues
 mod Results
 mod Comparisons

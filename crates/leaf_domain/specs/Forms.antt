@@ -1,17 +1,14 @@
 -- Linear forms in the variables of a program.
-use Rattle.std.specs.Prelude.{◌≢◌, ℕ, ◌+◌, ◌<◌, ◌≤◌, ℤ, pos, negsuc, ◌+ℤ◌, ◌*ℤ◌, ◌≤ℤ◌, int_le, Bool, true, false, ◌&&◌, if◌then◌else◌, List, [], ◌∷◌, ◌++◌, Option, Some, None, slice_index_or, ⊤}
-use Rattle.std.specs.declared.cmp.Ordering.{Ordering}
-use Rattle.std.specs.declared.cmp.Ordering.TheVariants.{Less, Equal, Greater}
-use Rattle.std.specs.Ordering.{nat_cmp, int_eq}
+use Rattle.std.specs.Prelude.{◌≢◌, ℕ, ◌+◌, ◌<◌, ◌≤◌, ℤ, pos, negsuc, ◌+ℤ◌, ◌*ℤ◌, ◌≤ℤ◌, Bool, true, false, ◌&&◌, if◌then◌else◌, List, [], ◌∷◌, Option, Some, None, ⊤}
 use Rattle.c_tree.specs.declared.tree.Op.{Op}
 use Rattle.c_tree.specs.declared.tree.Op.TheVariants.{Add, Sub, Mul}
 use Rattle.c_tree.specs.Tree.{Term, Number, Var, Neg, Not, Binary}
 use Rattle.leaf_domain.specs.declared.form.Form.{Form}
+use Rattle.linear_terms.specs.Terms.{sum_at, terms_sum, terms_by, is_within, are_within}
 
 -- the sum of the terms at a store
 abbrev pub terms_at : List (ℕ × ℤ) → List ℤ → ℤ
-terms_at [] s = pos 0
-terms_at (t ∷ ts) s = (t.1 *ℤ slice_index_or s t.0 (pos 0)) +ℤ terms_at ts s
+terms_at ts s = sum_at ts s
 
 -- the value of a form at a store
 abbrev pub form_at : Form → List ℤ → ℤ
@@ -34,30 +31,6 @@ pub record IsForm (count : ℕ) (f : Form) : Type 0 where
 
 -- ---- sums and multiples
 
--- one term, or none where the coefficient is 0
-abbrev pub one : ℕ → ℤ → List (ℕ × ℤ)
-one x a = if int_eq a (pos 0) then [] else (x, a) ∷ []
-
--- a variable's multiple beside a term and those behind it
-abbrev pub placed : Ordering → ℕ → ℤ → ℕ × ℤ → List (ℕ × ℤ) → List (ℕ × ℤ) → List (ℕ × ℤ)
-placed Less x a t ts more = one x a ++ t ∷ ts
-placed Equal x a t ts more = one x (a +ℤ t.1) ++ ts
-placed Greater x a t ts more = t ∷ more
-
--- a multiple of one variable added to rising terms
-abbrev pub with_term : ℕ → ℤ → List (ℕ × ℤ) → List (ℕ × ℤ)
-with_term x a [] = one x a
-with_term x a (t ∷ ts) = placed (nat_cmp x t.0) x a t ts (with_term x a ts)
-
--- each term of the first added to the second
-abbrev pub terms_sum : List (ℕ × ℤ) → List (ℕ × ℤ) → List (ℕ × ℤ)
-terms_sum [] us = us
-terms_sum (t ∷ ts) us = with_term t.0 t.1 (terms_sum ts us)
-
-abbrev pub terms_by : ℤ → List (ℕ × ℤ) → List (ℕ × ℤ)
-terms_by k [] = []
-terms_by k (t ∷ ts) = one t.0 (t.1 *ℤ k) ++ terms_by k ts
-
 abbrev pub constant_form : ℤ → Form
 constant_form n = record { terms = []; constant = n }
 
@@ -72,12 +45,13 @@ form_by k f = record { terms = terms_by k f.terms; constant = f.constant *ℤ k 
 
 -- ---- the form of an expression
 
+-- at most 2^40 in size
 abbrev pub is_form_number : ℤ → Bool
-is_form_number n = int_le (negsuc 1099511627775) n && int_le n (pos 1099511627776)
+is_form_number n = is_within 1099511627776 n
 
+-- no coefficient passes 2^40 in size
 abbrev pub are_form_numbers : List (ℕ × ℤ) → Bool
-are_form_numbers [] = true
-are_form_numbers (t ∷ ts) = is_form_number t.1 && are_form_numbers ts
+are_form_numbers ts = are_within 1099511627776 ts
 
 -- the form, where none of its numbers passes 2^40 in size
 abbrev pub kept_form : Form → Option Form

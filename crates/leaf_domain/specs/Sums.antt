@@ -1,15 +1,12 @@
 -- What the parts of the arithmetic of forms answer.
-use Rattle.std.specs.Prelude.{ℕ, ℤ, if◌then◌else◌, List, Option, Some, None, IfSome}
+use Rattle.std.specs.Prelude.{ℕ, ℤ, List, Option, Some, None, IfSome}
 use Rattle.leaf_domain.specs.declared.form.Form.{Form}
-use Rattle.leaf_domain.specs.Forms.{IsForm, is_form_number, are_form_numbers}
+use Rattle.leaf_domain.specs.Forms.{IsForm}
+use Rattle.linear_terms.specs.Terms.{number_within}
 
 -- the number, where it does not pass 2^40 in size
 abbrev pub kept_number : ℤ → Option ℤ
-kept_number n = if is_form_number n then Some n else None
-
--- the terms, where none of their coefficients passes 2^40 in size
-abbrev pub kept_terms : List (ℕ × ℤ) → Option (List (ℕ × ℤ))
-kept_terms ts = if are_form_numbers ts then Some ts else None
+kept_number n = number_within 1099511627776 n
 
 -- a form over so many variables, where there is one
 abbrev pub HasForm : ℕ → Option Form → Type 0

@@ -13,14 +13,14 @@ mod sides;
 pub mod statements;
 mod stops;
 mod survey;
-mod terms;
 pub mod transfer;
 
 pub use compare::{Compare, cut, cut_is_sound, mirror};
-pub use form::{Form, Terms};
+pub use form::Form;
 pub use laws::{equality_is_exact, leaf_is_valid, transfer_is_sound};
 pub use leaf::Leaf;
 pub use linear::form_of;
+pub use linear_terms::Terms;
 pub use range::{Range, arithmetic, arithmetic_is_sound, fold_is_sound};
 pub use sides::Sides;
 pub use statements::may;

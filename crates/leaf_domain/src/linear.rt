@@ -7,11 +7,21 @@ ghost use Rattle.c_tree.specs.View.{term};
 ghost use Rattle.leaf_domain.specs.Forms.{IsForm, constant_form, variable_form, form_sum, form_by, kept_form, sum_form, multiple_form, difference_form, product_of, product_form, has_no_term, binary_form, form_of_term};
 ghost use Rattle.leaf_domain.specs.Sums.{kept_number, formed, HasForm};
 
-use crate::form::{Form, Terms};
-use crate::terms::{kept, kept_product, merged, multiplied};
+use crate::form::Form;
 use c_tree::{Expr, Op};
 use fam_outer::NoMemory;
+use linear_terms::{Terms, within};
 use std::alloc::Global;
+
+/// The greatest size of a coefficient or a constant.
+const LARGEST: u64 = 1099511627776;
+
+/// The number, where it does not pass 2^40 in size.
+fn kept(n: i128) -> Option<i64>
+    ensures { result ≡ kept_number n }
+{
+    within(n, LARGEST)
+}
 
 /// The form of these terms and this constant, where there are both.
 fn formed(terms: Option<Terms>, constant: Option<i64>) -> Option<Form>
@@ -27,37 +37,34 @@ fn formed(terms: Option<Terms>, constant: Option<i64>) -> Option<Form>
 pub(crate) fn constant(alloc: Global, n: i64) -> Option<Form>
     ensures { result ≡ kept_form (constant_form n) }
 {
-    formed(Some(Terms::from_vec(Vec::new(alloc))), kept(n))
+    formed(Some(Terms::none(alloc)), kept(n as i128))
 }
 
 /// The form of a variable.
 pub(crate) fn variable(alloc: Global, x: u32) -> Result<Form, NoMemory>
     ensures { IfOk result (λ made. made ≡ variable_form x) }
 {
-    let mut list = Vec::new(alloc);
-    list.push((x, 1))?;
     Ok(Form {
-        terms: Terms::from_vec(list),
+        terms: Terms::single(alloc, x, 1)?,
         constant: 0,
     })
 }
 
 /// The sum of two constants.
 fn constants(f: &Form, g: &Form) -> Option<i64>
-    requires f { IsForm 16 f.now }
-    requires g { IsForm 16 g.now }
     ensures { result ≡ kept_number (form_sum f.now g.now).constant }
 {
-    kept(f.constant + g.constant)
+    kept(f.constant as i128 + g.constant as i128)
 }
 
+#[tactic(auto, using(crate::proofs::FormLemmas::form_rises))]
 /// The sum of two forms, where no number of it passes 2^40 in size.
 fn sum_of(alloc: Global, f: &Form, g: &Form) -> Result<Option<Form>, NoMemory>
     requires f { IsForm 16 f.now }
     requires g { IsForm 16 g.now }
     ensures { IfOk result (λ made. made ≡ kept_form (form_sum f.now g.now)) }
 {
-    let terms = merged(alloc, f.terms.items(), g.terms.items())?;
+    let terms = f.terms.add(alloc, &g.terms, LARGEST)?;
     Ok(formed(terms, constants(f, g)))
 }
 
@@ -65,8 +72,8 @@ fn sum_of(alloc: Global, f: &Form, g: &Form) -> Result<Option<Form>, NoMemory>
 fn multiple_of(alloc: Global, by: i64, f: &Form) -> Result<Option<Form>, NoMemory>
     ensures { IfOk result (λ made. made ≡ kept_form (form_by by f.now)) }
 {
-    let terms = multiplied(alloc, f.terms.items(), by)?;
-    Ok(formed(terms, kept_product(f.constant, by)))
+    let terms = f.terms.scale(alloc, by, LARGEST)?;
+    Ok(formed(terms, kept(linear_terms::product(f.constant, by))))
 }
 
 /// The sum of two forms, where there are both.

@@ -8,7 +8,7 @@ use Rattle.linear_atoms.specs.declared.atoms.Atom.{Atom}
 use Rattle.linear_atoms.specs.Forms.{RisesFrom, IsRising, sum_at}
 use Rattle.linear_atoms.specs.Atoms.{AreBelow, AreRanges, IsAtom, IsWithin, IsDecided}
 use Rattle.linear_atoms.specs.Ranges.{extreme_value, extreme_at, extreme_sum, decided_of}
-use Rattle.linear_atoms.proofs.Integers.{times-sum}
+use Rattle.linear_terms.proofs.Integers.{times-sum}
 
 size_by : (b g : Bool) (f : Feature) → unsigned_abs f.low ≤ 1048576 → unsigned_abs f.high ≤ 1048576 → unsigned_abs (if b then (if g then f.high else f.low) else (if g then f.low else f.high)) ≤ 1048576
 size_by true true f l h = h

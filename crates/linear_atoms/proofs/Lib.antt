@@ -1,13 +1,10 @@
 pub mod Coprimes
 pub mod Divisors
 pub mod Extremes
-pub mod Integers
-pub mod Merges
 pub mod Normals
-pub mod Products
 pub mod Quotients
 pub mod Readings
-pub mod Sums
+pub mod Sizes
 pub mod Truths
 pub mod Values
 pub mod Writings

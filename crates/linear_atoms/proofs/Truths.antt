@@ -12,7 +12,7 @@ use Rattle.linear_atoms.specs.Forms.{IsRising, sum_at, form_at, is_small}
 use Rattle.linear_atoms.specs.Atoms.{literal_holds}
 use Rattle.linear_atoms.specs.Divisors.{divides_all, common_divisor}
 use Rattle.linear_atoms.specs.Normal.{divided, rounded_up, at_least, literal_by, normal_by, normal_of, normal_holds}
-use Rattle.linear_atoms.proofs.Integers.{sum-times, times-sum, past}
+use Rattle.linear_terms.proofs.Integers.{sum-times, times-sum, past}
 use Rattle.linear_atoms.proofs.Divisors.{IsBounded, divisor_bounds}
 
 -- ---- exact quotients

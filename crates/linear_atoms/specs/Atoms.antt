@@ -5,6 +5,7 @@ use Rattle.linear_atoms.specs.declared.atoms.Atom.{Atom}
 use Rattle.linear_atoms.specs.declared.atoms.Literal.{Literal}
 use Rattle.linear_atoms.specs.Divisors.{common_divisor}
 use Rattle.linear_atoms.specs.Forms.{IsRising, are_small, sum_at}
+pub use Rattle.linear_terms.specs.Terms.{AreBelow}
 
 -- the sum of the terms is at least the bound
 abbrev pub holds : Atom → List ℤ → Bool
@@ -12,11 +13,6 @@ holds atom values = int_le atom.bound (sum_at atom.terms values)
 
 abbrev pub literal_holds : Literal → List ℤ → Bool
 literal_holds literal values = if literal.positive then holds literal.atom values else not (holds literal.atom values)
-
--- each feature's number is below this
-abbrev pub AreBelow : ℕ → List (ℕ × ℤ) → Type 0
-AreBelow count [] = Unit {0}
-AreBelow count (t ∷ ts) = (t.0 < count) × AreBelow count ts
 
 abbrev pub LeadsPositive : List (ℕ × ℤ) → Type 0
 LeadsPositive [] = ⊥

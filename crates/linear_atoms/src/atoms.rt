@@ -5,9 +5,8 @@ ghost use Rattle.std.specs.Prelude.{◌≡◌, ◌*◌, ℤ, ◌*ℤ◌, ◌+ℤ
 ghost use Rattle.linear_atoms.specs.Forms.{sum_at, are_small};
 ghost use Rattle.linear_atoms.specs.Atoms.{holds, AreBelow, AreValues, IsAtom};
 
-use crate::merging::{cut, product};
-use crate::terms::Terms;
 use fam_outer::{NoMemory, Text, Values};
+use linear_terms::{Terms, first_term, product};
 use std::alloc::Global;
 
 /// A feature: its name, and the least and the greatest of its values. A Boolean feature has 0 and 1.
@@ -51,7 +50,7 @@ fn sum_at(terms: &[(u32, i64)], values: &[i64]) -> i128
     let _count = terms.len();
     let mut sum: i128 = 0;
     let mut rest = terms;
-    'terms: while let Some((number, coefficient, behind)) = cut(rest) {
+    'terms: while let Some((number, coefficient, behind)) = first_term(rest) {
         sum += product(coefficient, values[number as usize]);
         rest = behind;
     }

@@ -4,10 +4,9 @@
 ghost use Rattle.std.specs.Prelude.{◌≡◌, ℤ, List, pos, ◌+ℤ◌, ◌*ℤ◌, IfOk, slice_index_or};
 ghost use Rattle.linear_atoms.specs.Forms.{IsRising, form_at, constant_form, feature_form, form_sum, form_by, FormsWithin};
 
-use crate::merging::{merged, multiplied, narrow, product};
-use crate::terms::Terms;
+use crate::limits::{LARGEST, narrow};
 use fam_outer::NoMemory;
-use smallvec::SmallVec;
+use linear_terms::{Terms, product};
 use std::alloc::{AllocError, AllocFailed, Global};
 
 /// A sum of features times their coefficients, and of a constant: terms by rising feature number, no
@@ -65,10 +64,8 @@ impl Linear {
         ensures rising { IfOk result (λ made. IsRising made.terms) }
         ensures value { (values : List ℤ) → form_at (feature_form number) values ≡ slice_index_or values number (pos 0) }
     {
-        let mut list = SmallVec::new(alloc);
-        list.push((number, 1))?;
         Ok(Linear {
-            terms: Terms::from_vec(list),
+            terms: Terms::single(alloc, number, 1)?,
             constant: 0,
         })
     }
@@ -82,7 +79,7 @@ impl Linear {
     {
         let constant = narrow(n as i128)?;
         Ok(Linear {
-            terms: Terms::from_vec(SmallVec::new(alloc)),
+            terms: Terms::none(alloc),
             constant,
         })
     }
@@ -97,7 +94,9 @@ impl Linear {
         ensures rising { IfOk result (λ made. IsRising made.terms) }
         ensures value { (values : List ℤ) → form_at (form_sum self.now other.now) values ≡ form_at self.now values +ℤ form_at other.now values }
     {
-        let terms = merged(alloc, self.terms.items(), other.terms.items())?;
+        let Some(terms) = self.terms.add(alloc, &other.terms, LARGEST)? else {
+            return Err(LinearFault::TooLarge);
+        };
         let constant = narrow(self.constant as i128 + other.constant as i128)?;
         Ok(Linear { terms, constant })
     }
@@ -111,7 +110,9 @@ impl Linear {
         ensures rising { IfOk result (λ made. IsRising made.terms) }
         ensures value { (values : List ℤ) → form_at (form_by by self.now) values ≡ form_at self.now values *ℤ by }
     {
-        let terms = multiplied(alloc, self.terms.items(), by)?;
+        let Some(terms) = self.terms.scale(alloc, by, LARGEST)? else {
+            return Err(LinearFault::TooLarge);
+        };
         let constant = narrow(product(self.constant, by))?;
         Ok(Linear { terms, constant })
     }

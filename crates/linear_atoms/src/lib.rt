@@ -4,18 +4,17 @@
 pub mod atoms;
 pub mod forms;
 pub mod laws;
-mod merging;
+mod limits;
 pub mod normal;
 pub mod ranges;
 pub mod slices;
-pub mod terms;
 pub mod texts;
 
 pub use atoms::{Atom, Config, Feature, Literal};
 pub use forms::{Linear, LinearFault};
+pub use linear_terms::Terms;
 pub use normal::Normal;
 pub use ranges::Span;
-pub use terms::Terms;
 
 #[cfg(test)]
 mod tests;

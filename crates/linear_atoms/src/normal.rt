@@ -2,7 +2,6 @@
 #![tactic(auto)]
 
 ghost use Rattle.std.specs.Prelude.{◌≡◌, ◌≢◌, ℕ, ◌<◌, ◌≤◌, ◌∷◌, ℤ, pos, negsuc, int_le, ◌≤ℤ◌, ◌<ℤ◌, List, true, IfOk};
-ghost use Rattle.std.specs.Int.{IsGcd};
 ghost use Rattle.linear_atoms.specs.Atoms.{AreBelow};
 ghost use Rattle.linear_atoms.specs.Divisors.{common_divisor};
 ghost use Rattle.linear_atoms.specs.Forms.{IsRising, form_at, is_small, are_small, is_small_form};
@@ -10,9 +9,9 @@ ghost use Rattle.linear_atoms.specs.Normal.{divided, rounded_up, literal_by, nor
 
 use crate::atoms::{Atom, Literal};
 use crate::forms::{Linear, LinearFault};
-use crate::merging::{cut, is_small};
-use crate::terms::Terms;
+use crate::limits::is_small;
 use fam_outer::NoMemory;
+use linear_terms::{Terms, first_term, greatest_common_divisor};
 use smallvec::SmallVec;
 use std::alloc::Global;
 
@@ -23,19 +22,8 @@ pub enum Normal {
     Literal(Literal),
 }
 
-/// The greatest common divisor, by Euclid's algorithm.
-fn greatest_divisor(a: u64, b: u64) -> u64
-    ensures { IsGcd a b result }
-{
-    let (mut x, mut y) = (a, b);
-    while y != 0 {
-        (x, y) = (y, x % y);
-    }
-    x
-}
-
 /// The greatest common divisor of the coefficients.
-fn common_divisor(terms: &[(u32, i64)]) -> u64
+fn common_divisor(terms: &[(u32, i64)]) -> u128
     requires { IsRising terms.now }
     ensures value { result ≡ common_divisor terms.now }
     ensures positive { (n : ℕ) (a : ℤ) (rest : List (ℕ × ℤ)) → terms.now ≡ (n, a) ∷ rest → 0 < result }
@@ -43,8 +31,8 @@ fn common_divisor(terms: &[(u32, i64)]) -> u64
 {
     let mut divisor = 0;
     let mut rest = terms;
-    'terms: while let Some((_, coefficient, behind)) = cut(rest) {
-        divisor = greatest_divisor(divisor, coefficient.unsigned_abs());
+    'terms: while let Some((_, coefficient, behind)) = first_term(rest) {
+        divisor = greatest_common_divisor(divisor, coefficient.unsigned_abs() as u128);
         rest = behind;
     }
     divisor
@@ -55,7 +43,7 @@ fn are_small(terms: &[(u32, i64)]) -> bool
     ensures { result ≡ are_small terms.now }
 {
     let mut rest = terms;
-    'terms: while let Some((_, coefficient, behind)) = cut(rest) {
+    'terms: while let Some((_, coefficient, behind)) = first_term(rest) {
         if !is_small(coefficient) {
             return false;
         }
@@ -72,7 +60,7 @@ fn divided(alloc: Global, terms: &[(u32, i64)], divisor: i64) -> Result<Terms, N
 {
     let mut list = SmallVec::new(alloc);
     let mut rest = terms;
-    'terms: while let Some((number, coefficient, behind)) = cut(rest) {
+    'terms: while let Some((number, coefficient, behind)) = first_term(rest) {
         list.push((number, coefficient / divisor))?;
         rest = behind;
     }
@@ -149,7 +137,7 @@ impl Linear {
         if !are_small(terms) || !is_small(self.constant) {
             return Err(LinearFault::TooLarge);
         }
-        match cut(terms) {
+        match first_term(terms) {
             None => Ok(Normal::Const(0 <= self.constant)),
             Some((_, first, _)) => {
                 let divisor = common_divisor(terms);

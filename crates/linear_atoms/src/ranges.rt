@@ -8,7 +8,7 @@ ghost use Rattle.linear_atoms.specs.Atoms.{AreBelow, AreRanges, IsAtom, IsDecide
 ghost use Rattle.linear_atoms.specs.Ranges.{extreme_value, extreme_sum, decided_of, range};
 
 use crate::atoms::{Atom, Feature};
-use crate::merging::{cut, product};
+use linear_terms::{first_term, product};
 
 /// The values from `low` to `high`.
 #[derive(Clone, Copy, Debug)]
@@ -69,7 +69,7 @@ fn extreme_sum<R: Ranged>(terms: &[(u32, i64)], ranges: &[R], is_greatest: bool)
     let _count = terms.len();
     let mut sum: i128 = 0;
     let mut rest = terms;
-    'terms: while let Some((number, coefficient, behind)) = cut(rest) {
+    'terms: while let Some((number, coefficient, behind)) = first_term(rest) {
         let value = extreme_value(&ranges[number as usize], coefficient, is_greatest);
         sum += product(coefficient, value);
         rest = behind;

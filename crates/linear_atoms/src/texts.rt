@@ -8,8 +8,8 @@ ghost use Rattle.linear_atoms.specs.Atoms.{AreBelow, IsAtom};
 ghost use Rattle.linear_atoms.specs.Texts.{sign_text, sized_text, terms_text, is_switch, literal_text};
 
 use crate::atoms::{Atom, Feature, Literal};
-use crate::merging::cut;
 use fam_outer::{NoMemory, Text, decimal};
+use linear_terms::first_term;
 use std::alloc::Global;
 
 /// What stands before a term's size.
@@ -58,7 +58,7 @@ fn terms_text(
     let mut text = Vec::new(alloc);
     let mut is_first = true;
     let mut rest = terms;
-    'terms: while let Some((number, coefficient, behind)) = cut(rest) {
+    'terms: while let Some((number, coefficient, behind)) = first_term(rest) {
         text.extend_from_slice(sign_text(is_first, coefficient).as_bytes())?;
         let feature = &features[number as usize];
         push_sized(alloc, &mut text, coefficient, feature.name.bytes())?;

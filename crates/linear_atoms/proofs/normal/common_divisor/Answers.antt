@@ -7,7 +7,7 @@ use Rattle.linear_atoms.proofs.normal.common_divisor.Goals as goal
 pub terms-preserved : goal.terms-preserved
 terms-preserved c =
     let e = c.unsigned_abs.ensures.value ∙ ap unsigned_abs (to_z-of_z w64 c.in-Some.coefficient c.in-Some.ensures.fits) in
-    let g = subst (λ x. IsGcd c.terms.divisor x c.greatest_divisor-divisor.result) e c.greatest_divisor-divisor.ensures in
+    let g = subst (λ x. IsGcd c.terms.divisor x c.greatest_common_divisor-divisor.result) e c.greatest_common_divisor-divisor.ensures in
     dividing_more c.terms.divisor _ _ _ _ _ _ c.terms.invariant c.in-Some.ensures.parts g
 
 pub returns-clause-value : goal.returns-clause-value
