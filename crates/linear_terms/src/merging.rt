@@ -131,12 +131,7 @@ impl Terms {
     #[tactic(auto, using(crate::proofs::Values::terms_sum_at, crate::proofs::Sums::terms_sum_rises))]
     /// The sum of two lists of terms. There is none exactly where a coefficient of it passes the limit in size. It
     /// answers an error only for want of memory.
-    pub fn add(
-        &self,
-        alloc: Global,
-        other: &Terms,
-        limit: u64,
-    ) -> Result<Option<Terms>, NoMemory>
+    pub fn add(&self, alloc: Global, other: &Terms, limit: u64) -> Result<Option<Terms>, NoMemory>
         requires left { IsRising self.now }
         requires right { IsRising other.now }
         requires limit { limit < 9223372036854775808 }

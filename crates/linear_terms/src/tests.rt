@@ -48,7 +48,12 @@ fn terms_are_multiplied(rt: HostRuntime) -> Result<(), Fail> {
 
 #[test]
 fn divisors_are_greatest(rt: HostRuntime) -> Result<(), Fail> {
-    for (a, b, divisor) in [(0, 0, 0), (0, 7, 7), (12, 18, 6), (18446744073709551616, 6, 2)] {
+    for (a, b, divisor) in [
+        (0, 0, 0),
+        (0, 7, 7),
+        (12, 18, 6),
+        (18446744073709551616, 6, 2),
+    ] {
         assert_eq!(rt; greatest_common_divisor(a, b), divisor);
     }
     Ok(())
