@@ -1,13 +1,13 @@
 //! Operations on reduced trees, leaf by leaf.
 #![tactic(auto)]
 
-pub mod formulas;
-pub mod leafwise;
-pub mod memo;
-pub mod numbered;
+mod formulas;
+mod leafwise;
+mod memo;
+mod numbered;
 pub mod operation;
-pub mod restricted;
-pub mod sides;
+mod restricted;
+mod sides;
 pub mod steps;
 pub mod truths;
 
