@@ -1,7 +1,7 @@
 use Rattle.std.proofs.Common.{sym, ◌∙◌, w64, FitsSigned, rules}
 use Rattle.std.specs.Int.{w128}
 use Rattle.std.proofs.lemmas.Int.{to_z-of_z}
-use Rattle.linear_terms.proofs.Merges.{merged_more, merged_past, merged_all}
+use Rattle.linear_terms.proofs.Merges.{merged_more, merged_past}
 use Rattle.linear_terms.proofs.merging.merged.Goals as goal
 
 pub returns-in_default-within : goal.returns-in_default-within
