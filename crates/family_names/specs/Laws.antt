@@ -1,12 +1,14 @@
 -- Laws of the faults of names.
 use Rattle.std.specs.Prelude.{◌≡◌, ℕ, ℤ, Bool, true, false, List, [], Option, Some, None, if◌then◌else◌}
 use Rattle.std.specs.List.{list_any}
+use Rattle.fam_outer.specs.declared.faults.Place.{Place}
 use Rattle.fam_outer.specs.declared.faults.FileCode.{FileCode}
 use Rattle.fam_outer.specs.declared.faults.FileCode.TheVariants.{Undeclared, Twice, FeatureInCode}
+use Rattle.cpp_conditions.specs.Validity.{plain}
 use Rattle.c_grammar.specs.declared.items.Item.{Item}
 use Rattle.c_grammar.specs.declared.items.Sign.TheVariants as signs
 use Rattle.c_grammar.specs.Grammar.{is_group}
-use Rattle.family_names.specs.Names.{Setting, has_main, declared_by, is_among, each_once, is_feature, new_name_fault, IsWithFirst, IsEither, IsNameFault}
+use Rattle.family_names.specs.Names.{Setting, truths_at, has_main, declared_by, is_among, each_once, is_feature, new_name_fault, IsWithFirst, IsEither, IsNameFault, IsFirstNameFault}
 
 -- a group directive stands among the items
 abbrev pub has_groups : List Item → Bool
@@ -27,3 +29,14 @@ IsPlainFault setting before x fault =
 -- behind items without groups, the fault of a name is the plain one
 abbrev pub PlainNames : Type 0
 PlainNames = (setting : Setting) (before : List Item) (x : ℕ) (fault : Option FileCode) → has_groups before ≡ false → IsNameFault setting before (signs.Name x) fault → IsPlainFault setting before x fault
+
+-- one is as good as the other: the models have the same features and the same conditions as constraints, the names are the
+-- same, and at each values the conditions have the same truths
+pub record AreAlike (a b : Setting) : Type 0 where
+  pub models : plain a.model ≡ plain b.model
+  pub names : a.names ≡ b.names
+  pub truths : (values : List ℤ) → truths_at a values ≡ truths_at b values
+
+-- over settings that are alike, items have one first fault of a name, or none
+abbrev pub NamesAreJudgedOnce : Type 0
+NamesAreJudgedOnce = (a b : Setting) (items : List Item) (f g : Option (FileCode × Place)) → AreAlike a b → IsFirstNameFault a items f → IsFirstNameFault b items g → f ≡ g

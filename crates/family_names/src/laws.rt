@@ -1,11 +1,18 @@
 //! Laws of the faults of names.
 #![tactic(auto)]
 
-ghost use Rattle.family_names.specs.Laws.{PlainNames};
+ghost use Rattle.family_names.specs.Laws.{NamesAreJudgedOnce, PlainNames};
 
 /// Behind items without group directives the fault of a name is that of a file without groups: a use has no example, and a
 /// second declaration has the least valid configuration, if there is one.
 #[tactic(auto, using(crate::proofs::Plain::plain_names))]
 pub fn plain_names()
     ensures { PlainNames }
+{}
+
+/// Items have one first fault of a name, or none: over two settings whose models have the same features and constraints,
+/// whose names are the same, and whose conditions have the same truths at each configuration.
+#[tactic(auto, using(crate::proofs::Alike::judged_once))]
+pub fn names_are_judged_once()
+    ensures { NamesAreJudgedOnce }
 {}
