@@ -1,7 +1,8 @@
--- A text is read as one list of lines and conditions, or refused.
+-- A text is read in one way: as one list of lines and conditions, or with one fault.
 use Rattle.std.proofs.Common.{◌≡◌, ℕ, ◌+◌, Bool, true, false, List, [], ◌∷◌, ◌++◌, length, Option, Some, None, Result, Ok, Err, refl, sym, ap, subst, ◌∙◌}
 use Rattle.fam_outer.specs.declared.faults.ConditionFault.{ConditionFault}
 use Rattle.fam_outer.specs.declared.faults.FileCode.{FileCode}
+use Rattle.fam_outer.specs.declared.faults.FileCode.TheVariants as codes_of
 use Rattle.fam_outer.specs.declared.faults.Place.{Place}
 use Rattle.fam_outer.specs.Places.{place_at}
 use Rattle.linear_atoms.specs.declared.atoms.Atom.{Atom}
@@ -10,12 +11,13 @@ use Rattle.cpp_conditions.specs.Distinct.{HaveFewAtoms, HaveMoreAtoms}
 use Rattle.cpp_conditions.specs.Grammar.{ReadsAs}
 use Rattle.cpp_conditions.specs.Propositions.{Proposition}
 use Rattle.cpp_conditions.specs.Validity.{Plain}
-use Rattle.cpp_lines.specs.declared.line.Line.{Line}
 use Rattle.cpp_lines.specs.GroupConditions.{condition_in, IsReadAs}
-use Rattle.cpp_lines.specs.Lines.{pieces}
-use Rattle.cpp_lines.specs.Nesting.{named_in, opened_by, line_fault}
+use Rattle.cpp_lines.specs.Lines.{line_place, pieces}
+use Rattle.cpp_lines.specs.Nesting.{named_in, opened_by, is_unclosed, line_fault}
+use Rattle.cpp_lines.specs.Preprocessed.{preprocessed}
 use Rattle.cpp_lines.specs.Sections as sections
 use Rattle.cpp_lines.specs.Sections.{Told, AreRead, TextIsRead, HasFault, IsRead, in_front, line_at}
+use Rattle.cpp_lines.specs.Whole.{blanked_file, IsPreprocessed}
 
 -- bytes are read in one way as a condition
 abbrev pub OneCondition : Type 0
@@ -50,42 +52,7 @@ same_line one m opens ps line qs rs (sections.tested t p a n i f) (sections.test
     let e : t ≡ u = same_text t u (sym n ∙ o) in
     ap (λ (x : Proposition Atom). x ∷ []) (same_condition one m.features u p q (subst (λ (x : Result (List ℕ) ConditionFault). IsReadAs m.features x (Ok p)) e i) j)
 
--- ---- all lines
-
--- they are no two different lists
-abbrev AreOne : Result Told (FileCode × Place) → Result Told (FileCode × Place) → Type 0
-AreOne (Ok a) (Ok b) = a ≡ b
-AreOne (Ok a) (Err g) = Unit {0}
-AreOne (Err f) r = Unit {0}
-
-refused : (r : Result Told (FileCode × Place)) (f : FileCode × Place) → AreOne r (Err f)
-refused (Ok a) f = tt
-refused (Err g) f = tt
-
-in_front_of : (ls : List Line) (qs : List (Proposition Atom)) (r s : Result Told (FileCode × Place)) → AreOne r s → AreOne (in_front ls qs r) (in_front ls qs s)
-in_front_of ls qs (Ok a) (Ok b) h = ap (λ (t : Told). record { lines = ls ++ t.lines; conditions = qs ++ t.conditions }) h
-in_front_of ls qs (Ok a) (Err g) h = tt
-in_front_of ls qs (Err f) (Ok b) h = tt
-in_front_of ls qs (Err f) (Err g) h = tt
-
-lines_once : OneCondition → (m : Plain) (text : List ℕ) (opens : List Bool) (ps : List (Proposition Atom)) (start : ℕ) (lines : List (List ℕ)) (r s : Result Told (FileCode × Place))
-    → AreRead m text opens ps start lines r → AreRead m text opens ps start lines s → AreOne r s
-lines_once one m text opens ps start [] r s (sections.none a b c) (sections.none d e f) = refl
-lines_once one m text opens ps start (line ∷ lines) r s (sections.unclosed a b c l ls u) k = tt
-lines_once one m text opens ps start (line ∷ lines) r s (sections.faulty a b c l ls code u f) k = tt
-lines_once one m text opens ps start (line ∷ lines) r s (sections.goes_on a b c l ls qs x u i h) (sections.unclosed d e f n ns v) = refused (in_front (line_at (length ps) start (place_at text start) line ∷ []) qs x) _
-lines_once one m text opens ps start (line ∷ lines) r s (sections.goes_on a b c l ls qs x u i h) (sections.faulty d e f n ns code v g) = refused (in_front (line_at (length ps) start (place_at text start) line ∷ []) qs x) _
-lines_once one m text opens ps start (line ∷ lines) r s (sections.goes_on a b c l ls qs x u i h) (sections.goes_on d e f n ns rs y v j k) =
-    let same : rs ≡ qs = same_line one m opens ps line rs qs j i in
-    let front = line_at (length ps) start (place_at text start) line ∷ [] in
-    subst (λ (zs : List (Proposition Atom)). AreOne (in_front front qs x) (in_front front zs y)) (sym same)
-    (in_front_of front qs x y (lines_once one m text (opened_by (named_in line) opens) (ps ++ qs) (start + length line + 1) lines x y h
-    (subst (λ (zs : List (Proposition Atom)). AreRead m text (opened_by (named_in line) opens) (ps ++ zs) (start + length line + 1) lines y) same k)))
-
-pub told_once : OneCondition → (m : Plain) (text : List ℕ) (a b : Told) → TextIsRead m text (Ok a) → TextIsRead m text (Ok b) → a ≡ b
-told_once one m text a b h k = lines_once one m text [] [] 0 (pieces text) (Ok a) (Ok b) h k
-
--- ---- a text that is read is not refused
+-- ---- the faults of one line
 
 -- conditions with few atoms have no more
 abbrev pub FewAreNotMore : Type 0
@@ -97,12 +64,25 @@ err_of f = Err f
 no_ok : (p : Proposition Atom) (f : ConditionFault) → ok_of p ≡ err_of f → ⊥
 no_ok p f e = let k : ok_of p ≡ err_of f = e in cc
 
+same_err : (f g : ConditionFault) → err_of f ≡ err_of g → f ≡ g
+same_err f g e = let k : err_of f ≡ err_of g = e in cc
+
 not_refused : OneCondition → (features : List Feature) (text : Result (List ℕ) ConditionFault) (p : Proposition Atom) (f : ConditionFault) → IsReadAs features text (Ok p) → IsReadAs features text (Err f) → ⊥
 not_refused one features (Ok bytes) p f h k = no_ok p f (one features bytes (Ok p) (Err f) h k)
 not_refused one features (Err fault) p f h k = absurd cc
 
+same_refusal : OneCondition → (features : List Feature) (text : Result (List ℕ) ConditionFault) (f g : ConditionFault) → IsReadAs features text (Err f) → IsReadAs features text (Err g) → f ≡ g
+same_refusal one features (Ok bytes) f g h k = same_err f g (one features bytes (Err f) (Err g) h k)
+same_refusal one features (Err fault) f g h k = same_err f g (h ∙ sym k)
+
 no_code : (o : Option FileCode) (code : FileCode) → o ≡ None → o ≡ Some code → ⊥
 no_code o code h k = let e : None ≡ Some code = sym h ∙ k in absurd cc
+
+abbrev some_code : FileCode → Option FileCode
+some_code c = Some c
+
+same_code : (o : Option FileCode) (c d : FileCode) → o ≡ some_code c → o ≡ some_code d → c ≡ d
+same_code o c d h k = let e : some_code c ≡ some_code d = sym h ∙ k in cc
 
 line_not_faulty : OneCondition → FewAreNotMore → (m : Plain) (opens : List Bool) (ps : List (Proposition Atom)) (line : List ℕ) (qs : List (Proposition Atom)) (code : FileCode) → IsRead m opens ps line qs → HasFault m opens ps line code → ⊥
 line_not_faulty one more m opens ps line qs code (sections.untested a n) (sections.misplaced c e) = no_code (line_fault opens line) c a e
@@ -117,29 +97,74 @@ line_not_faulty one more m opens ps line qs code (sections.tested t p a n i f) (
     let same : p ≡ q = same_condition one m.features u p q (subst (λ (x : Result (List ℕ) ConditionFault). IsReadAs m.features x (Ok p)) e i) j in
     more 64 (m.constraints ++ (ps ++ q ∷ [])) (subst (λ (x : Proposition Atom). HaveFewAtoms 64 (m.constraints ++ (ps ++ x ∷ []))) same f) h
 
--- they are not a list and a fault
-abbrev AreAlike : Result Told (FileCode × Place) → Result Told (FileCode × Place) → Type 0
-AreAlike (Ok a) (Ok b) = Unit {0}
-AreAlike (Ok a) (Err g) = ⊥
-AreAlike (Err f) r = Unit {0}
+-- a line has one fault
+same_fault : OneCondition → (m : Plain) (opens : List Bool) (ps : List (Proposition Atom)) (line : List ℕ) (c d : FileCode) → HasFault m opens ps line c → HasFault m opens ps line d → c ≡ d
+same_fault one m opens ps line c d (sections.misplaced x e) (sections.misplaced y f) = same_code (line_fault opens line) c d e f
+same_fault one m opens ps line c d (sections.misplaced x e) (sections.refused u g b o j) = absurd (no_code (line_fault opens line) c b e)
+same_fault one m opens ps line c d (sections.misplaced x e) (sections.crowded u q b o j h) = absurd (no_code (line_fault opens line) c b e)
+same_fault one m opens ps line c d (sections.refused t f a n i) (sections.misplaced y e) = absurd (no_code (line_fault opens line) d a e)
+same_fault one m opens ps line c d (sections.refused t f a n i) (sections.refused u g b o j) =
+    let e : t ≡ u = same_text t u (sym n ∙ o) in
+    ap (λ (x : ConditionFault). codes_of.Condition x) (same_refusal one m.features u f g (subst (λ (x : Result (List ℕ) ConditionFault). IsReadAs m.features x (Err f)) e i) j)
+same_fault one m opens ps line c d (sections.refused t f a n i) (sections.crowded u q b o j h) =
+    let e : u ≡ t = same_text u t (sym o ∙ n) in
+    absurd (not_refused one m.features t q f (subst (λ (x : Result (List ℕ) ConditionFault). IsReadAs m.features x (Ok q)) e j) i)
+same_fault one m opens ps line c d (sections.crowded t p a n i k) (sections.misplaced y e) = absurd (no_code (line_fault opens line) d a e)
+same_fault one m opens ps line c d (sections.crowded t p a n i k) (sections.refused u g b o j) =
+    let e : t ≡ u = same_text t u (sym n ∙ o) in
+    absurd (not_refused one m.features u p g (subst (λ (x : Result (List ℕ) ConditionFault). IsReadAs m.features x (Ok p)) e i) j)
+same_fault one m opens ps line c d (sections.crowded t p a n i k) (sections.crowded u q b o j h) = refl
 
-alike_behind : (ls : List Line) (qs rs : List (Proposition Atom)) (r s : Result Told (FileCode × Place)) → AreAlike r s → AreAlike (in_front ls qs r) (in_front ls rs s)
-alike_behind ls qs rs (Ok a) (Ok b) h = tt
-alike_behind ls qs rs (Ok a) (Err g) h = h
-alike_behind ls qs rs (Err f) (Ok b) h = tt
-alike_behind ls qs rs (Err f) (Err g) h = tt
+-- ---- all lines
 
-lines_alike : OneCondition → FewAreNotMore → (m : Plain) (text : List ℕ) (opens : List Bool) (ps : List (Proposition Atom)) (start : ℕ) (lines : List (List ℕ)) (r s : Result Told (FileCode × Place))
-    → AreRead m text opens ps start lines r → AreRead m text opens ps start lines s → AreAlike r s
-lines_alike one more m text opens ps start [] r s (sections.none a b c) (sections.none d e f) = tt
-lines_alike one more m text opens ps start (line ∷ lines) r s (sections.unclosed a b c l ls u) k = tt
-lines_alike one more m text opens ps start (line ∷ lines) r s (sections.faulty a b c l ls code u f) k = tt
-lines_alike one more m text opens ps start (line ∷ lines) r s (sections.goes_on a b c l ls qs x u i h) (sections.unclosed d e f n ns v) = absurd (let z : true ≡ false = sym v ∙ u in cc)
-lines_alike one more m text opens ps start (line ∷ lines) r s (sections.goes_on a b c l ls qs x u i h) (sections.faulty d e f n ns code v g) = absurd (line_not_faulty one more m opens ps line qs code i g)
-lines_alike one more m text opens ps start (line ∷ lines) r s (sections.goes_on a b c l ls qs x u i h) (sections.goes_on d e f n ns rs y v j k) =
+abbrev Answer : Type 0
+Answer = Result Told (FileCode × Place)
+
+not_both : (b : Bool) → b ≡ true → b ≡ false → ⊥
+not_both b h k = let e : true ≡ false = sym h ∙ k in cc
+
+lines_once : OneCondition → FewAreNotMore → (m : Plain) (text : List ℕ) (opens : List Bool) (ps : List (Proposition Atom)) (start : ℕ) (lines : List (List ℕ)) (r s : Answer)
+    → AreRead m text opens ps start lines r → AreRead m text opens ps start lines s → r ≡ s
+lines_once one more m text opens ps start [] r s (sections.none a b c) (sections.none d e f) = refl
+lines_once one more m text opens ps start (line ∷ lines) r s (sections.unclosed a b c l ls u) (sections.unclosed d e f n ns v) = refl
+lines_once one more m text opens ps start (line ∷ lines) r s (sections.unclosed a b c l ls u) (sections.faulty d e f n ns code v g) = absurd (not_both (is_unclosed line lines) u v)
+lines_once one more m text opens ps start (line ∷ lines) r s (sections.unclosed a b c l ls u) (sections.goes_on d e f n ns rs y v j k) = absurd (not_both (is_unclosed line lines) u v)
+lines_once one more m text opens ps start (line ∷ lines) r s (sections.faulty a b c l ls code u g) (sections.unclosed d e f n ns v) = absurd (not_both (is_unclosed line lines) v u)
+lines_once one more m text opens ps start (line ∷ lines) r s (sections.faulty a b c l ls code u g) (sections.faulty d e f n ns other v h) =
+    ap (λ (x : FileCode). Err (x, line_place (place_at text start) line)) (same_fault one m opens ps line code other g h)
+lines_once one more m text opens ps start (line ∷ lines) r s (sections.faulty a b c l ls code u g) (sections.goes_on d e f n ns rs y v j k) = absurd (line_not_faulty one more m opens ps line rs code j g)
+lines_once one more m text opens ps start (line ∷ lines) r s (sections.goes_on a b c l ls qs x u i h) (sections.unclosed d e f n ns v) = absurd (not_both (is_unclosed line lines) v u)
+lines_once one more m text opens ps start (line ∷ lines) r s (sections.goes_on a b c l ls qs x u i h) (sections.faulty d e f n ns code v g) = absurd (line_not_faulty one more m opens ps line qs code i g)
+lines_once one more m text opens ps start (line ∷ lines) r s (sections.goes_on a b c l ls qs x u i h) (sections.goes_on d e f n ns rs y v j k) =
     let same : rs ≡ qs = same_line one m opens ps line rs qs j i in
-    alike_behind (line_at (length ps) start (place_at text start) line ∷ []) qs rs x y (lines_alike one more m text (opened_by (named_in line) opens) (ps ++ qs) (start + length line + 1) lines x y h
+    let front = line_at (length ps) start (place_at text start) line ∷ [] in
+    ap (in_front front qs) (lines_once one more m text (opened_by (named_in line) opens) (ps ++ qs) (start + length line + 1) lines x y h
     (subst (λ (zs : List (Proposition Atom)). AreRead m text (opened_by (named_in line) opens) (ps ++ zs) (start + length line + 1) lines y) same k))
+    ∙ ap (λ (zs : List (Proposition Atom)). in_front front zs y) (sym same)
 
-pub not_told_and_refused : OneCondition → FewAreNotMore → (m : Plain) (text : List ℕ) (told : Told) (fault : FileCode × Place) → TextIsRead m text (Ok told) → TextIsRead m text (Err fault) → ⊥
-not_told_and_refused one more m text told fault h k = lines_alike one more m text [] [] 0 (pieces text) (Ok told) (Err fault) h k
+pub read_once : OneCondition → FewAreNotMore → (m : Plain) (text : List ℕ) (r s : Answer) → TextIsRead m text r → TextIsRead m text s → r ≡ s
+read_once one more m text r s h k = lines_once one more m text [] [] 0 (pieces text) r s h k
+
+-- ---- the text that stays of a file
+
+-- what a law says of texts
+abbrev pub OneReading : Type 0
+OneReading = (m : Plain) (text : List ℕ) (r s : Answer) → TextIsRead m text r → TextIsRead m text s → r ≡ s
+
+abbrev told_ok : Told → Answer
+told_ok t = Ok t
+
+same_told : (s t : Told) → told_ok s ≡ told_ok t → s ≡ t
+same_told s t e = let k : told_ok s ≡ told_ok t = e in cc
+
+abbrev blanked_ok : List ℕ → Result (List ℕ) (FileCode × Place)
+blanked_ok b = Ok b
+
+same_blanked : (r : Result (List ℕ) (FileCode × Place)) (a b : List ℕ) → r ≡ blanked_ok a → r ≡ blanked_ok b → a ≡ b
+same_blanked r a b h k = let e : blanked_ok a ≡ blanked_ok b = sym h ∙ k in cc
+
+pub one_text : OneReading → (m : Plain) (truths : List (Proposition Atom) → List Bool) (bytes s t : List ℕ) → IsPreprocessed m truths bytes s → IsPreprocessed m truths bytes t → s ≡ t
+one_text one m truths bytes s t h k =
+    let b : h.blanked ≡ k.blanked = same_blanked (blanked_file bytes) h.blanked k.blanked h.without_comments k.without_comments in
+    let e : h.told ≡ k.told = same_told h.told k.told (one m k.blanked (Ok h.told) (Ok k.told) (subst (λ (z : List ℕ). TextIsRead m z (Ok h.told)) b h.read) k.read) in
+    h.is ∙ ap (λ (x : Told). preprocessed (truths x.conditions) x.lines h.blanked) e ∙ ap (λ (z : List ℕ). preprocessed (truths k.told.conditions) k.told.lines z) b ∙ sym k.is

@@ -1,7 +1,7 @@
 //! Laws of comments and lines, for the crates above: each function does nothing, and its contract is the law.
 #![tactic(auto)]
 
-ghost use Rattle.std.specs.Prelude.{◌≡◌, ◌↔◌, ◌<◌, ℕ, Bool, List, length, Ok, Err, Some};
+ghost use Rattle.std.specs.Prelude.{◌≡◌, ◌↔◌, ◌<◌, ℕ, Bool, List, length, Result, Ok, Some};
 ghost use Rattle.fam_outer.specs.declared.faults.Place.{Place};
 ghost use Rattle.fam_outer.specs.Places.{place_at};
 ghost use Rattle.fam_outer.specs.declared.faults.FileCode.{FileCode};
@@ -55,13 +55,21 @@ pub fn faults_are_of_pieces()
         → ((fault_of text offset ≡ Some code) ↔ HasFault text ps unclosed offset code) }
 {}
 
-/// A text is read as one list of lines and conditions, and where it is so read it has no fault.
-pub fn families_are_told_once()
-    ensures told { (model : Plain) (text : List ℕ) (a b : Told) → TextIsRead model text (Ok a) → TextIsRead model text (Ok b) → a ≡ b }
-    ensures refused { (model : Plain) (text : List ℕ) (told : Told) (fault : FileCode × Place) → TextIsRead model text (Ok told) → TextIsRead model text (Err fault) → ⊥ }
+/// A text is read in one way: as one list of lines and conditions, or with one fault.
+pub fn texts_are_read_once()
+    ensures { (model : Plain) (text : List ℕ) (r s : Result Told (FileCode × Place))
+        → TextIsRead model text r → TextIsRead model text s → r ≡ s }
 {
     bytes_have_one_reading();
     few_atoms_are_not_more();
+}
+
+/// At the truths of its conditions one text stays of a file.
+pub fn variants_have_one_text()
+    ensures { (model : Plain) (truths : List (Proposition Atom) → List Bool) (bytes s t : List ℕ)
+        → IsPreprocessed model truths bytes s → IsPreprocessed model truths bytes t → s ≡ t }
+{
+    texts_are_read_once();
 }
 
 /// The text of a variant has no comment, no splice and no directive line, and no more bytes than a file may have: it is its
