@@ -29,12 +29,16 @@ use Rattle.c_parser.proofs.Lexical.{TokenLaws, items_fit}
 use Rattle.c_parser.proofs.Stepwise.{all_over}
 use Rattle.c_parser.proofs.TokenLines.{LinesApart, lines_of_text}
 
+-- what a law says of texts with groups
+abbrev pub TextsAreReadOnce : Type 0
+TextsAreReadOnce = (model : Plain) (text : List ℕ) (r s : Result Told (FileCode × Place)) → TextIsRead model text r → TextIsRead model text s → r ≡ s
+
 -- what laws of lower crates say
 pub record TextLaws : Type 0 where
   pub tokens : TokenLaws
   pub apart : LinesApart
   pub one : OneReading
-  pub told : (model : Plain) (text : List ℕ) (a b : Told) → TextIsRead model text (Ok a) → TextIsRead model text (Ok b) → a ≡ b
+  pub told : TextsAreReadOnce
 
 -- ---- a file is told in one way
 
@@ -44,6 +48,12 @@ blanked_ok b = Ok b
 pub same_blanked : (bytes a b : List ℕ) → blanked_file bytes ≡ blanked_ok a → blanked_file bytes ≡ blanked_ok b → a ≡ b
 same_blanked bytes a b h k = let e : blanked_ok a ≡ blanked_ok b = sym h ∙ k in cc
 
+abbrev told_ok : Told → Result Told (FileCode × Place)
+told_ok t = Ok t
+
+same_ok : (s t : Told) → told_ok s ≡ told_ok t → s ≡ t
+same_ok s t e = let k : told_ok s ≡ told_ok t = e in cc
+
 -- both readings of the file are one
 pub record AreSameTold (a b : List ℕ) (s t : Told) : Type 0 where
   pub blanked : a ≡ b
@@ -52,7 +62,7 @@ pub record AreSameTold (a b : List ℕ) (s t : Told) : Type 0 where
 pub same_told : TextLaws → (model : Plain) (bytes a b : List ℕ) (s t : Told) → blanked_file bytes ≡ Ok a → blanked_file bytes ≡ Ok b → TextIsRead model a (Ok s) → TextIsRead model b (Ok t) → AreSameTold a b s t
 same_told laws model bytes a b s t h k x y =
     let e = same_blanked bytes a b h k in
-    record { blanked = e; told = laws.told model b s t (subst (λ (z : List ℕ). TextIsRead model z (Ok s)) e x) y }
+    record { blanked = e; told = same_ok s t (laws.told model b (Ok s) (Ok t) (subst (λ (z : List ℕ). TextIsRead model z (Ok s)) e x) y) }
 
 -- ---- the items of a family fit its names
 

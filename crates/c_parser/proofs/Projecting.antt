@@ -7,7 +7,6 @@ use Rattle.linear_atoms.specs.declared.atoms.Atom.{Atom}
 use Rattle.cpp_conditions.specs.declared.models.Model.{Model}
 use Rattle.cpp_conditions.specs.Propositions.{Proposition}
 use Rattle.cpp_conditions.specs.Validity.{Plain, plain}
-use Rattle.cpp_lines.specs.Code.{code_of}
 use Rattle.cpp_lines.specs.Preprocessed.{preprocessed}
 use Rattle.cpp_lines.specs.Sections.{Told, TextIsRead, truths_at}
 use Rattle.cpp_lines.specs.Whole.{blanked_file, IsPreprocessed, IsPlainText}
@@ -18,22 +17,20 @@ use Rattle.c_grammar.specs.declared.items.Sign.{Sign}
 use Rattle.c_grammar.specs.declared.items.Sign.TheVariants as signs
 use Rattle.c_grammar.specs.Facts.{IsFit, AreFit}
 use Rattle.c_grammar.specs.Kept.{kept}
-use Rattle.c_grammar.specs.Laws.{AtMostOne}
 use Rattle.c_grammar.specs.Within.{SpellsWithin, KeepsWithin, WithinIsFile}
 use Rattle.c_parser.specs.declared.family.Family.{Family}
-use Rattle.c_parser.specs.Families.{family_listed}
 use Rattle.c_parser.specs.FamilyReading.{IsFamilyOf, setting_of}
 use Rattle.c_parser.specs.Items.{Listed, AreDistinct}
 use Rattle.c_parser.specs.Names.{is_main, name_of, declared_by}
-use Rattle.c_parser.specs.Reading.{items_of, items_of_code, AreAmong}
-use Rattle.c_parser.specs.Variants.{projection, truths_in, names_in, TextsSpellProjections, VariantsAreTexts, FamilyNamesAreFew, VariantsDeclareAmong, VariantsAreRead, FamiliesAreReadOnce, FamiliesHaveTexts}
+use Rattle.c_parser.specs.Reading.{items_of, AreAmong}
+use Rattle.c_parser.specs.Variants.{projection, truths_in, names_in, TextsSpellProjections, VariantsAreTexts, FamilyNamesAreFew, VariantsDeclareAmong, VariantsAreRead, FamiliesHaveTexts}
 use Rattle.c_parser.proofs.FamilyAnswers.{NamesOccur}
 use Rattle.c_parser.proofs.FamilyNames.{by_line_of}
 use Rattle.c_parser.proofs.FewNames.{few_names, is_same}
 use Rattle.c_parser.proofs.KeptItems.{fit_kept}
 use Rattle.c_parser.proofs.KeptNames.{kept_fine}
 use Rattle.c_parser.proofs.MainItems.{main_stays}
-use Rattle.c_parser.proofs.KeptTexts.{TextLaws, same_blanked, same_told, family_fit, variant_items}
+use Rattle.c_parser.proofs.KeptTexts.{TextLaws, TextsAreReadOnce, same_blanked, same_told, family_fit, variant_items}
 use Rattle.c_parser.proofs.OwnNames.{distinct_from}
 
 -- what a law of lines says of the text of a variant
@@ -108,20 +105,6 @@ declared laws keeps are_plain model bytes text f truths o q l is =
     subst (λ (ns : List (List ℕ)). AreFit (length ns) (kept truths o.listed.items)) (sym same) (fit_kept (length o.listed.names) truths [] o.listed.items (family_fit laws (plain model) bytes o.told o.listed o.items)) in
     subst (λ (k : Listed). AreAmong (names_in f) k.items) (sym e) (λ x h. declared_below (length (names_in f)) (kept truths o.listed.items) x fit h)
 
--- ---- one reading
-
-pub once : TextLaws → AtMostOne → WithinIsFile → FamiliesAreReadOnce
-once laws most is_file model bytes f g o p =
-    let same = same_told laws (plain model) bytes o.items.blanked p.items.blanked o.told p.told o.items.without_comments p.items.without_comments o.items.read p.items.read in
-    let tokens : o.items.tokens ≡ p.items.tokens =
-    same_listed (items_of_code [] (code_of p.items.blanked)) o.items.tokens p.items.tokens (ap (λ (b : List ℕ). items_of_code [] (code_of b)) (sym same.blanked) ∙ o.items.tokens_are) p.items.tokens_are in
-    let list : o.listed ≡ p.listed = o.items.is ∙ ap (λ (t : Told). family_listed t.lines o.items.tokens) same.told ∙ ap (family_listed p.told.lines) tokens ∙ sym p.items.is in
-    let first = subst (λ (l : Listed). SpellsWithin l.names (whole f.code) l.items) list o.judged.spelled in
-    record {
-      code = most p.listed.names p.listed.items (whole f.code) (whole g.code) (is_file p.listed.names p.listed.items (whole f.code) first) (is_file p.listed.names p.listed.items (whole g.code) p.judged.spelled);
-      truths = λ values. o.judged.conditions_are.truths values ∙ ap (λ (t : Told). truths_at values t.conditions) same.told ∙ sym (p.judged.conditions_are.truths values);
-    }
-
 -- ---- reading a variant
 
 pub read : TextLaws → KeepsWithin → VariantsArePlain → WithinIsFile → VariantsAreRead
@@ -149,12 +132,17 @@ blanked_err f = Err f
 not_both : (r : Result (List ℕ) (FileCode × Place)) (b : List ℕ) (f : FileCode × Place) → r ≡ blanked_ok b → r ≡ blanked_err f → ⊥
 not_both r b f h k = let e : blanked_ok b ≡ blanked_err f = sym h ∙ k in cc
 
--- what a law of lines says of refusals
-abbrev pub NotRefused : Type 0
-NotRefused = (model : Plain) (text : List ℕ) (told : Told) (fault : FileCode × Place) → TextIsRead model text (Ok told) → TextIsRead model text (Err fault) → ⊥
+abbrev told_ok : Told → Result Told (FileCode × Place)
+told_ok t = Ok t
 
-pub accepted : NotRefused → FamiliesHaveTexts
-accepted never model bytes f fault o (inl e) = not_both (blanked_file bytes) o.items.blanked fault o.items.without_comments e
-accepted never model bytes f fault o (inr h) =
+abbrev told_err : FileCode × Place → Result Told (FileCode × Place)
+told_err f = Err f
+
+not_told : (t : Told) (f : FileCode × Place) → told_ok t ≡ told_err f → ⊥
+not_told t f e = let k : told_ok t ≡ told_err f = e in cc
+
+pub accepted : TextsAreReadOnce → FamiliesHaveTexts
+accepted once model bytes f fault o (inl e) = not_both (blanked_file bytes) o.items.blanked fault o.items.without_comments e
+accepted once model bytes f fault o (inr h) =
     let same = same_blanked bytes h.blanked o.items.blanked h.without_comments o.items.without_comments in
-    never (plain model) o.items.blanked o.told fault o.items.read (subst (λ (b : List ℕ). TextIsRead (plain model) b (Err fault)) same h.read)
+    not_told o.told fault (once (plain model) o.items.blanked (Ok o.told) (Err fault) o.items.read (subst (λ (b : List ℕ). TextIsRead (plain model) b (Err fault)) same h.read))

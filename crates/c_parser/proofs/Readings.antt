@@ -20,7 +20,7 @@ use Rattle.item_reader.specs.Reading.{IsWrongAt, IsDeepAt}
 use Rattle.c_parser.specs.Items.{Listed}
 use Rattle.c_parser.specs.Names.{first_name_fault}
 use Rattle.cpp_lines.specs.Whole.{file_place}
-use Rattle.c_parser.specs.Reading.{IsAccepted, HasWrong, HasDeep, HasNameFault, Refuses, ReadsOver, code_of_file, items_of, place_with}
+use Rattle.c_parser.specs.Reading.{IsAccepted, Refuses, ReadsOver, code_of_file, items_of, place_with}
 
 -- the laws of the grammar that are used here
 pub record GrammarLaws : Type 0 where
@@ -44,7 +44,7 @@ pub record StoppedAt (items : List Item) (n : ℕ) (fault : ℕ → Fault) : Typ
   pub came : guarded start 0 items ≡ Err (fault left)
 
 -- items that spell a program are read
-pub came_to : GrammarLaws → (l : Listed) (p : Whole) → SpellsWithin l.names p l.items → CameTo l p
+came_to : GrammarLaws → (l : Listed) (p : Whole) → SpellsWithin l.names p l.items → CameTo l p
 came_to laws l p s = record { file = s.file; came = (laws.reads l.items s.file).1 s.forms; is = s.is }
 
 wrong_stops : GrammarLaws → (items : List Item) (n : ℕ) → IsWrongAt items n → StoppedAt items n limits.Wrong
@@ -53,56 +53,66 @@ wrong_stops laws items n w = record { left = w.left; there = w.position; came = 
 deep_stops : GrammarLaws → (items : List Item) (n : ℕ) → IsDeepAt items n → StoppedAt items n limits.Deep
 deep_stops laws items n d = record { left = d.left; there = d.position; came = (laws.stops_deep items d.left).1 d.deep }
 
--- ---- the answer that the machine decides
+-- ---- what the machine decides: the program of the items, or their fault
 
-abbrev Answer : Type 0
+abbrev pub Answer : Type 0
 Answer = Result Whole (FileCode × Place)
 
-abbrev with_names : Option (FileCode × Place) → Whole → Answer
+-- `code` is that of a wrong item at a position
+abbrev spelled_of : (ℕ → FileCode) → Listed → Place → Came → Answer
+spelled_of code l end (Ok f) = Ok (whole_of l.names l.items f)
+spelled_of code l end (Err (limits.Wrong k)) = Err (code (length l.items - k), place_with l.items (length l.items - k) end)
+spelled_of code l end (Err (limits.Deep k)) = Err (TooDeep, place_with l.items (length l.items - k) end)
+
+abbrev pub spelled_by : (ℕ → FileCode) → Listed → Place → Answer
+spelled_by code l end = spelled_of code l end (guarded start 0 l.items)
+
+pub program_spelled : GrammarLaws → (code : ℕ → FileCode) (l : Listed) (end : Place) (p : Whole) → SpellsWithin l.names p l.items → spelled_by code l end ≡ Ok p
+program_spelled laws code l end p s =
+    let c = came_to laws l p s in
+    ap (spelled_of code l end) c.came ∙ ap (λ (q : Whole). Ok q) (sym c.is)
+
+same_position : (n k all : ℕ) → n + k ≡ all → n ≡ all - k
+same_position n k all e = omega (arith, e)
+
+pub wrong_spelled : GrammarLaws → (code : ℕ → FileCode) (l : Listed) (end : Place) (n : ℕ) → IsWrongAt l.items n → spelled_by code l end ≡ Err (code n, place_with l.items n end)
+wrong_spelled laws code l end n w =
+    let s = wrong_stops laws l.items n w in
+    ap (spelled_of code l end) s.came ∙ ap (λ (m : ℕ). Err (code m, place_with l.items m end)) (sym (same_position n s.left (length l.items) s.there))
+
+pub deep_spelled : GrammarLaws → (code : ℕ → FileCode) (l : Listed) (end : Place) (n : ℕ) → IsDeepAt l.items n → spelled_by code l end ≡ Err (TooDeep, place_with l.items n end)
+deep_spelled laws code l end n d =
+    let s = deep_stops laws l.items n d in
+    ap (spelled_of code l end) s.came ∙ ap (λ (m : ℕ). Err (TooDeep, place_with l.items m end)) (sym (same_position n s.left (length l.items) s.there))
+
+-- ---- and then the names
+
+abbrev pub with_names : Option (FileCode × Place) → Whole → Answer
 with_names None p = Ok p
 with_names (Some fault) p = Err fault
 
-abbrev decided : Listed → Place → Came → Answer
-decided l end (Ok f) = with_names (first_name_fault l.items) (whole_of l.names l.items f)
-decided l end (Err (limits.Wrong k)) = Err (Syntax, place_with l.items (length l.items - k) end)
-decided l end (Err (limits.Deep k)) = Err (TooDeep, place_with l.items (length l.items - k) end)
+abbrev syntax_at : ℕ → FileCode
+syntax_at n = Syntax
 
 abbrev answer_over : Listed → Place → Answer
-answer_over l end = decided l end (guarded start 0 l.items)
+answer_over l end = and_then (spelled_by syntax_at l end) (with_names (first_name_fault l.items))
 
 abbrev answer : List (List ℕ) → List ℕ → Answer
 answer given bytes = and_then (items_of given bytes) (λ l. answer_over l (end_place bytes))
 
-same_place : (items : List Item) (end : Place) (n k : ℕ) → n + k ≡ length items → place_with items n end ≡ place_with items (length items - k) end
-same_place items end n k e = let same : n ≡ length items - k = omega (arith, e) in ap (λ (m : ℕ). place_with items m end) same
-
-accepted_answer : GrammarLaws → (l : Listed) (end : Place) (p : Whole) → IsAccepted l p → answer_over l end ≡ Ok p
-accepted_answer laws l end p a =
-    let c = came_to laws l p a.spelled in
-    ap (decided l end) c.came ∙ ap (λ (o : Option (FileCode × Place)). with_names o (whole_of l.names l.items c.file)) a.names ∙ ap (λ (q : Whole). Ok q) (sym c.is)
-
-wrong_answer : GrammarLaws → (l : Listed) (end : Place) (fault : FileCode × Place) → HasWrong l end fault → answer_over l end ≡ Err fault
-wrong_answer laws l end fault w =
-    let s = wrong_stops laws l.items w.position w.wrong in
-    ap (decided l end) s.came ∙ ap (λ (q : Place). Err (Syntax, q)) (sym (same_place l.items end w.position s.left s.there)) ∙ ap (λ (f : FileCode × Place). Err f) (sym w.is)
-
-deep_answer : GrammarLaws → (l : Listed) (end : Place) (fault : FileCode × Place) → HasDeep l end fault → answer_over l end ≡ Err fault
-deep_answer laws l end fault w =
-    let s = deep_stops laws l.items w.position w.deep in
-    ap (decided l end) s.came ∙ ap (λ (q : Place). Err (TooDeep, q)) (sym (same_place l.items end w.position s.left s.there)) ∙ ap (λ (f : FileCode × Place). Err f) (sym w.is)
-
-name_answer : GrammarLaws → (l : Listed) (end : Place) (fault : FileCode × Place) → HasNameFault l fault → answer_over l end ≡ Err fault
-name_answer laws l end fault w =
-    let c = came_to laws l w.program w.spelled in
-    ap (decided l end) c.came ∙ ap (λ (o : Option (FileCode × Place)). with_names o (whole_of l.names l.items c.file)) w.is
+named : GrammarLaws → (l : Listed) (end : Place) (p : Whole) (fault : Option (FileCode × Place)) → SpellsWithin l.names p l.items → first_name_fault l.items ≡ fault → answer_over l end ≡ with_names fault p
+named laws l end p fault s e =
+    ap (λ (x : Answer). and_then x (with_names (first_name_fault l.items))) (program_spelled laws syntax_at l end p s) ∙ ap (λ (o : Option (FileCode × Place)). with_names o p) e
 
 refused_answer : GrammarLaws → (l : Listed) (end : Place) (fault : FileCode × Place) → Refuses l end fault → answer_over l end ≡ Err fault
-refused_answer laws l end fault (inl w) = wrong_answer laws l end fault w
-refused_answer laws l end fault (inr (inl w)) = deep_answer laws l end fault w
-refused_answer laws l end fault (inr (inr w)) = name_answer laws l end fault w
+refused_answer laws l end fault (inl w) =
+    ap (λ (x : Answer). and_then x (with_names (first_name_fault l.items))) (wrong_spelled laws syntax_at l end w.position w.wrong) ∙ ap (λ (f : FileCode × Place). Err f) (sym w.is)
+refused_answer laws l end fault (inr (inl w)) =
+    ap (λ (x : Answer). and_then x (with_names (first_name_fault l.items))) (deep_spelled laws syntax_at l end w.position w.deep) ∙ ap (λ (f : FileCode × Place). Err f) (sym w.is)
+refused_answer laws l end fault (inr (inr w)) = named laws l end w.program (Some fault) w.spelled w.is
 
 is_answer : GrammarLaws → (given : List (List ℕ)) (bytes : List ℕ) (r : Answer) → ReadsOver given bytes r → answer given bytes ≡ r
-is_answer laws given bytes (Ok p) (l, is, a) = ap (λ (x : Result Listed (FileCode × Place)). and_then x (λ l. answer_over l (end_place bytes))) is ∙ accepted_answer laws l (end_place bytes) p a
+is_answer laws given bytes (Ok p) (l, is, a) = ap (λ (x : Result Listed (FileCode × Place)). and_then x (λ l. answer_over l (end_place bytes))) is ∙ named laws l (end_place bytes) p None a.spelled a.names
 is_answer laws given bytes (Err fault) (inl is) = ap (λ (x : Result Listed (FileCode × Place)). and_then x (λ l. answer_over l (end_place bytes))) is
 is_answer laws given bytes (Err fault) (inr (l, is, w)) = ap (λ (x : Result Listed (FileCode × Place)). and_then x (λ l. answer_over l (end_place bytes))) is ∙ refused_answer laws l (end_place bytes) fault w
 

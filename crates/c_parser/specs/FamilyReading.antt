@@ -49,8 +49,12 @@ pub record HasItemFault (model : Model) (bytes : List ℕ) (fault : FileCode × 
   pub items : HasItems (plain model) bytes told listed
   pub is : HasWrongItem listed (end_place bytes) fault ⊎ (HasDeep listed (end_place bytes) fault ⊎ HasNameFault model bytes told listed fault)
 
--- what a call that reads a family answers: a fault of an earlier phase comes first; want of memory is free
+-- the bytes have this fault: one of an earlier phase, or else of their items
+abbrev pub IsFamilyRefused : Model → List ℕ → FileCode × Place → Type 0
+IsFamilyRefused model bytes fault = HasEarlyFault (plain model) bytes fault ⊎ HasItemFault model bytes fault
+
+-- what a call that reads a family answers; want of memory is free
 abbrev pub IsFamilyRead : Model → List ℕ → Result Family FileRefusal → Type 0
 IsFamilyRead model bytes (Ok f) = IsFamilyOf model bytes f
-IsFamilyRead model bytes (Err (refusals.Fault code place)) = HasEarlyFault (plain model) bytes (code, place) ⊎ HasItemFault model bytes (code, place)
+IsFamilyRead model bytes (Err (refusals.Fault code place)) = IsFamilyRefused model bytes (code, place)
 IsFamilyRead model bytes (Err refusals.NoMemory) = ⊤

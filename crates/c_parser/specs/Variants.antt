@@ -12,7 +12,7 @@ use Rattle.c_tree.specs.View.{whole}
 use Rattle.c_grammar.specs.declared.items.Item.{Item}
 use Rattle.c_grammar.specs.Within.{SpellsWithin}
 use Rattle.c_parser.specs.declared.family.Family.{Family}
-use Rattle.c_parser.specs.FamilyReading.{IsFamilyOf}
+use Rattle.c_parser.specs.FamilyReading.{IsFamilyOf, IsFamilyRefused}
 use Rattle.c_parser.specs.Items.{AreDistinct}
 use Rattle.c_parser.specs.Reading.{items_of, ReadsOver, DeclaresAmong}
 
@@ -67,5 +67,13 @@ pub record AreSameFamily (f g : Family) : Type 0 where
   pub code : whole f.code ≡ whole g.code
   pub truths : (values : List ℤ) → truths_in f values ≡ truths_in g values
 
+-- ---- one reading, over models with the same features, and constraints that mean the same
+
 abbrev pub FamiliesAreReadOnce : Type 0
-FamiliesAreReadOnce = (model : Model) (bytes : List ℕ) (f g : Family) → IsFamilyOf model bytes f → IsFamilyOf model bytes g → AreSameFamily f g
+FamiliesAreReadOnce = (a b : Model) (bytes : List ℕ) (f g : Family) → plain a ≡ plain b → IsFamilyOf a bytes f → IsFamilyOf b bytes g → AreSameFamily f g
+
+abbrev pub FamiliesAreNotRefused : Type 0
+FamiliesAreNotRefused = (a b : Model) (bytes : List ℕ) (f : Family) (fault : FileCode × Place) → plain a ≡ plain b → IsFamilyOf a bytes f → IsFamilyRefused b bytes fault → ⊥
+
+abbrev pub FamiliesAreRefusedOnce : Type 0
+FamiliesAreRefusedOnce = (a b : Model) (bytes : List ℕ) (f g : FileCode × Place) → plain a ≡ plain b → IsFamilyRefused a bytes f → IsFamilyRefused b bytes g → f ≡ g

@@ -1,28 +1,27 @@
 //! Laws of the variants of a family, for the crates above: each function does nothing, and its contract is the law.
 #![tactic(auto)]
 
-ghost use Rattle.c_parser.specs.Variants.{FamiliesAreReadOnce, FamiliesHaveTexts, FamilyNamesAreFew, TextsSpellProjections, VariantsAreRead, VariantsAreTexts, VariantsDeclareAmong};
+ghost use Rattle.c_parser.specs.Variants.{FamiliesAreNotRefused, FamiliesAreReadOnce, FamiliesAreRefusedOnce, FamiliesHaveTexts, FamilyNamesAreFew, TextsSpellProjections, VariantsAreRead, VariantsAreTexts, VariantsDeclareAmong};
 
 use crate::laws::family_names_occur;
 use c_grammar::laws::{
-    leaving_out_makes_nothing_deeper, spells_at_most_one, within_the_limits_is_a_file,
+    leaving_out_makes_nothing_deeper, reads_within_the_limits, within_the_limits_is_a_file,
 };
 use c_tokens::laws::{lines_are_apart, literals_are_decimal, one_reading, reads_longest_lexemes};
-use cpp_lines::laws::{families_are_told_once, variants_are_plain};
+use cpp_lines::laws::{texts_are_read_once, variants_are_plain};
 use fam_outer::places_rise;
+use family_names::laws::names_are_judged_once;
 
-/// A file is read as one family: with one program, and with one truth of each condition at each configuration.
+/// A file is read as one family, with one program and with one truth of each condition at each configuration, or it has one
+/// refusal. It is so over each model, and the same over models with the same features and the same constraints.
 pub fn families_are_read_once()
-    ensures { FamiliesAreReadOnce }
+    ensures once { FamiliesAreReadOnce }
+    ensures accepted { FamiliesAreNotRefused }
+    ensures refused { FamiliesAreRefusedOnce }
 {
-    reads_longest_lexemes();
-    literals_are_decimal();
-    places_rise();
-    lines_are_apart();
-    one_reading();
-    families_are_told_once();
-    spells_at_most_one();
-    within_the_limits_is_a_file();
+    texts_are_read_once();
+    reads_within_the_limits();
+    names_are_judged_once();
 }
 
 /// The names of a family are distinct, and there are at most 16.
@@ -34,7 +33,7 @@ pub fn family_names_are_few()
     places_rise();
     lines_are_apart();
     one_reading();
-    families_are_told_once();
+    texts_are_read_once();
     family_names_occur();
 }
 
@@ -54,7 +53,7 @@ pub fn variants_are_projections()
     places_rise();
     lines_are_apart();
     one_reading();
-    families_are_told_once();
+    texts_are_read_once();
     variants_are_plain();
     leaving_out_makes_nothing_deeper();
     within_the_limits_is_a_file();
