@@ -8,3 +8,6 @@ pub mod Located
 pub mod Foreseen
 pub mod Promised
 pub mod Nothing
+pub mod StatedLemmas
+pub mod TableLemmas
+pub mod FinalsLemmas

@@ -29,7 +29,7 @@ same_self n = grind arith
 pub same_place_self : (a : Place) → is_same_place a a ≡ true
 same_place_self a = rw (same_self a.line, same_self a.column) refl
 
-before_other : (a b : Place) → IsTrue (is_before a b) → is_same_place a b ≡ false
+pub before_other : (a b : Place) → IsTrue (is_before a b) → is_same_place a b ≡ false
 before_other a b h = grind arith
 
 -- each entry of a list is the one that is found at its place

@@ -81,3 +81,9 @@ pub after_stays : (M : LeafMeaning) → LeafLaws M → (o : Options) → Transfe
 after_stays M laws o answers v few is c =
     let e : v ≡ nothing_of v.variables = nothing_value v v.variables is refl in
     ap (after_of M o c) e ∙ (after_nothing M laws o answers v.variables few c ∙ sym e)
+
+pub loop_stays : (M : LeafMeaning) → LeafLaws M → (o : Options) → TransferAnswers M o.mode → (v : LeafValue) → v.variables ≤ 16 → is_nothing_of v ≡ true → (test : Term) (c : Code)
+    → final_leaf M o test (after_of M o c) v ≡ v
+loop_stays M laws o answers v few is test c =
+    let e : v ≡ nothing_of v.variables = nothing_value v v.variables is refl in
+    ap (final_leaf M o test (after_of M o c)) e ∙ (loop_nothing M laws o answers v.variables few test (after_of M o c) (after_nothing M laws o answers v.variables few c) ∙ sym e)

@@ -4,3 +4,5 @@ pub mod Places
 pub mod Promises
 pub mod Entered
 pub mod Heads
+pub mod Stated
+pub mod Finals

@@ -1,20 +1,23 @@
 //! The leaf after statements.
 #![tactic(auto)]
 
-ghost use Rattle.std.specs.Prelude.{◌≡◌, IfOk, IfSome, IfNone, true, false};
+ghost use Rattle.std.specs.Prelude.{◌≡◌, IfOk, OnOk, IfSome, IfNone, true, false};
 ghost use Rattle.c_tree.specs.Tree.{Done};
-ghost use Rattle.c_tree.specs.View.{term, front, code};
+ghost use Rattle.c_tree.specs.View.{term, front, code, whole};
 ghost use Rattle.c_tree.specs.Fit.{IsTermOf, IsCodeOf};
 ghost use Rattle.leaf_domain.specs.Transfer.{assumed};
+ghost use Rattle.plain_analysis.specs.Finals.{Remembers};
 ghost use Rattle.plain_analysis.specs.Heads.{IsHead};
 ghost use Rattle.plain_analysis.specs.Loops as loops;
 ghost use Rattle.plain_analysis.specs.Loops.{widened_leaf, narrowing_of};
+ghost use Rattle.plain_analysis.specs.Stated.{IsLoopAt, HasLoopsOf};
 ghost use Rattle.plain_analysis.specs.Statements.{after_of, loop_turn};
 
-use crate::options::Options;
+use crate::finals::{Entered, Finals, find, remember};
 use crate::steps::{joined, moved, narrowed_by};
+use crate::task::Task;
 use c_tree::{Expr, Stmt};
-use fam_outer::NoMemory;
+use fam_outer::{NoMemory, Place};
 use leaf_domain::{
     Leaf, assign, assume, equality_is_exact, forget, leaf_is_valid, split, transfer_is_sound,
 };
@@ -25,13 +28,17 @@ use std::alloc::Global;
 #[tactic(auto, using(crate::proofs::Listed::entered_lists))]
 pub(crate) fn after_list<L: Leaf>(
     alloc: Global,
+    finals: &mut Finals<L>,
+    task: &Task<'_>,
     list: &[Stmt],
     leaf: &L,
-    options: Options,
 ) -> Result<L, NoMemory>
-    requires { IsCodeOf (L.value leaf.now).variables (code list.now) }
-    ensures value { IfOk result (λ made. L.value made ≡ after_of L.meaning options (code list.now) (L.value leaf.now)) }
+    requires fit { IsCodeOf (L.value leaf.now).variables (code list.now) }
+    requires loops { HasLoopsOf (whole task.now.program.now) (code list.now) }
+    requires memory { Remembers L.value L.meaning task.now finals.old }
+    ensures value { IfOk result (λ made. L.value made ≡ after_of L.meaning task.now.options (code list.now) (L.value leaf.now)) }
     ensures same { IfOk result (λ made. (L.value made).variables ≡ (L.value leaf.now).variables) }
+    ensures memory { OnOk result (Remembers L.value L.meaning task.now finals.new) }
 {
     transfer_is_sound::<L>();
     leaf_is_valid(leaf);
@@ -40,28 +47,48 @@ pub(crate) fn after_list<L: Leaf>(
     }
     let mut made = leaf.copy(alloc)?;
     for s in list {
-        made = after_stmt(alloc, s, &made, options)?;
+        made = after_stmt(alloc, finals, task, s, &made)?;
     }
     Ok(made)
 }
 
-/// The leaf after a statement that is entered with `leaf`.
+/// The leaf after a statement that is entered with `leaf`. Nothing stays Nothing.
 #[cycle(after)]
-fn after_stmt<L: Leaf>(alloc: Global, s: &Stmt, leaf: &L, options: Options) -> Result<L, NoMemory>
-    requires { IsCodeOf (L.value leaf.now).variables (front s.now Done) }
-    ensures value { IfOk result (λ made. L.value made ≡ after_of L.meaning options (front s.now Done) (L.value leaf.now)) }
+fn after_stmt<L: Leaf>(
+    alloc: Global,
+    finals: &mut Finals<L>,
+    task: &Task<'_>,
+    s: &Stmt,
+    leaf: &L,
+) -> Result<L, NoMemory>
+    requires fit { IsCodeOf (L.value leaf.now).variables (front s.now Done) }
+    requires loops { HasLoopsOf (whole task.now.program.now) (front s.now Done) }
+    requires memory { Remembers L.value L.meaning task.now finals.old }
+    ensures value { IfOk result (λ made. L.value made ≡ after_of L.meaning task.now.options (front s.now Done) (L.value leaf.now)) }
     ensures same { IfOk result (λ made. (L.value made).variables ≡ (L.value leaf.now).variables) }
+    ensures memory { OnOk result (Remembers L.value L.meaning task.now finals.new) }
 {
+    transfer_is_sound::<L>();
+    leaf_is_valid(leaf);
+    if leaf.is_nothing() {
+        return leaf.copy(alloc);
+    }
     match s {
-        Stmt::Assign { target, value, .. } => assign(alloc, leaf, *target, value, options.mode),
+        Stmt::Assign { target, value, .. } => assign(
+            alloc,
+            leaf,
+            *target,
+            value,
+            task.options.mode,
+        ),
         Stmt::Input { target, .. } => forget(alloc, leaf, *target),
-        Stmt::Assert { test, .. } => assume(alloc, leaf, test, true, options.mode),
-        Stmt::If { test, yes, no, .. } => after_choice(alloc, yes, no, test, leaf, options),
-        Stmt::While { test, body, .. } => {
-            let last = final_leaf(alloc, body, test, leaf, options)?;
-            assume(alloc, &last, test, false, options.mode)
+        Stmt::Assert { test, .. } => assume(alloc, leaf, test, true, task.options.mode),
+        Stmt::If { test, yes, no, .. } => after_choice(alloc, finals, task, yes, no, test, leaf),
+        Stmt::While { place, test, body } => {
+            let last = final_leaf(alloc, finals, task, *place, body, test, leaf)?;
+            assume(alloc, &last, test, false, task.options.mode)
         }
-        Stmt::Block { body, .. } => after_list(alloc, body, leaf, options),
+        Stmt::Block { body, .. } => after_list(alloc, finals, task, body, leaf),
         Stmt::Skip { .. } | Stmt::Cond { .. } => leaf.copy(alloc),
     }
 }
@@ -70,23 +97,28 @@ fn after_stmt<L: Leaf>(alloc: Global, s: &Stmt, leaf: &L, options: Options) -> R
 #[cycle(after)]
 fn after_choice<L: Leaf>(
     alloc: Global,
+    finals: &mut Finals<L>,
+    task: &Task<'_>,
     yes: &[Stmt],
     no: &[Stmt],
     test: &Expr,
     leaf: &L,
-    options: Options,
 ) -> Result<L, NoMemory>
     requires test { IsTermOf (L.value leaf.now).variables (term test.now) }
     requires yes { IsCodeOf (L.value leaf.now).variables (code yes.now) }
     requires no { IsCodeOf (L.value leaf.now).variables (code no.now) }
+    requires yes_loops { HasLoopsOf (whole task.now.program.now) (code yes.now) }
+    requires no_loops { HasLoopsOf (whole task.now.program.now) (code no.now) }
+    requires memory { Remembers L.value L.meaning task.now finals.old }
     ensures value { IfOk result (λ made. L.value made ≡ L.meaning.join
-        (after_of L.meaning options (code yes.now) (assumed L.meaning options.mode (term test.now) true (L.value leaf.now)))
-        (after_of L.meaning options (code no.now) (assumed L.meaning options.mode (term test.now) false (L.value leaf.now)))) }
+        (after_of L.meaning task.now.options (code yes.now) (assumed L.meaning task.now.options.mode (term test.now) true (L.value leaf.now)))
+        (after_of L.meaning task.now.options (code no.now) (assumed L.meaning task.now.options.mode (term test.now) false (L.value leaf.now)))) }
     ensures same { IfOk result (λ made. (L.value made).variables ≡ (L.value leaf.now).variables) }
+    ensures memory { OnOk result (Remembers L.value L.meaning task.now finals.new) }
 {
-    let sides = split(alloc, leaf, test, options.mode)?;
-    let after_yes = after_list(alloc, yes, &sides.when_true, options)?;
-    let after_no = after_list(alloc, no, &sides.when_false, options)?;
+    let sides = split(alloc, leaf, test, task.options.mode)?;
+    let after_yes = after_list(alloc, finals, task, yes, &sides.when_true)?;
+    let after_no = after_list(alloc, finals, task, no, &sides.when_false)?;
     joined(alloc, &after_yes, &after_no)
 }
 
@@ -94,19 +126,23 @@ fn after_choice<L: Leaf>(
 #[cycle(after)]
 fn after_side<L: Leaf>(
     alloc: Global,
+    finals: &mut Finals<L>,
+    task: &Task<'_>,
     list: &[Stmt],
     test: &Expr,
     want: bool,
     leaf: &L,
-    options: Options,
 ) -> Result<L, NoMemory>
     requires test { IsTermOf (L.value leaf.now).variables (term test.now) }
     requires list { IsCodeOf (L.value leaf.now).variables (code list.now) }
-    ensures value { IfOk result (λ made. L.value made ≡ after_of L.meaning options (code list.now) (assumed L.meaning options.mode (term test.now) want (L.value leaf.now))) }
+    requires loops { HasLoopsOf (whole task.now.program.now) (code list.now) }
+    requires memory { Remembers L.value L.meaning task.now finals.old }
+    ensures value { IfOk result (λ made. L.value made ≡ after_of L.meaning task.now.options (code list.now) (assumed L.meaning task.now.options.mode (term test.now) want (L.value leaf.now))) }
     ensures same { IfOk result (λ made. (L.value made).variables ≡ (L.value leaf.now).variables) }
+    ensures memory { OnOk result (Remembers L.value L.meaning task.now finals.new) }
 {
-    let inside = assume(alloc, leaf, test, want, options.mode)?;
-    after_list(alloc, list, &inside, options)
+    let inside = assume(alloc, leaf, test, want, task.options.mode)?;
+    after_list(alloc, finals, task, list, &inside)
 }
 
 /// The leaf at the head of a loop, and what comes in there with it.
@@ -120,19 +156,23 @@ pub(crate) struct Head<L> {
 #[cycle(after)]
 fn turn<L: Leaf>(
     alloc: Global,
+    finals: &mut Finals<L>,
+    task: &Task<'_>,
     body: &[Stmt],
     test: &Expr,
     leaf: &L,
     at: &L,
-    options: Options,
 ) -> Result<L, NoMemory>
     requires count { (L.value at.now).variables ≡ (L.value leaf.now).variables }
     requires test { IsTermOf (L.value leaf.now).variables (term test.now) }
     requires body { IsCodeOf (L.value leaf.now).variables (code body.now) }
-    ensures value { IfOk result (λ made. L.value made ≡ loop_turn L.meaning options (term test.now) (code body.now) (L.value leaf.now) (L.value at.now)) }
+    requires loops { HasLoopsOf (whole task.now.program.now) (code body.now) }
+    requires memory { Remembers L.value L.meaning task.now finals.old }
+    ensures value { IfOk result (λ made. L.value made ≡ loop_turn L.meaning task.now.options (term test.now) (code body.now) (L.value leaf.now) (L.value at.now)) }
     ensures same { IfOk result (λ made. (L.value made).variables ≡ (L.value leaf.now).variables) }
+    ensures memory { OnOk result (Remembers L.value L.meaning task.now finals.new) }
 {
-    let end = after_side(alloc, body, test, true, at, options)?;
+    let end = after_side(alloc, finals, task, body, test, true, at)?;
     joined(alloc, leaf, &end)
 }
 
@@ -140,19 +180,23 @@ fn turn<L: Leaf>(
 #[cycle(after)]
 fn head_at<L: Leaf>(
     alloc: Global,
+    finals: &mut Finals<L>,
+    task: &Task<'_>,
     body: &[Stmt],
     test: &Expr,
     leaf: &L,
     at: L,
-    options: Options,
 ) -> Result<Head<L>, NoMemory>
     requires count { (L.value at).variables ≡ (L.value leaf.now).variables }
     requires test { IsTermOf (L.value leaf.now).variables (term test.now) }
     requires body { IsCodeOf (L.value leaf.now).variables (code body.now) }
+    requires loops { HasLoopsOf (whole task.now.program.now) (code body.now) }
+    requires memory { Remembers L.value L.meaning task.now finals.old }
     ensures at { IfOk result (λ head. L.value head.at ≡ L.value at) }
-    ensures head { IfOk result (λ head. IsHead L.value (loop_turn L.meaning options (term test.now) (code body.now) (L.value leaf.now)) (L.value leaf.now).variables head) }
+    ensures head { IfOk result (λ head. IsHead L.value (loop_turn L.meaning task.now.options (term test.now) (code body.now) (L.value leaf.now)) (L.value leaf.now).variables head) }
+    ensures memory { OnOk result (Remembers L.value L.meaning task.now finals.new) }
 {
-    let next = turn(alloc, body, test, leaf, &at, options)?;
+    let next = turn(alloc, finals, task, body, test, leaf, &at)?;
     Ok(Head { at, next })
 }
 
@@ -161,24 +205,28 @@ fn head_at<L: Leaf>(
 #[cycle(after)]
 fn widened<L: Leaf>(
     alloc: Global,
+    finals: &mut Finals<L>,
+    task: &Task<'_>,
     body: &[Stmt],
     test: &Expr,
     leaf: &L,
-    options: Options,
 ) -> Result<Head<L>, NoMemory>
     requires test { IsTermOf (L.value leaf.now).variables (term test.now) }
     requires body { IsCodeOf (L.value leaf.now).variables (code body.now) }
-    ensures value { IfOk result (λ head. L.value head.at ≡ widened_leaf L.meaning options.delay (loop_turn L.meaning options (term test.now) (code body.now) (L.value leaf.now)) (L.value leaf.now)) }
-    ensures head { IfOk result (λ head. IsHead L.value (loop_turn L.meaning options (term test.now) (code body.now) (L.value leaf.now)) (L.value leaf.now).variables head) }
+    requires loops { HasLoopsOf (whole task.now.program.now) (code body.now) }
+    requires memory { Remembers L.value L.meaning task.now finals.old }
+    ensures value { IfOk result (λ head. L.value head.at ≡ widened_leaf L.meaning task.now.options.delay (loop_turn L.meaning task.now.options (term test.now) (code body.now) (L.value leaf.now)) (L.value leaf.now)) }
+    ensures head { IfOk result (λ head. IsHead L.value (loop_turn L.meaning task.now.options (term test.now) (code body.now) (L.value leaf.now)) (L.value leaf.now).variables head) }
+    ensures memory { OnOk result (Remembers L.value L.meaning task.now finals.new) }
 {
-    let delay = u64::from(options.delay);
+    let delay = u64::from(task.options.delay);
     let rounds = delay + u64::from(L::bound_count(leaf.variables())) + 1;
     let start = leaf.copy(alloc)?;
-    let mut head = head_at(alloc, body, test, leaf, start, options)?;
+    let mut head = head_at(alloc, finals, task, body, test, leaf, start)?;
     for k in 0..rounds {
         match moved(alloc, &head.at, &head.next, k < delay)? {
             None => return Ok(head),
-            Some(made) => head = head_at(alloc, body, test, leaf, made, options)?,
+            Some(made) => head = head_at(alloc, finals, task, body, test, leaf, made)?,
         }
     }
     Ok(head)
@@ -188,25 +236,29 @@ fn widened<L: Leaf>(
 #[cycle(after)]
 fn narrowed<L: Leaf>(
     alloc: Global,
+    finals: &mut Finals<L>,
+    task: &Task<'_>,
     body: &[Stmt],
     test: &Expr,
     leaf: &L,
     head: &Head<L>,
-    options: Options,
 ) -> Result<Option<Head<L>>, NoMemory>
-    requires head { IsHead L.value (loop_turn L.meaning options (term test.now) (code body.now) (L.value leaf.now)) (L.value leaf.now).variables head.now }
+    requires head { IsHead L.value (loop_turn L.meaning task.now.options (term test.now) (code body.now) (L.value leaf.now)) (L.value leaf.now).variables head.now }
     requires test { IsTermOf (L.value leaf.now).variables (term test.now) }
     requires body { IsCodeOf (L.value leaf.now).variables (code body.now) }
-    ensures kept { IfOk result (λ made. IfNone made (narrowing_of L.meaning (loop_turn L.meaning options (term test.now) (code body.now) (L.value leaf.now)) (L.value head.now.at) ≡ L.value head.now.at)) }
-    ensures taken { IfOk result (λ made. IfSome made (λ next. narrowing_of L.meaning (loop_turn L.meaning options (term test.now) (code body.now) (L.value leaf.now)) (L.value head.now.at) ≡ L.value next.at)) }
-    ensures head { IfOk result (λ made. IfSome made (λ next. IsHead L.value (loop_turn L.meaning options (term test.now) (code body.now) (L.value leaf.now)) (L.value leaf.now).variables next)) }
+    requires loops { HasLoopsOf (whole task.now.program.now) (code body.now) }
+    requires memory { Remembers L.value L.meaning task.now finals.old }
+    ensures kept { IfOk result (λ made. IfNone made (narrowing_of L.meaning (loop_turn L.meaning task.now.options (term test.now) (code body.now) (L.value leaf.now)) (L.value head.now.at) ≡ L.value head.now.at)) }
+    ensures taken { IfOk result (λ made. IfSome made (λ next. narrowing_of L.meaning (loop_turn L.meaning task.now.options (term test.now) (code body.now) (L.value leaf.now)) (L.value head.now.at) ≡ L.value next.at)) }
+    ensures head { IfOk result (λ made. IfSome made (λ next. IsHead L.value (loop_turn L.meaning task.now.options (term test.now) (code body.now) (L.value leaf.now)) (L.value leaf.now).variables next)) }
+    ensures memory { OnOk result (Remembers L.value L.meaning task.now finals.new) }
 {
     equality_is_exact::<L>();
     let candidate = narrowed_by(alloc, &head.at, &head.next)?;
     if candidate == head.at {
         return Ok(None);
     }
-    let made = head_at(alloc, body, test, leaf, candidate, options)?;
+    let made = head_at(alloc, finals, task, body, test, leaf, candidate)?;
     if made.next.leq(&made.at) {
         Ok(Some(made))
     } else {
@@ -214,27 +266,71 @@ fn narrowed<L: Leaf>(
     }
 }
 
-/// The final leaf of a loop that is entered with `leaf`. The rounds of narrowing end with the first
-/// that changes nothing.
+/// The final leaf of a loop that is entered with `leaf`, by its rounds. Those of narrowing end with the first that changes
+/// nothing.
 #[cycle(after)]
-pub(crate) fn final_leaf<L: Leaf>(
+fn final_by_rounds<L: Leaf>(
     alloc: Global,
+    finals: &mut Finals<L>,
+    task: &Task<'_>,
     body: &[Stmt],
     test: &Expr,
     leaf: &L,
-    options: Options,
 ) -> Result<L, NoMemory>
     requires test { IsTermOf (L.value leaf.now).variables (term test.now) }
     requires body { IsCodeOf (L.value leaf.now).variables (code body.now) }
-    ensures value { IfOk result (λ made. L.value made ≡ loops.final_leaf L.meaning options (term test.now) (after_of L.meaning options (code body.now)) (L.value leaf.now)) }
+    requires loops { HasLoopsOf (whole task.now.program.now) (code body.now) }
+    requires memory { Remembers L.value L.meaning task.now finals.old }
+    ensures value { IfOk result (λ made. L.value made ≡ loops.final_leaf L.meaning task.now.options (term test.now) (after_of L.meaning task.now.options (code body.now)) (L.value leaf.now)) }
     ensures same { IfOk result (λ made. (L.value made).variables ≡ (L.value leaf.now).variables) }
+    ensures memory { OnOk result (Remembers L.value L.meaning task.now finals.new) }
 {
-    let mut head = widened(alloc, body, test, leaf, options)?;
-    for _k in 0..options.narrow {
-        match narrowed(alloc, body, test, leaf, &head, options)? {
+    let mut head = widened(alloc, finals, task, body, test, leaf)?;
+    for _k in 0..task.options.narrow {
+        match narrowed(alloc, finals, task, body, test, leaf, &head)? {
             None => return Ok(head.at),
             Some(next) => head = next,
         }
     }
     Ok(head.at)
+}
+
+/// The final leaf of the loop at a place that is entered with `leaf`: Nothing stays Nothing, and else it is as remembered, or
+/// made by its rounds and then remembered.
+#[cycle(after)]
+pub(crate) fn final_leaf<L: Leaf>(
+    alloc: Global,
+    finals: &mut Finals<L>,
+    task: &Task<'_>,
+    place: Place,
+    body: &[Stmt],
+    test: &Expr,
+    leaf: &L,
+) -> Result<L, NoMemory>
+    requires test { IsTermOf (L.value leaf.now).variables (term test.now) }
+    requires body { IsCodeOf (L.value leaf.now).variables (code body.now) }
+    requires loops { HasLoopsOf (whole task.now.program.now) (code body.now) }
+    requires here { IsLoopAt (whole task.now.program.now) place (term test.now) (code body.now) }
+    requires memory { Remembers L.value L.meaning task.now finals.old }
+    ensures value { IfOk result (λ made. L.value made ≡ loops.final_leaf L.meaning task.now.options (term test.now) (after_of L.meaning task.now.options (code body.now)) (L.value leaf.now)) }
+    ensures same { IfOk result (λ made. (L.value made).variables ≡ (L.value leaf.now).variables) }
+    ensures memory { OnOk result (Remembers L.value L.meaning task.now finals.new) }
+{
+    transfer_is_sound::<L>();
+    leaf_is_valid(leaf);
+    if leaf.is_nothing() {
+        return leaf.copy(alloc);
+    }
+    let entered = leaf.copy(alloc)?;
+    let key = Entered {
+        place,
+        leaf: entered,
+    };
+    if let Some(last) = find(&finals.entries, &key) {
+        return last.copy(alloc);
+    }
+    let last = final_by_rounds(alloc, finals, task, body, test, leaf)?;
+    let kept = last.copy(alloc)?;
+    remember(&mut finals.entries, key, kept)?;
+    Ok(last)
 }

@@ -10,10 +10,13 @@ ghost use Rattle.plain_analysis.specs.Promises.{LoopsSettle, RunsForeseen};
 
 use crate::alarm::Alarms;
 use crate::entries::{Found, enter_list};
+use crate::finals::Finals;
 use crate::findings::{Findings, PlaceLeaf, PlaceLeaves};
 use crate::options::Options;
+use crate::task::Task;
 use c_tree::Program;
 use fam_outer::NoMemory;
+use indexmap::IndexMap;
 use leaf_domain::{Leaf, leaf_is_valid, transfer_is_sound};
 use std::alloc::Global;
 
@@ -51,7 +54,14 @@ pub fn analyse_one<L: Leaf>(
         places: Vec::new(alloc),
         alarms: Vec::new(alloc),
     };
-    let leaf = enter_list(alloc, &program.body, start, *options, &mut found)?;
+    let mut finals = Finals {
+        entries: IndexMap::new(alloc),
+    };
+    let task = Task {
+        program,
+        options: *options,
+    };
+    let leaf = enter_list(alloc, &mut finals, &mut found, &task, &program.body, start)?;
     let place = program.end;
     found.places.push(PlaceLeaf { place, leaf })?;
     Ok(Findings {

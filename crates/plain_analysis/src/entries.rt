@@ -3,19 +3,23 @@
 
 ghost use Rattle.std.specs.Prelude.{◌≡◌, ◌++◌, ◌∷◌, [], map, IfOk, OnOk};
 ghost use Rattle.c_tree.specs.Tree.{Done};
-ghost use Rattle.c_tree.specs.View.{term, front, code};
+ghost use Rattle.c_tree.specs.View.{term, front, code, whole};
 ghost use Rattle.c_tree.specs.Fit.{IsTermOf, IsCodeOf};
 ghost use Rattle.leaf_domain.specs.Transfer.{assumed};
 ghost use Rattle.leaf_domain.specs.Stops.{may_at};
+ghost use Rattle.plain_analysis.specs.Finals.{Remembers};
+ghost use Rattle.plain_analysis.specs.Stated.{HasLoopsOf};
 ghost use Rattle.plain_analysis.specs.Statements.{after_of, entries_of};
 ghost use Rattle.plain_analysis.specs.Places.{alarm_where};
 ghost use Rattle.plain_analysis.specs.Entered.{place_and_leaf, HasEntered};
 
 use crate::after::final_leaf;
 use crate::alarm::Alarm;
+use crate::finals::Finals;
 use crate::findings::PlaceLeaf;
 use crate::options::Options;
 use crate::steps::joined;
+use crate::task::Task;
 use c_tree::{Expr, Kind, Stmt};
 use fam_outer::{NoMemory, Place};
 use leaf_domain::{Leaf, assign, assume, forget, may};
@@ -85,19 +89,23 @@ fn enter<L: Leaf>(
 #[cycle(enter)]
 pub(crate) fn enter_list<L: Leaf>(
     alloc: Global,
+    finals: &mut Finals<L>,
+    found: &mut Found<L>,
+    task: &Task<'_>,
     list: &[Stmt],
     leaf: &L,
-    options: Options,
-    found: &mut Found<L>,
 ) -> Result<L, NoMemory>
-    requires { IsCodeOf (L.value leaf.now).variables (code list.now) }
-    ensures value { IfOk result (λ made. L.value made ≡ after_of L.meaning options (code list.now) (L.value leaf.now)) }
+    requires fit { IsCodeOf (L.value leaf.now).variables (code list.now) }
+    requires loops { HasLoopsOf (whole task.now.program.now) (code list.now) }
+    requires memory { Remembers L.value L.meaning task.now finals.old }
+    ensures value { IfOk result (λ made. L.value made ≡ after_of L.meaning task.now.options (code list.now) (L.value leaf.now)) }
     ensures same { IfOk result (λ made. (L.value made).variables ≡ (L.value leaf.now).variables) }
-    ensures entered { OnOk result (HasEntered L.value L.meaning options found.old found.new (entries_of L.meaning options (code list.now) (L.value leaf.now))) }
+    ensures entered { OnOk result (HasEntered L.value L.meaning task.now.options found.old found.new (entries_of L.meaning task.now.options (code list.now) (L.value leaf.now))) }
+    ensures memory { OnOk result (Remembers L.value L.meaning task.now finals.new) }
 {
     let mut made = leaf.copy(alloc)?;
     for s in list {
-        made = enter_stmt(alloc, s, &made, options, found)?;
+        made = enter_stmt(alloc, finals, found, task, s, &made)?;
     }
     Ok(made)
 }
@@ -107,15 +115,19 @@ pub(crate) fn enter_list<L: Leaf>(
 #[cycle(enter)]
 fn enter_stmt<L: Leaf>(
     alloc: Global,
+    finals: &mut Finals<L>,
+    found: &mut Found<L>,
+    task: &Task<'_>,
     s: &Stmt,
     leaf: &L,
-    options: Options,
-    found: &mut Found<L>,
 ) -> Result<L, NoMemory>
-    requires { IsCodeOf (L.value leaf.now).variables (front s.now Done) }
-    ensures value { IfOk result (λ made. L.value made ≡ after_of L.meaning options (front s.now Done) (L.value leaf.now)) }
+    requires fit { IsCodeOf (L.value leaf.now).variables (front s.now Done) }
+    requires loops { HasLoopsOf (whole task.now.program.now) (front s.now Done) }
+    requires memory { Remembers L.value L.meaning task.now finals.old }
+    ensures value { IfOk result (λ made. L.value made ≡ after_of L.meaning task.now.options (front s.now Done) (L.value leaf.now)) }
     ensures same { IfOk result (λ made. (L.value made).variables ≡ (L.value leaf.now).variables) }
-    ensures entered { OnOk result (HasEntered L.value L.meaning options found.old found.new (entries_of L.meaning options (front s.now Done) (L.value leaf.now))) }
+    ensures entered { OnOk result (HasEntered L.value L.meaning task.now.options found.old found.new (entries_of L.meaning task.now.options (front s.now Done) (L.value leaf.now))) }
+    ensures memory { OnOk result (Remembers L.value L.meaning task.now finals.new) }
 {
     match s {
         Stmt::Assign {
@@ -123,16 +135,16 @@ fn enter_stmt<L: Leaf>(
             target,
             value,
         } => {
-            enter(alloc, found, s, *place, leaf, options)?;
-            assign(alloc, leaf, *target, value, options.mode)
+            enter(alloc, found, s, *place, leaf, task.options)?;
+            assign(alloc, leaf, *target, value, task.options.mode)
         }
         Stmt::Input { place, target } => {
-            enter(alloc, found, s, *place, leaf, options)?;
+            enter(alloc, found, s, *place, leaf, task.options)?;
             forget(alloc, leaf, *target)
         }
         Stmt::Assert { place, test } => {
-            enter(alloc, found, s, *place, leaf, options)?;
-            assume(alloc, leaf, test, true, options.mode)
+            enter(alloc, found, s, *place, leaf, task.options)?;
+            assume(alloc, leaf, test, true, task.options.mode)
         }
         Stmt::If {
             place,
@@ -140,23 +152,23 @@ fn enter_stmt<L: Leaf>(
             yes,
             no,
         } => {
-            enter(alloc, found, s, *place, leaf, options)?;
-            let after_yes = enter_side(alloc, yes, test, true, leaf, options, found)?;
-            let after_no = enter_side(alloc, no, test, false, leaf, options, found)?;
+            enter(alloc, found, s, *place, leaf, task.options)?;
+            let after_yes = enter_side(alloc, finals, found, task, yes, test, true, leaf)?;
+            let after_no = enter_side(alloc, finals, found, task, no, test, false, leaf)?;
             joined(alloc, &after_yes, &after_no)
         }
         Stmt::While { place, test, body } => {
-            let last = final_leaf(alloc, body, test, leaf, options)?;
-            enter(alloc, found, s, *place, &last, options)?;
-            enter_side(alloc, body, test, true, &last, options, found)?;
-            assume(alloc, &last, test, false, options.mode)
+            let last = final_leaf(alloc, finals, task, *place, body, test, leaf)?;
+            enter(alloc, found, s, *place, &last, task.options)?;
+            enter_side(alloc, finals, found, task, body, test, true, &last)?;
+            assume(alloc, &last, test, false, task.options.mode)
         }
         Stmt::Block { place, body } => {
-            enter(alloc, found, s, *place, leaf, options)?;
-            enter_list(alloc, body, leaf, options, found)
+            enter(alloc, found, s, *place, leaf, task.options)?;
+            enter_list(alloc, finals, found, task, body, leaf)
         }
         Stmt::Skip { place } => {
-            enter(alloc, found, s, *place, leaf, options)?;
+            enter(alloc, found, s, *place, leaf, task.options)?;
             leaf.copy(alloc)
         }
         Stmt::Cond { .. } => leaf.copy(alloc),
@@ -167,19 +179,23 @@ fn enter_stmt<L: Leaf>(
 #[cycle(enter)]
 fn enter_side<L: Leaf>(
     alloc: Global,
+    finals: &mut Finals<L>,
+    found: &mut Found<L>,
+    task: &Task<'_>,
     list: &[Stmt],
     test: &Expr,
     want: bool,
     leaf: &L,
-    options: Options,
-    found: &mut Found<L>,
 ) -> Result<L, NoMemory>
     requires test { IsTermOf (L.value leaf.now).variables (term test.now) }
     requires list { IsCodeOf (L.value leaf.now).variables (code list.now) }
-    ensures value { IfOk result (λ made. L.value made ≡ after_of L.meaning options (code list.now) (assumed L.meaning options.mode (term test.now) want (L.value leaf.now))) }
+    requires loops { HasLoopsOf (whole task.now.program.now) (code list.now) }
+    requires memory { Remembers L.value L.meaning task.now finals.old }
+    ensures value { IfOk result (λ made. L.value made ≡ after_of L.meaning task.now.options (code list.now) (assumed L.meaning task.now.options.mode (term test.now) want (L.value leaf.now))) }
     ensures same { IfOk result (λ made. (L.value made).variables ≡ (L.value leaf.now).variables) }
-    ensures entered { OnOk result (HasEntered L.value L.meaning options found.old found.new (entries_of L.meaning options (code list.now) (assumed L.meaning options.mode (term test.now) want (L.value leaf.now)))) }
+    ensures entered { OnOk result (HasEntered L.value L.meaning task.now.options found.old found.new (entries_of L.meaning task.now.options (code list.now) (assumed L.meaning task.now.options.mode (term test.now) want (L.value leaf.now)))) }
+    ensures memory { OnOk result (Remembers L.value L.meaning task.now finals.new) }
 {
-    let inside = assume(alloc, leaf, test, want, options.mode)?;
-    enter_list(alloc, list, &inside, options, found)
+    let inside = assume(alloc, leaf, test, want, task.options.mode)?;
+    enter_list(alloc, finals, found, task, list, &inside)
 }

@@ -6,9 +6,11 @@ mod after;
 pub mod alarm;
 pub mod analysis;
 mod entries;
+mod finals;
 pub mod findings;
 pub mod options;
 pub mod steps;
+mod task;
 
 pub use alarm::{Alarm, Alarms};
 pub use analysis::analyse_one;

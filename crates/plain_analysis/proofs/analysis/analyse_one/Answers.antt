@@ -3,6 +3,7 @@ use Rattle.c_tree.specs.View.{code, whole}
 use Rattle.plain_analysis.specs.Statements.{after_of, entries_of}
 use Rattle.plain_analysis.specs.Entered.{place_and_leaf, leaves_in, alarms_in}
 use Rattle.plain_analysis.proofs.Promised.{places, leaves, alarms}
+use Rattle.plain_analysis.proofs.StatedLemmas.{has_its_loops, loops_same}
 use Rattle.plain_analysis.proofs.analysis.analyse_one.Goals as goal
 
 pub returns-clause-places : goal.returns-clause-places
@@ -41,3 +42,8 @@ returns-clause-alarms g c =
     ∙ (ap (λ l. l ++ alarms_in M o (entries_of M o (code c.deref.result.now) d)) c.new-2.ensures.items
     ∙ (ap (λ l. alarms_in M o (entries_of M o (code l) d)) c.deref.ensures.value
     ∙ alarms M o (whole c.args.program.now) d c.requires.program c.requires.plain)))
+
+pub enter_list-requires-clause-loops : goal.enter_list-requires-clause-loops
+enter_list-requires-clause-loops g c =
+    let p = whole c.args.program.now in
+    loops_same p _ _ c.deref.ensures.value (has_its_loops p c.requires.program.rising)

@@ -1,30 +1,34 @@
 use Rattle.std.proofs.Common.{rules, arith, ◌≡◌, [], ◌∷◌, ◌+◌, take, sym, subst, ap, ◌∙◌, true, false}
 use Rattle.std.specs.Prelude.{IfOk}
 use Rattle.c_tree.specs.Tree.{Done}
-use Rattle.c_tree.specs.View.{term, front, code}
+use Rattle.c_tree.specs.View.{term, front, code, whole}
 use Rattle.c_tree.specs.Fit.{IsCodeOf}
 use Rattle.leaf_domain.specs.Leaves.{LeafValue}
 use Rattle.leaf_domain.specs.Transfer.{assumed}
 use Rattle.plain_analysis.specs.Loops.{final_leaf}
+use Rattle.plain_analysis.specs.Stated.{IsLoopAt, HasLoopsOf}
 use Rattle.plain_analysis.specs.Statements.{after_of, entries_of}
 use Rattle.plain_analysis.specs.Entered.{HasEntered}
 use Rattle.plain_analysis.proofs.Listed.{IsCodeOf-at, after_of-take_more, entries_of-take_more, front-While}
 use Rattle.plain_analysis.proofs.Sizes.{size-at}
+use Rattle.plain_analysis.proofs.StatedLemmas.{loops-at, loops_If, loops_While, loops_Block, loops_same, loop_same}
 use Rattle.plain_analysis.proofs.EnteredLemmas.{on_ok, on_ok_by, entered_then, entered_as, entries-If, entries-While, entries-Block}
 use Rattle.plain_analysis.proofs.entries.+enter.Goals as goal
 
 pub enter_list-enter_stmt-requires : goal.enter_list-enter_stmt-requires
 enter_list-enter_stmt-requires g t c κs within =
     let s = c.s-item.result in
-    let at_entry = IsCodeOf-at (g.L.Leaf.value c.args.leaf.now).variables c.args.list.now c.loop-s.s-index s c.loop-s-test.true c.s-item.is c.requires in
+    let at_entry = IsCodeOf-at (g.L.Leaf.value c.args.leaf.now).variables c.args.list.now c.loop-s.s-index s c.loop-s-test.true c.s-item.is c.requires.fit in
     let fit : IsCodeOf (g.L.Leaf.value c.loop-s.made).variables (front s Done) = subst (λ n. IsCodeOf n (front s Done)) (sym c.loop-s.invariant.same) at_entry in
+    let loops : HasLoopsOf (whole c.args.task.now.program.now) (front s Done) = loops-at (whole c.args.task.now.program.now) c.args.list.now c.loop-s.s-index s c.loop-s-test.true c.s-item.is c.requires.loops in
+    let memory = c.loop-s.invariant.memory in
     (omega (arith, size-at c.args.list.now c.loop-s.s-index s c.loop-s-test.true c.s-item.is), search rules)
 
 pub enter_list-loop-s-preserved : goal.enter_list-loop-s-preserved
 enter_list-loop-s-preserved g t c =
     let value = g.L.Leaf.value in
     let M = g.L.Leaf.meaning in
-    let o = c.args.options in
+    let o = c.args.task.now.options in
     let v = value c.args.leaf.now in
     let list = c.args.list.now in
     let i = c.loop-s.s-index in
@@ -38,13 +42,14 @@ enter_list-loop-s-preserved g t c =
       same = new.same ∙ c.loop-s.invariant.same;
       entered = entered_as value M o c.args.found.now c.enter_stmt.new.found _ (entries_of M o (code (take (i + 1) list)) v) (sym (entries_of-take_more M o list i s v c.loop-s-test.true c.s-item.is))
           (entered_then value M o c.args.found.now c.loop-s.found c.enter_stmt.new.found so_far here c.loop-s.invariant.entered entered);
+      memory = new.memory;
     }
 
 pub enter_stmt-returns-in_ok-after_no-in-If-clause-entered : goal.enter_stmt-returns-in_ok-after_no-in-If-clause-entered
 enter_stmt-returns-in_ok-after_no-in-If-clause-entered g t c =
     let value = g.L.Leaf.value in
     let M = g.L.Leaf.meaning in
-    let o = c.args.options in
+    let o = c.args.task.now.options in
     let v = value c.args.leaf.now in
     let i = c.in-If in
     let a = c.args.found.now in
@@ -62,7 +67,7 @@ enter_stmt-returns-in_ok-after_no-in-If-clause-entered g t c =
 pub enter_stmt-returns-in_ok-enter_side-in-While-clause-value : goal.enter_stmt-returns-in_ok-enter_side-in-While-clause-value
 enter_stmt-returns-in_ok-enter_side-in-While-clause-value g t c =
     let M = g.L.Leaf.meaning in
-    let o = c.args.options in
+    let o = c.args.task.now.options in
     let v = g.L.Leaf.value c.args.leaf.now in
     let w = c.in-While in
     let last = c.in_ok-last-in-While.ensures.value ∙ ap (λ l. final_leaf M o (term w.test) (after_of M o (code l)) v) c.deref-in-While.ensures.value in
@@ -73,7 +78,7 @@ pub enter_stmt-returns-in_ok-enter_side-in-While-clause-entered : goal.enter_stm
 enter_stmt-returns-in_ok-enter_side-in-While-clause-entered g t c =
     let value = g.L.Leaf.value in
     let M = g.L.Leaf.meaning in
-    let o = c.args.options in
+    let o = c.args.task.now.options in
     let v = value c.args.leaf.now in
     let w = c.in-While in
     let a = c.args.found.now in
@@ -93,7 +98,7 @@ pub enter_stmt-returns-in_ok-enter-in-Block-clause-entered : goal.enter_stmt-ret
 enter_stmt-returns-in_ok-enter-in-Block-clause-entered g t c =
     let value = g.L.Leaf.value in
     let M = g.L.Leaf.meaning in
-    let o = c.args.options in
+    let o = c.args.task.now.options in
     let v = value c.args.leaf.now in
     let w = c.in-Block in
     let a = c.args.found.now in

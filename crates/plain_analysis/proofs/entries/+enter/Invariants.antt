@@ -3,6 +3,7 @@ use Rattle.c_tree.specs.Tree.{Done}
 use Rattle.c_tree.specs.View.{front, code}
 use Rattle.plain_analysis.specs.Statements.{after_of, entries_of}
 use Rattle.plain_analysis.specs.Entered.{HasEntered}
+use Rattle.plain_analysis.specs.Finals.{Remembers}
 use Rattle.plain_analysis.proofs.Sizes.{size_of}
 use Rattle.plain_analysis.proofs.entries.+enter.Given as goal
 
@@ -11,11 +12,12 @@ abbrev pub invariant-enter_list-loop-s : goal.invariant-enter_list-loop-s
 invariant-enter_list-loop-s g l =
     let value = g.L.Leaf.value in
     let M = g.L.Leaf.meaning in
-    let o = l.fn.options in
+    let o = l.task.options in
     record {
       made : value l.made ≡ after_of M o (code (take l.s-index l.list)) (value l.leaf);
       same : (value l.made).variables ≡ (value l.leaf).variables;
       entered : HasEntered value M o l.initial.found l.found (entries_of M o (code (take l.s-index l.list)) (value l.leaf));
+      memory : Remembers value M l.task l.finals;
     }
 
 -- the size of the statements, and then the order of the calls

@@ -1,0 +1,46 @@
+-- The statements of a program by their places.
+use Rattle.std.specs.Prelude.{◌≡◌, List, [], ◌∷◌, ◌++◌, Option, Some, None, if◌then◌else◌}
+use Rattle.c_tree.specs.Tree.{Term, Code, Done, Assign, Input, Assert, If, While, Block, Skip, Cond, Whole}
+use Rattle.fam_outer.specs.declared.faults.Place.{Place}
+use Rattle.plain_analysis.specs.Places.{is_same_place}
+
+-- a statement, alone, and its place
+pub record Statement : Type 0 where
+  pub place : Place
+  pub alone : Code
+
+-- all statements, in the order of the text
+abbrev pub statements_of : Code → List Statement
+statements_of Done = []
+statements_of (Assign place x e rest) = record { place = place; alone = Assign place x e Done } ∷ statements_of rest
+statements_of (Input place x rest) = record { place = place; alone = Input place x Done } ∷ statements_of rest
+statements_of (Assert place e rest) = record { place = place; alone = Assert place e Done } ∷ statements_of rest
+statements_of (If place e p q rest) =
+    record { place = place; alone = If place e p q Done } ∷ (statements_of p ++ (statements_of q ++ statements_of rest))
+statements_of (While place e body rest) =
+    record { place = place; alone = While place e body Done } ∷ (statements_of body ++ statements_of rest)
+statements_of (Block place body rest) =
+    record { place = place; alone = Block place body Done } ∷ (statements_of body ++ statements_of rest)
+statements_of (Skip place rest) = record { place = place; alone = Skip place Done } ∷ statements_of rest
+statements_of (Cond number p q rest) = statements_of p ++ (statements_of q ++ statements_of rest)
+
+-- the first statement at a place
+abbrev pub statement_in : List Statement → Place → Option Code
+statement_in [] place = None
+statement_in (s ∷ ss) place = if is_same_place s.place place then Some s.alone else statement_in ss place
+
+-- at the place the program has a loop with this test and body
+pub record IsLoopAt (p : Whole) (place : Place) (test : Term) (body : Code) : Type 0 where
+  pub stands : statement_in (statements_of p.body) place ≡ Some (While place test body Done)
+
+-- the program has each loop of the code at its place
+abbrev pub HasLoopsOf : Whole → Code → Type 0
+HasLoopsOf p Done = Unit {0}
+HasLoopsOf p (Assign place x e rest) = HasLoopsOf p rest
+HasLoopsOf p (Input place x rest) = HasLoopsOf p rest
+HasLoopsOf p (Assert place e rest) = HasLoopsOf p rest
+HasLoopsOf p (If place e a b rest) = HasLoopsOf p a × HasLoopsOf p b × HasLoopsOf p rest
+HasLoopsOf p (While place e body rest) = IsLoopAt p place e body × HasLoopsOf p body × HasLoopsOf p rest
+HasLoopsOf p (Block place body rest) = HasLoopsOf p body × HasLoopsOf p rest
+HasLoopsOf p (Skip place rest) = HasLoopsOf p rest
+HasLoopsOf p (Cond number a b rest) = HasLoopsOf p a × HasLoopsOf p b × HasLoopsOf p rest
