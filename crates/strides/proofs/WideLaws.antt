@@ -1,12 +1,12 @@
 -- Strides in 128 bits, and what of them fits fewer.
-use Rattle.std.proofs.Common.{◌≡◌, ℕ, ◌<◌, ◌≤◌, ℤ, pos, negsuc, ◌+ℤ◌, ◌-ℤ◌, ◌≤ℤ◌, ◌<ℤ◌, true, sym, ap, subst, ◌∙◌, arith}
-use Rattle.std.specs.Int.{int_min, int_max, int_rem_euclid, IsGcd}
+use Rattle.std.proofs.Common.{◌≡◌, ℕ, ◌<◌, ◌≤◌, ℤ, pos, negsuc, ◌+ℤ◌, ◌-ℤ◌, ◌≤ℤ◌, ◌<ℤ◌, int_lt, Bool, true, false, Some, None, if◌then◌else◌, refl, sym, ap, subst, ◌∙◌, to_z, of_z, w64, arith}
+use Rattle.std.specs.Int.{int_min, int_max, int_rem_euclid, IsGcd, w128}
 use Rattle.std.proofs.lemmas.Int.{ints}
 use Rattle.strides.specs.declared.stride.Stride.{Stride}
 use Rattle.strides.specs.declared.strided.Strided.{Strided}
 use Rattle.strides.specs.Divisors.{gcd}
 use Rattle.strides.specs.Strides.{stride_at, HasStride, IsReduced, first_from, last_to, stride_of, distance, joined_stride}
-use Rattle.strides.specs.Strided.{least, greatest, strided_at, is_bare, point_at, reduced}
+use Rattle.strides.specs.Strided.{least, greatest, strided_at, is_bare, point_at, reduced, best_part}
 use Rattle.strides.proofs.Multiples.{gcd_same}
 use Rattle.strides.proofs.Remainders.{IsRemainder, remainder_is}
 use Rattle.strides.proofs.StrideLaws.{by_modulus, alone, first_above, last_below, first_has, last_has, first_zero, first_some, last_zero, last_some, stride_zero, stride_some, stride_modulus}
@@ -123,3 +123,52 @@ is_narrow b f l e g o i r =
         omega (arith, ints)
     narrow : least ≤ℤ f → l ≤ℤ greatest → pos b.stride.modulus ≤ℤ (l -ℤ f) → pos 0 ≤ℤ b.stride.residue → b.stride.residue <ℤ pos b.stride.modulus → IsNarrow b.stride
     narrow h k m u w = record { modulus = omega (arith, ints); low = u; high = omega (arith, ints) }
+
+-- ---- whether there is a number
+pub none_by : (b : Strided) (f l : ℤ) → f ≡ first_from b.low b.stride → l ≡ last_to b.high b.stride → l <ℤ f → best_part b ≡ None
+none_by b f l e g o = ap (λ t. if t then None else Some (reduced b)) (is_bare_true b f l e g o)
+  where
+    is_bare_true : (b : Strided) (f l : ℤ) → f ≡ first_from b.low b.stride → l ≡ last_to b.high b.stride → l <ℤ f → is_bare b ≡ true
+    is_bare_true b f l e g o = let k : last_of b <ℤ first_of b = omega (arith, ints) in grind (arith, ints)
+
+pub bare_kept : (b : Strided) (f l : ℤ) → f ≡ first_from b.low b.stride → l ≡ last_to b.high b.stride → l <ℤ f → b ≡ reduced b
+bare_kept b f l e g o = by_reduced (λ r. b ≡ r) b (λ t. refl) (λ t u. absurd (not_same u)) (λ t u. absurd (not_less u))
+  where
+    not_same : first_of b ≡ last_of b → ⊥
+    not_same t = omega (arith, ints)
+    not_less : first_of b <ℤ last_of b → ⊥
+    not_less t = omega (arith, ints)
+
+pub some_by : (b r : Strided) (f l : ℤ) → f ≡ first_from b.low b.stride → l ≡ last_to b.high b.stride → f ≤ℤ l → r ≡ reduced b → Some r ≡ best_part b
+some_by b r f l e g o k = ap Some k ∙ sym (ap (λ t. if t then None else Some (reduced b)) (is_bare_false b f l e g o))
+  where
+    is_bare_false : (b : Strided) (f l : ℤ) → f ≡ first_from b.low b.stride → l ≡ last_to b.high b.stride → f ≤ℤ l → is_bare b ≡ false
+    is_bare_false b f l e g o = let k : first_of b ≤ℤ last_of b = omega (arith, ints) in grind (arith, ints)
+
+pub first_same : (l : ℤ) (s t : Stride) (x f : ℤ) → f ≡ first_from x t → x ≡ l → t ≡ s → f ≡ first_from l s
+first_same l s t x f e p q = e ∙ ap (λ y. first_from y t) p ∙ ap (first_from l) q
+
+pub last_same : (h : ℤ) (s t : Stride) (x f : ℤ) → f ≡ last_to x t → x ≡ h → t ≡ s → f ≡ last_to h s
+last_same h s t x f e p q = e ∙ ap (λ y. last_to y t) p ∙ ap (last_to h) q
+
+pub bare_by : (b : Strided) (t : Bool) (f l : ℤ) → f ≡ first_from b.low b.stride → l ≡ last_to b.high b.stride → t ≡ int_lt l f → t ≡ is_bare b
+bare_by b t f l e g k = k ∙ ap (λ x. int_lt x f) g ∙ ap (int_lt (last_of b)) e
+
+pub record AreWithin (b : Strided) (f l : ℤ) : Type 0 where
+  pub first_low : b.low ≤ℤ f
+  pub first_high : f ≤ℤ b.high
+  pub last_low : b.low ≤ℤ l
+  pub last_high : l ≤ℤ b.high
+
+pub are_within : (b : Strided) (f l : ℤ) → f ≡ first_from b.low b.stride → l ≡ last_to b.high b.stride → f ≤ℤ l → AreWithin b f l
+are_within b f l e g o =
+    let u : b.low ≤ℤ first_of b = first_above b.low b.stride in
+    let w : last_of b ≤ℤ b.high = last_below b.high b.stride in
+    record { first_low = omega (arith, ints); first_high = omega (arith, ints); last_low = omega (arith, ints); last_high = omega (arith, ints) }
+
+-- a number between two of 64 bits comes back from them
+pub back : (a b r : ℤ) → to_z w64 (of_z w64 a) ≡ a → to_z w64 (of_z w64 b) ≡ b → a ≤ℤ r → r ≤ℤ b → to_z w64 (of_z w64 (to_z w128 (of_z w128 r))) ≡ r
+back a b r u w p q =
+    let e : to_z w128 (of_z w128 r) ≡ r = omega (arith, ints) in
+    let f : to_z w64 (of_z w64 r) ≡ r = omega (arith, ints) in
+    ap (λ x. to_z w64 (of_z w64 x)) e ∙ f

@@ -1,5 +1,5 @@
 -- The numbers from a low to a high that have a stride.
-use Rattle.std.specs.Prelude.{◌≡◌, ℕ, ◌+◌, ◌≤◌, nat_eq, ℤ, ◌≤ℤ◌, int_lt, int_le, Bool, false, ◌&&◌, if◌then◌else◌}
+use Rattle.std.specs.Prelude.{◌≡◌, ℕ, ◌+◌, ◌≤◌, nat_eq, ℤ, ◌≤ℤ◌, int_lt, int_le, Bool, false, ◌&&◌, if◌then◌else◌, Option, Some, None}
 use Rattle.std.specs.Int.{int_min, int_max}
 use Rattle.std.specs.Ordering.{int_eq}
 pub use Rattle.c_tree.specs.Value.{least, greatest}
@@ -31,6 +31,10 @@ between l h s = if int_eq l h then point_at l else strided_at l h s
 -- there is no number, it stays as it is
 unfoldable pub reduced : Strided → Strided
 reduced b = if is_bare b then b else between (first_from b.low b.stride) (last_to b.high b.stride) b.stride
+
+-- the numbers by their best bounds, where there are some
+abbrev pub best_part : Strided → Option Strided
+best_part b = if is_bare b then None else Some (reduced b)
 
 -- what a leaf has for a variable
 pub record IsOwn (b : Strided) : Type 0 where

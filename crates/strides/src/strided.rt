@@ -1,9 +1,9 @@
 //! The numbers from a low to a high that have a stride.
 #![tactic(auto)]
 
-ghost use Rattle.std.specs.Prelude.{◌≡◌, ◌≤ℤ◌, int_lt, if◌then◌else◌, IfSome, IfNone, true, false};
+ghost use Rattle.std.specs.Prelude.{◌≡◌, ◌≤ℤ◌, int_lt, if◌then◌else◌};
 ghost use Rattle.strides.specs.Strides.{stride_at, IsReduced, IsWide};
-ghost use Rattle.strides.specs.Strided.{least, greatest, strided_at, is_bare, reduced, point_at, IsOwn, joined, lies_in, widened, narrowed};
+ghost use Rattle.strides.specs.Strided.{least, greatest, strided_at, is_bare, reduced, best_part, point_at, IsOwn, joined, lies_in, widened, narrowed};
 
 use crate::stride::{Stride, WideStride};
 
@@ -64,9 +64,7 @@ impl Strided {
         requires high { high ≤ℤ greatest }
         requires wide { IsWide (stride_at stride.modulus stride.residue) }
         requires residue { IsReduced (stride_at stride.modulus stride.residue) }
-        ensures none { IfNone result (is_bare (strided_at low high (stride_at stride.modulus stride.residue)) ≡ true) }
-        ensures some { IfSome result (λ b. is_bare (strided_at low high (stride_at stride.modulus stride.residue)) ≡ false) }
-        ensures best { IfSome result (λ b. b ≡ reduced (strided_at low high (stride_at stride.modulus stride.residue))) }
+        ensures { result ≡ best_part (strided_at low high (stride_at stride.modulus stride.residue)) }
     {
         let first = stride.first_from(low);
         let last = stride.last_to(high);
@@ -81,6 +79,35 @@ impl Strided {
             high: narrow(last),
             stride: stride.narrow(),
         })
+    }
+
+    /// Whether there is no number.
+    pub fn is_bare(self) -> bool
+        ensures { result ≡ is_bare self }
+    {
+        let stride = self.stride.wide();
+        let first = stride.first_from(self.low);
+        stride.last_to(self.high) < first
+    }
+
+    /// The same numbers by their best bounds. Where there is no number, it stays as it is.
+    pub fn reduced(self) -> Strided
+        ensures { result ≡ reduced self }
+    {
+        let stride = self.stride.wide();
+        let first = stride.first_from(self.low);
+        let last = stride.last_to(self.high);
+        if last < first {
+            return self;
+        }
+        if first == last {
+            return Strided::point(first as i64);
+        }
+        Strided {
+            low: first as i64,
+            high: last as i64,
+            stride: self.stride,
+        }
     }
 
     /// Whether each of the low, the high and the stride lies in that of the other.
