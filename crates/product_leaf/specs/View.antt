@@ -4,7 +4,7 @@ use Rattle.std.specs.Global.{Global}
 use Rattle.leaf_domain.specs.Leaves.{LeafValue}
 use Rattle.strides.specs.declared.strided.Strided.{Strided}
 use Rattle.strides.specs.Strided.{reduced}
-use Rattle.product_leaf.specs.StrideLeaves.{numbers_of, AllOwn}
+use Rattle.product_leaf.specs.StrideLeaves.{numbers_of, leaf_of, AllOwn}
 use Rattle.product_leaf.specs.declared.leaf.StrideLeaf.TheInside.{Inside}
 
 -- the parts as they stand, where they are kept, and else the best ones
@@ -27,3 +27,15 @@ AreParts n (Some b) (Some w) = AreBestParts n w.items b.items
 
 abbrev pub IsSound : Inside → Type 0
 IsSound s = (s.variables ≤ 16) × AreParts s.variables s.best s.standing
+
+-- the parts of a leaf as they stand
+pub record IsOwnOf (v : LeafValue) (bs : List Strided) : Type 0 where
+  pub same : v ≡ leaf_of bs
+  pub own : AllOwn bs
+
+-- the parts of a leaf by their best bounds
+pub record IsBestOf (v : LeafValue) (bs : List Strided) : Type 0 where
+  pub parts : List Strided
+  pub same : v ≡ leaf_of parts
+  pub own : AllOwn parts
+  pub best : bs ≡ map reduced parts

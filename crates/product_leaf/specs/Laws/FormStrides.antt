@@ -25,7 +25,7 @@ common_divides g bs (t ∷ ts) =
 -- a number times a multiple
 scaled : (a z : ℤ) (m : ℕ) → IsMultiple m z → IsMultiple (unsigned_abs a * m) (a *ℤ z)
 scaled a z m h =
-    multiple_from_dvd (unsigned_abs a * m) (a *ℤ z) (subst (λ k. unsigned_abs a * m ∣ k) (sym (unsigned_abs-mul a z)) (mul-dvd-mul_left (unsigned_abs a) (dvd_from_multiple m z h)))
+    multiple_from_dvd (unsigned_abs a * m) (a *ℤ z) (subst (λ k. unsigned_abs a * m ∣ k) (sym (unsigned_abs-mul a z)) (mul-dvd-mul_left m (unsigned_abs a) (dvd_from_multiple m z h)))
 
 times_difference : (a x y : ℤ) → a *ℤ (x -ℤ y) ≡ (a *ℤ x) -ℤ (a *ℤ y)
 times_difference a x y =
