@@ -113,3 +113,10 @@ pub read_at : (bs : List Strided) (x : ℕ) (d e : Strided) → x < length bs �
 read_at [] x d e h = absurd (omega arith)
 read_at (b ∷ bs) zero d e h = refl
 read_at (b ∷ bs) (suc x) d e h = read_at bs x d e (omega arith)
+
+-- ---- parts as they stand, where each has a number
+pub settled_bare : (rs : List Strided) (n : ℕ) → list_any is_bare rs ≡ true → length rs ≡ n → nothing_of n ≡ settled rs
+settled_bare rs n e l = rw e (ap nothing_of (sym l))
+
+pub settled_full : (rs : List Strided) → list_any is_bare rs ≡ false → leaf_of rs ≡ settled rs
+settled_full rs e = rw e refl

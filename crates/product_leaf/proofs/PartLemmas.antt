@@ -1,14 +1,14 @@
 -- Facts on lists of parts by their best bounds, and on lists made part by part.
-use Rattle.std.proofs.Common.{◌≡◌, ℕ, zero, suc, ◌+◌, ◌<◌, ◌≤◌, Bool, true, false, ◌&&◌, ◌||◌, List, [], ◌∷◌, ◌++◌, length, map, take, slice_set, slice_index_or, get_or, refl, ap, sym, subst, ◌∙◌, arith}
+use Rattle.std.proofs.Common.{◌≡◌, ℕ, zero, suc, ◌+◌, ◌<◌, ◌≤◌, Bool, true, false, ◌&&◌, ◌||◌, List, [], ◌∷◌, ◌++◌, length, map, take, ℤ, Option, Some, None, IfSome, if◌then◌else◌, slice_set, slice_index_or, get_or, refl, ap, sym, subst, ◌∙◌, arith}
 use Rattle.std.specs.List.{zip, list_any}
 use Rattle.std.specs.Ordering.{int_eq}
 use lib.Pointwise.{pointwise}
 use Rattle.leaf_domain.specs.Leaves.{same_numbers}
 use Rattle.strides.specs.declared.strided.Strided.{Strided}
-use Rattle.strides.specs.Strided.{is_bare, reduced, IsOwn, joined}
-use Rattle.strides.proofs.StridedLaws.{IsBest, reduced_best, best_reduced, joined_best}
-use Rattle.product_leaf.specs.StrideLeaves.{numbers_of, AllOwn, joined_all}
-use Rattle.product_leaf.specs.Laws.Parts.{own_some}
+use Rattle.strides.specs.Strided.{is_bare, reduced, best_part, point_at, IsOwn, joined}
+use Rattle.strides.proofs.StridedLaws.{reduced_best, best_reduced, joined_best, point_best, reduced_own}
+use Rattle.product_leaf.specs.StrideLeaves.{numbers_of, AllOwn, joined_all, part_at}
+use Rattle.product_leaf.specs.Laws.Parts.{own_some, IsLimited}
 
 pub reduced_twice : (b : Strided) → is_bare b ≡ false → reduced (reduced b) ≡ reduced b
 reduced_twice b e = best_reduced (reduced b) (reduced_best b e)
@@ -41,3 +41,50 @@ bare_set [] x b h l = absurd (omega arith)
 bare_set (a ∷ bs) zero b h l = ap (λ t. is_bare b || t) (own_some bs h.1) ∙ or_false (is_bare b)
 bare_set (a ∷ bs) (suc x) b h l = ap (λ t. t || list_any is_bare (slice_set bs x b)) h.0.some ∙ bare_set bs x b h.1 (omega arith)
 
+
+-- ---- lists made part by part
+zipped_more : (f : Strided → Strided → Strided) (us bs : List Strided) (i : ℕ) → i < length us → i < length bs → map (λ (a, b). f a b) (zip (take (suc i) us) (take (suc i) bs)) ≡ map (λ (a, b). f a b) (zip (take i us) (take i bs)) ++ (f (part_at us i) (part_at bs i) ∷ [])
+zipped_more f [] bs i l k = absurd (omega arith)
+zipped_more f (u ∷ us) [] i l k = absurd (omega arith)
+zipped_more f (u ∷ us) (b ∷ bs) zero l k = refl
+zipped_more f (u ∷ us) (b ∷ bs) (suc i) l k = ap (λ xs. f u b ∷ xs) (zipped_more f us bs i (omega arith) (omega arith))
+
+pub zipped_next : (f : Strided → Strided → Strided) (us bs made new : List Strided) (i : ℕ) (r : Strided) → made ≡ map (λ (a, b). f a b) (zip (take i us) (take i bs)) → new ≡ made ++ (r ∷ []) → r ≡ f (part_at us i) (part_at bs i) → i < length us → i < length bs → new ≡ map (λ (a, b). f a b) (zip (take (i + 1) us) (take (i + 1) bs))
+zipped_next f us bs made new i r e g h l k =
+    let n : suc i ≡ i + 1 = omega arith in
+    g ∙ ap (λ xs. xs ++ (r ∷ [])) e ∙ ap (λ y. map (λ (a, b). f a b) (zip (take i us) (take i bs)) ++ (y ∷ [])) h ∙ sym (zipped_more f us bs i l k)
+    ∙ ap (λ j. map (λ (a, b). f a b) (zip (take j us) (take j bs))) n
+
+-- ---- best bounds of one part
+pub part_own : (b : Strided) (r : Option Strided) → r ≡ best_part b → IsLimited b → IfSome r IsOwn
+part_own b r e h = subst (λ o. IfSome o IsOwn) (sym e) (by_test (is_bare b) refl)
+  where
+    by_test : (t : Bool) → is_bare b ≡ t → IfSome (if t then None else Some (reduced b)) IsOwn
+    by_test true f = tt
+    by_test false f = reduced_own b h.low h.high h.residue f
+
+pub part_best : (b : Strided) (r : Option Strided) → r ≡ best_part b → IfSome r (λ p. p ≡ reduced p)
+part_best b r e = subst (λ o. IfSome o (λ p. p ≡ reduced p)) (sym e) (by_test (is_bare b) refl)
+  where
+    by_test : (t : Bool) → is_bare b ≡ t → IfSome (if t then None else Some (reduced b)) (λ p. p ≡ reduced p)
+    by_test true f = tt
+    by_test false f = sym (reduced_twice b f)
+
+pub points_twice : (s : List ℤ) → map reduced (map point_at s) ≡ map point_at s
+points_twice [] = refl
+points_twice (n ∷ s) = ap (λ x. x ∷ map reduced (map point_at s)) (best_reduced (point_at n) (point_best n)) ∙ ap (λ xs. point_at n ∷ xs) (points_twice s)
+
+pub joined_again : (us bs ps qs rs : List Strided) → ps ≡ map reduced us → qs ≡ map reduced bs → rs ≡ joined_all ps qs → AllOwn us → AllOwn bs → rs ≡ map reduced rs
+joined_again us bs ps qs rs e f g o k = rw (g, e, f) (sym (joined_twice us bs o k))
+
+pub best_again : (us ps : List Strided) → ps ≡ map reduced us → AllOwn us → ps ≡ map reduced ps
+best_again us ps e o = rw e (sym (best_twice us o))
+
+-- a list of best parts with one replaced
+pub set_again : (ps : List Strided) (x : ℕ) (p : Strided) → ps ≡ map reduced ps → p ≡ reduced p → slice_set ps x p ≡ map reduced (slice_set ps x p)
+set_again ps x p e f = sym (best_set ps x p ∙ ap (λ q. slice_set (map reduced ps) x q) (sym f) ∙ ap (λ xs. slice_set xs x p) (sym e))
+
+pub set_own : (ps : List Strided) (x : ℕ) (p : Strided) → AllOwn ps → IsOwn p → AllOwn (slice_set ps x p)
+set_own [] x p h k = tt
+set_own (a ∷ ps) zero p h k = (k, h.1)
+set_own (a ∷ ps) (suc x) p h k = (h.0, set_own ps x p h.1 k)

@@ -13,7 +13,7 @@ ghost use Rattle.product_leaf.specs.Hashing.{fed_leaf};
 
 use crate::form_stride::form_stride;
 use crate::parts::{
-    are_inside, are_same, best_part, has_bare, joined, met_part, narrowed, points, reduced, replaced,
+    are_inside, are_same, best_part, copied, has_bare, joined, met_part, narrowed, points, range_of, reduced, replaced,
     widened,
 };
 use fam_outer::NoMemory;
@@ -234,7 +234,7 @@ impl Leaf for StrideLeaf {
     fn best(&self, alloc: Global) -> Result<StrideLeaf, NoMemory> {
         match self.best_parts() {
             None => Ok(StrideLeaf::none(self.count())),
-            Some(parts) => Ok(StrideLeaf::of_best(parts.to_vec(alloc)?)),
+            Some(parts) => Ok(StrideLeaf::of_best(copied(alloc, parts)?)),
         }
     }
 
@@ -286,10 +286,7 @@ impl Leaf for StrideLeaf {
     fn bounds_of(&self, x: u32) -> Range {
         match self.best_parts() {
             None => Range::EMPTY,
-            Some(parts) => Range {
-                low: parts[x as usize].low,
-                high: parts[x as usize].high,
-            },
+            Some(parts) => range_of(parts[x as usize]),
         }
     }
 

@@ -5,7 +5,7 @@ ghost use Rattle.std.specs.Prelude.{◌≡◌, ◌<◌, IfOk, length, map, slice
 ghost use Rattle.std.specs.List.{list_any};
 ghost use Rattle.leaf_domain.specs.Leaves.{same_numbers};
 ghost use Rattle.strides.specs.Strided.{is_bare, reduced, best_part, point_at};
-ghost use Rattle.product_leaf.specs.StrideLeaves.{numbers_of, AllOwn, joined_all, all_lie_in, widened_all, narrowed_all, met_part};
+ghost use Rattle.product_leaf.specs.StrideLeaves.{numbers_of, AllOwn, joined_all, all_lie_in, widened_all, narrowed_all, met_part, range_of_part};
 
 use leaf_domain::Range;
 use std::alloc::{AllocError, Global};
@@ -79,6 +79,23 @@ pub(crate) fn best_part(part: Strided) -> Option<Strided>
     ensures { result ≡ best_part part }
 {
     if part.is_bare() { None } else { Some(part.reduced()) }
+}
+
+/// The same parts.
+pub(crate) fn copied(alloc: Global, parts: &[Strided]) -> Result<Vec<Strided>, AllocError>
+    ensures { IfOk result (λ v. v.items ≡ parts.now) }
+{
+    parts.to_vec(alloc)
+}
+
+/// The low and the high of a part.
+pub(crate) fn range_of(part: Strided) -> Range
+    ensures { result ≡ range_of_part part }
+{
+    Range {
+        low: part.low,
+        high: part.high,
+    }
 }
 
 /// The part with its bounds met by the range.

@@ -166,7 +166,7 @@ joined_has_second a b n h =
     record { low = omega (arith, ints, clamps); high = omega (arith, ints, clamps); stride = joined_second a.stride b.stride n h.stride }
 
 -- with modulus 0 the residue is between the bounds
-own_residue : (b : Strided) → IsOwn b → b.stride.modulus ≡ 0 → (least ≤ℤ b.stride.residue) × (b.stride.residue ≤ℤ greatest)
+pub own_residue : (b : Strided) → IsOwn b → b.stride.modulus ≡ 0 → (least ≤ℤ b.stride.residue) × (b.stride.residue ≤ℤ greatest)
 own_residue b i z =
     let h : Has b (first_of b) = first_in b i.some in
     let e : first_of b ≡ b.stride.residue = alone b.stride (first_of b) z h.stride in

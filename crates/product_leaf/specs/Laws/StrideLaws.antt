@@ -174,10 +174,10 @@ all_have n = record { times = n; value = times_one n }
 in_range : (r : Range) (n : ℤ) → Within n r → Has (strided_at r.low r.high (stride_at 1 (pos 0))) n
 in_range r n w = record { low = w.low; high = w.high; stride = all_have n }
 
-range_limited : (r : Range) → IsInInt r → IsLimited (strided_at r.low r.high (stride_at 1 (pos 0)))
+pub range_limited : (r : Range) → IsInInt r → IsLimited (strided_at r.low r.high (stride_at 1 (pos 0)))
 range_limited r i = record { low = i.low.low; high = i.high.high; residue = record { low = λ p. omega (arith, ints); high = λ p. omega (arith, ints) } }
 
-meet_limited : (b : Strided) (r : Range) → IsOwn b → IsInInt r → IsLimited (met_part b r)
+pub meet_limited : (b : Strided) (r : Range) → IsOwn b → IsInInt r → IsLimited (met_part b r)
 meet_limited b r h i =
     let p : least ≤ℤ b.low = h.low in
     let q : b.high ≤ℤ greatest = h.high in
@@ -201,7 +201,7 @@ meet_holds n (Some us) x r s p l h w =
             met_has (part_at (fours_of us) x) r (slice_index_or s x (pos 0)) (read_has (fours_of us) s x (omega (arith, p.1.1)) h) w in
     best_of_holds (slice_set (fours_of us) x (met_part (part_at (fours_of us) x) r)) s (kept_have (fours_of us) s x _ h k)
 
-form_limited : (bs : List Strided) (f : Form) (r : Range) → IsInInt r → IsLimited (strided_at r.low r.high (form_stride bs f))
+pub form_limited : (bs : List Strided) (f : Form) (r : Range) → IsInInt r → IsLimited (strided_at r.low r.high (form_stride bs f))
 form_limited bs f r i = record { low = i.low.low; high = i.high.high; residue = form_reduced bs f }
 
 set_form_holds : (n : ℕ) (c : Option (List ℤ)) (x : ℕ) (f : Form) (r : Range) (s : List ℤ) → IsStrideLeaf (at n c) → IsForm n f → ContentHolds c s → Within (form_at f s) r → stride_holds (stride_set_form (at n c) x f r) (slice_set s x (form_at f s))
