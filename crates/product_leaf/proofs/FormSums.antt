@@ -1,13 +1,12 @@
 -- The stride of a form, term by term.
-use Rattle.std.proofs.Common.{◌≡◌, ℕ, zero, suc, ◌+◌, ◌*◌, ◌^◌, ◌<◌, ◌≤◌, ℤ, pos, negsuc, neg_ℤ, ◌+ℤ◌, ◌*ℤ◌, ◌≤ℤ◌, ◌<ℤ◌, unsigned_abs, List, [], ◌∷◌, length, refl, ap, sym, subst, ◌∙◌, arith}
+use Rattle.std.proofs.Common.{◌≡◌, ℕ, ◌+◌, ◌*◌, ◌^◌, ◌<◌, ◌≤◌, ℤ, pos, negsuc, ◌+ℤ◌, ◌*ℤ◌, ◌≤ℤ◌, ◌<ℤ◌, unsigned_abs, List, [], ◌∷◌, length, refl, ap, sym, subst, ◌∙◌, to_z, of_z, w64, FitsSigned, arith}
 use Rattle.std.specs.Int.{IsGcd}
 use Rattle.std.proofs.lemmas.Int.{ints, unsigned_abs-mul}
 use Rattle.leaf_domain.specs.declared.form.Form.{Form}
 use Rattle.leaf_domain.specs.Forms.{terms_at, form_at, AreTerms, IsForm, IsFormNumber}
 use Rattle.strides.specs.declared.strided.Strided.{Strided}
 use Rattle.strides.specs.Strided.{least, greatest, IsOwn}
-use Rattle.strides.specs.Divisors.{gcd}
-use Rattle.std.specs.Int.{int_rem_euclid}
+use Rattle.std.specs.Int.{int_rem_euclid, w128}
 use Rattle.std.proofs.Math.Nat.{mul-le-mul, le_trans}
 use Rattle.strides.specs.Strides.{stride_at, stride_of, IsWide}
 use Rattle.strides.proofs.Multiples.{gcd_same, gcd_small}
@@ -61,12 +60,26 @@ number_small a i = let p : negsuc 1099511627775 ≤ℤ a = i.low in let q : a �
 product_small : (p q : ℕ) → p ≤ 1099511627776 → q ≤ 4294967296 → p * q ≤ 2 ^ 72
 product_small p q h k = le_trans (mul-le-mul h k) (omega arith)
 
+small_back : (n : ℤ) → unsigned_abs n ≤ 4294967296 → to_z w64 (of_z w64 n) ≡ n
+small_back n h = omega (arith, ints)
+
+-- a sum of what is found so far and of a product fits 128 bits
+pub add_fits : (v p : ℤ) → unsigned_abs v ≤ 2 ^ 79 → unsigned_abs p ≤ 2 ^ 72 → FitsSigned w128 (v +ℤ to_z w128 (of_z w128 p))
+add_fits v p h k = let e : to_z w128 (of_z w128 p) ≡ p = omega (arith, ints) in omega (arith, ints)
+
+pub add_back : (v p : ℤ) → unsigned_abs v ≤ 2 ^ 79 → unsigned_abs p ≤ 2 ^ 72 → to_z w128 (of_z w128 (v +ℤ to_z w128 (of_z w128 p))) ≡ v +ℤ p
+add_back v p h k =
+    let e : to_z w128 (of_z w128 p) ≡ p = omega (arith, ints) in
+    let f : to_z w128 (of_z w128 (v +ℤ p)) ≡ v +ℤ p = omega (arith, ints) in
+    ap (λ x. to_z w128 (of_z w128 (v +ℤ x))) e ∙ f
+
 pub record IsNextTerm (parts : List Strided) (x : ℕ) (a : ℤ) : Type 0 where
   pub below : x < length parts
   pub coefficient : unsigned_abs a ≤ 1099511627776
   pub modulus : (part_at parts x).stride.modulus ≤ 4294967295
   pub times : unsigned_abs a * (part_at parts x).stride.modulus ≤ 2 ^ 72
   pub product : unsigned_abs (a *ℤ (part_at parts x).stride.residue) ≤ 2 ^ 72
+  pub back : to_z w64 (of_z w64 (part_at parts x).stride.residue) ≡ (part_at parts x).stride.residue
 
 pub next_term : (parts : List Strided) (f : Form) (g : ℕ) (v : ℤ) (rest behind : List (ℕ × ℤ)) (x : ℕ) (a : ℤ) → AllOwn parts → IsSum parts f g v rest → rest ≡ (x, a) ∷ behind → IsNextTerm parts x a
 next_term parts f g v rest behind x a o s e =
@@ -78,6 +91,7 @@ next_term parts f g v rest behind x a o s e =
       modulus = i.modulus;
       times = product_small (unsigned_abs a) (part_at parts x).stride.modulus (number_small a t.3) (wider (part_at parts x).stride.modulus i.modulus);
       product = subst (λ n. n ≤ 2 ^ 72) (sym (unsigned_abs-mul a (part_at parts x).stride.residue)) (product_small (unsigned_abs a) (unsigned_abs (part_at parts x).stride.residue) (number_small a t.3) (residue_small (part_at parts x) i));
+      back = small_back (part_at parts x).stride.residue (residue_small (part_at parts x) i);
     }
   where
     wider : (m : ℕ) → m ≤ 4294967295 → m ≤ 4294967296

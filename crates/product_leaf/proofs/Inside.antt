@@ -1,10 +1,9 @@
 -- What the fields keep is what the leaf's value keeps.
-use Rattle.std.proofs.Common.{◌≡◌, ℕ, ◌≤◌, ℤ, List, Option, Some, None, Vec, length, map, refl, ap, sym, subst, ◌∙◌}
+use Rattle.std.proofs.Common.{◌≡◌, ℕ, ℤ, List, Option, Some, None, Vec, length, ap, sym, subst, ◌∙◌}
 use Rattle.std.specs.Global.{Global}
-use Rattle.leaf_domain.specs.Leaves.{LeafValue, nothing_of}
+use Rattle.leaf_domain.specs.Leaves.{LeafValue}
 use Rattle.strides.specs.declared.strided.Strided.{Strided}
-use Rattle.strides.specs.Strided.{reduced}
-use Rattle.product_leaf.specs.StrideLeaves.{numbers_of, fours_of, leaf_of, parts_of, AllOwn, IsStrideContent, IsStrideLeaf}
+use Rattle.product_leaf.specs.StrideLeaves.{numbers_of, IsStrideContent, IsStrideLeaf}
 use Rattle.product_leaf.specs.View.{content_of, view_of, AreBestParts, AreParts, IsSound, IsOwnOf, IsBestOf}
 use Rattle.product_leaf.specs.Laws.Parts.{fours_numbers}
 use Rattle.product_leaf.specs.declared.leaf.StrideLeaf.TheInside.{Inside}

@@ -1,13 +1,13 @@
 -- What the operations make of the parts of leaves that are not Nothing is what the definitions say of the leaves.
-use Rattle.std.proofs.Common.{◌≡◌, ℕ, zero, suc, ◌<◌, ◌≤◌, ℤ, pos, Bool, true, false, List, [], ◌∷◌, Option, Some, None, length, map, slice_set, slice_index_or, if◌then◌else◌, refl, ap, sym, subst, ◌∙◌, arith}
+use Rattle.std.proofs.Common.{◌≡◌, ℕ, zero, suc, ◌<◌, ◌≤◌, ℤ, Bool, true, false, List, [], ◌∷◌, Some, None, length, map, slice_set, slice_index_or, if◌then◌else◌, refl, ap, sym, subst, ◌∙◌, ◌≤ℤ◌, to_z, of_z, w64, arith}
 use Rattle.std.specs.List.{zip, list_any}
-use Rattle.leaf_domain.specs.declared.form.Form.{Form}
+use Rattle.std.proofs.lemmas.Int.{ints}
+use Rattle.c_tree.specs.Value.{least, greatest, IsInt}
 use Rattle.leaf_domain.specs.declared.range.Range.{Range}
-use Rattle.leaf_domain.specs.Ranges.{empty_range}
 use Rattle.leaf_domain.specs.Leaves.{LeafValue, nothing_of}
 use Rattle.strides.specs.declared.strided.Strided.{Strided}
-use Rattle.strides.specs.Strided.{is_bare, reduced, best_part, IsOwn, joined, widened, narrowed}
-use Rattle.product_leaf.specs.StrideLeaves.{numbers_of, leaf_of, parts_of, best_parts, AllOwn, stride_best, settled, joined_all, all_lie_in, widened_all, narrowed_all, part_at, range_of_part, met_part, form_stride, stride_leq, stride_join, stride_widen, stride_narrow, stride_bounds, stride_with, stride_meet, stride_set_form}
+use Rattle.strides.specs.Strided.{is_bare, reduced, best_part}
+use Rattle.product_leaf.specs.StrideLeaves.{leaf_of, best_parts, AllOwn, stride_best, settled, joined_all, all_lie_in, widened_all, narrowed_all, part_at, range_of_part, met_part, stride_leq, stride_join, stride_widen, stride_narrow, stride_bounds, stride_with, stride_meet}
 use Rattle.product_leaf.specs.View.{IsOwnOf, IsBestOf}
 use Rattle.product_leaf.specs.Laws.Parts.{fours_numbers, length_zipped, length_best, length_replaced, own_some, own_best, read_range}
 use Rattle.product_leaf.proofs.PartLemmas.{best_set, bare_set}
@@ -120,3 +120,7 @@ settled_bare rs n e l = rw e (ap nothing_of (sym l))
 
 pub settled_full : (rs : List Strided) → list_any is_bare rs ≡ false → leaf_of rs ≡ settled rs
 settled_full rs e = rw e refl
+
+-- a number of `int` comes back from 64 bits
+pub int_back : (n : ℤ) → IsInt n → to_z w64 (of_z w64 n) ≡ n
+int_back n i = let p : least ≤ℤ n = i.low in let q : n ≤ℤ greatest = i.high in omega (arith, ints)

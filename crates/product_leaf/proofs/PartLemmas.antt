@@ -1,13 +1,14 @@
 -- Facts on lists of parts by their best bounds, and on lists made part by part.
-use Rattle.std.proofs.Common.{◌≡◌, ℕ, zero, suc, ◌+◌, ◌<◌, ◌≤◌, Bool, true, false, ◌&&◌, ◌||◌, List, [], ◌∷◌, ◌++◌, length, map, take, ℤ, Option, Some, None, IfSome, if◌then◌else◌, slice_set, slice_index_or, get_or, refl, ap, sym, subst, ◌∙◌, arith}
+use Rattle.std.proofs.Common.{◌≡◌, ◌≢◌, ℕ, zero, suc, ◌+◌, ◌<◌, nat_eq, Bool, true, false, ◌&&◌, ◌||◌, List, [], ◌∷◌, ◌++◌, length, map, take, ℤ, pos, Option, Some, None, IfSome, if◌then◌else◌, slice_set, refl, ap, sym, subst, ◌∙◌, arith}
 use Rattle.std.specs.List.{zip, list_any}
 use Rattle.std.specs.Ordering.{int_eq}
-use lib.Pointwise.{pointwise}
+use Rattle.std.proofs.lemmas.Bool.Decides.{nat_tests}
+use Rattle.std.proofs.lemmas.Int.{ints}
 use Rattle.leaf_domain.specs.Leaves.{same_numbers}
 use Rattle.strides.specs.declared.strided.Strided.{Strided}
 use Rattle.strides.specs.Strided.{is_bare, reduced, best_part, point_at, IsOwn, joined}
 use Rattle.strides.proofs.StridedLaws.{reduced_best, best_reduced, joined_best, point_best, reduced_own}
-use Rattle.product_leaf.specs.StrideLeaves.{numbers_of, AllOwn, joined_all, part_at}
+use Rattle.product_leaf.specs.StrideLeaves.{numbers_of, AllOwn, joined_all, part_at, all_same_parts}
 use Rattle.product_leaf.specs.Laws.Parts.{own_some, IsLimited}
 
 pub reduced_twice : (b : Strided) → is_bare b ≡ false → reduced (reduced b) ≡ reduced b
@@ -88,3 +89,41 @@ pub set_own : (ps : List Strided) (x : ℕ) (p : Strided) → AllOwn ps → IsOw
 set_own [] x p h k = tt
 set_own (a ∷ ps) zero p h k = (k, h.1)
 set_own (a ∷ ps) (suc x) p h k = (h.0, set_own ps x p h.1 k)
+
+-- ---- parts are the same where their four numbers are
+pos_eq : (m n : ℕ) → int_eq (pos m) (pos n) ≡ nat_eq m n
+pos_eq m n = by_test (nat_eq m n) refl
+  where
+    by_test : (t : Bool) → nat_eq m n ≡ t → int_eq (pos m) (pos n) ≡ t
+    by_test true e = let d : m ≡ n = grind (arith, nat_tests) in grind (arith, ints)
+    by_test false e = let d : m ≢ n = grind (arith, nat_tests) in grind (arith, ints)
+
+pub parts_same : (us bs : List Strided) → length us ≡ length bs → all_same_parts us bs ≡ same_numbers (numbers_of us) (numbers_of bs)
+parts_same [] [] l = refl
+parts_same [] (b ∷ bs) l = absurd (omega arith)
+parts_same (a ∷ us) [] l = absurd (omega arith)
+parts_same (a ∷ us) (b ∷ bs) l =
+    by_tests (int_eq a.low b.low) (int_eq a.high b.high) (nat_eq a.stride.modulus b.stride.modulus) (int_eq (pos a.stride.modulus) (pos b.stride.modulus)) (int_eq a.stride.residue b.stride.residue) _ _
+    (sym (pos_eq a.stride.modulus b.stride.modulus)) (parts_same us bs (omega arith))
+  where
+    by_tests : (s t u w v p n : Bool) → u ≡ w → p ≡ n → ((s && (t && (u && v))) && p) ≡ (s && (t && (w && (v && n))))
+    by_tests true true true w true p n d e = ap (λ x. x && p) d ∙ ap (λ x. w && x) e
+    by_tests true true true w false p n d e = ap (λ x. x && false) d
+    by_tests true true false w v p n d e = ap (λ x. x && (v && n)) d
+    by_tests true false u w v p n d e = refl
+    by_tests false t u w v p n d e = refl
+
+pub parts_differ : (us bs : List Strided) → length us ≢ length bs → same_numbers (numbers_of us) (numbers_of bs) ≡ false
+parts_differ [] [] l = absurd (l refl)
+parts_differ [] (b ∷ bs) l = refl
+parts_differ (a ∷ us) [] l = refl
+parts_differ (a ∷ us) (b ∷ bs) l =
+    by_tests (int_eq a.low b.low) (int_eq a.high b.high) (int_eq (pos a.stride.modulus) (pos b.stride.modulus)) (int_eq a.stride.residue b.stride.residue) _
+    (parts_differ us bs (λ e. l (ap suc e)))
+  where
+    by_tests : (s t u v n : Bool) → n ≡ false → (s && (t && (u && (v && n)))) ≡ false
+    by_tests true true true true n e = e
+    by_tests true true true false n e = refl
+    by_tests true true false v n e = refl
+    by_tests true false u v n e = refl
+    by_tests false t u v n e = refl

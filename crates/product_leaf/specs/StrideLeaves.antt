@@ -1,7 +1,8 @@
 -- A leaf with a low, a high and a stride for each variable.
-use Rattle.std.specs.Prelude.{◌≡◌, ℕ, ◌≤◌, ◌+◌, ◌*◌, ℤ, pos, unsigned_abs, Bool, true, false, ◌&&◌, if◌then◌else◌, List, [], ◌∷◌, Option, Some, None, length, slice_index_or, slice_set, map, zip, ⊤}
+use Rattle.std.specs.Prelude.{◌≡◌, ℕ, ◌≤◌, ◌+◌, ◌*◌, ℤ, pos, unsigned_abs, nat_eq, Bool, true, false, ◌&&◌, if◌then◌else◌, List, [], ◌∷◌, Option, Some, None, length, slice_index_or, slice_set, map, zip, ⊤}
 use Rattle.std.specs.List.{list_all, list_any}
 use Rattle.std.specs.Int.{int_min, int_max}
+use Rattle.std.specs.Ordering.{int_eq}
 use Rattle.leaf_domain.specs.declared.form.Form.{Form}
 use Rattle.leaf_domain.specs.declared.range.Range.{Range}
 use Rattle.leaf_domain.specs.Forms.{form_at}
@@ -89,6 +90,13 @@ widened_all xs gs = map (λ (x, g). widened x g) (zip xs gs)
 
 abbrev pub narrowed_all : List Strided → List Strided → List Strided
 narrowed_all xs gs = map (λ (x, g). narrowed x g) (zip xs gs)
+
+-- the four numbers of both are the same
+abbrev pub same_part : Strided → Strided → Bool
+same_part a b = int_eq a.low b.low && (int_eq a.high b.high && (nat_eq a.stride.modulus b.stride.modulus && int_eq a.stride.residue b.stride.residue))
+
+abbrev pub all_same_parts : List Strided → List Strided → Bool
+all_same_parts us bs = list_all (λ (a, b). same_part a b) (zip us bs)
 
 abbrev pub own_count_in : List Strided → ℕ
 own_count_in [] = 0

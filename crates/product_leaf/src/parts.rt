@@ -5,7 +5,7 @@ ghost use Rattle.std.specs.Prelude.{◌≡◌, ◌<◌, IfOk, length, map, slice
 ghost use Rattle.std.specs.List.{list_any};
 ghost use Rattle.leaf_domain.specs.Leaves.{same_numbers};
 ghost use Rattle.strides.specs.Strided.{is_bare, reduced, best_part, point_at};
-ghost use Rattle.product_leaf.specs.StrideLeaves.{numbers_of, AllOwn, joined_all, all_lie_in, widened_all, narrowed_all, met_part, range_of_part};
+ghost use Rattle.product_leaf.specs.StrideLeaves.{numbers_of, AllOwn, joined_all, all_lie_in, widened_all, narrowed_all, met_part, range_of_part, same_part, all_same_parts};
 
 use leaf_domain::Range;
 use std::alloc::{AllocError, Global};
@@ -119,9 +119,24 @@ pub(crate) fn replaced(alloc: Global, parts: &[Strided], x: u32, part: Strided) 
     Ok(changed)
 }
 
+/// Whether the four numbers of two parts are the same.
+fn is_same(a: Strided, b: Strided) -> bool
+    ensures { result ≡ same_part a b }
+{
+    a.low == b.low
+        && (a.high == b.high && (a.stride.modulus == b.stride.modulus && a.stride.residue == b.stride.residue))
+}
+
+/// Whether each part is the same as its own of the others.
+fn all_same(a: &[Strided], b: &[Strided]) -> bool
+    ensures { result ≡ all_same_parts a.now b.now }
+{
+    a.iter().zip(b).all(|(p, q)| is_same(*p, *q))
+}
+
 /// Whether the parts are the same.
 pub(crate) fn are_same(a: &[Strided], b: &[Strided]) -> bool
     ensures { result ≡ same_numbers (numbers_of a.now) (numbers_of b.now) }
 {
-    a == b
+    if a.len() == b.len() { all_same(a, b) } else { false }
 }

@@ -1,6 +1,6 @@
 -- The value of a form at a store has the form's stride.
-use Rattle.std.proofs.Common.{◌≡◌, ℕ, zero, suc, ◌+◌, ◌*◌, ◌<◌, ◌≤◌, ℤ, pos, neg_ℤ, ◌+ℤ◌, ◌-ℤ◌, ◌*ℤ◌, unsigned_abs, List, [], ◌∷◌, length, map, slice_index_or, refl, ap, sym, ◌∙◌, subst, arith}
-use Rattle.std.specs.Int.{IsGcd, ◌∣◌}
+use Rattle.std.proofs.Common.{◌≡◌, ℕ, ◌+◌, ◌*◌, ℤ, pos, ◌+ℤ◌, ◌-ℤ◌, ◌*ℤ◌, unsigned_abs, List, [], ◌∷◌, length, slice_index_or, refl, ap, sym, ◌∙◌, subst, arith}
+use Rattle.std.specs.Int.{◌∣◌}
 use Rattle.std.proofs.lemmas.Int.{ints, unsigned_abs-mul}
 use Rattle.std.proofs.lemmas.Nat.Gcd.{dvd_trans, dvd_refl}
 use Rattle.std.proofs.Math.Nat.{mul-dvd-mul_left}
@@ -9,8 +9,8 @@ use Rattle.leaf_domain.specs.Forms.{terms_at, form_at, AreTerms, IsForm}
 use Rattle.strides.specs.declared.strided.Strided.{Strided}
 use Rattle.strides.specs.Divisors.{gcd, IsMultiple}
 use Rattle.strides.specs.Strides.{HasStride, IsReduced}
-use Rattle.linear_terms.proofs.Integers.{times-sum, times-times}
-use Rattle.strides.proofs.Multiples.{multiple_same, multiple_zero, multiple_sum, multiple_from_dvd, dvd_from_multiple, multiple_finer, gcd_is, neg_times}
+use Rattle.linear_terms.proofs.Integers.{times-sum}
+use Rattle.strides.proofs.Multiples.{multiple_same, multiple_zero, multiple_sum, multiple_from_dvd, dvd_from_multiple, multiple_finer, gcd_is}
 use Rattle.strides.proofs.StrideLaws.{stride_has, stride_reduced}
 use Rattle.product_leaf.specs.StrideLeaves.{AllHave, part_at, common_modulus, residues_of, form_stride}
 use Rattle.product_leaf.specs.Laws.Parts.{read_has, read_residue}

@@ -1,16 +1,13 @@
 -- Facts on lists of parts.
-use Rattle.std.proofs.Common.{◌≡◌, ℕ, zero, suc, ◌+◌, ◌*◌, ◌<◌, ◌≤◌, ℤ, pos, ◌≤ℤ◌, Bool, true, false, ◌&&◌, ◌||◌, List, [], ◌∷◌, length, map, slice_set, slice_index_or, refl, ap, sym, ◌∙◌, subst, arith, All}
+use Rattle.std.proofs.Common.{◌≡◌, ℕ, zero, suc, ◌+◌, ◌*◌, ◌<◌, ◌≤◌, ℤ, pos, ◌≤ℤ◌, Bool, true, false, ◌&&◌, ◌||◌, List, [], ◌∷◌, length, map, slice_set, slice_index_or, refl, ap, sym, ◌∙◌, arith, All}
 use Rattle.std.specs.Prelude.{⊤}
 use Rattle.std.specs.List.{list_any, zip}
-use Rattle.std.proofs.lemmas.Int.{ints, clamps}
 use Rattle.std.proofs.lemmas.List.Elements.{All-head, All-tail}
-use Rattle.leaf_domain.specs.declared.range.Range.{Range}
-use Rattle.leaf_domain.specs.Ranges.{Within, empty_range}
+use Rattle.leaf_domain.specs.Ranges.{empty_range}
 use Rattle.c_tree.specs.Value.{IsInt}
-use Rattle.strides.specs.declared.stride.Stride.{Stride}
 use Rattle.strides.specs.declared.strided.Strided.{Strided}
 use Rattle.strides.specs.Strides.{IsReduced, first_from}
-use Rattle.strides.specs.Strided.{least, greatest, Has, is_bare, point_at, reduced, IsOwn, joined, lies_in, widened, narrowed, own_count}
+use Rattle.strides.specs.Strided.{least, greatest, Has, is_bare, point_at, reduced, IsOwn, lies_in, widened, narrowed, own_count}
 use Rattle.strides.proofs.StridedLaws.{first_in, has_not_bare, reduced_keeps, reduced_back, point_own, point_has, point_alone, reduced_own, joined_has_first, joined_has_second, joined_own}
 use Rattle.strides.proofs.WideningLaws.{has_wider, widened_has_first, widened_has_second, widened_own, widened_falls, widened_fewer, own_count_small, narrowed_own, narrowed_has}
 use Rattle.product_leaf.specs.StrideLeaves.{numbers_of, fours_of, leaf_of, AllOwn, AllHave, IsStrideLeaf, joined_all, all_lie_in, widened_all, narrowed_all, own_count_in, part_at, range_of_part}

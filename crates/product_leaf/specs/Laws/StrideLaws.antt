@@ -1,20 +1,18 @@
 -- The laws of intervals with strides.
-use Rattle.std.proofs.Common.{◌≡◌, ◌⊎◌, inl, inr, ◌↔◌, ℕ, zero, suc, ◌≤◌, ◌<◌, ◌*◌, ℤ, pos, ◌-ℤ◌, ◌*ℤ◌, ◌≤ℤ◌, Bool, true, false, List, [], ◌∷◌, Option, Some, None, length, slice_index_or, slice_set, map, refl, ap, sym, subst, ◌∙◌, arith, if◌then◌else◌}
+use Rattle.std.proofs.Common.{◌≡◌, ◌⊎◌, inl, inr, ◌↔◌, ℕ, ◌≤◌, ◌<◌, ◌*◌, ℤ, pos, ◌-ℤ◌, ◌*ℤ◌, ◌≤ℤ◌, Bool, true, false, List, Option, Some, None, length, slice_index_or, slice_set, map, refl, sym, subst, ◌∙◌, arith, if◌then◌else◌}
 use Rattle.std.specs.List.{list_any}
-use Rattle.std.specs.Int.{int_min, int_max}
 use Rattle.std.proofs.lemmas.Int.{ints, clamps}
 use Rattle.std.proofs.lemmas.List.{length-map}
 use Rattle.leaf_domain.specs.declared.form.Form.{Form}
 use Rattle.leaf_domain.specs.declared.range.Range.{Range}
-use Rattle.leaf_domain.specs.Ranges.{Within, IsInInt, is_empty_range, empty_range}
+use Rattle.leaf_domain.specs.Ranges.{Within, IsInInt, is_empty_range}
 use Rattle.leaf_domain.specs.Forms.{form_at, IsForm}
 use Rattle.leaf_domain.specs.Leaves.{LeafValue, LeafLaws, Answers, nothing_of, is_nothing_of}
 use Rattle.strides.specs.declared.strided.Strided.{Strided}
-use Rattle.strides.specs.Divisors.{IsMultiple}
-use Rattle.strides.specs.Strides.{stride_at, HasStride, IsReduced}
+use Rattle.strides.specs.Strides.{stride_at, HasStride}
 use Rattle.strides.specs.Strided.{least, greatest, strided_at, Has, is_bare, point_at, reduced, IsOwn, joined, widened, narrowed}
 use Rattle.strides.proofs.StridedLaws.{first_of, first_in}
-use Rattle.product_leaf.specs.StrideLeaves.{strides, fours_of, leaf_of, parts_in, AllOwn, AllHave, IsStrideLeaf, ContentHolds, stride_holds, best_of, stride_best, settled, joined_all, widened_all, narrowed_all, part_at, range_of_part, met_part, form_stride, stride_start, stride_leq, stride_join, stride_widen, stride_narrow, stride_bounds, stride_with, stride_meet, stride_set, stride_set_form, stride_own_bounds}
+use Rattle.product_leaf.specs.StrideLeaves.{strides, fours_of, leaf_of, parts_in, AllOwn, AllHave, IsStrideLeaf, ContentHolds, stride_holds, best_of, stride_best, settled, joined_all, widened_all, narrowed_all, part_at, range_of_part, met_part, form_stride, stride_start, stride_leq, stride_join, stride_widen, stride_narrow, stride_bounds, stride_with, stride_meet, stride_set_form, stride_own_bounds}
 use Rattle.product_leaf.specs.Laws.Parts.{fours_numbers, length_zipped, length_best, length_replaced, is_leaf, IsLimited, AllLimited, limited_own, best_own, own_best, limited_set, own_points, joined_all_own, widened_all_own, narrowed_all_own, none_bare, best_keeps, best_back, points_have, points_alone, firsts, firsts_have, have_length, joined_first, joined_second, inside_has, widened_first, widened_second, narrowed_have, widened_all_fewer, own_count_le, read_has, read_own, read_range, set_have, kept_have}
 use Rattle.product_leaf.specs.Laws.FormStrides.{form_has, form_reduced}
 

@@ -1,4 +1,4 @@
-use Rattle.std.proofs.Common.{ℕ, length}
+use Rattle.std.proofs.Common.{length}
 use Rattle.product_leaf.proofs.FormSums.{IsSum}
 use Rattle.product_leaf.proofs.form_stride.form_stride.Given as goal
 

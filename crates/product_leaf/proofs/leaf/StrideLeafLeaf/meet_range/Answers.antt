@@ -1,4 +1,4 @@
-use Rattle.std.proofs.Common.{◌≡◌, ◌<◌, ◌∙◌, length, ap, subst, sym, IfOk, arith}
+use Rattle.std.proofs.Common.{◌≡◌, ◌<◌, ◌∙◌, length, ap, subst, IfOk, arith}
 use Rattle.leaf_domain.specs.Leaves.{LeafValue}
 use Rattle.strides.specs.Strided.{best_part}
 use Rattle.product_leaf.specs.StrideLeaves.{part_at, met_part}
