@@ -39,6 +39,7 @@ sum_start parts f h = record {
   where
     swapped : (p q : ℤ) → p +ℤ q ≡ q +ℤ p
     swapped p q = omega (arith, ints)
+
     small : (n : ℤ) → IsFormNumber n → unsigned_abs n ≤ (0 + 1) * 2 ^ 74
     small n i = let p : negsuc 1099511627775 ≤ℤ n = i.low in let q : n ≤ℤ pos 1099511627776 = i.high in omega (arith, ints)
 
@@ -51,6 +52,7 @@ residue_small b i =
   where
     zero_small : (c : ℤ) → least ≤ℤ c → c ≤ℤ greatest → unsigned_abs c ≤ 4294967296
     zero_small c p q = omega (arith, ints)
+
     some_small : (c : ℤ) (m : ℕ) → pos 0 ≤ℤ c → c <ℤ pos m → m ≤ 4294967295 → unsigned_abs c ≤ 4294967296
     some_small c m p q r = omega (arith, ints)
 
@@ -115,10 +117,13 @@ sum_next parts f g g' v v' rest behind x a o few s e d k =
   where
     above : (x l : ℕ) → x < l → l ≤ 16 → x + 1 ≤ 16
     above x l p q = omega arith
+
     wider : (p : ℕ) → p ≤ 2 ^ 72 → p ≤ 2 ^ 74
     wider p h = omega arith
+
     moved : (v v' p q r : ℤ) → v' ≡ v +ℤ p → p ≡ q → v' +ℤ r ≡ v +ℤ (q +ℤ r)
     moved v v' p q r h i = omega (arith, ints)
+
     sum_small : (from x : ℕ) (v p : ℤ) → from ≤ x → unsigned_abs v ≤ (from + 1) * 2 ^ 74 → unsigned_abs p ≤ 2 ^ 72 → unsigned_abs (v +ℤ p) ≤ (x + 1 + 1) * 2 ^ 74
     sum_small from x v p h i j = omega (arith, ints)
 
@@ -151,6 +156,7 @@ wide_of m c h k =
   where
     zero_wide : (m : ℕ) (c : ℤ) → m ≤ 2 ^ 74 → unsigned_abs c ≤ 2 ^ 79 → IsWide (stride_at m c)
     zero_wide m c h k = record { modulus = omega arith; low = omega (arith, ints); high = omega (arith, ints) }
+
     some_wide : (m : ℕ) (r : ℤ) → m ≤ 2 ^ 74 → IsRemainder m c r → IsWide (stride_at m r)
     some_wide m r h i = let p : pos 0 ≤ℤ r = i.low in let q : r <ℤ pos m = i.high in record { modulus = omega arith; low = omega (arith, ints); high = omega (arith, ints) }
 

@@ -42,7 +42,6 @@ bare_set [] x b h l = absurd (omega arith)
 bare_set (a ∷ bs) zero b h l = ap (λ t. is_bare b || t) (own_some bs h.1) ∙ or_false (is_bare b)
 bare_set (a ∷ bs) (suc x) b h l = ap (λ t. t || list_any is_bare (slice_set bs x b)) h.0.some ∙ bare_set bs x b h.1 (omega arith)
 
-
 -- ---- lists made part by part
 zipped_more : (f : Strided → Strided → Strided) (us bs : List Strided) (i : ℕ) → i < length us → i < length bs → map (λ (a, b). f a b) (zip (take (suc i) us) (take (suc i) bs)) ≡ map (λ (a, b). f a b) (zip (take i us) (take i bs)) ++ (f (part_at us i) (part_at bs i) ∷ [])
 zipped_more f [] bs i l k = absurd (omega arith)

@@ -13,8 +13,8 @@ ghost use Rattle.product_leaf.specs.Hashing.{fed_leaf};
 
 use crate::form_stride::form_stride;
 use crate::parts::{
-    are_inside, are_same, best_part, copied, has_bare, joined, met_part, narrowed, points, range_of, reduced, replaced,
-    widened,
+    are_inside, are_same, best_part, copied, has_bare, joined, met_part, narrowed, points,
+    range_of, reduced, replaced, widened,
 };
 use fam_outer::NoMemory;
 use leaf_domain::{Compare, Form, Leaf, Range};
@@ -314,13 +314,7 @@ impl Leaf for StrideLeaf {
         self.with(alloc, x, best_part(part))
     }
 
-    fn set_form(
-        &self,
-        alloc: Global,
-        x: u32,
-        f: &Form,
-        r: Range,
-    ) -> Result<StrideLeaf, NoMemory> {
+    fn set_form(&self, alloc: Global, x: u32, f: &Form, r: Range) -> Result<StrideLeaf, NoMemory> {
         match self.best_parts() {
             None => Ok(StrideLeaf::none(self.count())),
             Some(parts) => {

@@ -19,7 +19,11 @@ pub(crate) fn points(alloc: Global, values: &[i64]) -> Result<Vec<Strided>, Allo
 }
 
 /// The least parts that have the numbers of both, one by one.
-pub(crate) fn joined(alloc: Global, a: &[Strided], b: &[Strided]) -> Result<Vec<Strided>, AllocError>
+pub(crate) fn joined(
+    alloc: Global,
+    a: &[Strided],
+    b: &[Strided],
+) -> Result<Vec<Strided>, AllocError>
     requires same { length a.now ≡ length b.now }
     requires first { AllOwn a.now }
     requires second { AllOwn b.now }
@@ -33,7 +37,11 @@ pub(crate) fn joined(alloc: Global, a: &[Strided], b: &[Strided]) -> Result<Vec<
 }
 
 /// The parts widened one by one.
-pub(crate) fn widened(alloc: Global, x: &[Strided], g: &[Strided]) -> Result<Vec<Strided>, AllocError>
+pub(crate) fn widened(
+    alloc: Global,
+    x: &[Strided],
+    g: &[Strided],
+) -> Result<Vec<Strided>, AllocError>
     requires same { length x.now ≡ length g.now }
     requires first { AllOwn x.now }
     requires second { AllOwn g.now }
@@ -47,7 +55,11 @@ pub(crate) fn widened(alloc: Global, x: &[Strided], g: &[Strided]) -> Result<Vec
 }
 
 /// The parts narrowed one by one.
-pub(crate) fn narrowed(alloc: Global, x: &[Strided], g: &[Strided]) -> Result<Vec<Strided>, AllocError>
+pub(crate) fn narrowed(
+    alloc: Global,
+    x: &[Strided],
+    g: &[Strided],
+) -> Result<Vec<Strided>, AllocError>
     ensures { IfOk result (λ v. v.items ≡ narrowed_all x.now g.now) }
 {
     x.iter().zip(g).map(|(x, g)| x.narrowed(*g)).collect(alloc)
@@ -78,7 +90,11 @@ pub(crate) fn reduced(alloc: Global, parts: &[Strided]) -> Result<Vec<Strided>, 
 pub(crate) fn best_part(part: Strided) -> Option<Strided>
     ensures { result ≡ best_part part }
 {
-    if part.is_bare() { None } else { Some(part.reduced()) }
+    if part.is_bare() {
+        None
+    } else {
+        Some(part.reduced())
+    }
 }
 
 /// The same parts.
@@ -110,7 +126,12 @@ pub(crate) fn met_part(part: Strided, r: Range) -> Strided
 }
 
 /// The parts with that of `x` replaced.
-pub(crate) fn replaced(alloc: Global, parts: &[Strided], x: u32, part: Strided) -> Result<Vec<Strided>, AllocError>
+pub(crate) fn replaced(
+    alloc: Global,
+    parts: &[Strided],
+    x: u32,
+    part: Strided,
+) -> Result<Vec<Strided>, AllocError>
     requires { x < length parts.now }
     ensures { IfOk result (λ v. v.items ≡ slice_set parts.now x part) }
 {
@@ -124,7 +145,8 @@ fn is_same(a: Strided, b: Strided) -> bool
     ensures { result ≡ same_part a b }
 {
     a.low == b.low
-        && (a.high == b.high && (a.stride.modulus == b.stride.modulus && a.stride.residue == b.stride.residue))
+        && (a.high == b.high
+            && (a.stride.modulus == b.stride.modulus && a.stride.residue == b.stride.residue))
 }
 
 /// Whether each part is the same as its own of the others.
@@ -138,5 +160,9 @@ fn all_same(a: &[Strided], b: &[Strided]) -> bool
 pub(crate) fn are_same(a: &[Strided], b: &[Strided]) -> bool
     ensures { result ≡ same_numbers (numbers_of a.now) (numbers_of b.now) }
 {
-    if a.len() == b.len() { all_same(a, b) } else { false }
+    if a.len() == b.len() {
+        all_same(a, b)
+    } else {
+        false
+    }
 }

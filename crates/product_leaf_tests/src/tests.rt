@@ -241,8 +241,18 @@ fn a_form_has_a_stride(rt: HostRuntime) -> Result<(), Fail> {
     let program = spaced(alloc)?;
     let start = StrideLeaf::start(alloc, program.start.items())?;
     let stopping = alarms_of(alloc, &program, &start, Mode::Stop)?;
-    assert!(rt; are(&stopping, &[(4, 1, Kind::Overflow), (5, 1, Kind::Assertion)]));
+    assert!(rt;
+        are(
+            &stopping,
+            &[(4, 1, Kind::Overflow), (5, 1, Kind::Assertion)]
+        )
+    );
     let wrapping = alarms_of(alloc, &program, &start, Mode::Wrap)?;
-    assert!(rt; are(&wrapping, &[(5, 1, Kind::Assertion), (6, 1, Kind::Assertion)]));
+    assert!(rt;
+        are(
+            &wrapping,
+            &[(5, 1, Kind::Assertion), (6, 1, Kind::Assertion)]
+        )
+    );
     Ok(())
 }

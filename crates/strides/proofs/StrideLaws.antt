@@ -54,6 +54,7 @@ first_above l s =
   where
     zero_modulus : first_from l s ≡ int_max l s.residue → l ≤ℤ first_from l s
     zero_modulus e = omega (arith, ints, clamps)
+
     some_modulus : first_from l s ≡ l +ℤ int_rem_euclid (s.residue -ℤ l) (pos s.modulus) → IsRemainder s.modulus (s.residue -ℤ l) (int_rem_euclid (s.residue -ℤ l) (pos s.modulus)) → l ≤ℤ first_from l s
     some_modulus e r = let k : pos 0 ≤ℤ int_rem_euclid (s.residue -ℤ l) (pos s.modulus) = r.low in omega (arith, ints)
 
@@ -63,6 +64,7 @@ last_below h s =
   where
     zero_modulus : last_to h s ≡ int_min h s.residue → last_to h s ≤ℤ h
     zero_modulus e = omega (arith, ints, clamps)
+
     some_modulus : last_to h s ≡ h -ℤ int_rem_euclid (h -ℤ s.residue) (pos s.modulus) → IsRemainder s.modulus (h -ℤ s.residue) (int_rem_euclid (h -ℤ s.residue) (pos s.modulus)) → last_to h s ≤ℤ h
     some_modulus e r = let k : pos 0 ≤ℤ int_rem_euclid (h -ℤ s.residue) (pos s.modulus) = r.low in omega (arith, ints)
 
@@ -75,10 +77,11 @@ first_least l n s k h =
   where
     zero_modulus : first_from l s ≡ int_max l s.residue → n ≡ s.residue → first_from l s ≤ℤ n
     zero_modulus e f = omega (arith, ints, clamps)
+
     some_modulus : (r : ℤ) → first_from l s ≡ l +ℤ r → IsRemainder s.modulus (s.residue -ℤ l) r → first_from l s ≤ℤ n
     some_modulus r e i =
         let u : IsMultiple s.modulus ((n -ℤ l) -ℤ r) =
-                multiple_same s.modulus ((n -ℤ s.residue) +ℤ ((s.residue -ℤ l) -ℤ r)) ((n -ℤ l) -ℤ r) (omega (arith, ints)) (multiple_sum s.modulus (n -ℤ s.residue) ((s.residue -ℤ l) -ℤ r) h i.rest) in
+        multiple_same s.modulus ((n -ℤ s.residue) +ℤ ((s.residue -ℤ l) -ℤ r)) ((n -ℤ l) -ℤ r) (omega (arith, ints)) (multiple_sum s.modulus (n -ℤ s.residue) ((s.residue -ℤ l) -ℤ r) h i.rest) in
         let q : r ≤ℤ (n -ℤ l) = least_offset s.modulus r (n -ℤ l) (omega (arith, ints)) i.high u in
         omega (arith, ints)
 
@@ -91,10 +94,11 @@ last_greatest h n s k g =
   where
     zero_modulus : last_to h s ≡ int_min h s.residue → n ≡ s.residue → n ≤ℤ last_to h s
     zero_modulus e f = omega (arith, ints, clamps)
+
     some_modulus : (r : ℤ) → last_to h s ≡ h -ℤ r → IsRemainder s.modulus (h -ℤ s.residue) r → n ≤ℤ last_to h s
     some_modulus r e i =
         let u : IsMultiple s.modulus ((h -ℤ n) -ℤ r) =
-                multiple_same s.modulus (((h -ℤ s.residue) -ℤ r) -ℤ (n -ℤ s.residue)) ((h -ℤ n) -ℤ r) (omega (arith, ints)) (multiple_difference s.modulus ((h -ℤ s.residue) -ℤ r) (n -ℤ s.residue) i.rest g) in
+        multiple_same s.modulus (((h -ℤ s.residue) -ℤ r) -ℤ (n -ℤ s.residue)) ((h -ℤ n) -ℤ r) (omega (arith, ints)) (multiple_difference s.modulus ((h -ℤ s.residue) -ℤ r) (n -ℤ s.residue) i.rest g) in
         let q : r ≤ℤ (h -ℤ n) = least_offset s.modulus r (h -ℤ n) (omega (arith, ints)) i.high u in
         omega (arith, ints)
 
@@ -107,6 +111,7 @@ first_has l h s k =
   where
     zero_modulus : first_from l s ≡ int_max l s.residue → last_to h s ≡ int_min h s.residue → first_from l s ≡ s.residue
     zero_modulus e f = omega (arith, ints, clamps)
+
     some_modulus : (r : ℤ) → first_from l s ≡ l +ℤ r → IsRemainder s.modulus (s.residue -ℤ l) r → HasStride s (first_from l s)
     some_modulus r e i = multiple_same s.modulus (neg_ℤ ((s.residue -ℤ l) -ℤ r)) (first_from l s -ℤ s.residue) (omega (arith, ints)) (multiple_neg s.modulus ((s.residue -ℤ l) -ℤ r) i.rest)
 
@@ -118,6 +123,7 @@ last_has l h s k =
   where
     zero_modulus : first_from l s ≡ int_max l s.residue → last_to h s ≡ int_min h s.residue → last_to h s ≡ s.residue
     zero_modulus e f = omega (arith, ints, clamps)
+
     some_modulus : (r : ℤ) → last_to h s ≡ h -ℤ r → IsRemainder s.modulus (h -ℤ s.residue) r → HasStride s (last_to h s)
     some_modulus r e i = multiple_same s.modulus ((h -ℤ s.residue) -ℤ r) (last_to h s -ℤ s.residue) (omega (arith, ints)) i.rest
 

@@ -111,14 +111,14 @@ reduced_own b h k r e =
     (λ t. cc)
     (λ t f. point_own (first_of b) (omega (arith, ints)) (omega (arith, ints)))
     (λ t f.
-        let m : pos b.stride.modulus ≤ℤ (last_of b -ℤ first_of b) = stride_apart b.stride (first_of b) (last_of b) (first_in b e).stride (last_in b e).stride f in
-        record {
-          low = omega (arith, ints);
-          high = omega (arith, ints);
-          modulus = omega (arith, ints);
-          residue = r;
-          some = has_not_bare (strided_at (first_of b) (last_of b) b.stride) (first_of b) (record { low = omega (arith, ints); high = o; stride = (first_in b e).stride });
-        })
+    let m : pos b.stride.modulus ≤ℤ (last_of b -ℤ first_of b) = stride_apart b.stride (first_of b) (last_of b) (first_in b e).stride (last_in b e).stride f in
+    record {
+      low = omega (arith, ints);
+      high = omega (arith, ints);
+      modulus = omega (arith, ints);
+      residue = r;
+      some = has_not_bare (strided_at (first_of b) (last_of b) b.stride) (first_of b) (record { low = omega (arith, ints); high = o; stride = (first_in b e).stride });
+    })
 
 -- ---- bounds that are best
 pub record IsBest (b : Strided) : Type 0 where
@@ -184,10 +184,13 @@ joined_small a b i j =
   where
     g : Stride
     g = joined_stride a.stride b.stride
+
     d : Divides3 (joined_stride a.stride b.stride).modulus a.stride b.stride
     d = joined_divides a.stride b.stride
+
     e : (joined_stride a.stride b.stride).modulus ≡ gcd (gcd a.stride.modulus b.stride.modulus) (distance a.stride b.stride)
     e = stride_modulus _ a.stride.residue
+
     neither : a.stride.modulus ≡ 0 → b.stride.modulus ≡ 0 → gcd (gcd a.stride.modulus b.stride.modulus) (distance a.stride b.stride) ≤ 4294967295
     neither z y =
         let (p, q) = own_residue a i z in
@@ -217,25 +220,30 @@ joined_best a b i j = record { low = low_has (int_lt b.low a.low) refl; high = h
     low_has : (t : Bool) → int_lt b.low a.low ≡ t → Has (joined a b) (int_min a.low b.low)
     low_has true e = subst (Has (joined a b)) (grind (arith, ints, clamps)) (joined_has_second a b b.low j.low)
     low_has false e = subst (Has (joined a b)) (grind (arith, ints, clamps)) (joined_has_first a b a.low i.low)
+
     high_has : (t : Bool) → int_lt b.high a.high ≡ t → Has (joined a b) (int_max a.high b.high)
     high_has true e = subst (Has (joined a b)) (grind (arith, ints, clamps)) (joined_has_first a b a.high i.high)
     high_has false e = subst (Has (joined a b)) (grind (arith, ints, clamps)) (joined_has_second a b b.high j.high)
+
     no_modulus : (x : ℤ) → gcd (gcd 0 0) (unsigned_abs (x -ℤ x)) ≡ 0
     no_modulus x =
         let r : gcd 0 0 ≤ 0 = gcd_small _ _ _ 0 (gcd_is 0 0) (omega arith) (omega arith) in
         let o : unsigned_abs (x -ℤ x) ≤ 0 = omega (arith, ints) in
         let s : gcd (gcd 0 0) (unsigned_abs (x -ℤ x)) ≤ 0 = gcd_small _ _ _ 0 (gcd_is (gcd 0 0) (unsigned_abs (x -ℤ x))) r o in
         omega arith
+
     of_points : (x : ℤ) → joined (point_at x) (point_at x) ≡ point_at x
     of_points x =
         let s : joined_stride (stride_at 0 x) (stride_at 0 x) ≡ stride_at 0 x = stride_zero _ x (no_modulus x) ∙ ap (λ m. stride_at m x) (no_modulus x) in
         let l : int_min x x ≡ x = omega (arith, ints, clamps) in
         let h : int_max x x ≡ x = omega (arith, ints, clamps) in
         ap (λ y. strided_at y (int_max x x) (joined_stride (stride_at 0 x) (stride_at 0 x))) l ∙ ap (λ y. strided_at x y (joined_stride (stride_at 0 x) (stride_at 0 x))) h ∙ ap (strided_at x x) s
+
     same_points : (x : ℤ) → a ≡ point_at x → b ≡ point_at x → joined a b ≡ point_at (int_min a.low b.low)
     same_points x e f =
         let l : int_min x x ≡ x = omega (arith, ints, clamps) in
         ap (λ y. joined y b) e ∙ ap (joined (point_at x)) f ∙ of_points x ∙ ap point_at (sym l ∙ ap (λ y. int_min x (y.low)) (sym f) ∙ ap (λ y. int_min (y.low) b.low) (sym e))
+
     point : int_min a.low b.low ≡ int_max a.high b.high → joined a b ≡ point_at (int_min a.low b.low)
     point e =
         let p : a.low ≤ℤ a.high = i.low.high in

@@ -85,6 +85,7 @@ reduced_point b f l e g o =
   where
     not_bare : first_of b ≡ last_of b → is_bare b ≡ true → ⊥
     not_bare k t = omega (arith, ints)
+
     not_less : first_of b ≡ last_of b → first_of b <ℤ last_of b → ⊥
     not_less k t = omega (arith, ints)
 
@@ -95,6 +96,7 @@ reduced_rest b f l e g o =
   where
     not_bare : first_of b <ℤ last_of b → is_bare b ≡ true → ⊥
     not_bare k t = omega (arith, ints)
+
     not_same : first_of b <ℤ last_of b → first_of b ≡ last_of b → ⊥
     not_same k t = omega (arith, ints)
 
@@ -112,15 +114,19 @@ is_narrow b f l e g o i r =
   where
     q : first_from b.low b.stride ≤ℤ last_to b.high b.stride
     q = omega (arith, ints)
+
     has_f : HasStride b.stride f
     has_f = subst (HasStride b.stride) (sym e) (first_has b.low b.high b.stride q)
+
     has_l : HasStride b.stride l
     has_l = subst (HasStride b.stride) (sym g) (last_has b.low b.high b.stride q)
+
     no_two : b.stride.modulus ≡ 0 → ⊥
     no_two z =
         let u : f ≡ b.stride.residue = alone b.stride f z has_f in
         let w : l ≡ b.stride.residue = alone b.stride l z has_l in
         omega (arith, ints)
+
     narrow : least ≤ℤ f → l ≤ℤ greatest → pos b.stride.modulus ≤ℤ (l -ℤ f) → pos 0 ≤ℤ b.stride.residue → b.stride.residue <ℤ pos b.stride.modulus → IsNarrow b.stride
     narrow h k m u w = record { modulus = omega (arith, ints); low = u; high = omega (arith, ints) }
 
@@ -136,6 +142,7 @@ bare_kept b f l e g o = by_reduced (λ r. b ≡ r) b (λ t. refl) (λ t u. absur
   where
     not_same : first_of b ≡ last_of b → ⊥
     not_same t = omega (arith, ints)
+
     not_less : first_of b <ℤ last_of b → ⊥
     not_less t = omega (arith, ints)
 

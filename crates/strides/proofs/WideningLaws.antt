@@ -128,18 +128,25 @@ widened_fewer x g i j e = by_parts (int_le x.low g.low) (int_le g.high x.high) (
   where
     p : end_count least (widened x g).low ≤ end_count least x.low
     p = low_falls x.low g.low
+
     q : end_count greatest (widened x g).high ≤ end_count greatest x.high
     q = high_falls x.high g.high
+
     r : stride_count (joined_stride x.stride g.stride).modulus ≤ stride_count x.stride.modulus
     r = stride_falls x.stride g.stride (joined_own x g i j).modulus
+
     first : (a b c d e f : ℕ) → a < d → b ≤ e → c ≤ f → a + (b + c) < d + (e + f)
     first a b c d e f u v w = omega arith
+
     second : (a b c d e f : ℕ) → a ≤ d → b < e → c ≤ f → a + (b + c) < d + (e + f)
     second a b c d e f u v w = omega arith
+
     third : (a b c d e f : ℕ) → a ≤ d → b ≤ e → c < f → a + (b + c) < d + (e + f)
     third a b c d e f u v w = omega arith
+
     no_false : true ≡ false → ⊥
     no_false z = cc
+
     by_parts : (s t u : Bool) → int_le x.low g.low ≡ s → int_le g.high x.high ≡ t → lies_in_stride g.stride x.stride ≡ u → (int_le x.low g.low && (int_le g.high x.high && lies_in_stride g.stride x.stride)) ≡ false → own_count (widened x g) < own_count x
     by_parts false t u k l m f = first _ _ _ _ _ _ (low_fewer x.low g.low j.low k) q r
     by_parts true false u k l m f = second _ _ _ _ _ _ p (high_fewer x.high g.high j.high l) r
@@ -153,6 +160,7 @@ own_count_small b i =
   where
     end_small : (e l : ℤ) → end_count e l ≤ 1
     end_small e l = grind arith
+
     sum : (a b c : ℕ) → a ≤ 1 → b ≤ 1 → c ≤ 33 → a + (b + c) ≤ 35
     sum a b c p q r = omega arith
 

@@ -149,8 +149,16 @@ impl Strided {
     {
         Strided {
             low: if self.low == LOW { other.low } else { self.low },
-            high: if self.high == HIGH { other.high } else { self.high },
-            stride: if self.stride.modulus == 1 { other.stride } else { self.stride },
+            high: if self.high == HIGH {
+                other.high
+            } else {
+                self.high
+            },
+            stride: if self.stride.modulus == 1 {
+                other.stride
+            } else {
+                self.stride
+            },
         }
     }
 }

@@ -50,7 +50,7 @@ terms_have g bs s from (t ∷ ts) r h =
     let m : HasStride (part_at bs t.0).stride (slice_index_or s t.0 (pos 0)) = (read_has bs s t.0 r.1 h).stride in
     let q : IsMultiple k (t.1 *ℤ (v -ℤ (part_at bs t.0).stride.residue)) = scaled t.1 (v -ℤ (part_at bs t.0).stride.residue) (part_at bs t.0).stride.modulus m in
     let e : t.1 *ℤ (v -ℤ (part_at bs t.0).stride.residue) ≡ (t.1 *ℤ v) -ℤ (t.1 *ℤ c) =
-            ap (λ x. t.1 *ℤ (v -ℤ x)) (sym (read_residue bs t.0)) ∙ times_difference t.1 v c in
+    ap (λ x. t.1 *ℤ (v -ℤ x)) (sym (read_residue bs t.0)) ∙ times_difference t.1 v c in
     let i : IsMultiple (common_modulus (gcd g k) bs ts) (terms_at ts s -ℤ terms_at ts (residues_of bs)) = terms_have (gcd g k) bs s (t.0 + 1) ts r.4 h in
     multiple_same (common_modulus (gcd g k) bs ts) ((t.1 *ℤ (v -ℤ (part_at bs t.0).stride.residue)) +ℤ (terms_at ts s -ℤ terms_at ts (residues_of bs))) _
     (sum_moved (t.1 *ℤ v) (t.1 *ℤ c) (terms_at ts s) (terms_at ts (residues_of bs)) _ _ e refl)

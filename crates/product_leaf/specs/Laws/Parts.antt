@@ -200,8 +200,10 @@ widened_all_fewer (a ∷ us) (b ∷ bs) e h k f = by_test (lies_in b a) refl (λ
   where
     first : (p q r s : ℕ) → p < q → r ≤ s → p + r < q + s
     first p q r s e f = omega arith
+
     second : (p q r s : ℕ) → p ≤ q → r < s → p + r < q + s
     second p q r s e f = omega arith
+
     by_test : (t : Bool) → lies_in b a ≡ t → (all_lie_in bs us ≡ false → own_count_in (widened_all us bs) < own_count_in us) → own_count (widened a b) + own_count_in (widened_all us bs) < own_count a + own_count_in us
     by_test true g i = second _ _ _ _ (widened_falls a b h.0 k.0) (i (sym (ap (λ t. t && all_lie_in bs us) g) ∙ f))
     by_test false g i = first _ _ _ _ (widened_fewer a b h.0 k.0 g) (widened_all_falls us bs h.1 k.1)

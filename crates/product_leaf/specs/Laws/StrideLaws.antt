@@ -137,8 +137,10 @@ narrow_answers n m (Some us) (Some bs) p q e = by_test (list_any is_bare rs) ref
   where
     rs : List Strided
     rs = narrowed_all (fours_of us) (map reduced (fours_of bs))
+
     l : n ≡ length (narrowed_all (fours_of us) (map reduced (fours_of bs)))
     l = p.1.1 ∙ sym (length_zipped narrowed (fours_of us) (map reduced (fours_of bs)) (same_length n m us bs p q e))
+
     by_test : (t : Bool) → list_any is_bare (narrowed_all (fours_of us) (map reduced (fours_of bs))) ≡ t → Answers strides (at n (Some us)) (if t then nothing_of (length (narrowed_all (fours_of us) (map reduced (fours_of bs)))) else leaf_of (narrowed_all (fours_of us) (map reduced (fours_of bs))))
     by_test true f = nothing_answers n _ (Some us) p.0 l
     by_test false f = made_answers n (Some us) _ p.0 l (narrowed_all_own (fours_of us) (map reduced (fours_of bs)) p.1.2 (own_best (fours_of bs) q.1.2) f)
@@ -196,7 +198,7 @@ meet_holds : (n : ℕ) (c : Option (List ℤ)) (x : ℕ) (r : Range) (s : List �
 meet_holds n None x r s p l h w = absurd h
 meet_holds n (Some us) x r s p l h w =
     let k : Has (met_part (part_at (fours_of us) x) r) (slice_index_or s x (pos 0)) =
-            met_has (part_at (fours_of us) x) r (slice_index_or s x (pos 0)) (read_has (fours_of us) s x (omega (arith, p.1.1)) h) w in
+    met_has (part_at (fours_of us) x) r (slice_index_or s x (pos 0)) (read_has (fours_of us) s x (omega (arith, p.1.1)) h) w in
     best_of_holds (slice_set (fours_of us) x (met_part (part_at (fours_of us) x) r)) s (kept_have (fours_of us) s x _ h k)
 
 pub form_limited : (bs : List Strided) (f : Form) (r : Range) → IsInInt r → IsLimited (strided_at r.low r.high (form_stride bs f))

@@ -25,7 +25,7 @@ returns-then-has_bare c =
     let p : length c.in-Some.parts.now ≡ c.args.self.now.variables = own_count _ _ c.in-Some.ensures.standing in
     let q : length c.in-Some-best_parts.others.now ≡ c.args.other.now.variables = best_count _ _ c.in-Some-best_parts.ensures.best in
     let l : length c.in_ok-narrowed.narrowed.items ≡ c.args.self.now.variables =
-            ap length c.in_ok-narrowed.ensures ∙ length_zipped narrowed c.in-Some.parts.now c.in-Some-best_parts.others.now (p ∙ c.requires ∙ sym q) ∙ p in
+    ap length c.in_ok-narrowed.ensures ∙ length_zipped narrowed c.in-Some.parts.now c.in-Some-best_parts.others.now (p ∙ c.requires ∙ sym q) ∙ p in
     c.none.ensures ∙ ap nothing_of c.count.ensures.value ∙ settled_bare c.in_ok-narrowed.narrowed.items c.args.self.now.variables e l
     ∙ narrow_is c.args.self.now c.args.other.now _ _ c.in_ok-narrowed.narrowed.items c.in-Some.ensures.standing c.in-Some-best_parts.ensures.best c.in_ok-narrowed.ensures
 

@@ -21,8 +21,8 @@ with-requires-clause-own c =
     let u : to_z w64 (of_z w64 c.args.r.low) ≡ c.args.r.low = int_back c.args.r.low c.requires.r.low in
     let w : to_z w64 (of_z w64 c.args.r.high) ≡ c.args.r.high = int_back c.args.r.high c.requires.r.high in
     let e : c.best.result ≡ best_part (strided_at c.args.r.low c.args.r.high (form_stride c.in-Some.parts.now c.args.f.now)) =
-            c.best.ensures ∙ ap (λ l. best_part (strided_at l (to_z w64 (of_z w64 c.args.r.high)) (stride_at c.form_stride-stride.result.modulus c.form_stride-stride.result.residue))) u ∙ ap (λ h. best_part (strided_at c.args.r.low h (stride_at c.form_stride-stride.result.modulus c.form_stride-stride.result.residue))) w
-            ∙ ap (λ s. best_part (strided_at c.args.r.low c.args.r.high s)) c.form_stride-stride.ensures.value in
+    c.best.ensures ∙ ap (λ l. best_part (strided_at l (to_z w64 (of_z w64 c.args.r.high)) (stride_at c.form_stride-stride.result.modulus c.form_stride-stride.result.residue))) u ∙ ap (λ h. best_part (strided_at c.args.r.low h (stride_at c.form_stride-stride.result.modulus c.form_stride-stride.result.residue))) w
+    ∙ ap (λ s. best_part (strided_at c.args.r.low c.args.r.high s)) c.form_stride-stride.ensures.value in
     part_own (strided_at c.args.r.low c.args.r.high (form_stride c.in-Some.parts.now c.args.f.now)) c.best.result e (form_limited c.in-Some.parts.now c.args.f.now c.args.r c.requires.r)
 
 pub with-requires-clause-best : goal.with-requires-clause-best
@@ -30,8 +30,8 @@ with-requires-clause-best c =
     let u : to_z w64 (of_z w64 c.args.r.low) ≡ c.args.r.low = int_back c.args.r.low c.requires.r.low in
     let w : to_z w64 (of_z w64 c.args.r.high) ≡ c.args.r.high = int_back c.args.r.high c.requires.r.high in
     let e : c.best.result ≡ best_part (strided_at c.args.r.low c.args.r.high (form_stride c.in-Some.parts.now c.args.f.now)) =
-            c.best.ensures ∙ ap (λ l. best_part (strided_at l (to_z w64 (of_z w64 c.args.r.high)) (stride_at c.form_stride-stride.result.modulus c.form_stride-stride.result.residue))) u ∙ ap (λ h. best_part (strided_at c.args.r.low h (stride_at c.form_stride-stride.result.modulus c.form_stride-stride.result.residue))) w
-            ∙ ap (λ s. best_part (strided_at c.args.r.low c.args.r.high s)) c.form_stride-stride.ensures.value in
+    c.best.ensures ∙ ap (λ l. best_part (strided_at l (to_z w64 (of_z w64 c.args.r.high)) (stride_at c.form_stride-stride.result.modulus c.form_stride-stride.result.residue))) u ∙ ap (λ h. best_part (strided_at c.args.r.low h (stride_at c.form_stride-stride.result.modulus c.form_stride-stride.result.residue))) w
+    ∙ ap (λ s. best_part (strided_at c.args.r.low c.args.r.high s)) c.form_stride-stride.ensures.value in
     part_best (strided_at c.args.r.low c.args.r.high (form_stride c.in-Some.parts.now c.args.f.now)) c.best.result e
 
 pub returns-in-Some : goal.returns-in-Some
@@ -39,8 +39,8 @@ returns-in-Some c =
     let u : to_z w64 (of_z w64 c.args.r.low) ≡ c.args.r.low = int_back c.args.r.low c.requires.r.low in
     let w : to_z w64 (of_z w64 c.args.r.high) ≡ c.args.r.high = int_back c.args.r.high c.requires.r.high in
     let e : c.best.result ≡ best_part (strided_at c.args.r.low c.args.r.high (form_stride c.in-Some.parts.now c.args.f.now)) =
-            c.best.ensures ∙ ap (λ l. best_part (strided_at l (to_z w64 (of_z w64 c.args.r.high)) (stride_at c.form_stride-stride.result.modulus c.form_stride-stride.result.residue))) u ∙ ap (λ h. best_part (strided_at c.args.r.low h (stride_at c.form_stride-stride.result.modulus c.form_stride-stride.result.residue))) w
-            ∙ ap (λ s. best_part (strided_at c.args.r.low c.args.r.high s)) c.form_stride-stride.ensures.value in
+    c.best.ensures ∙ ap (λ l. best_part (strided_at l (to_z w64 (of_z w64 c.args.r.high)) (stride_at c.form_stride-stride.result.modulus c.form_stride-stride.result.residue))) u ∙ ap (λ h. best_part (strided_at c.args.r.low h (stride_at c.form_stride-stride.result.modulus c.form_stride-stride.result.residue))) w
+    ∙ ap (λ s. best_part (strided_at c.args.r.low c.args.r.high s)) c.form_stride-stride.ensures.value in
     let P : LeafValue → Type 0 = λ u. IfOk c.with.result (λ leaf. leaf ≡ u) in
     let f = ap (λ (ps : List Strided). stride_with c.args.self.now c.args.x (strided_at c.args.r.low c.args.r.high (form_stride ps c.args.f.now))) (best_parts_are _ _ c.in-Some.ensures.best) in
     subst P f (c.with.ensures (strided_at c.args.r.low c.args.r.high (form_stride c.in-Some.parts.now c.args.f.now)) e)

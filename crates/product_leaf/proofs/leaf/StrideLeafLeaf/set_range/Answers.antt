@@ -11,7 +11,7 @@ with-requires-clause-own c =
     let u : to_z w64 (of_z w64 c.args.r.low) ≡ c.args.r.low = int_back c.args.r.low c.requires.r.low in
     let w : to_z w64 (of_z w64 c.args.r.high) ≡ c.args.r.high = int_back c.args.r.high c.requires.r.high in
     let e : c.best_part.result ≡ best_part (strided_at c.args.r.low c.args.r.high (stride_at 1 (pos 0))) =
-            c.best_part.ensures ∙ ap (λ l. best_part (strided_at l (to_z w64 (of_z w64 c.args.r.high)) (stride_at 1 (pos 0)))) u ∙ ap (λ h. best_part (strided_at c.args.r.low h (stride_at 1 (pos 0)))) w in
+    c.best_part.ensures ∙ ap (λ l. best_part (strided_at l (to_z w64 (of_z w64 c.args.r.high)) (stride_at 1 (pos 0)))) u ∙ ap (λ h. best_part (strided_at c.args.r.low h (stride_at 1 (pos 0)))) w in
     part_own (strided_at c.args.r.low c.args.r.high (stride_at 1 (pos 0))) c.best_part.result e (range_limited c.args.r c.requires.r)
 
 pub with-requires-clause-best : goal.with-requires-clause-best
@@ -19,5 +19,5 @@ with-requires-clause-best c =
     let u : to_z w64 (of_z w64 c.args.r.low) ≡ c.args.r.low = int_back c.args.r.low c.requires.r.low in
     let w : to_z w64 (of_z w64 c.args.r.high) ≡ c.args.r.high = int_back c.args.r.high c.requires.r.high in
     let e : c.best_part.result ≡ best_part (strided_at c.args.r.low c.args.r.high (stride_at 1 (pos 0))) =
-            c.best_part.ensures ∙ ap (λ l. best_part (strided_at l (to_z w64 (of_z w64 c.args.r.high)) (stride_at 1 (pos 0)))) u ∙ ap (λ h. best_part (strided_at c.args.r.low h (stride_at 1 (pos 0)))) w in
+    c.best_part.ensures ∙ ap (λ l. best_part (strided_at l (to_z w64 (of_z w64 c.args.r.high)) (stride_at 1 (pos 0)))) u ∙ ap (λ h. best_part (strided_at c.args.r.low h (stride_at 1 (pos 0)))) w in
     part_best (strided_at c.args.r.low c.args.r.high (stride_at 1 (pos 0))) c.best_part.result e

@@ -11,7 +11,7 @@ of-requires c =
     let e : x ≡ c.args.self.residue -ℤ c.args.other.residue = omega (arith, ints) in
     let f : c.unsigned_abs-distance.result ≡ distance c.args.self c.args.other = c.unsigned_abs-distance.ensures.value ∙ ap unsigned_abs e in
     let k : c.greatest_common_divisor-modulus.result ≤ 4294967295 =
-            found_small c.args.self c.args.other _ _ c.unsigned_abs-distance.result c.greatest_common_divisor-of_both.ensures c.greatest_common_divisor-modulus.ensures f c.requires in
+    found_small c.args.self c.args.other _ _ c.unsigned_abs-distance.result c.greatest_common_divisor-of_both.ensures c.greatest_common_divisor-modulus.ensures f c.requires in
     omega arith
 
 pub narrow-requires-clause-modulus : goal.narrow-requires-clause-modulus
@@ -22,7 +22,7 @@ narrow-requires-clause-modulus c =
     let y : ℤ = to_z w128 (of_z w128 (to_z w64 (of_z w64 c.args.self.residue))) in
     let g : y ≡ c.args.self.residue = omega (arith, ints) in
     let i : IsFound c.args.self c.args.other c.of.result.modulus c.of.result.residue =
-            found c.args.self c.args.other _ c.greatest_common_divisor-modulus.result c.unsigned_abs-distance.result _ y _ c.greatest_common_divisor-of_both.ensures c.greatest_common_divisor-modulus.ensures f g c.requires (omega (arith, ints)) (omega (arith, ints)) c.of.ensures in
+    found c.args.self c.args.other _ c.greatest_common_divisor-modulus.result c.unsigned_abs-distance.result _ y _ c.greatest_common_divisor-of_both.ensures c.greatest_common_divisor-modulus.ensures f g c.requires (omega (arith, ints)) (omega (arith, ints)) c.of.ensures in
     let m : c.of.result.modulus ≡ (joined_stride c.args.self c.args.other).modulus = ap (λ s. s.modulus) i.same in
     let k : (joined_stride c.args.self c.args.other).modulus ≤ 4294967295 = c.requires in
     omega arith
@@ -35,7 +35,7 @@ narrow-requires-clause-low c =
     let y : ℤ = to_z w128 (of_z w128 (to_z w64 (of_z w64 c.args.self.residue))) in
     let g : y ≡ c.args.self.residue = omega (arith, ints) in
     let i : IsFound c.args.self c.args.other c.of.result.modulus c.of.result.residue =
-            found c.args.self c.args.other _ c.greatest_common_divisor-modulus.result c.unsigned_abs-distance.result _ y _ c.greatest_common_divisor-of_both.ensures c.greatest_common_divisor-modulus.ensures f g c.requires (omega (arith, ints)) (omega (arith, ints)) c.of.ensures in
+    found c.args.self c.args.other _ c.greatest_common_divisor-modulus.result c.unsigned_abs-distance.result _ y _ c.greatest_common_divisor-of_both.ensures c.greatest_common_divisor-modulus.ensures f g c.requires (omega (arith, ints)) (omega (arith, ints)) c.of.ensures in
     i.low
 
 pub narrow-requires-clause-high : goal.narrow-requires-clause-high
@@ -46,7 +46,7 @@ narrow-requires-clause-high c =
     let y : ℤ = to_z w128 (of_z w128 (to_z w64 (of_z w64 c.args.self.residue))) in
     let g : y ≡ c.args.self.residue = omega (arith, ints) in
     let i : IsFound c.args.self c.args.other c.of.result.modulus c.of.result.residue =
-            found c.args.self c.args.other _ c.greatest_common_divisor-modulus.result c.unsigned_abs-distance.result _ y _ c.greatest_common_divisor-of_both.ensures c.greatest_common_divisor-modulus.ensures f g c.requires (omega (arith, ints)) (omega (arith, ints)) c.of.ensures in
+    found c.args.self c.args.other _ c.greatest_common_divisor-modulus.result c.unsigned_abs-distance.result _ y _ c.greatest_common_divisor-of_both.ensures c.greatest_common_divisor-modulus.ensures f g c.requires (omega (arith, ints)) (omega (arith, ints)) c.of.ensures in
     i.high
 
 pub returns : goal.returns
@@ -57,5 +57,5 @@ returns c =
     let y : ℤ = to_z w128 (of_z w128 (to_z w64 (of_z w64 c.args.self.residue))) in
     let g : y ≡ c.args.self.residue = omega (arith, ints) in
     let i : IsFound c.args.self c.args.other c.of.result.modulus c.of.result.residue =
-            found c.args.self c.args.other _ c.greatest_common_divisor-modulus.result c.unsigned_abs-distance.result _ y _ c.greatest_common_divisor-of_both.ensures c.greatest_common_divisor-modulus.ensures f g c.requires (omega (arith, ints)) (omega (arith, ints)) c.of.ensures in
+    found c.args.self c.args.other _ c.greatest_common_divisor-modulus.result c.unsigned_abs-distance.result _ y _ c.greatest_common_divisor-of_both.ensures c.greatest_common_divisor-modulus.ensures f g c.requires (omega (arith, ints)) (omega (arith, ints)) c.of.ensures in
     c.narrow.ensures ∙ i.same

@@ -128,8 +128,8 @@ returns c =
     let e : c.first_from-first.result <ℤ c.last_to-last.result = omega (arith, ints) in
     let o : c.first_from-first.result ≤ℤ c.last_to-last.result = omega (arith, ints) in
     some_by (strided_at c.args.low c.args.high (stride_at c.args.stride.modulus c.args.stride.residue)) _ c.first_from-first.result c.last_to-last.result f l o (
-      ap (λ x. strided_at x (to_z w64 (of_z w64 c.narrow-3.result)) c.narrow-4.result) r
-      ∙ ap (λ x. strided_at c.first_from-first.result x c.narrow-4.result) t
-      ∙ ap (strided_at c.first_from-first.result c.last_to-last.result) c.narrow-4.ensures
-      ∙ reduced_rest (strided_at c.args.low c.args.high (stride_at c.args.stride.modulus c.args.stride.residue)) c.first_from-first.result c.last_to-last.result f l e
+    ap (λ x. strided_at x (to_z w64 (of_z w64 c.narrow-3.result)) c.narrow-4.result) r
+    ∙ ap (λ x. strided_at c.first_from-first.result x c.narrow-4.result) t
+    ∙ ap (strided_at c.first_from-first.result c.last_to-last.result) c.narrow-4.ensures
+    ∙ reduced_rest (strided_at c.args.low c.args.high (stride_at c.args.stride.modulus c.args.stride.residue)) c.first_from-first.result c.last_to-last.result f l e
     )
