@@ -1,0 +1,4 @@
+pub mod Inside
+pub mod PartLemmas
+pub mod Meanings
+pub mod FormSums

@@ -1,0 +1,18 @@
+-- Intervals with strides keep every law of leaves, and equal leaves are hashed alike. What the laws rest on stands in the folder
+-- Laws, since an `impl` may cite nothing of its own crate but `specs`.
+use Rattle.std.specs.Prelude.{◌≡◌, true}
+use Rattle.std.proofs.Common.{ap}
+use Rattle.leaf_domain.specs.Leaves.{LeafValue, LeafLaws, same_leaf}
+use Rattle.leaf_domain.proofs.LeafEquality.{leaf_decides}
+use Rattle.product_leaf.specs.StrideLeaves.{strides}
+use Rattle.product_leaf.specs.Hashing.{fed_leaf}
+use Rattle.product_leaf.specs.Laws.StrideLaws as proved
+pub mod Parts
+pub mod FormStrides
+pub mod StrideLaws
+
+pub stride_laws : LeafLaws strides
+stride_laws = proved.stride_laws
+
+pub leaf_alike : (x y : LeafValue) → same_leaf x y ≡ true → fed_leaf x ≡ fed_leaf y
+leaf_alike x y e = ap fed_leaf ((leaf_decides x y).0 e)

@@ -1,0 +1,251 @@
+-- Facts on lists of parts.
+use Rattle.std.proofs.Common.{◌≡◌, ℕ, zero, suc, ◌+◌, ◌*◌, ◌<◌, ◌≤◌, ℤ, pos, ◌≤ℤ◌, Bool, true, false, ◌&&◌, ◌||◌, List, [], ◌∷◌, length, map, slice_set, slice_index_or, refl, ap, sym, ◌∙◌, arith, All}
+use Rattle.std.specs.Prelude.{⊤}
+use Rattle.std.specs.List.{list_any, zip}
+use Rattle.std.proofs.lemmas.List.Elements.{All-head, All-tail}
+use Rattle.leaf_domain.specs.Ranges.{empty_range}
+use Rattle.c_tree.specs.Value.{IsInt}
+use Rattle.strides.specs.declared.strided.Strided.{Strided}
+use Rattle.strides.specs.Strides.{IsReduced, first_from}
+use Rattle.strides.specs.Strided.{least, greatest, Has, is_bare, point_at, reduced, IsOwn, lies_in, widened, narrowed, own_count}
+use Rattle.strides.proofs.StridedLaws.{first_in, has_not_bare, reduced_keeps, reduced_back, point_own, point_has, point_alone, reduced_own, joined_has_first, joined_has_second, joined_own}
+use Rattle.strides.proofs.WideningLaws.{has_wider, widened_has_first, widened_has_second, widened_own, widened_falls, widened_fewer, own_count_small, narrowed_own, narrowed_has}
+use Rattle.product_leaf.specs.StrideLeaves.{numbers_of, fours_of, leaf_of, AllOwn, AllHave, IsStrideLeaf, joined_all, all_lie_in, widened_all, narrowed_all, own_count_in, part_at, range_of_part}
+
+pub fours_numbers : (bs : List Strided) → fours_of (numbers_of bs) ≡ bs
+fours_numbers [] = refl
+fours_numbers (b ∷ bs) = ap (λ x. b ∷ x) (fours_numbers bs)
+
+-- ---- lengths
+pub length_zipped : (f : Strided → Strided → Strided) (us bs : List Strided) → length us ≡ length bs → length (map (λ (a, b). f a b) (zip us bs)) ≡ length us
+length_zipped f [] bs e = refl
+length_zipped f (a ∷ us) [] e = cc
+length_zipped f (a ∷ us) (b ∷ bs) e = ap suc (length_zipped f us bs (omega arith))
+
+pub length_best : (bs : List Strided) → length (map reduced bs) ≡ length bs
+length_best [] = refl
+length_best (b ∷ bs) = ap suc (length_best bs)
+
+pub length_replaced : (bs : List Strided) (x : ℕ) (b : Strided) → length (slice_set bs x b) ≡ length bs
+length_replaced [] x b = refl
+length_replaced (a ∷ bs) zero b = refl
+length_replaced (a ∷ bs) (suc x) b = ap suc (length_replaced bs x b)
+
+-- ---- parts that a leaf can have
+pub is_leaf : (bs : List Strided) → length bs ≤ 16 → AllOwn bs → IsStrideLeaf (leaf_of bs)
+is_leaf bs h k = (h, (ap numbers_of (fours_numbers bs), ap length (sym (fours_numbers bs)), rw (fours_numbers bs) k))
+
+-- where it has a number, its best bounds are a leaf's
+pub record IsLimited (b : Strided) : Type 0 where
+  pub low : least ≤ℤ b.low
+  pub high : b.high ≤ℤ greatest
+  pub residue : IsReduced b.stride
+
+abbrev pub AllLimited : List Strided → Type 0
+AllLimited [] = ⊤
+AllLimited (b ∷ bs) = IsLimited b × AllLimited bs
+
+pub limited_own : (bs : List Strided) → AllOwn bs → AllLimited bs
+limited_own [] h = tt
+limited_own (b ∷ bs) h = (record { low = h.0.low; high = h.0.high; residue = h.0.residue }, limited_own bs h.1)
+
+apart : (a b : Bool) → (a || b) ≡ false → (a ≡ false) × (b ≡ false)
+apart true b f = cc
+apart false b f = (refl, f)
+
+pub best_own : (bs : List Strided) → AllLimited bs → list_any is_bare bs ≡ false → AllOwn (map reduced bs)
+best_own [] h e = tt
+best_own (b ∷ bs) h e = let (p, q) = apart (is_bare b) (list_any is_bare bs) e in (reduced_own b h.0.low h.0.high h.0.residue p, best_own bs h.1 q)
+
+pub own_some : (bs : List Strided) → AllOwn bs → list_any is_bare bs ≡ false
+own_some [] h = refl
+own_some (b ∷ bs) h = rw h.0.some (own_some bs h.1)
+
+pub own_best : (bs : List Strided) → AllOwn bs → AllOwn (map reduced bs)
+own_best bs h = best_own bs (limited_own bs h) (own_some bs h)
+
+pub limited_set : (bs : List Strided) (x : ℕ) (b : Strided) → AllOwn bs → IsLimited b → AllLimited (slice_set bs x b)
+limited_set [] x b h k = tt
+limited_set (a ∷ bs) zero b h k = (k, limited_own bs h.1)
+limited_set (a ∷ bs) (suc x) b h k = ((limited_own (a ∷ bs) h).0, limited_set bs x b h.1 k)
+
+pub own_points : (s : List ℤ) → All IsInt s → AllOwn (map point_at s)
+own_points [] h = tt
+own_points (n ∷ s) h = let k = All-head IsInt n s h in (point_own n k.low k.high, own_points s (All-tail IsInt n s h))
+
+pub joined_all_own : (us bs : List Strided) → AllOwn us → AllOwn bs → AllOwn (joined_all us bs)
+joined_all_own [] bs h k = tt
+joined_all_own (a ∷ us) [] h k = tt
+joined_all_own (a ∷ us) (b ∷ bs) h k = (joined_own a b h.0 k.0, joined_all_own us bs h.1 k.1)
+
+pub widened_all_own : (us bs : List Strided) → AllOwn us → AllOwn bs → AllOwn (widened_all us bs)
+widened_all_own [] bs h k = tt
+widened_all_own (a ∷ us) [] h k = tt
+widened_all_own (a ∷ us) (b ∷ bs) h k = (widened_own a b h.0 k.0, widened_all_own us bs h.1 k.1)
+
+pub narrowed_all_own : (us bs : List Strided) → AllOwn us → AllOwn bs → list_any is_bare (narrowed_all us bs) ≡ false → AllOwn (narrowed_all us bs)
+narrowed_all_own [] bs h k e = tt
+narrowed_all_own (a ∷ us) [] h k e = tt
+narrowed_all_own (a ∷ us) (b ∷ bs) h k e =
+    let (p, q) = apart (is_bare (narrowed a b)) (list_any is_bare (narrowed_all us bs)) e in (narrowed_own a b h.0 k.0 p, narrowed_all_own us bs h.1 k.1 q)
+
+-- ---- stores
+pub none_bare : (bs : List Strided) (s : List ℤ) → AllHave bs s → list_any is_bare bs ≡ false
+none_bare [] s h = refl
+none_bare (b ∷ bs) [] h = absurd h
+none_bare (b ∷ bs) (n ∷ s) h = rw (has_not_bare b n h.0) (none_bare bs s h.1)
+
+pub best_keeps : (bs : List Strided) (s : List ℤ) → AllHave bs s → AllHave (map reduced bs) s
+best_keeps [] [] h = tt
+best_keeps [] (n ∷ s) h = absurd h
+best_keeps (b ∷ bs) [] h = absurd h
+best_keeps (b ∷ bs) (n ∷ s) h = (reduced_keeps b n h.0, best_keeps bs s h.1)
+
+pub best_back : (bs : List Strided) (s : List ℤ) → AllHave (map reduced bs) s → AllHave bs s
+best_back [] [] h = tt
+best_back [] (n ∷ s) h = absurd h
+best_back (b ∷ bs) [] h = absurd h
+best_back (b ∷ bs) (n ∷ s) h = (reduced_back b n h.0, best_back bs s h.1)
+
+pub points_have : (s : List ℤ) → AllHave (map point_at s) s
+points_have [] = tt
+points_have (n ∷ s) = (point_has n n refl, points_have s)
+
+pub points_alone : (s t : List ℤ) → AllHave (map point_at s) t → t ≡ s
+points_alone [] [] h = refl
+points_alone [] (m ∷ t) h = absurd h
+points_alone (n ∷ s) [] h = absurd h
+points_alone (n ∷ s) (m ∷ t) h = let e : m ≡ n = point_alone n m h.0 in ap (λ x. x ∷ t) e ∙ ap (λ x. n ∷ x) (points_alone s t h.1)
+
+pub firsts : List Strided → List ℤ
+firsts [] = []
+firsts (b ∷ bs) = first_from b.low b.stride ∷ firsts bs
+
+pub firsts_have : (bs : List Strided) → AllOwn bs → AllHave bs (firsts bs)
+unfolding firsts
+firsts_have [] h = tt
+firsts_have (b ∷ bs) h = (first_in b h.0.some, firsts_have bs h.1)
+
+pub have_length : (bs : List Strided) (s : List ℤ) → AllHave bs s → length s ≡ length bs
+have_length [] [] h = refl
+have_length [] (n ∷ s) h = absurd h
+have_length (b ∷ bs) [] h = absurd h
+have_length (b ∷ bs) (n ∷ s) h = ap suc (have_length bs s h.1)
+
+pub joined_first : (us bs : List Strided) (s : List ℤ) → length us ≡ length bs → AllHave us s → AllHave (joined_all us bs) s
+joined_first [] bs [] e h = tt
+joined_first [] bs (n ∷ s) e h = absurd h
+joined_first (a ∷ us) bs [] e h = absurd h
+joined_first (a ∷ us) [] (n ∷ s) e h = absurd (omega arith)
+joined_first (a ∷ us) (b ∷ bs) (n ∷ s) e h = (joined_has_first a b n h.0, joined_first us bs s (omega arith) h.1)
+
+pub joined_second : (us bs : List Strided) (s : List ℤ) → length us ≡ length bs → AllHave bs s → AllHave (joined_all us bs) s
+joined_second [] [] [] e h = tt
+joined_second us [] (n ∷ s) e h = absurd h
+joined_second [] (b ∷ bs) s e h = absurd (omega arith)
+joined_second (a ∷ us) [] s e h = absurd (omega arith)
+joined_second (a ∷ us) (b ∷ bs) [] e h = absurd h
+joined_second (a ∷ us) (b ∷ bs) (n ∷ s) e h = (joined_has_second a b n h.0, joined_second us bs s (omega arith) h.1)
+
+-- a test of each pair, at the first pair and at the rest
+both : (a b : Bool) → (a && b) ≡ true → (a ≡ true) × (b ≡ true)
+both true b f = (refl, f)
+both false b f = cc
+
+pub inside_has : (us bs : List Strided) (s : List ℤ) → length us ≡ length bs → all_lie_in us bs ≡ true → AllHave us s → AllHave bs s
+inside_has [] [] s e f h = h
+inside_has [] (b ∷ bs) s e f h = absurd (omega arith)
+inside_has (a ∷ us) [] s e f h = absurd (omega arith)
+inside_has (a ∷ us) (b ∷ bs) [] e f h = absurd h
+inside_has (a ∷ us) (b ∷ bs) (n ∷ s) e f h =
+    let (p, q) = both (lies_in a b) (all_lie_in us bs) f in (has_wider a b n p h.0, inside_has us bs s (omega arith) q h.1)
+
+pub widened_first : (us bs : List Strided) (s : List ℤ) → length us ≡ length bs → AllOwn us → AllOwn bs → AllHave us s → AllHave (widened_all us bs) s
+widened_first [] bs [] e p q h = tt
+widened_first [] bs (n ∷ s) e p q h = absurd h
+widened_first (a ∷ us) bs [] e p q h = absurd h
+widened_first (a ∷ us) [] (n ∷ s) e p q h = absurd (omega arith)
+widened_first (a ∷ us) (b ∷ bs) (n ∷ s) e p q h = (widened_has_first a b n p.0 q.0 h.0, widened_first us bs s (omega arith) p.1 q.1 h.1)
+
+pub widened_second : (us bs : List Strided) (s : List ℤ) → length us ≡ length bs → AllOwn us → AllOwn bs → AllHave bs s → AllHave (widened_all us bs) s
+widened_second [] [] [] e p q h = tt
+widened_second us [] (n ∷ s) e p q h = absurd h
+widened_second [] (b ∷ bs) s e p q h = absurd (omega arith)
+widened_second (a ∷ us) [] s e p q h = absurd (omega arith)
+widened_second (a ∷ us) (b ∷ bs) [] e p q h = absurd h
+widened_second (a ∷ us) (b ∷ bs) (n ∷ s) e p q h = (widened_has_second a b n p.0 q.0 h.0, widened_second us bs s (omega arith) p.1 q.1 h.1)
+
+pub narrowed_have : (xs gs : List Strided) (s : List ℤ) → length xs ≡ length gs → all_lie_in gs xs ≡ true → AllHave gs s → AllHave (narrowed_all xs gs) s
+narrowed_have [] [] s e f h = h
+narrowed_have [] (b ∷ bs) s e f h = absurd (omega arith)
+narrowed_have (a ∷ us) [] s e f h = absurd (omega arith)
+narrowed_have (a ∷ us) (b ∷ bs) [] e f h = absurd h
+narrowed_have (a ∷ us) (b ∷ bs) (n ∷ s) e f h =
+    let (p, q) = both (lies_in b a) (all_lie_in bs us) f in (narrowed_has a b n p h.0, narrowed_have us bs s (omega arith) q h.1)
+
+-- ---- how many bounds are not the type's
+widened_all_falls : (us bs : List Strided) → AllOwn us → AllOwn bs → own_count_in (widened_all us bs) ≤ own_count_in us
+widened_all_falls [] bs h k = omega arith
+widened_all_falls (a ∷ us) [] h k = omega arith
+widened_all_falls (a ∷ us) (b ∷ bs) h k = sum _ _ _ _ (widened_falls a b h.0 k.0) (widened_all_falls us bs h.1 k.1)
+  where
+    sum : (p q r s : ℕ) → p ≤ q → r ≤ s → p + r ≤ q + s
+    sum p q r s e f = omega arith
+
+pub widened_all_fewer : (us bs : List Strided) → length us ≡ length bs → AllOwn us → AllOwn bs → all_lie_in bs us ≡ false → own_count_in (widened_all us bs) < own_count_in us
+widened_all_fewer [] [] e h k f = cc
+widened_all_fewer [] (b ∷ bs) e h k f = absurd (omega arith)
+widened_all_fewer (a ∷ us) [] e h k f = absurd (omega arith)
+widened_all_fewer (a ∷ us) (b ∷ bs) e h k f = by_test (lies_in b a) refl (λ g. widened_all_fewer us bs (omega arith) h.1 k.1 g)
+  where
+    first : (p q r s : ℕ) → p < q → r ≤ s → p + r < q + s
+    first p q r s e f = omega arith
+
+    second : (p q r s : ℕ) → p ≤ q → r < s → p + r < q + s
+    second p q r s e f = omega arith
+
+    by_test : (t : Bool) → lies_in b a ≡ t → (all_lie_in bs us ≡ false → own_count_in (widened_all us bs) < own_count_in us) → own_count (widened a b) + own_count_in (widened_all us bs) < own_count a + own_count_in us
+    by_test true g i = second _ _ _ _ (widened_falls a b h.0 k.0) (i (sym (ap (λ t. t && all_lie_in bs us) g) ∙ f))
+    by_test false g i = first _ _ _ _ (widened_fewer a b h.0 k.0 g) (widened_all_falls us bs h.1 k.1)
+
+pub own_count_le : (bs : List Strided) → AllOwn bs → own_count_in bs ≤ 35 * length bs
+own_count_le [] h = omega arith
+own_count_le (b ∷ bs) h = sum _ _ _ (own_count_small b h.0) (own_count_le bs h.1)
+  where
+    sum : (p q n : ℕ) → p ≤ 35 → q ≤ 35 * n → p + q ≤ 35 * suc n
+    sum p q n e f = omega arith
+
+-- ---- one variable
+pub read_has : (bs : List Strided) (s : List ℤ) (x : ℕ) → x < length bs → AllHave bs s → Has (part_at bs x) (slice_index_or s x (pos 0))
+read_has [] s x p h = absurd (omega arith)
+read_has (b ∷ bs) [] x p h = absurd h
+read_has (b ∷ bs) (n ∷ s) zero p h = h.0
+read_has (b ∷ bs) (n ∷ s) (suc x) p h = read_has bs s x (omega arith) h.1
+
+pub read_own : (bs : List Strided) (x : ℕ) → x < length bs → AllOwn bs → IsOwn (part_at bs x)
+read_own [] x p h = absurd (omega arith)
+read_own (b ∷ bs) zero p h = h.0
+read_own (b ∷ bs) (suc x) p h = read_own bs x (omega arith) h.1
+
+pub read_range : (bs : List Strided) (x : ℕ) → x < length bs → slice_index_or (map range_of_part bs) x empty_range ≡ range_of_part (part_at bs x)
+read_range [] x p = absurd (omega arith)
+read_range (b ∷ bs) zero p = refl
+read_range (b ∷ bs) (suc x) p = read_range bs x (omega arith)
+
+pub read_residue : (bs : List Strided) (x : ℕ) → slice_index_or (map (λ (b : Strided). b.stride.residue) bs) x (pos 0) ≡ (part_at bs x).stride.residue
+read_residue [] x = refl
+read_residue (b ∷ bs) zero = refl
+read_residue (b ∷ bs) (suc x) = read_residue bs x
+
+pub set_have : (bs : List Strided) (s : List ℤ) (x : ℕ) (b : Strided) (n : ℤ) → AllHave bs s → Has b n → AllHave (slice_set bs x b) (slice_set s x n)
+set_have [] [] x b n h k = tt
+set_have [] (m ∷ s) x b n h k = absurd h
+set_have (a ∷ bs) [] x b n h k = absurd h
+set_have (a ∷ bs) (m ∷ s) zero b n h k = (k, h.1)
+set_have (a ∷ bs) (m ∷ s) (suc x) b n h k = (h.0, set_have bs s x b n h.1 k)
+
+pub kept_have : (bs : List Strided) (s : List ℤ) (x : ℕ) (b : Strided) → AllHave bs s → Has b (slice_index_or s x (pos 0)) → AllHave (slice_set bs x b) s
+kept_have [] s x b h k = h
+kept_have (a ∷ bs) [] x b h k = absurd h
+kept_have (a ∷ bs) (m ∷ s) zero b h k = (k, h.1)
+kept_have (a ∷ bs) (m ∷ s) (suc x) b h k = (h.0, kept_have bs s x b h.1 k)
