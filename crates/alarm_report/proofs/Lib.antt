@@ -1,0 +1,4 @@
+pub mod Dropped
+pub mod Fitting
+pub mod Meeting
+pub mod Covering

@@ -1,0 +1,3 @@
+pub mod Adding
+pub mod Dropping
+pub mod Regions
