@@ -67,6 +67,13 @@ impl Regions {
         Regions { list }
     }
 
+    /// The regions, taken out.
+    pub fn into_vec(self) -> Vec<Region>
+        ensures { result.items ≡ self }
+    {
+        self.list
+    }
+
     /// The regions.
     pub fn items(&self) -> &[Region]
         ensures { result.now ≡ self.now }
