@@ -1,16 +1,14 @@
 -- One path more, and one tree more.
-use Rattle.std.specs.Prelude.{◌≡◌, ℕ, Bool, List, [], ◌∷◌, ◌++◌, map, if◌then◌else◌}
+use Rattle.std.specs.Prelude.{ℕ, Bool, List, [], ◌∷◌, ◌++◌, if◌then◌else◌}
 use Rattle.fam_outer.specs.declared.faults.Place.{Place}
 use Rattle.linear_atoms.specs.declared.atoms.Atom.{Atom}
 use Rattle.cpp_conditions.specs.declared.models.Model.{Model}
-use Rattle.decision_tree.specs.Paths.{paths_of}
 use Rattle.leaf_domain.specs.Leaves.{LeafValue}
 use Rattle.alarm_report.specs.declared.alarms.FamilyAlarm.{FamilyAlarm}
-use Rattle.alarm_report.specs.declared.invariants.FamilyInvariant.{FamilyInvariant}
 use Rattle.alarm_report.specs.declared.region.Region.{Region}
-use Rattle.alarm_report.specs.Alarms.{StopTree, alarm_in}
-use Rattle.alarm_report.specs.Invariants.{LeafTree, Invariant, AreOfPaths, invariant}
-use Rattle.alarm_report.specs.Regions.{AreRegions, AreRegionsOf}
+use Rattle.alarm_report.specs.Alarms.{StopTree, AreAlarms}
+use Rattle.alarm_report.specs.Invariants.{LeafTree, Invariant, AreOfPaths, AreInvariants}
+use Rattle.alarm_report.specs.Regions.{AreRegionsOf}
 
 -- the turns of a path, if it leads to true
 abbrev pub if_true : List (ℕ × Bool) × Bool → List (List (ℕ × Bool))
@@ -20,22 +18,14 @@ if_true p = if p.1 then p.0 ∷ [] else []
 abbrev pub Adds : Model → List Atom → List (ℕ × Bool) × Bool → List Region → List Region → Type 0
 Adds model atoms p old new = (paths : List (List (ℕ × Bool))) → AreRegionsOf model atoms paths old → AreRegionsOf model atoms (paths ++ if_true p) new
 
--- the alarms of a tree's regions are added
-pub record AddsRegions (model : Model) (atoms : List Atom) (t : StopTree) (old new : List FamilyAlarm) : Type 0 where
-  pub regions : List Region
-  pub are : AreRegions model atoms t.tree regions
-  pub added : new ≡ old ++ map (alarm_in t.place t.kind) regions
+-- where the old alarms are those of some trees, the new ones are those of these and one more
+abbrev pub AddsTree : Model → List Atom → StopTree → List FamilyAlarm → List FamilyAlarm → Type 0
+AddsTree model atoms t old new = (ts : List StopTree) → AreAlarms model atoms ts old → AreAlarms model atoms (ts ++ t ∷ []) new
 
--- the invariants of these paths are added
-pub record AddsOfPaths {L : Type 0} (value : L → LeafValue) (model : Model) (atoms : List Atom) (place : Place) (paths : List (List (ℕ × Bool) × LeafValue)) (old new : List (FamilyInvariant L)) : Type 0 where
-  pub more : List (FamilyInvariant L)
-  pub are : AreOfPaths model atoms place paths (map (invariant value) more)
-  pub added : new ≡ old ++ more
+-- the same of the invariants of paths, and of trees
+abbrev pub AddsPath : Model → List Atom → Place → List (ℕ × Bool) × LeafValue → List Invariant → List Invariant → Type 0
+AddsPath model atoms place path old new =
+    (paths : List (List (ℕ × Bool) × LeafValue)) → AreOfPaths model atoms place paths old → AreOfPaths model atoms place (paths ++ path ∷ []) new
 
--- the invariant of a path is added, if it has one
-abbrev pub AddsPath : {L : Type 0} → (L → LeafValue) → Model → List Atom → Place → List (ℕ × Bool) × L → List (FamilyInvariant L) → List (FamilyInvariant L) → Type 0
-AddsPath value model atoms place path old new = AddsOfPaths value model atoms place ((path.0, value path.1) ∷ []) old new
-
--- those of all paths of a tree are
-abbrev pub AddsPaths : {L : Type 0} → (L → LeafValue) → Model → List Atom → LeafTree → List (FamilyInvariant L) → List (FamilyInvariant L) → Type 0
-AddsPaths value model atoms t old new = AddsOfPaths value model atoms t.place (paths_of t.tree) old new
+abbrev pub AddsLeafTree : Model → List Atom → LeafTree → List Invariant → List Invariant → Type 0
+AddsLeafTree model atoms t old new = (ts : List LeafTree) → AreInvariants model atoms ts old → AreInvariants model atoms (ts ++ t ∷ []) new

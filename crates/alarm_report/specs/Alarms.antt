@@ -7,7 +7,7 @@ use Rattle.cpp_conditions.specs.declared.models.Model.{Model}
 use Rattle.cpp_conditions.specs.Numbering.{vector_at}
 use Rattle.cpp_conditions.specs.Validity.{plain, IsValid}
 use Rattle.decision_tree.specs.Plain.{Plain, leaf_of}
-use Rattle.decision_tree.specs.View as tree
+use Rattle.decision_tree.specs.View as shared
 use Rattle.atom_solver.specs.Solutions.{IsFirst, all_hold}
 use Rattle.lifted_analysis.specs.declared.findings.AlarmTree.{AlarmTree}
 use Rattle.alarm_report.specs.declared.alarms.FamilyAlarm.{FamilyAlarm}
@@ -23,7 +23,7 @@ pub record StopTree : Type 0 where
   pub tree : Plain Bool
 
 abbrev pub stop_tree : AlarmTree → StopTree
-stop_tree a = record { place = a.place; kind = a.kind; tree = tree.plain a.tree }
+stop_tree a = record { place = a.place; kind = a.kind; tree = shared.plain a.tree }
 
 abbrev pub alarm_in : Place → Kind → Region → FamilyAlarm
 alarm_in place kind region = record { place = place; kind = kind; region = region }
@@ -54,6 +54,14 @@ pub record TellsOnce (alarms : List FamilyAlarm) (place : Place) (kind : Kind) (
   pub tells : Tells alarm place kind values
   pub alone : (i : ℕ) (a : FamilyAlarm) → slice_get alarms i ≡ Some a → Tells a place kind values → i ≡ index
 
+-- some tree has this place and kind
+pub record HasKey (ts : List StopTree) (place : Place) (kind : Kind) : Type 0 where
+  pub index : ℕ
+  pub one : StopTree
+  pub there : slice_get ts index ≡ Some one
+  pub place_is : one.place ≡ place
+  pub kind_is : one.kind ≡ kind
+
 -- At a valid configuration exactly one alarm of a tree's place and kind is told where the tree is true, and none where it is
 -- false; no alarm has another place and kind, and its example is the least valid configuration that meets its region.
 pub record CoversStops (model : Model) (atoms : List Atom) (ts : List StopTree) (alarms : List FamilyAlarm) : Type 0 where
@@ -61,6 +69,5 @@ pub record CoversStops (model : Model) (atoms : List Atom) (ts : List StopTree) 
       → leaf_of t.tree (vector_at atoms values) ≡ true → TellsOnce alarms t.place t.kind values
   pub only : (values : List ℤ) (n : ℕ) (t : StopTree) (i : ℕ) (a : FamilyAlarm) → IsValid (plain model) values → slice_get ts n ≡ Some t
       → slice_get alarms i ≡ Some a → Tells a t.place t.kind values → leaf_of t.tree (vector_at atoms values) ≡ true
-  pub known : (i : ℕ) (a : FamilyAlarm) → slice_get alarms i ≡ Some a
-      → (n : ℕ) × (t : StopTree) × (slice_get ts n ≡ Some t) × (t.place ≡ a.place) × (t.kind ≡ a.kind)
+  pub known : (i : ℕ) (a : FamilyAlarm) → slice_get alarms i ≡ Some a → HasKey ts a.place a.kind
   pub least : (i : ℕ) (a : FamilyAlarm) → slice_get alarms i ≡ Some a → IsFirst model (all_hold a.region.literals) a.region.example.values

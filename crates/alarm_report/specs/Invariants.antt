@@ -7,7 +7,7 @@ use Rattle.cpp_conditions.specs.Numbering.{vector_at}
 use Rattle.cpp_conditions.specs.Validity.{plain, IsValid}
 use Rattle.decision_tree.specs.Paths.{paths_of}
 use Rattle.decision_tree.specs.Plain.{Plain, leaf_of}
-use Rattle.decision_tree.specs.View as tree
+use Rattle.decision_tree.specs.View as shared
 use Rattle.leaf_domain.specs.Leaves.{LeafValue}
 use Rattle.lifted_analysis.specs.declared.findings.PlaceTree.{PlaceTree}
 use Rattle.lifted_analysis.specs.Promises.{valued}
@@ -29,7 +29,7 @@ pub record Invariant : Type 0 where
   pub leaf : LeafValue
 
 abbrev pub leaf_tree : {L : Type 0} → (L → LeafValue) → PlaceTree L → LeafTree
-leaf_tree value p = record { place = p.place; tree = valued value (tree.plain p.tree) }
+leaf_tree value p = record { place = p.place; tree = valued value (shared.plain p.tree) }
 
 abbrev pub invariant : {L : Type 0} → (L → LeafValue) → FamilyInvariant L → Invariant
 invariant value i = record { place = i.place; region = i.region; leaf = value i.leaf.value.value }
@@ -64,9 +64,16 @@ pub record HasOnce (is : List Invariant) (place : Place) (leaf : LeafValue) (val
   pub leaf_is : one.leaf ≡ leaf
   pub alone : (i : ℕ) (other : Invariant) → slice_get is i ≡ Some other → other.place ≡ place → Meets other.region values → i ≡ index
 
+-- some tree has this place
+pub record HasPlace (ts : List LeafTree) (place : Place) : Type 0 where
+  pub index : ℕ
+  pub one : LeafTree
+  pub there : slice_get ts index ≡ Some one
+  pub place_is : one.place ≡ place
+
 -- a valid configuration meets exactly one invariant of each tree's place, with the tree's leaf there, and no invariant has
 -- another place
 pub record CoversPlaces (model : Model) (atoms : List Atom) (ts : List LeafTree) (is : List Invariant) : Type 0 where
   pub one : (values : List ℤ) (n : ℕ) (t : LeafTree) → IsValid (plain model) values → slice_get ts n ≡ Some t
       → HasOnce is t.place (leaf_of t.tree (vector_at atoms values)) values
-  pub known : (i : ℕ) (one : Invariant) → slice_get is i ≡ Some one → (n : ℕ) × (t : LeafTree) × (slice_get ts n ≡ Some t) × (t.place ≡ one.place)
+  pub known : (i : ℕ) (one : Invariant) → slice_get is i ≡ Some one → HasPlace ts one.place

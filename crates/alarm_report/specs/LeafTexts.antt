@@ -1,5 +1,5 @@
 -- The texts of leaves, and of invariants.
-use Rattle.std.specs.Prelude.{ℕ, suc, ℤ, pos, negsuc, Bool, ◌&&◌, if◌then◌else◌, List, [], ◌∷◌, ◌++◌, codes, flat_map, take, Option, Some, None}
+use Rattle.std.specs.Prelude.{ℕ, ◌+◌, ℤ, pos, negsuc, Bool, ◌&&◌, if◌then◌else◌, List, [], ◌∷◌, ◌++◌, codes, flat_map, take, Option, Some, None}
 use Rattle.std.specs.Fmt.{signed_decimal}
 use Rattle.std.specs.Ordering.{int_eq}
 use Rattle.c_tree.specs.declared.tree.Op.{Op}
@@ -21,7 +21,7 @@ within_text r = codes " in [" ++ signed_decimal r.low ++ codes "," ++ signed_dec
 -- `x in [l,h]` of each name, for the variables from this one on
 abbrev pub variable_items : LeafMeaning → LeafValue → ℕ → List (List ℕ) → List (List ℕ)
 variable_items M v x [] = []
-variable_items M v x (name ∷ names) = (name ++ within_text (M.bounds_of v x)) ∷ variable_items M v (suc x) names
+variable_items M v x (name ∷ names) = (name ++ within_text (M.bounds_of v x)) ∷ variable_items M v (x + 1) names
 
 -- ---- pairs
 
@@ -37,32 +37,29 @@ abbrev pub item_of : List ℕ → Option Range → List (List ℕ)
 item_of front None = []
 item_of front (Some r) = (front ++ within_text r) ∷ []
 
--- `x - y` and `x + y`, of two variables of which the first is before the second
-abbrev pub difference : ℕ → ℕ → Form
-difference x y = record { terms = (x, pos 1) ∷ ((y, negsuc 0) ∷ []); constant = pos 0 }
+-- `x - y` or `x + y`, by the coefficient of the second, of two variables of which the first is before the second
+abbrev pub pair_form : ℕ → ℕ → ℤ → Form
+pair_form x y k = record { terms = (x, pos 1) ∷ ((y, k) ∷ []); constant = pos 0 }
 
-abbrev pub sum : ℕ → ℕ → Form
-sum x y = record { terms = (x, pos 1) ∷ ((y, pos 1) ∷ []); constant = pos 0 }
-
--- the range of a form of two variables, where it is not what arithmetic gives of theirs
-abbrev pub pair_range : LeafMeaning → LeafValue → Op → Form → ℕ → ℕ → Option Range
-pair_range M v op form x y = new_range (M.form_range v form) (arithmetic_range op (M.bounds_of v x) (M.bounds_of v y))
+-- its range, where it is not what arithmetic gives of the two variables' ranges
+abbrev pub pair_range : LeafMeaning → LeafValue → Op → ℤ → ℕ → ℕ → Option Range
+pair_range M v op k x y = new_range (M.form_range v (pair_form x y k)) (arithmetic_range op (M.bounds_of v x) (M.bounds_of v y))
 
 -- `x-y in [l,h]` and `x+y in [l,h]`, where they say more than the two variables' ranges
 abbrev pub pair_items : LeafMeaning → LeafValue → ℕ → List ℕ → ℕ → List ℕ → List (List ℕ)
 pair_items M v x first y second =
-    item_of (first ++ codes "-" ++ second) (pair_range M v Sub (difference x y) x y)
-    ++ item_of (first ++ codes "+" ++ second) (pair_range M v Add (sum x y) x y)
+    item_of (first ++ codes "-" ++ second) (pair_range M v Sub (negsuc 0) x y)
+    ++ item_of (first ++ codes "+" ++ second) (pair_range M v Add (pos 1) x y)
 
 -- those of one variable with each behind it, of which the first is y
 abbrev pub items_with : LeafMeaning → LeafValue → ℕ → List ℕ → ℕ → List (List ℕ) → List (List ℕ)
 items_with M v x first y [] = []
-items_with M v x first y (name ∷ names) = pair_items M v x first y name ++ items_with M v x first (suc y) names
+items_with M v x first y (name ∷ names) = pair_items M v x first y name ++ items_with M v x first (y + 1) names
 
 -- those of all pairs of the variables from x on
 abbrev pub all_pairs : LeafMeaning → LeafValue → ℕ → List (List ℕ) → List (List ℕ)
 all_pairs M v x [] = []
-all_pairs M v x (name ∷ names) = items_with M v x name (suc x) names ++ all_pairs M v (suc x) names
+all_pairs M v x (name ∷ names) = items_with M v x name (x + 1) names ++ all_pairs M v (x + 1) names
 
 -- ---- leaves
 

@@ -1,6 +1,7 @@
 pub mod Adding
 pub mod Alarms
 pub mod Dropping
+pub mod Forming
 pub mod Invariants
 pub mod LeafTexts
 pub mod Regions

@@ -8,14 +8,13 @@ ghost use Rattle.decision_tree.specs.Plain.{TestsBelow};
 ghost use Rattle.decision_tree.specs.View.{plain};
 ghost use Rattle.lifted_analysis.specs.declared.findings.AlarmTree.{AlarmTree};
 ghost use Rattle.alarm_report.specs.declared.alarms.FamilyAlarm.{FamilyAlarm};
-ghost use Rattle.alarm_report.specs.Adding.{AddsRegions};
-ghost use Rattle.alarm_report.specs.Alarms.{AreAlarms, AreKeyed, CoversStops, stop_tree};
+ghost use Rattle.alarm_report.specs.Adding.{AddsTree};
+ghost use Rattle.alarm_report.specs.Alarms.{AreAlarms, AreKeyed, CoversStops, stop_tree, alarm_in};
 
 use crate::finding::regions_over;
 use crate::region::Region;
 use atom_solver::Prepared;
 use c_tree::Kind;
-use decision_tree::laws::vectors_take_one_path;
 use fam_outer::{NoMemory, Place};
 use lifted_analysis::AlarmTree;
 use linear_atoms::Atom;
@@ -62,6 +61,26 @@ impl FamilyAlarms {
     }
 }
 
+/// Regions, each with this place and kind.
+fn placed(
+    alloc: Global,
+    place: Place,
+    kind: Kind,
+    regions: Vec<Region>,
+) -> Result<Vec<FamilyAlarm>, NoMemory>
+    ensures { IfOk result (λ made. made.items ≡ map (alarm_in place kind) regions.items) }
+{
+    let mut list = Vec::new(alloc);
+    'regions: for region in regions {
+        list.push(FamilyAlarm {
+            place,
+            kind,
+            region,
+        })?;
+    }
+    Ok(list)
+}
+
 /// Adds the alarms of a tree.
 fn push_alarms(
     alloc: Global,
@@ -72,14 +91,11 @@ fn push_alarms(
 ) -> Result<(), NoMemory>
     requires atoms { AreAtoms (length prepared.now.features) atoms.now }
     requires tests { TestsBelow (length atoms.now) (plain tree.now.tree) }
-    ensures { IfOk result (λ _. AddsRegions prepared.now atoms.now (stop_tree tree.now) list.old.items list.new.items) }
+    ensures { IfOk result (λ _. AddsTree prepared.now atoms.now (stop_tree tree.now) list.old.items list.new.items) }
 {
-    let place = tree.place;
-    let kind = tree.kind;
     let regions = regions_over(alloc, prepared, atoms, &tree.tree)?;
-    'regions: for region in regions.into_vec() {
-        list.push(FamilyAlarm { place, kind, region })?;
-    }
+    let mut alarms = placed(alloc, tree.place, tree.kind, regions.into_vec())?;
+    list.append(&mut alarms)?;
     Ok(())
 }
 
@@ -100,7 +116,6 @@ pub fn alarms_of(
     ensures cover { IfOk result (λ made. AreKeyed (map stop_tree trees.now) → CoversStops prepared.now atoms.now (map stop_tree trees.now) made) }
     ensures fit { IfOk result (λ made. All (λ (a : FamilyAlarm). AreLiterals (length prepared.now.features) a.region.literals) made) }
 {
-    vectors_take_one_path::<bool>();
     let mut list = Vec::new(alloc);
     'trees: for tree in trees {
         push_alarms(alloc, prepared, atoms, tree, &mut list)?;

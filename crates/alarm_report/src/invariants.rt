@@ -4,17 +4,17 @@
 ghost use Rattle.std.specs.Prelude.{◌≡◌, ◌<◌, length, map, IfOk};
 ghost use Rattle.std.specs.List.{All};
 ghost use Rattle.linear_atoms.specs.Atoms.{AreAtoms, AreLiterals};
+ghost use Rattle.decision_tree.specs.Paths.{paths_of};
 ghost use Rattle.decision_tree.specs.Plain.{TestsBelow};
 ghost use Rattle.decision_tree.specs.View.{plain};
 ghost use Rattle.lifted_analysis.specs.declared.findings.PlaceTree.{PlaceTree};
 ghost use Rattle.alarm_report.specs.declared.invariants.FamilyInvariant.{FamilyInvariant};
-ghost use Rattle.alarm_report.specs.Adding.{AddsPath, AddsPaths};
-ghost use Rattle.alarm_report.specs.Invariants.{AreInvariants, ArePlaced, CoversPlaces, leaf_tree, invariant};
+ghost use Rattle.alarm_report.specs.Adding.{AddsPath, AddsLeafTree};
+ghost use Rattle.alarm_report.specs.Invariants.{AreOfPaths, AreInvariants, ArePlaced, CoversPlaces, leaf_tree, invariant};
 
 use crate::finding::region_of;
 use crate::region::Region;
 use atom_solver::Prepared;
-use decision_tree::laws::vectors_take_one_path;
 use decision_tree::{Kept, Path};
 use fam_outer::{NoMemory, Place};
 use leaf_domain::Leaf;
@@ -38,17 +38,17 @@ fn push_invariant<L: Leaf>(
     prepared: &Prepared,
     atoms: &[Atom],
     place: Place,
-    path: Path<L>,
+    path: &Path<L>,
     list: &mut Vec<FamilyInvariant<L>>,
 ) -> Result<(), NoMemory>
     requires atoms { AreAtoms (length prepared.now.features) atoms.now }
-    requires tests { All (λ turn. turn.0 < length atoms.now) path.turns }
-    ensures { IfOk result (λ _. AddsPath L.value prepared.now atoms.now place (path.turns, path.leaf.value.value) list.old.items list.new.items) }
+    requires tests { All (λ turn. turn.0 < length atoms.now) path.now.turns }
+    ensures { IfOk result (λ _. AddsPath prepared.now atoms.now place (path.now.turns, L.value path.now.leaf.value.value) (map (invariant L.value) list.old.items) (map (invariant L.value) list.new.items)) }
 {
     match region_of(alloc, prepared, atoms, path.turns.items())? {
         None => Ok(()),
         Some(region) => {
-            let leaf = path.leaf;
+            let leaf = path.leaf.clone()?;
             list.push(FamilyInvariant {
                 place,
                 region,
@@ -57,6 +57,26 @@ fn push_invariant<L: Leaf>(
             Ok(())
         }
     }
+}
+
+/// The invariants of a tree.
+fn invariants_at<L: Leaf>(
+    alloc: Global,
+    prepared: &Prepared,
+    atoms: &[Atom],
+    tree: &PlaceTree<L>,
+) -> Result<Vec<FamilyInvariant<L>>, NoMemory>
+    requires atoms { AreAtoms (length prepared.now.features) atoms.now }
+    requires tests { TestsBelow (length atoms.now) (plain tree.now.tree) }
+    ensures { IfOk result (λ made. AreOfPaths prepared.now atoms.now tree.now.place (paths_of (leaf_tree L.value tree.now).tree) (map (invariant L.value) made.items)) }
+{
+    let place = tree.place;
+    let paths = tree.tree.paths(alloc)?;
+    let mut list = Vec::new(alloc);
+    'paths: for path in &paths {
+        push_invariant(alloc, prepared, atoms, place, path, &mut list)?;
+    }
+    Ok(list)
 }
 
 /// Adds the invariants of a tree.
@@ -69,12 +89,10 @@ fn push_invariants<L: Leaf>(
 ) -> Result<(), NoMemory>
     requires atoms { AreAtoms (length prepared.now.features) atoms.now }
     requires tests { TestsBelow (length atoms.now) (plain tree.now.tree) }
-    ensures { IfOk result (λ _. AddsPaths L.value prepared.now atoms.now (leaf_tree L.value tree.now) list.old.items list.new.items) }
+    ensures { IfOk result (λ _. AddsLeafTree prepared.now atoms.now (leaf_tree L.value tree.now) (map (invariant L.value) list.old.items) (map (invariant L.value) list.new.items)) }
 {
-    let place = tree.place;
-    'paths: for path in tree.tree.paths(alloc)? {
-        push_invariant(alloc, prepared, atoms, place, path, list)?;
-    }
+    let mut own = invariants_at(alloc, prepared, atoms, tree)?;
+    list.append(&mut own)?;
     Ok(())
 }
 
@@ -95,7 +113,6 @@ pub fn invariants_of<L: Leaf>(
     ensures cover { IfOk result (λ made. ArePlaced (map (leaf_tree L.value) trees.now) → CoversPlaces prepared.now atoms.now (map (leaf_tree L.value) trees.now) (map (invariant L.value) made.items)) }
     ensures fit { IfOk result (λ made. All (λ (i : FamilyInvariant L). AreLiterals (length prepared.now.features) i.region.literals) made.items) }
 {
-    vectors_take_one_path::<L>();
     let mut list = Vec::new(alloc);
     'trees: for tree in trees {
         push_invariants(alloc, prepared, atoms, tree, &mut list)?;

@@ -1,7 +1,7 @@
 //! The texts of reports.
 #![tactic(auto)]
 
-ghost use Rattle.std.specs.Prelude.{◌≡◌, ◌++◌, length, IfOk, codes};
+ghost use Rattle.std.specs.Prelude.{◌≡◌, ◌++◌, length, IfOk};
 ghost use Rattle.std.specs.List.{All};
 ghost use Rattle.linear_atoms.specs.Atoms.{AreLiterals};
 ghost use Rattle.alarm_report.specs.declared.alarms.FamilyAlarm.{FamilyAlarm};
@@ -10,7 +10,7 @@ ghost use Rattle.alarm_report.specs.Texts.{place_text, kind_text as text_of_kind
 use crate::alarms::FamilyAlarm;
 use crate::joining::{joined, literal_texts};
 use c_tree::Kind;
-use fam_outer::{NoMemory, Place, Text, decimal};
+use fam_outer::{NoMemory, Place, Text};
 use linear_atoms::{Feature, Literal};
 use plain_analysis::Alarm;
 use setting_texts::config_text;
@@ -31,9 +31,9 @@ pub fn kind_text(kind: Kind) -> &'static str
 pub fn push_place(alloc: Global, text: &mut Vec<u8>, place: Place) -> Result<(), NoMemory>
     ensures { IfOk result (λ _. text.new.items ≡ text.old.items ++ place_text place) }
 {
-    text.extend_from_slice(decimal(alloc, i64::from(place.line))?.bytes())?;
-    text.push(b':')?;
-    text.extend_from_slice(decimal(alloc, i64::from(place.column))?.bytes())?;
+    let Place { line, column } = place;
+    let place = format!(in alloc; "{line}:{column}")?;
+    text.extend_from_slice(place.as_bytes())?;
     Ok(())
 }
 
@@ -41,9 +41,8 @@ pub fn push_place(alloc: Global, text: &mut Vec<u8>, place: Place) -> Result<(),
 fn push_count(alloc: Global, text: &mut Vec<u8>, count: usize) -> Result<(), NoMemory>
     ensures { IfOk result (λ _. text.new.items ≡ text.old.items ++ count_line count) }
 {
-    text.extend_from_slice("alarms: ".as_bytes())?;
-    text.extend_from_slice(decimal(alloc, count as i64)?.bytes())?;
-    text.push(b'\n')?;
+    let line = format!(in alloc; "alarms: {count}\n")?;
+    text.extend_from_slice(line.as_bytes())?;
     Ok(())
 }
 
@@ -52,9 +51,9 @@ fn push_alarm(alloc: Global, text: &mut Vec<u8>, alarm: &Alarm) -> Result<(), No
     ensures { IfOk result (λ _. text.new.items ≡ text.old.items ++ alarm_line alarm.now) }
 {
     push_place(alloc, text, alarm.place)?;
-    text.extend_from_slice(": ".as_bytes())?;
-    text.extend_from_slice(kind_text(alarm.kind).as_bytes())?;
-    text.push(b'\n')?;
+    let kind = kind_text(alarm.kind);
+    let behind = format!(in alloc; ": {kind}\n")?;
+    text.extend_from_slice(behind.as_bytes())?;
     Ok(())
 }
 
@@ -102,9 +101,9 @@ fn push_line(
     ensures { IfOk result (λ _. text.new.items ≡ text.old.items ++ family_line features.now alarm.now) }
 {
     push_place(alloc, text, alarm.place)?;
-    text.extend_from_slice(": ".as_bytes())?;
-    text.extend_from_slice(kind_text(alarm.kind).as_bytes())?;
-    text.extend_from_slice(" if ".as_bytes())?;
+    let kind = kind_text(alarm.kind);
+    let behind = format!(in alloc; ": {kind} if ")?;
+    text.extend_from_slice(behind.as_bytes())?;
     push_region(alloc, text, features, alarm.region.literals.items())?;
     text.extend_from_slice("; example ".as_bytes())?;
     let example = config_text(alloc, features, alarm.region.example.values.items())?;
