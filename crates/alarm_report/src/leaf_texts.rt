@@ -80,6 +80,7 @@ fn pair_form(alloc: Global, x: u32, y: u32, coefficient: i64) -> Result<Form, No
 }
 
 /// The range of `x - y` or `x + y`, where it is not what arithmetic gives of the two variables' ranges.
+#[tactic(auto, using(crate::proofs::Pairing::pair_is_form))]
 fn pair_range<L: Leaf>(
     alloc: Global,
     leaf: &L,
@@ -96,7 +97,9 @@ fn pair_range<L: Leaf>(
 {
     let _valid = leaf.variables();
     let form = pair_form(alloc, x, y, coefficient)?;
-    let known = arithmetic(op, leaf.bounds_of(x), leaf.bounds_of(y));
+    let first = leaf.bounds_of(x);
+    let second = leaf.bounds_of(y);
+    let known = arithmetic(op, first, second);
     match leaf.form_range(&form) {
         None => Ok(None),
         Some(range) => {
@@ -231,11 +234,13 @@ pub fn leaf_text<L: Leaf>(alloc: Global, names: &[Text], leaf: &L) -> Result<Tex
         return Text::from_bytes(alloc, b"unreachable");
     }
     let names = named(names, leaf.variables() as usize);
-    if names.is_empty() {
-        return Text::from_bytes(alloc, b"reachable");
+    match cut(names) {
+        None => Text::from_bytes(alloc, b"reachable"),
+        Some((_first, _behind)) => {
+            let items = items_of(alloc, names, leaf)?;
+            joined(alloc, ", ", &items)
+        }
     }
-    let items = items_of(alloc, names, leaf)?;
-    joined(alloc, ", ", &items)
 }
 
 /// Adds the line of an invariant.

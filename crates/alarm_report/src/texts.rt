@@ -11,6 +11,7 @@ use crate::alarms::FamilyAlarm;
 use crate::joining::{joined, literal_texts};
 use c_tree::Kind;
 use fam_outer::{NoMemory, Place, Text};
+use linear_atoms::slices::cut;
 use linear_atoms::{Feature, Literal};
 use plain_analysis::Alarm;
 use setting_texts::config_text;
@@ -80,14 +81,18 @@ pub fn push_region(
     requires { AreLiterals (length features.now) literals.now }
     ensures { IfOk result (λ _. text.new.items ≡ text.old.items ++ region_text features.now literals.now) }
 {
-    if literals.is_empty() {
-        text.push(b'1')?;
-        return Ok(());
+    match cut(literals) {
+        None => {
+            text.push(b'1')?;
+            Ok(())
+        }
+        Some((_first, _behind)) => {
+            let texts = literal_texts(alloc, features, literals)?;
+            let whole = joined(alloc, " && ", &texts)?;
+            text.extend_from_slice(whole.bytes())?;
+            Ok(())
+        }
     }
-    let texts = literal_texts(alloc, features, literals)?;
-    let whole = joined(alloc, " && ", &texts)?;
-    text.extend_from_slice(whole.bytes())?;
-    Ok(())
 }
 
 /// Adds the line of an alarm of a family.

@@ -7,4 +7,4 @@ use Rattle.alarm_report.proofs.invariants.invariants_at.Given as goal
 abbrev pub invariant-paths : goal.invariant-paths
 invariant-paths g l =
     let value = g.L.Leaf.value in
-    AreOfPaths l.prepared l.atoms l.place (values_of value (shown (take l.path-index l.paths.items))) (map (invariant value) l.list.items)
+    AreOfPaths l.prepared l.atoms l.place (values_of value (shown (take l.path-index l.path-items))) (map (invariant value) l.list.items)
