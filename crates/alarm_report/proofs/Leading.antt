@@ -48,11 +48,11 @@ pub true_there : {L : Type 0} (t : Plain L) (v : List Bool) → leaf_of (everywh
 true_there (leaf x) v = refl
 true_there (node test low high) v = either_true _ _ _ (true_there low v) (true_there high v)
 
-pub everywhere_from : {L : Type 0} (turns : List (ℕ × Bool)) (t : Plain L) → paths_from turns (everywhere t) ≡ map (as_true {L}) (paths_from turns t)
+pub everywhere_from : {L : Type 0} (turns : List (ℕ × Bool)) (t : Plain L) → paths_from turns (everywhere t) ≡ map (as_true {L = L}) (paths_from turns t)
 everywhere_from turns (leaf x) = refl
 everywhere_from {L} turns (node test low high) =
     both _ _ _ _ (everywhere_from (turns ++ (test, false) ∷ []) low) (everywhere_from (turns ++ (test, true) ∷ []) high)
-    ∙ sym (map_joined (as_true {L}) (paths_from (turns ++ (test, false) ∷ []) low) (paths_from (turns ++ (test, true) ∷ []) high))
+    ∙ sym (map_joined (as_true {L = L}) (paths_from (turns ++ (test, false) ∷ []) low) (paths_from (turns ++ (test, true) ∷ []) high))
 
 pub below_everywhere : {L : Type 0} (m : ℕ) (t : Plain L) → TestsBelow m t → TestsBelow m (everywhere t)
 below_everywhere m (leaf x) h = tt
@@ -60,6 +60,6 @@ below_everywhere m (node test low high) h = (h.0, below_everywhere m low h.1, be
 
 -- its paths to true are all paths
 pub all_to_true : {L : Type 0} (ps : List (List (ℕ × Bool) × L))
-    → map (λ (p : List (ℕ × Bool) × Bool). p.0) (filter (λ (p : List (ℕ × Bool) × Bool). p.1) (map (as_true {L}) ps)) ≡ map (λ (p : List (ℕ × Bool) × L). p.0) ps
+    → map (λ (p : List (ℕ × Bool) × Bool). p.0) (filter (λ (p : List (ℕ × Bool) × Bool). p.1) (map (as_true {L = L}) ps)) ≡ map (λ (p : List (ℕ × Bool) × L). p.0) ps
 all_to_true [] = refl
 all_to_true (p ∷ ps) = ap (λ xs. p.0 ∷ xs) (all_to_true ps)

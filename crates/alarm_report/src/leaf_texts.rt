@@ -14,7 +14,7 @@ use crate::invariants::FamilyInvariant;
 use crate::joining::joined;
 use crate::texts::{push_place, push_region};
 use c_tree::Op;
-use fam_outer::{NoMemory, Text};
+use fam_outer::{NoMemory, Text, decimal};
 use leaf_domain::{Form, Leaf, Range, Terms, arithmetic};
 use linear_atoms::Feature;
 use linear_atoms::slices::cut;
@@ -29,14 +29,27 @@ struct Pair<'a> {
     second: &'a Text,
 }
 
+/// ` in [l,h]`.
+fn within_text(alloc: Global, range: Range) -> Result<Text, NoMemory>
+    ensures { IfOk result (λ text. text ≡ within_text range) }
+{
+    let mut text = Vec::from_slice(alloc, " in [".as_bytes())?;
+    let low = decimal(alloc, range.low)?;
+    text.extend_from_slice(low.bytes())?;
+    text.push(b',')?;
+    let high = decimal(alloc, range.high)?;
+    text.extend_from_slice(high.bytes())?;
+    text.push(b']')?;
+    Ok(Text::from_vec(text))
+}
+
 /// An item: what has the range, and ` in [l,h]`.
 fn item(alloc: Global, front: &[u8], range: Range) -> Result<Text, NoMemory>
     ensures { IfOk result (λ text. text ≡ front.now ++ within_text range) }
 {
-    let Range { low, high } = range;
-    let within = format!(in alloc; " in [{low},{high}]")?;
+    let within = within_text(alloc, range)?;
     let mut text = Vec::from_slice(alloc, front)?;
-    text.extend_from_slice(within.as_bytes())?;
+    text.extend_from_slice(within.bytes())?;
     Ok(Text::from_vec(text))
 }
 
