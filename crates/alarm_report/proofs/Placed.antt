@@ -150,7 +150,7 @@ module _ (model : Model) (atoms : List Atom) where
       let u = everywhere t.tree in
       let all : paths_to_true u ≡ map (λ (p : List (ℕ × Bool) × LeafValue). p.0) (paths_of t.tree) = ap to_true (everywhere_from [] t.tree) ∙ all_to_true (paths_of t.tree) in
       let are : AreRegions model atoms u (map (λ (i : Invariant). i.region) is) =
-          subst (λ ps. AreRegionsOf model atoms ps (map (λ (i : Invariant). i.region) is)) (sym all) (regions_of model atoms t.place (paths_of t.tree) is h) in
+      subst (λ ps. AreRegionsOf model atoms ps (map (λ (i : Invariant). i.region) is)) (sym all) (regions_of model atoms t.place (paths_of t.tree) is h) in
       covers model atoms u (map (λ (i : Invariant). i.region) is) (all_below (length atoms) u (below_everywhere (length atoms) t.tree below)) (takes_one u) are
 
   has_of : (t : LeafTree) (is : List Invariant) (values : List ℤ) → TestsBelow (length atoms) t.tree → AreOfPaths model atoms t.place (paths_of t.tree) is
@@ -241,7 +241,7 @@ module _ (model : Model) (atoms : List Atom) where
   one_has t ts is more apart below h q zero values u valid e =
       let same : t ≡ u = cc in
       let none : (i : ℕ) (one : Invariant) → slice_get more i ≡ Some one → one.place ≡ t.place → ⊥ =
-          λ i one f p. (let k : HasPlace ts one.place = q.known i one f in elsewhere t k.one ts k.index apart k.there (sym p ∙ sym k.place_is)) in
+      λ i one f p. (let k : HasPlace ts one.place = q.known i one f in elsewhere t k.one ts k.index apart k.there (sym p ∙ sym k.place_is)) in
       subst (λ (x : LeafTree). HasOnce (is ++ more) x.place (leaf_of x.tree (vector_at atoms values)) values) same
       (front_has t.place (leaf_of t.tree (vector_at atoms values)) is more values none (has_once model atoms t is values below h valid))
   one_has t ts is more apart below h q (suc n) values u valid e =

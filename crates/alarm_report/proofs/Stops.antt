@@ -93,7 +93,7 @@ later_alone : (t u : StopTree) (rs : List Region) (alarms : List FamilyAlarm) (v
 later_alone t u rs alarms values other o i a e w =
     elim (parted_at (map (alarm_in t.place t.kind) rs) alarms i a e) [
       | inl k ↦ (let m = mapped_at (alarm_in t.place t.kind) rs i a k in
-        absurd (other (ap (λ (x : FamilyAlarm). x.place) m.2 ∙ w.place_is) (ap (λ (x : FamilyAlarm). x.kind) m.2 ∙ w.kind_is)))
+          absurd (other (ap (λ (x : FamilyAlarm). x.place) m.2 ∙ w.place_is) (ap (λ (x : FamilyAlarm). x.kind) m.2 ∙ w.kind_is)))
       | inr k ↦ k.2 ∙ ap (λ n. length (map (alarm_in t.place t.kind) rs) + n) (o.alone k.0 a k.1 w)
     ]
 
@@ -154,9 +154,9 @@ module _ (model : Model) (atoms : List Atom) where
   known_in t ts rs alarms known = λ i a e.
       elim (parted_at (map (alarm_in t.place t.kind) rs) alarms i a e) [
         | inl k ↦ (let m = mapped_at (alarm_in t.place t.kind) rs i a k in
-          record { index = 0; one = t; there = refl; place_is = ap (λ (x : FamilyAlarm). x.place) m.2; kind_is = ap (λ (x : FamilyAlarm). x.kind) m.2 })
+            record { index = 0; one = t; there = refl; place_is = ap (λ (x : FamilyAlarm). x.place) m.2; kind_is = ap (λ (x : FamilyAlarm). x.kind) m.2 })
         | inr k ↦ (let h : HasKey ts a.place a.kind = known k.0 a k.1 in
-          record { index = suc h.index; one = h.one; there = h.there; place_is = h.place_is; kind_is = h.kind_is })
+            record { index = suc h.index; one = h.one; there = h.there; place_is = h.place_is; kind_is = h.kind_is })
       ]
 
   abbrev IsLeast : FamilyAlarm → Type 0
