@@ -1,16 +1,22 @@
 -- What the work came to ends the program with an answer to the request.
-use Rattle.std.proofs.Common.{◌≡◌, ◌≢◌, ◌≤◌, ◌⊎◌, ℕ, true, false, List, refl, subst, sym, ◌∙◌, arith, inl, inr, nat_eq}
+use Rattle.std.proofs.Common.{◌≡◌, ◌≢◌, ◌≤◌, ◌⊎◌, ℕ, true, false, List, refl, subst, sym, ◌∙◌, arith, inl, inr, nat_eq, length}
 use Rattle.std.proofs.lemmas.Bool.{eqb-true, eqb-false}
-use Rattle.std.specs.Prelude.{Option, Some, Result, Ok, Err, IfOk, if◌then◌else◌}
+use Rattle.std.specs.Prelude.{Option, Some, Result, Ok, Err, IfOk, if◌then◌else◌, nat_lt}
 use Rattle.std.specs.Io.KnownBytes.{append_known}
 use Rattle.c_tree.specs.Tree.{Whole}
+use Rattle.leaf_domain.specs.Leaves.{LeafMeaning}
 use Rattle.plain_analysis.specs.declared.alarm.Alarm.{Alarm}
+use Rattle.plain_analysis.specs.declared.options.Options.{Options}
+use Rattle.alarm_report.specs.declared.alarms.FamilyAlarm.{FamilyAlarm}
 use Rattle.famlint_core.specs.declared.request.Analysis.{Analysis}
 use Rattle.famlint_core.specs.declared.fault.Done.{Done}
 use Rattle.famlint_core.specs.declared.fault.Fault.{Fault}
 use Rattle.famlint_core.specs.declared.fault.Fault.TheVariants as fault
 use Rattle.famlint_core.specs.declared.fault.Stop.{Stop}
 use Rattle.famlint_core.specs.declared.fault.Stop.TheVariants as stop
+use Rattle.famlint_core.specs.declared.product_line.ProductLine.{ProductLine}
+use Rattle.famlint_core.specs.declared.request.FamilyTask.{FamilyTask}
+use Rattle.famlint_core.specs.declared.request.FamilyTask.TheVariants as families
 use Rattle.famlint_core.specs.declared.request.Request.{Request}
 use Rattle.famlint_core.specs.declared.request.Request.TheVariants as request
 use Rattle.famlint_core.specs.declared.request.Role.{Role}
@@ -19,6 +25,7 @@ use Rattle.famlint_core.specs.declared.request.VariantTask.TheVariants as task
 use Rattle.famlint_core.specs.declared.selected.Selected.{Selected}
 use Rattle.famlint_core.specs.Answers.{Contents, IsAccepted, IsDone, IsTold, Answers, plain_done, meaning_of}
 use Rattle.famlint_core.specs.Endings.{IsEnded, EndsWith, status_at}
+use Rattle.famlint_core.specs.FamilyReports.{IsFamilyDone, family_status}
 use Rattle.famlint_core.specs.Faults.{status_of}
 use Rattle.famlint_core.specs.Loads.{Comes}
 use Rattle.famlint_core.specs.Report.{report_status, some_alarm, start_alarms}
@@ -68,9 +75,17 @@ done_low task.Text s done h = omega (arith, h.1)
 done_low (task.Report analysis) s done (p, is, e) = plain_low analysis p done e
 done_low (task.Run steps inputs mode) s done (p, is, e) = rw e (omega arith)
 
+family_status_low : (alarms : List FamilyAlarm) → family_status alarms ≤ 1
+family_status_low alarms = elim (nat_lt 0 (length alarms)) as (λ b. (if b then 1 else 0) ≤ 1) [ true ↦ omega arith | false ↦ omega arith ]
+
+family_low : (M : LeafMeaning) (o : Options) (t : FamilyTask) (l : ProductLine) (done : Done) → IsFamilyDone M o t l done → done.status ≤ 1
+family_low M o families.Alarms l done (alarms, are, e) = rw e (family_status_low alarms)
+family_low M o families.Invariants l done (invariants, alarms, are, have, e) = rw e (family_status_low alarms)
+
 answered_low : (r : Request) (told : Contents) (done : Done) → Answers r told (Ok done) → done.status ≤ 1
 answered_low (request.Plain file analysis) told done (p, reads, e) = plain_low analysis p done e
 answered_low (request.Variant model file settings t) told done (s, selected, is) = done_low t s done is
+answered_low (request.Family model file analysis t) told done (l, line, is) = family_low (meaning_of analysis.leaf) analysis.options t l done is
 
 by_exact : (status low : ℕ) → low ≤ 1 → (status ≡ 6 → ⊥) → (status ≡ 7 → ⊥) → (status ≢ 6 → status ≢ 7 → status ≢ 8 → status ≡ low) → (status ≤ 1) ⊎ (status ≡ 8)
 by_exact status low small six seven exact = elim (nat_eq status 8) as (λ b. nat_eq status 8 ≡ b → (status ≤ 1) ⊎ (status ≡ 8)) [

@@ -1,5 +1,9 @@
+pub mod Analysed
 pub mod Answering
 pub mod Ended
+pub mod Foretold
+pub mod Keys
 pub mod Loading
+pub mod Reached
 pub mod Reporting
 pub mod Selecting

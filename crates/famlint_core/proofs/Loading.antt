@@ -1,7 +1,7 @@
 -- What a load or a reading is refused for refuses what stands on it.
-use Rattle.std.proofs.Common.{◌≡◌, ◌<◌, ℕ, List, [], length, refl, sym, subst, inl}
+use Rattle.std.proofs.Common.{◌≡◌, ◌<◌, ℕ, List, [], length, refl, sym, subst, inl, inr}
 use Rattle.std.proofs.lemmas.Bool.{lt-ltb}
-use Rattle.std.specs.Prelude.{Ok, Err}
+use Rattle.std.specs.Prelude.{◌∷◌, Option, Ok, Err}
 use Rattle.fam_outer.specs.Limits.{file_bytes}
 use Rattle.fam_outer.specs.declared.faults.FileCode.TheVariants.{TooLong}
 use Rattle.cpp_conditions.specs.declared.models.Model.{Model}
@@ -9,7 +9,6 @@ use Rattle.cpp_lines.specs.Whole.{blanked_file, file_place}
 use Rattle.feature_model.specs.declared.faults.ModelFault.TheVariants as model_faults
 use Rattle.feature_model.specs.Models as models
 use Rattle.feature_model.specs.Stages.{told_of}
-use Rattle.c_parser.specs.declared.family.Family.{Family}
 use Rattle.c_parser.proofs.Readings.{reads_too_long}
 use Rattle.linear_atoms.specs.declared.atoms.Config.{Config}
 use Rattle.famlint_core.specs.declared.request.Analysis.{Analysis}
@@ -19,10 +18,14 @@ use Rattle.famlint_core.specs.declared.fault.Fault.TheVariants as fault
 use Rattle.famlint_core.specs.declared.fault.Stop.{Stop}
 use Rattle.famlint_core.specs.declared.fault.Stop.TheVariants as stop
 use Rattle.famlint_core.specs.declared.load.FamilyFile.{FamilyFile}
+use Rattle.famlint_core.specs.declared.product_line.ProductLine.{ProductLine}
+use Rattle.famlint_core.specs.declared.request.FamilyTask.{FamilyTask}
 use Rattle.famlint_core.specs.declared.request.VariantTask.{VariantTask}
 use Rattle.famlint_core.specs.declared.selected.Selected.{Selected}
-use Rattle.famlint_core.specs.Answers.{Contents, AnswersPlain, AnswersVariant}
-use Rattle.famlint_core.specs.Loads.{Comes, IsText, IsFileText, IsModel, IsFamilyFile, IsFamily}
+use Rattle.famlint_core.specs.Answers.{Contents, AnswersPlain, AnswersVariant, AnswersFamily}
+use Rattle.famlint_core.specs.Loads.{Comes, IsReadFault, IsOneOf, IsText, IsFileText, IsModel, IsFamilyFile, IsFamily}
+use Rattle.famlint_core.specs.ProductLines.{IsProductLine, ReadsProductLine, IsLoadedFor}
+use Rattle.famlint_core.specs.ProductLines as lines
 use Rattle.famlint_core.specs.Selected.{IsSelected, IsSettled}
 use Rattle.famlint_core.specs.Selected as refused
 
@@ -55,24 +58,49 @@ family_refused model bytes (stop.Refused given) h =
 family_refused model bytes stop.ReadFault h = h
 family_refused model bytes stop.NoMemory h = h
 
--- ---- MODEL, FILE and settings
+-- ---- MODEL and FILE
 
-pub no_model : (m f : List ℕ) (settings : List (List ℕ)) (s : Stop) → Comes {X = Model} (IsModel m) (Err s) → Comes {X = Selected} (IsSelected m f settings) (Err s)
-no_model m f settings (stop.Refused given) h = refused.no_model h
-no_model m f settings stop.ReadFault h = h
-no_model m f settings stop.NoMemory h = h
+pub line_no_model : (m f : List ℕ) (s : Stop) → Comes {X = Model} (IsModel m) (Err s) → Comes {X = ProductLine} (ReadsProductLine m f) (Err s)
+line_no_model m f (stop.Refused given) h = lines.no_model h
+line_no_model m f stop.ReadFault h = h
+line_no_model m f stop.NoMemory h = h
 
-pub no_family : (m f : List ℕ) (settings : List (List ℕ)) (model : Model) (s : Stop) → IsModel m (Ok model)
-    → Comes {X = FamilyFile} (IsFamilyFile model f) (Err s) → Comes {X = Selected} (IsSelected m f settings) (Err s)
-no_family m f settings model (stop.Refused given) read h = refused.no_family model read h
-no_family m f settings model stop.ReadFault read h = h
-no_family m f settings model stop.NoMemory read h = h
+pub line_no_family : (m f : List ℕ) (model : Model) (s : Stop) → IsModel m (Ok model)
+    → Comes {X = FamilyFile} (IsFamilyFile model f) (Err s) → Comes {X = ProductLine} (ReadsProductLine m f) (Err s)
+line_no_family m f model (stop.Refused given) read h = lines.no_family model read h
+line_no_family m f model stop.ReadFault read h = h
+line_no_family m f model stop.NoMemory read h = h
 
-pub no_settings : (m f : List ℕ) (settings : List (List ℕ)) (model : Model) (family : Family) (s : Stop) → IsModel m (Ok model) → IsFamily model f (Ok family)
-    → Comes {X = Config} (IsSettled model settings) (Err s) → Comes {X = Selected} (IsSelected m f settings) (Err s)
-no_settings m f settings model family (stop.Refused given) read spelled h = refused.no_settings model family read spelled h
-no_settings m f settings model family stop.ReadFault read spelled h = h
-no_settings m f settings model family stop.NoMemory read spelled h = h
+-- FILE is loaded where MODEL is accepted
+second_of : (failed : Option (List ℕ)) (model_path file_path m : List ℕ) (model : Model) → IsModel m (Ok model) → IsOneOf failed (file_path ∷ [])
+    → IsLoadedFor model_path file_path m failed
+second_of failed model_path file_path m model read (inl e) = inr (e, model, read)
+second_of failed model_path file_path m model read (inr h) = absurd h
+
+pub loaded_second : (failed : Option (List ℕ)) (model_path file_path m : List ℕ) (model : Model) (s : Stop) → IsModel m (Ok model)
+    → (IsReadFault {X = FamilyFile} (Err s) → IsOneOf failed (file_path ∷ [])) → IsReadFault {X = ProductLine} (Err s) → IsLoadedFor model_path file_path m failed
+loaded_second failed model_path file_path m model (stop.Refused given) read path h = absurd h
+loaded_second failed model_path file_path m model stop.ReadFault read path h = second_of failed model_path file_path m model read (path h)
+loaded_second failed model_path file_path m model stop.NoMemory read path h = absurd h
+
+pub family_refused_as : (analysis : Analysis) (task : FamilyTask) (told : Contents) (s : Stop)
+    → Comes {X = ProductLine} (ReadsProductLine told.model told.file) (Err s) → Comes {X = Done} (AnswersFamily analysis task told) (Err s)
+family_refused_as analysis task told (stop.Refused given) h = h
+family_refused_as analysis task told stop.ReadFault h = h
+family_refused_as analysis task told stop.NoMemory h = h
+
+-- ---- and settings
+
+pub no_line : (m f : List ℕ) (settings : List (List ℕ)) (s : Stop) → Comes {X = ProductLine} (ReadsProductLine m f) (Err s) → Comes {X = Selected} (IsSelected m f settings) (Err s)
+no_line m f settings (stop.Refused given) h = refused.no_line h
+no_line m f settings stop.ReadFault h = h
+no_line m f settings stop.NoMemory h = h
+
+pub no_settings : (m f : List ℕ) (settings : List (List ℕ)) (line : ProductLine) (s : Stop) → IsProductLine m f line
+    → Comes {X = Config} (IsSettled line.model settings) (Err s) → Comes {X = Selected} (IsSelected m f settings) (Err s)
+no_settings m f settings line (stop.Refused given) read h = refused.no_settings line read h
+no_settings m f settings line stop.ReadFault read h = h
+no_settings m f settings line stop.NoMemory read h = h
 
 pub variant_refused : (task : VariantTask) (settings : List (List ℕ)) (told : Contents) (s : Stop)
     → Comes {X = Selected} (IsSelected told.model told.file settings) (Err s) → Comes {X = Done} (AnswersVariant task settings told) (Err s)

@@ -8,7 +8,8 @@ use Rattle.plain_analysis.specs.declared.alarm.Alarm.{Alarm}
 use Rattle.plain_analysis.specs.declared.options.Options.{Options}
 use Rattle.plain_analysis.specs.Places.{at_of}
 use Rattle.plain_analysis.specs.Promises.{IsForeseen, RunsForeseen}
-use Rattle.famlint_core.specs.Report.{variant_text, some_alarm, report_status, HasStops, NeverStops, IsReport, start_alarms}
+use Rattle.alarm_report.specs.Texts.{variant_text}
+use Rattle.famlint_core.specs.Report.{some_alarm, report_status, HasStops, NeverStops, IsReport, start_alarms}
 
 all_listed : (M : LeafMeaning) → LeafLaws M → (options : Options) (p : Whole) → RunsForeseen M options p (M.start p.start) → HasStops options.mode p (start_alarms M options p)
 all_listed M laws options p runs =

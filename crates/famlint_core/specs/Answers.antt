@@ -15,14 +15,19 @@ use Rattle.famlint_core.specs.declared.request.LeafKind.TheVariants as leaves
 use Rattle.famlint_core.specs.declared.fault.Done.{Done}
 use Rattle.famlint_core.specs.declared.fault.Fault.{Fault}
 use Rattle.famlint_core.specs.declared.fault.Fault.TheVariants as fault
+use Rattle.famlint_core.specs.declared.product_line.ProductLine.{ProductLine}
+use Rattle.famlint_core.specs.declared.request.FamilyTask.{FamilyTask}
 use Rattle.famlint_core.specs.declared.request.Request.{Request}
-use Rattle.famlint_core.specs.declared.request.Request.TheVariants.{Plain, Variant}
+use Rattle.famlint_core.specs.declared.request.Request.TheVariants.{Plain, Variant, Family}
 use Rattle.famlint_core.specs.declared.request.VariantTask.{VariantTask}
 use Rattle.famlint_core.specs.declared.request.VariantTask.TheVariants.{Text, Report, Run}
 use Rattle.famlint_core.specs.declared.selected.Selected.{Selected}
+use Rattle.famlint_core.specs.FamilyReports.{IsFamilyDone}
+use Rattle.famlint_core.specs.Headline.{PromisedOfAll}
+use Rattle.famlint_core.specs.ProductLines.{IsProductLine, IsLineRefused, IsLoadedFor}
 use Rattle.famlint_core.specs.Report.{report_done, IsReport}
 use Rattle.famlint_core.specs.RunText.{run_text}
-use Rattle.famlint_core.specs.Selected.{AreSelected, IsRefused, IsLoadedFor, IsProgramOf}
+use Rattle.famlint_core.specs.Selected.{AreSelected, IsRefused, IsProgramOf}
 
 -- the bytes that are told for the paths of a request: of MODEL, if it has one, and of FILE
 pub record Contents : Type 0 where
@@ -33,6 +38,7 @@ pub record Contents : Type 0 where
 abbrev pub IsTold : Request → (List ℕ → Option (List ℕ)) → Contents → Type 0
 IsTold (Plain file analysis) content told = content file ≡ Some told.file
 IsTold (Variant model file settings task) content told = (content model ≡ Some told.model) × (content file ≡ Some told.file)
+IsTold (Family model file analysis task) content told = (content model ≡ Some told.model) × (content file ≡ Some told.file)
 
 -- ---- `plain FILE`
 
@@ -59,7 +65,7 @@ run_done inputs steps mode p = record { text = run_text p.names (run_of p inputs
 
 -- what is asked of a variant is this
 abbrev pub IsDone : VariantTask → Selected → Done → Type 0
-IsDone Text s done = IsVariant (plain s.model) s.config.values s.text done.text × (done.status ≡ 0)
+IsDone Text s done = IsVariant (plain s.line.model) s.config.values s.line.text done.text × (done.status ≡ 0)
 IsDone (Report analysis) s done = (p : Whole) × IsProgramOf s p × (done ≡ plain_done analysis p)
 IsDone (Run steps inputs mode) s done = (p : Whole) × IsProgramOf s p × (done ≡ run_done inputs steps mode p)
 
@@ -68,12 +74,21 @@ abbrev pub AnswersVariant : VariantTask → List (List ℕ) → Contents → Res
 AnswersVariant task settings told (Ok done) = (s : Selected) × AreSelected told.model told.file settings s × IsDone task s done
 AnswersVariant task settings told (Err fault) = IsRefused told.model told.file settings fault
 
+-- ---- `analyse` and `invariants`
+
+-- what is asked of all variants at once, or the refusal of the model or the file
+abbrev pub AnswersFamily : Analysis → FamilyTask → Contents → Result Done Fault → Type 0
+AnswersFamily analysis task told (Ok done) =
+    (l : ProductLine) × IsProductLine told.model told.file l × IsFamilyDone (meaning_of analysis.leaf) analysis.options task l done
+AnswersFamily analysis task told (Err fault) = IsLineRefused told.model told.file fault
+
 -- ---- all commands
 
 -- a request is answered this where the paths that it names hold this
 abbrev pub Answers : Request → Contents → Result Done Fault → Type 0
 Answers (Plain file analysis) told answer = AnswersPlain analysis told.file answer
 Answers (Variant model file settings task) told answer = AnswersVariant task settings told answer
+Answers (Family model file analysis task) told answer = AnswersFamily analysis task told answer
 
 -- what a request names is accepted: no fault answers it
 abbrev pub IsAccepted : Request → Contents → Type 0
@@ -83,6 +98,7 @@ IsAccepted request told = (fault : Fault) → Answers request told (Err fault) �
 abbrev pub IsLoaded : Request → Contents → Option (List ℕ) → Type 0
 IsLoaded (Plain file analysis) told failed = failed ≡ Some file
 IsLoaded (Variant model file settings task) told failed = IsLoadedFor model file told.model failed
+IsLoaded (Family model file analysis task) told failed = IsLoadedFor model file told.model failed
 
 -- ---- what is promised of the output, beside its text
 
@@ -99,7 +115,13 @@ PromisedOf (Run steps inputs mode) s status text = status ≡ 0
 abbrev pub PromisedVariant : VariantTask → List (List ℕ) → Contents → ℕ → List ℕ → Type 0
 PromisedVariant task settings told status text = (s : Selected) × AreSelected told.model told.file settings s × PromisedOf task s status text
 
+-- what is promised of the report on all variants: see `Headline`
+abbrev pub PromisedFamily : Analysis → FamilyTask → Contents → ℕ → List ℕ → Type 0
+PromisedFamily analysis task told status text =
+    (l : ProductLine) × IsProductLine told.model told.file l × PromisedOfAll (meaning_of analysis.leaf) analysis.options task l status text
+
 -- what is promised of the output to a request
 abbrev pub Promised : Request → Contents → ℕ → List ℕ → Type 0
 Promised (Plain file analysis) told status text = PromisedPlain analysis told.file status text
 Promised (Variant model file settings task) told status text = PromisedVariant task settings told status text
+Promised (Family model file analysis task) told status text = PromisedFamily analysis task told status text

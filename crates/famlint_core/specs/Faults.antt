@@ -13,6 +13,7 @@ use Rattle.feature_model.specs.declared.faults.ModelFault.TheVariants as model
 use Rattle.feature_model.specs.declared.faults.ConfigFault.{ConfigFault}
 use Rattle.feature_model.specs.declared.faults.ConfigFault.TheVariants as config
 use Rattle.setting_texts.specs.Settings.{config_text}
+use Rattle.alarm_report.specs.Texts.{place_text}
 use Rattle.famlint_core.specs.declared.fault.Fault.{Fault}
 use Rattle.famlint_core.specs.declared.fault.Fault.TheVariants as fault
 use Rattle.famlint_core.specs.declared.request.Role.{Role}
@@ -96,10 +97,6 @@ file_code code.GroupHere = codes "F21"
 abbrev pub condition_part : FileCode → List ℕ
 condition_part (code.Condition fault) = codes " " ++ condition_code fault
 condition_part _ = []
-
--- a line and a column
-abbrev pub place_text : Place → List ℕ
-place_text place = decimal place.line ++ codes ":" ++ decimal place.column
 
 abbrev pub file_front : FileCode → Place → List ℕ
 file_front code place = codes "file: " ++ file_code code ++ condition_part code ++ codes " at " ++ place_text place

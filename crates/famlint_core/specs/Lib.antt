@@ -1,7 +1,11 @@
 pub mod Answers
 pub mod Endings
+pub mod FamilyReports
 pub mod Faults
+pub mod Found
+pub mod Headline
 pub mod Loads
+pub mod ProductLines
 pub mod Report
 pub mod Requests
 pub mod RunText

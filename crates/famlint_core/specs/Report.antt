@@ -1,8 +1,6 @@
 -- The report on one program, and the stops of its runs.
-use Rattle.std.specs.Prelude.{ℕ, ℤ, Bool, ◌≡◌, List, ◌++◌, codes, length, nat_lt, flat_map, Contains, if◌then◌else◌}
-use Rattle.std.specs.Fmt.{decimal}
+use Rattle.std.specs.Prelude.{ℕ, ℤ, Bool, ◌≡◌, List, length, nat_lt, Contains, if◌then◌else◌}
 use Rattle.c_tree.specs.declared.tree.Kind.{Kind}
-use Rattle.c_tree.specs.declared.tree.Kind.TheVariants.{Overflow, ZeroDivisor, Assertion}
 use Rattle.c_tree.specs.declared.tree.Mode.{Mode}
 use Rattle.std.specs.List.{All}
 use Rattle.c_tree.specs.Tree.{Whole}
@@ -13,21 +11,8 @@ use Rattle.plain_analysis.specs.declared.alarm.Alarm.{Alarm}
 use Rattle.leaf_domain.specs.Leaves.{LeafMeaning}
 use Rattle.plain_analysis.specs.declared.options.Options.{Options}
 use Rattle.plain_analysis.specs.Places.{alarms_of}
+use Rattle.alarm_report.specs.Texts.{variant_text}
 use Rattle.famlint_core.specs.declared.fault.Done.{Done}
-use Rattle.famlint_core.specs.Faults.{place_text}
-
-abbrev pub kind_text : Kind → List ℕ
-kind_text Overflow = codes "overflow"
-kind_text ZeroDivisor = codes "zero-divisor"
-kind_text Assertion = codes "assertion"
-
--- an alarm's line
-abbrev pub alarm_line : Alarm → List ℕ
-alarm_line alarm = place_text alarm.place ++ codes ": " ++ kind_text alarm.kind ++ codes "\n"
-
--- the lines of the alarms, and how many they are
-abbrev pub variant_text : List Alarm → List ℕ
-variant_text alarms = flat_map alarm_line alarms ++ codes "alarms: " ++ decimal (length alarms) ++ codes "\n"
 
 -- there is an alarm
 abbrev pub some_alarm : List Alarm → Bool

@@ -19,6 +19,8 @@ use Rattle.famlint_core.specs.declared.request.LeafKind.{LeafKind}
 use Rattle.famlint_core.specs.declared.request.LeafKind.TheVariants as leaves
 use Rattle.famlint_core.specs.declared.request.options.Command.{Command}
 use Rattle.famlint_core.specs.declared.request.options.Command.TheVariants as command
+use Rattle.famlint_core.specs.declared.request.FamilyTask.{FamilyTask}
+use Rattle.famlint_core.specs.declared.request.FamilyTask.TheVariants as family
 use Rattle.famlint_core.specs.declared.request.Request.{Request}
 use Rattle.famlint_core.specs.declared.request.Request.TheVariants as request
 use Rattle.famlint_core.specs.declared.request.Role.{Role}
@@ -42,6 +44,8 @@ taken_by command.Plain = analysis_options
 taken_by command.Project = nothing_given
 taken_by command.Variant = analysis_options
 taken_by command.Run = run_options
+taken_by command.Analyse = analysis_options
+taken_by command.Invariants = analysis_options
 
 -- each option that is given is taken
 abbrev pub are_taken : Given → Given → Bool
@@ -77,7 +81,9 @@ command_of word =
     if bytes_eq word (codes "plain") then Some command.Plain
     else (if bytes_eq word (codes "project") then Some command.Project
     else (if bytes_eq word (codes "variant") then Some command.Variant
-    else (if bytes_eq word (codes "run") then Some command.Run else None)))
+    else (if bytes_eq word (codes "run") then Some command.Run
+    else (if bytes_eq word (codes "analyse") then Some command.Analyse
+    else (if bytes_eq word (codes "invariants") then Some command.Invariants else None)))))
 
 -- what `plain` asks for with these words; nothing, where they are refused
 abbrev pub plain_request : Analysis → List (List ℕ) → Option Request
@@ -91,6 +97,13 @@ variant_request task [] = None
 variant_request task (model ∷ []) = None
 variant_request task (model ∷ file ∷ words) = Some (request.Variant model file words task)
 
+-- what is asked of all variants with these words
+abbrev pub family_request : Analysis → FamilyTask → List (List ℕ) → Option Request
+family_request analysis task [] = None
+family_request analysis task (model ∷ []) = None
+family_request analysis task (model ∷ file ∷ []) = Some (request.Family model file analysis task)
+family_request analysis task (model ∷ file ∷ more ∷ words) = None
+
 -- the run that the options ask for
 abbrev pub run_task : Settings → Option VariantTask
 run_task settings = Some (task.Run settings.steps settings.inputs (mode_of settings.overflow))
@@ -101,6 +114,8 @@ request_for command.Plain settings words = option_and_then (λ analysis. plain_r
 request_for command.Project settings words = variant_request task.Text words
 request_for command.Variant settings words = option_and_then (λ analysis. variant_request (task.Report analysis) words) (analysis_of settings)
 request_for command.Run settings words = option_and_then (λ t. variant_request t words) (run_task settings)
+request_for command.Analyse settings words = option_and_then (λ analysis. family_request analysis family.Alarms words) (analysis_of settings)
+request_for command.Invariants settings words = option_and_then (λ analysis. family_request analysis family.Invariants words) (analysis_of settings)
 
 -- what a command asks for, where the options suit it
 abbrev pub suited : Command → Arguments → List (List ℕ) → Option Request
@@ -129,16 +144,22 @@ reading words = option_and_then request_of (arguments_of words)
 abbrev pub paths_of : Request → List (List ℕ)
 paths_of (request.Plain file analysis) = file ∷ []
 paths_of (request.Variant model file settings task) = model ∷ file ∷ []
+paths_of (request.Family model file analysis task) = model ∷ file ∷ []
 
 -- the failed path is this one
 abbrev pub is_path : Option (List ℕ) → List ℕ → Bool
 is_path None path = false
 is_path (Some failed) path = bytes_eq failed path
 
--- what the path of a failed load is to a request: where MODEL and FILE are one path, it is MODEL
+-- what the path of a failed load is, where this is MODEL: it is MODEL also where FILE is the same path
+abbrev pub role_beside : Option (List ℕ) → List ℕ → Role
+role_beside failed model = if is_path failed model then role.Model else role.File
+
+-- what the path of a failed load is to a request
 abbrev pub role_of : Request → Option (List ℕ) → Role
 role_of (request.Plain file analysis) failed = role.File
-role_of (request.Variant model file settings task) failed = if is_path failed model then role.Model else role.File
+role_of (request.Variant model file settings task) failed = role_beside failed model
+role_of (request.Family model file analysis task) failed = role_beside failed model
 
 -- ---- inputs
 
@@ -151,3 +172,4 @@ HaveInts (task.Run steps inputs mode) = All IsInt inputs
 abbrev pub HasInts : Request → Type 0
 HasInts (request.Plain file analysis) = ⊤
 HasInts (request.Variant model file settings task) = HaveInts task
+HasInts (request.Family model file analysis task) = ⊤

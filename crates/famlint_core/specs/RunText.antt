@@ -3,8 +3,7 @@ use Rattle.std.specs.Prelude.{ℕ, ℤ, List, ◌++◌, codes}
 use Rattle.fam_outer.specs.declared.faults.Place.{Place}
 use Rattle.c_tree.specs.Run.{End, AtEnd, StoppedEnd, WaitingEnd, EndedEnd}
 use Rattle.setting_texts.specs.Settings.{spaced_settings}
-use Rattle.famlint_core.specs.Faults.{place_text}
-use Rattle.famlint_core.specs.Report.{kind_text}
+use Rattle.alarm_report.specs.Texts.{kind_text, place_text}
 
 -- how the run stands and where
 abbrev pub front_text : List ℕ → Place → List ℕ

@@ -5,6 +5,7 @@ mod ending;
 mod fault;
 pub mod laws;
 mod load;
+mod product_line;
 mod program;
 mod report;
 mod request;

@@ -39,7 +39,8 @@ pub fn famlint<F: Files, S: Sink, E: Sink>(
         → (told : Contents) → IsTold request (F.content files.old) told
         → EndsWith (Answers request told) (role_of request (F.failed files.new)) result
         (S.written out.old) (S.written out.new) (E.written err.old) (E.written err.new) (E.faults err.old) (E.faults err.new) }
-    // What is promised of the output: each stop of each run of a reported program is printed, and at status 0 no run stops.
+    // What is promised of the output: each stop of each run of a reported program is printed, and at status 0 no run stops. Under
+    // `analyse` and `invariants` this is so for the variant of each valid configuration, by the lines whose regions it meets.
     ensures promise { (request : Request) → reading (texts_of words.now) ≡ Some request
         → (told : Contents) → IsTold request (F.content files.old) told → result ≤ 1
         → (text : List ℕ) × (S.written out.new ≡ append_known (S.written out.old) text) × Promised request told result text }

@@ -1,62 +1,28 @@
 //! The report on one program.
 #![tactic(auto)]
 
-ghost use Rattle.std.specs.Prelude.{◌≡◌, ◌++◌, ◌≤◌, string_bytes, IfOk};
+ghost use Rattle.std.specs.Prelude.{◌≡◌, ◌≤◌, IfOk};
 ghost use Rattle.c_tree.specs.View.{whole};
 ghost use Rattle.c_tree.specs.Whole.{IsProgram, IsPlainProgram};
 ghost use Rattle.famlint_core.specs.Answers.{plain_done};
-ghost use Rattle.famlint_core.specs.Report.{kind_text as text_of_kind, alarm_line, report_status as status_of, variant_text, report_done, IsReport};
+ghost use Rattle.famlint_core.specs.Report.{report_status as status_of, report_done, IsReport};
 
 use crate::fault::Done;
 use crate::request::{Analysis, LeafKind};
-use c_tree::{Kind, Program};
-use fam_outer::{NoMemory, Text};
+use alarm_report::variant_report;
+use c_tree::Program;
+use fam_outer::NoMemory;
 use interval_leaf::IntervalLeaf;
 use leaf_domain::Leaf;
 use octagon_leaf::OctagonLeaf;
 use plain_analysis::{Alarm, Options, analyse_one};
 use std::alloc::Global;
 
-/// The name of a kind of stop.
-pub fn kind_text(kind: Kind) -> &'static str
-    ensures { result.now ≡ text_of_kind kind }
-{
-    match kind {
-        Kind::Overflow => "overflow",
-        Kind::ZeroDivisor => "zero-divisor",
-        Kind::Assertion => "assertion",
-    }
-}
-
-/// Adds the line of an alarm.
-fn push_alarm(text: &mut String, alarm: &Alarm) -> Result<(), NoMemory>
-    ensures { IfOk result (λ _. string_bytes text.new ≡ string_bytes text.old ++ alarm_line alarm.now) }
-{
-    let kind = kind_text(alarm.kind);
-    let line = alarm.place.line;
-    let column = alarm.place.column;
-    write!(text, "{line}:{column}: {kind}\n")?;
-    Ok(())
-}
-
 /// The status of a report: 1 where there is an alarm.
 fn report_status(alarms: &[Alarm]) -> u8
     ensures { result ≡ status_of alarms.now }
 {
     if alarms.is_empty() { 0 } else { 1 }
-}
-
-/// The lines of the alarms, and how many they are.
-fn report(alloc: Global, alarms: &[Alarm]) -> Result<Text, NoMemory>
-    ensures { IfOk result (λ text. text ≡ variant_text alarms.now) }
-{
-    let mut text = String::new(alloc);
-    for alarm in alarms {
-        push_alarm(&mut text, alarm)?;
-    }
-    let count = alarms.len();
-    write!(text, "alarms: {count}\n")?;
-    Ok(Text::from_vec(text.into_bytes()))
 }
 
 /// The report on a program, over a kind of leaf.
@@ -71,7 +37,7 @@ fn report_on<L: Leaf>(alloc: Global, program: &Program, options: &Options) -> Re
     let findings = analyse_one(alloc, program, &start, options)?;
     let alarms = findings.alarms.items();
     Ok(Done {
-        text: report(alloc, alarms)?,
+        text: variant_report(alloc, alarms)?,
         status: report_status(alarms),
     })
 }

@@ -6,7 +6,7 @@ mod reading;
 
 ghost use Rattle.std.specs.Option.{option_copied};
 ghost use Rattle.std.specs.Prelude.{◌≡◌, ◌++◌, ◌∷◌, [], IfOk, OnOk, map, string_bytes};
-ghost use Rattle.famlint_core.specs.Requests.{role_of, is_path};
+ghost use Rattle.famlint_core.specs.Requests.{role_of, role_beside, is_path};
 
 use c_tree::Mode;
 use command_words::Word;
@@ -30,6 +30,13 @@ pub enum Request {
         file: Word,
         settings: SettingWords,
         task: VariantTask,
+    },
+    /// Something of all variants of FILE at once, of those that MODEL allows.
+    Family {
+        model: Word,
+        file: Word,
+        analysis: Analysis,
+        task: FamilyTask,
     },
 }
 
@@ -60,6 +67,15 @@ pub enum VariantTask {
         inputs: Values,
         mode: Mode,
     },
+}
+
+/// What is asked of all variants of a family.
+#[derive(Clone, Copy, Debug, PartialEq, Eq)]
+pub enum FamilyTask {
+    /// The alarms, with the configurations that have them.
+    Alarms,
+    /// The leaves at all places, with the configurations that have them, and then the alarms.
+    Invariants,
 }
 
 /// The words of settings, each `NAME=VALUE` or `NAME`.
@@ -113,6 +129,17 @@ fn is_path(failed: Option<&Text>, path: &Word) -> bool
     }
 }
 
+/// What the path of a failed load is, where one of the two is MODEL.
+fn role_beside(failed: Option<&Text>, model: &Word) -> Role
+    ensures { result ≡ role_beside (option_copied failed.entry) model.now }
+{
+    if is_path(failed, model) {
+        Role::Model
+    } else {
+        Role::File
+    }
+}
+
 impl Request {
     /// What the path of a failed load is to the request.
     pub fn role(&self, failed: Option<&Text>) -> Role
@@ -128,13 +155,13 @@ impl Request {
                 file: _,
                 settings: _,
                 task: _,
-            } => {
-                if is_path(failed, model) {
-                    Role::Model
-                } else {
-                    Role::File
-                }
-            }
+            } => role_beside(failed, model),
+            Request::Family {
+                model,
+                file: _,
+                analysis: _,
+                task: _,
+            } => role_beside(failed, model),
         }
     }
 }

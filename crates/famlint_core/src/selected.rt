@@ -1,27 +1,24 @@
 //! The variant of a family that settings select: the loads of a command with MODEL, FILE and settings.
 #![tactic(auto)]
 
-ghost use Rattle.std.specs.Prelude.{◌≡◌, ℕ, List, [], ◌∷◌, map, string_bytes, length, Some, IfOk};
+ghost use Rattle.std.specs.Prelude.{◌≡◌, ℕ, List, [], ◌∷◌, map, string_bytes, Some, IfOk};
 ghost use Rattle.cpp_conditions.specs.Validity.{plain, IsValid, IsConfig};
-ghost use Rattle.c_parser.specs.FamilyReading.{IsFamilyOf};
-ghost use Rattle.famlint_core.specs.Loads.{Comes, IsReadFault, IsReadOf, IsUsable, IsUsableFamily};
-ghost use Rattle.famlint_core.specs.Selected.{IsSelected, IsSettled, IsLoadedFor};
+ghost use Rattle.famlint_core.specs.Loads.{Comes, IsReadFault, IsReadOf, IsUsable};
+ghost use Rattle.famlint_core.specs.ProductLines.{IsLoadedFor, IsUsableLine};
+ghost use Rattle.famlint_core.specs.Selected.{IsSelected, IsSettled};
 
 use crate::fault::{Stop, settings_fault};
-use crate::load::{FamilyFile, load_family, load_model};
-use c_parser::Family;
+use crate::product_line::{ProductLine, load_product_line};
 use cpp_conditions::Model;
-use fam_outer::{Files, Text};
+use fam_outer::Files;
 use feature_model::{ConfigRefusal, read_config};
 use linear_atoms::Config;
 use std::alloc::Global;
 
-/// A model, a family over it with the bytes of its file, and a valid configuration.
+/// A model and a family over it, and a valid configuration.
 #[derive(Drop)]
 pub struct Selected {
-    pub model: Model,
-    pub family: Family,
-    pub text: Text,
+    pub line: ProductLine,
     pub config: Config,
 }
 
@@ -54,23 +51,15 @@ pub fn select<F: Files>(
 ) -> Result<Selected, Stop>
     ensures selected { (m f : List ℕ) → F.content files.old model_path.now ≡ Some m → F.content files.old file_path.now ≡ Some f
         → Comes (IsSelected m f (map string_bytes settings.now)) result }
-    ensures usable { IfOk result (λ made. IsUsable made.model) }
-    ensures family { IfOk result (λ made. IsUsableFamily (length made.model.features) made.family) }
-    ensures spelled { IfOk result (λ made. IsFamilyOf made.model made.text made.family) }
-    ensures valid { IfOk result (λ made. IsValid (plain made.model) made.config.values) }
-    ensures config { IfOk result (λ made. IsConfig made.model.features made.config.values) }
+    ensures line { IfOk result (λ made. IsUsableLine made.line) }
+    ensures valid { IfOk result (λ made. IsValid (plain made.line.model) made.config.values) }
+    ensures config { IfOk result (λ made. IsConfig made.line.model.features made.config.values) }
     ensures kept { F.content files.new ≡ F.content files.old }
     ensures read { IsReadOf (model_path.now ∷ file_path.now ∷ []) (F.faults files.old) (F.faults files.new) (F.failed files.new) result }
     ensures order { (m : List ℕ) → F.content files.old model_path.now ≡ Some m → IsReadFault result
         → IsLoadedFor model_path.now file_path.now m (F.failed files.new) }
 {
-    let model = load_model(alloc, model_path, files)?;
-    let FamilyFile { family, text } = load_family(alloc, &model, file_path, files)?;
-    let config = settled(alloc, &model, settings)?;
-    Ok(Selected {
-        model,
-        family,
-        text,
-        config,
-    })
+    let line = load_product_line(alloc, model_path, file_path, files)?;
+    let config = settled(alloc, &line.model, settings)?;
+    Ok(Selected { line, config })
 }

@@ -1,6 +1,7 @@
 //! What is done for a request: its loads, and then its work.
 #![tactic(auto)]
 
+mod family;
 mod plain;
 mod variant;
 
@@ -11,6 +12,7 @@ ghost use Rattle.famlint_core.specs.Requests.{paths_of, HasInts};
 
 use crate::fault::{Done, Stop};
 use crate::request::Request;
+use crate::work::family::family;
 use crate::work::plain::plain;
 use crate::work::variant::variant;
 use fam_outer::Files;
@@ -36,5 +38,11 @@ pub fn work<F: Files>(alloc: Global, request: &Request, files: &mut F) -> Result
             settings,
             task,
         } => variant(alloc, model, file, settings, task, files),
+        Request::Family {
+            model,
+            file,
+            analysis,
+            task,
+        } => family(alloc, model, file, analysis, *task, files),
     }
 }

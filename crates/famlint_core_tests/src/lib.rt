@@ -4,6 +4,10 @@
 #[cfg(test)]
 mod analysis_tests;
 #[cfg(test)]
+mod cases;
+#[cfg(test)]
+mod family_tests;
+#[cfg(test)]
 mod plain_tests;
 #[cfg(test)]
 mod variant_tests;

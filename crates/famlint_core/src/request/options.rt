@@ -16,6 +16,8 @@ pub enum Command {
     Project,
     Variant,
     Run,
+    Analyse,
+    Invariants,
 }
 
 impl Command {
@@ -28,6 +30,8 @@ impl Command {
             "project" => Some(Command::Project),
             "variant" => Some(Command::Variant),
             "run" => Some(Command::Run),
+            "analyse" => Some(Command::Analyse),
+            "invariants" => Some(Command::Invariants),
             _ => None,
         }
     }
@@ -37,7 +41,7 @@ impl Command {
         ensures { result ≡ specs.taken_by self }
     {
         match self {
-            Command::Plain | Command::Variant => Given {
+            Command::Plain | Command::Variant | Command::Analyse | Command::Invariants => Given {
                 domain: true,
                 delay: true,
                 narrow: true,

@@ -9,7 +9,7 @@ ghost use Rattle.famlint_core.specs.Requests as specs;
 ghost use Rattle.famlint_core.specs.Requests.{reading, HasInts, HaveInts};
 
 use crate::request::options::{Command, analysis_of, mode_of, suits};
-use crate::request::{Analysis, Request, SettingWords, VariantTask};
+use crate::request::{Analysis, FamilyTask, Request, SettingWords, VariantTask};
 use command_words::{Arguments, Settings, Usage, Word, WordsRefusal, read_words};
 use std::alloc::Global;
 
@@ -48,6 +48,27 @@ fn variant_request(
     }
 }
 
+/// What is asked of all variants with these words.
+fn family_request(
+    alloc: Global,
+    analysis: Analysis,
+    task: FamilyTask,
+    words: &[Word],
+) -> Result<Request, WordsRefusal>
+    ensures answer { Reads (specs.family_request analysis task words.now) result }
+    ensures ints { IfOk result (λ request. HasInts request) }
+{
+    match words {
+        [model, file] => Ok(Request::Family {
+            model: Word::from_str(alloc, model.as_str())?,
+            file: Word::from_str(alloc, file.as_str())?,
+            analysis,
+            task,
+        }),
+        _ => Err(WordsRefusal::Fault(Usage)),
+    }
+}
+
 /// The run that the options ask for.
 fn run_task(alloc: Global, settings: &Settings) -> Result<VariantTask, WordsRefusal>
     requires { All IsInt settings.now.inputs }
@@ -77,7 +98,15 @@ fn request_for(
         (Command::Variant, Some(analysis)) => {
             variant_request(alloc, VariantTask::Report(analysis), words)
         }
-        (Command::Plain | Command::Variant, None) => Err(WordsRefusal::Fault(Usage)),
+        (Command::Analyse, Some(analysis)) => {
+            family_request(alloc, analysis, FamilyTask::Alarms, words)
+        }
+        (Command::Invariants, Some(analysis)) => {
+            family_request(alloc, analysis, FamilyTask::Invariants, words)
+        }
+        (Command::Plain | Command::Variant | Command::Analyse | Command::Invariants, None) => {
+            Err(WordsRefusal::Fault(Usage))
+        }
         (Command::Project, _) => variant_request(alloc, VariantTask::Text, words),
         (Command::Run, _) => {
             let task = run_task(alloc, settings)?;

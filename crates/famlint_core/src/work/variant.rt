@@ -1,25 +1,26 @@
 //! What is asked of a variant: `project`, `variant` and `run`.
 #![tactic(auto)]
 
-ghost use Rattle.std.specs.Prelude.{◌≡◌, ◌≤◌, ℕ, ℤ, List, [], ◌∷◌, ◌++◌, Some, IfOk, length, string_bytes};
+ghost use Rattle.std.specs.Prelude.{◌≡◌, ◌≤◌, ℕ, ℤ, List, [], ◌∷◌, ◌++◌, Some, IfOk, string_bytes};
 ghost use Rattle.std.specs.List.{All};
 ghost use Rattle.c_tree.specs.Value.{IsInt};
 ghost use Rattle.c_tree.specs.View.{whole};
 ghost use Rattle.c_tree.specs.Whole.{IsProgram, IsPlainProgram};
 ghost use Rattle.cpp_conditions.specs.Validity.{plain, IsValid, IsConfig};
-ghost use Rattle.c_parser.specs.FamilyReading.{IsFamilyOf};
 ghost use Rattle.famlint_core.specs.Answers.{AnswersVariant, PromisedVariant, PromisedOf, IsDone, run_done, Contents};
-ghost use Rattle.famlint_core.specs.Loads.{Comes, IsReadFault, IsReadOf, IsUsable, IsUsableFamily};
+ghost use Rattle.famlint_core.specs.Loads.{Comes, IsReadFault, IsReadOf};
 ghost use Rattle.famlint_core.specs.Requests.{HaveInts};
 ghost use Rattle.famlint_core.specs.RunText.{run_text, front_text, store_text};
 ghost use Rattle.famlint_core.specs.declared.request.VariantTask.TheVariants as tasks;
-ghost use Rattle.famlint_core.specs.Selected.{AreSelected, IsLoadedFor, IsProgramOf};
+ghost use Rattle.famlint_core.specs.ProductLines.{IsLoadedFor, IsUsableLine};
+ghost use Rattle.famlint_core.specs.Selected.{AreSelected, IsProgramOf};
 ghost use Rattle.run_meaning.specs.View.{end_of};
 
 use crate::fault::{Done, Stop};
-use crate::report::{kind_text, report_by};
+use crate::report::report_by;
 use crate::request::{SettingWords, VariantTask};
 use crate::selected::{Selected, select};
+use alarm_report::kind_text;
 use c_parser::variants::variants_are_projections;
 use c_tree::{Mode, Program, project};
 use command_words::Word;
@@ -32,16 +33,15 @@ use variant_projector::{truths_of, variant_text, vector_of};
 /// The program of the variant: that of the family, projected by the truths of its conditions, which is what the variant's text
 /// is read as.
 fn program_of(alloc: Global, selected: &Selected) -> Result<Program, NoMemory>
-    requires spelled { IsFamilyOf selected.now.model selected.now.text selected.now.family }
-    requires family { IsUsableFamily (length selected.now.model.features) selected.now.family }
-    requires valid { IsValid (plain selected.now.model) selected.now.config.values }
-    requires config { IsConfig selected.now.model.features selected.now.config.values }
+    requires line { IsUsableLine selected.now.line }
+    requires valid { IsValid (plain selected.now.line.model) selected.now.config.values }
+    requires config { IsConfig selected.now.line.model.features selected.now.config.values }
     ensures is { IfOk result (λ p. IsProgramOf selected.now (whole p)) }
     ensures program { IfOk result (λ p. IsProgram (whole p)) }
     ensures plain { IfOk result (λ p. IsPlainProgram (whole p)) }
 {
     variants_are_projections();
-    let family = &selected.family;
+    let family = &selected.line.family;
     let vector = vector_of(alloc, family.atoms.items(), &selected.config)?;
     let truths = truths_of(alloc, family.conditions.items(), &vector)?;
     project(alloc, &family.code, &truths)
@@ -112,19 +112,13 @@ fn run_for(
 
 /// The text of the variant.
 fn text_of(alloc: Global, selected: &Selected) -> Result<Done, NoMemory>
-    requires model { IsUsable selected.now.model }
-    requires spelled { IsFamilyOf selected.now.model selected.now.text selected.now.family }
-    requires config { IsConfig selected.now.model.features selected.now.config.values }
+    requires line { IsUsableLine selected.now.line }
+    requires config { IsConfig selected.now.line.model.features selected.now.config.values }
     ensures { IfOk result (λ done. IsDone tasks.Text selected.now done) }
 {
     variants_are_projections();
-    let Selected {
-        model,
-        family: _,
-        text,
-        config,
-    } = selected;
-    match variant_text(alloc, text.bytes(), model, config) {
+    let Selected { line, config } = selected;
+    match variant_text(alloc, line.text.bytes(), &line.model, config) {
         Ok(text) => Ok(Done { text, status: 0 }),
         Err(FileRefusal::NoMemory) => Err(NoMemory),
         Err(FileRefusal::Fault { code: _, place: _ }) => unreachable!(),
@@ -133,11 +127,9 @@ fn text_of(alloc: Global, selected: &Selected) -> Result<Done, NoMemory>
 
 /// What is asked of the variant.
 fn done_for(alloc: Global, selected: &Selected, task: &VariantTask) -> Result<Done, NoMemory>
-    requires model { IsUsable selected.now.model }
-    requires spelled { IsFamilyOf selected.now.model selected.now.text selected.now.family }
-    requires family { IsUsableFamily (length selected.now.model.features) selected.now.family }
-    requires valid { IsValid (plain selected.now.model) selected.now.config.values }
-    requires config { IsConfig selected.now.model.features selected.now.config.values }
+    requires line { IsUsableLine selected.now.line }
+    requires valid { IsValid (plain selected.now.line.model) selected.now.config.values }
+    requires config { IsConfig selected.now.line.model.features selected.now.config.values }
     requires ints { HaveInts task.now }
     ensures answer { IfOk result (λ done. IsDone task.now selected.now done) }
     ensures promise { IfOk result (λ done. PromisedOf task.now selected.now done.status done.text) }

@@ -18,3 +18,13 @@ pub returns-in-Variant-clause-promise : goal.returns-in-Variant-clause-promise
 returns-in-Variant-clause-promise g c = λ told is_told.
     let content = g.F.Files.content c.args.files.now in
     subst (λ r. IsTold r content told → IfOk c.variant.result (λ done. Promised r told done.status done.text)) (sym c.in-Variant.is) (λ t. c.variant.ensures.promise told t.0 t.1) is_told
+
+pub returns-in-Family-clause-answer : goal.returns-in-Family-clause-answer
+returns-in-Family-clause-answer g c = λ told is_told.
+    let content = g.F.Files.content c.args.files.now in
+    subst (λ r. IsTold r content told → Comes (Answers r told) c.family.result) (sym c.in-Family.is) (λ t. c.family.ensures.answer told t.0 t.1) is_told
+
+pub returns-in-Family-clause-promise : goal.returns-in-Family-clause-promise
+returns-in-Family-clause-promise g c = λ told is_told.
+    let content = g.F.Files.content c.args.files.now in
+    subst (λ r. IsTold r content told → IfOk c.family.result (λ done. Promised r told done.status done.text)) (sym c.in-Family.is) (λ t. c.family.ensures.promise told t.0 t.1) is_told

@@ -1,0 +1,9 @@
+pub mod Dropped
+pub mod Fitting
+pub mod Meeting
+pub mod Covering
+pub mod Leading
+pub mod Pairing
+pub mod Placed
+pub mod Stops
+pub mod Wellformed

@@ -1,0 +1,31 @@
+use Rattle.std.proofs.Common.{length, map, take, sym, subst, ap, ◌≡◌, [], ◌∙◌}
+use Rattle.alarm_report.specs.Alarms.{AreAlarms, stop_tree}
+use Rattle.alarm_report.specs.Alarms as stops
+use Rattle.alarm_report.proofs.Dropped.{taken}
+use Rattle.alarm_report.proofs.Stops.{covers_stops, alarms_fit, seen_below}
+use Rattle.alarm_report.proofs.alarms.alarms_of.Goals as goal
+
+pub trees-init : goal.trees-init
+trees-init c = subst (λ xs. AreAlarms c.args.prepared.now c.args.atoms.now [] xs) (sym c.new-list.ensures.items) stops.no_tree
+
+pub returns-clause-alarms : goal.returns-clause-alarms
+returns-clause-alarms c =
+    let m = c.args.prepared.now in
+    let atoms = c.args.atoms.now in
+    let all = ap (map stop_tree) (taken c.args.trees.now c.trees.tree-index c.trees-test.false) in
+    subst (λ xs. AreAlarms m atoms (map stop_tree c.args.trees.now) xs) (sym c.from_vec.ensures)
+    (subst (λ ts. AreAlarms m atoms ts c.trees.list.items) all c.trees.invariant)
+
+pub returns-clause-cover : goal.returns-clause-cover
+returns-clause-cover c =
+    let m = c.args.prepared.now in
+    let atoms = c.args.atoms.now in
+    let ts = map stop_tree c.args.trees.now in
+    λ keyed. covers_stops m atoms ts c.from_vec.result (seen_below (length atoms) c.args.trees.now c.requires.tests) keyed (returns-clause-alarms c)
+
+pub returns-clause-fit : goal.returns-clause-fit
+returns-clause-fit c =
+    let m = c.args.prepared.now in
+    let atoms = c.args.atoms.now in
+    let ts = map stop_tree c.args.trees.now in
+    alarms_fit m atoms (length m.features) ts c.from_vec.result c.requires.atoms (seen_below (length atoms) c.args.trees.now c.requires.tests) (returns-clause-alarms c)

@@ -1,0 +1,6 @@
+use Rattle.std.proofs.Common.{take, map}
+use Rattle.alarm_report.specs.Alarms.{AreAlarms, stop_tree}
+use Rattle.alarm_report.proofs.alarms.alarms_of.Given as goal
+
+abbrev pub invariant-trees : goal.invariant-trees
+invariant-trees l = AreAlarms l.prepared l.atoms (map stop_tree (take l.tree-index l.trees)) l.list.items

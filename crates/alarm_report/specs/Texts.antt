@@ -1,0 +1,58 @@
+-- The texts of reports: of one program, and of a family.
+use Rattle.std.specs.Prelude.{ℕ, List, [], ◌∷◌, ◌++◌, codes, map, flat_map, length}
+use Rattle.std.specs.Fmt.{decimal}
+use Rattle.fam_outer.specs.declared.faults.Place.{Place}
+use Rattle.c_tree.specs.declared.tree.Kind.{Kind}
+use Rattle.c_tree.specs.declared.tree.Kind.TheVariants.{Overflow, ZeroDivisor, Assertion}
+use Rattle.linear_atoms.specs.declared.atoms.Feature.{Feature}
+use Rattle.linear_atoms.specs.declared.atoms.Literal.{Literal}
+use Rattle.linear_atoms.specs.Texts.{literal_text}
+use Rattle.plain_analysis.specs.declared.alarm.Alarm.{Alarm}
+use Rattle.setting_texts.specs.Settings.{config_text}
+use Rattle.alarm_report.specs.declared.alarms.FamilyAlarm.{FamilyAlarm}
+
+-- texts one after another, with a text between
+abbrev pub joined : List ℕ → List (List ℕ) → List ℕ
+joined between [] = []
+joined between (t ∷ ts) = t ++ flat_map (λ u. between ++ u) ts
+
+-- ---- places and kinds
+
+-- a line and a column
+abbrev pub place_text : Place → List ℕ
+place_text place = decimal place.line ++ codes ":" ++ decimal place.column
+
+abbrev pub kind_text : Kind → List ℕ
+kind_text Overflow = codes "overflow"
+kind_text ZeroDivisor = codes "zero-divisor"
+kind_text Assertion = codes "assertion"
+
+-- ---- the alarms of one program
+
+-- an alarm's line
+abbrev pub alarm_line : Alarm → List ℕ
+alarm_line alarm = place_text alarm.place ++ codes ": " ++ kind_text alarm.kind ++ codes "\n"
+
+-- how many lines there are
+abbrev pub count_line : ℕ → List ℕ
+count_line count = codes "alarms: " ++ decimal count ++ codes "\n"
+
+-- the lines of the alarms, and how many they are
+abbrev pub variant_text : List Alarm → List ℕ
+variant_text alarms = flat_map alarm_line alarms ++ count_line (length alarms)
+
+-- ---- the alarms of a family
+
+-- a region as a condition: its literals joined by `&&`, or 1 where there is none
+abbrev pub region_text : List Feature → List Literal → List ℕ
+region_text features [] = codes "1"
+region_text features (l ∷ ls) = joined (codes " && ") (map (literal_text features) (l ∷ ls))
+
+-- the line of an alarm of a family: `LINE:COLUMN: KIND if REGION; example CONFIGURATION`
+abbrev pub family_line : List Feature → FamilyAlarm → List ℕ
+family_line features a = place_text a.place ++ codes ": " ++ kind_text a.kind ++ codes " if " ++ region_text features a.region.literals
+    ++ codes "; example " ++ config_text features a.region.example.values ++ codes "\n"
+
+-- the lines of the alarms of a family, and how many they are
+abbrev pub alarm_text : List Feature → List FamilyAlarm → List ℕ
+alarm_text features alarms = flat_map (family_line features) alarms ++ count_line (length alarms)

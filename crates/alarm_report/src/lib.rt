@@ -1,0 +1,22 @@
+//! Reports on families: which configurations lead to a leaf of a decision tree, the least of them, and the texts that say so.
+#![tactic(auto)]
+
+pub mod alarms;
+mod dropping;
+pub mod finding;
+pub mod invariants;
+mod joining;
+pub mod leaf_texts;
+mod literals;
+pub mod region;
+pub mod texts;
+
+pub use alarms::{FamilyAlarm, FamilyAlarms, alarms_of};
+pub use finding::{region_of, regions, regions_over};
+pub use invariants::{FamilyInvariant, invariants_of};
+pub use leaf_texts::{invariant_text, leaf_text};
+pub use region::{Literals, Region, Regions};
+pub use texts::{alarm_text, kind_text, variant_report};
+
+#[cfg(test)]
+mod tests;

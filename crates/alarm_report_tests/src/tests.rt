@@ -1,0 +1,257 @@
+//! Texts of reports, compared with texts that were written by hand.
+
+ghost use Rattle.std.specs.Prelude.{◌≡◌, ◌≤◌, ◌<◌, ◌≤ℤ◌, IfOk, [], ◌∷◌, pos, length, unsigned_abs};
+ghost use Rattle.c_tree.specs.Tree.{Binary};
+ghost use Rattle.c_tree.specs.Value.{IsInt};
+ghost use Rattle.c_tree.specs.View.{term, whole};
+ghost use Rattle.c_tree.specs.Whole.{IsProgram, IsPlainProgram};
+ghost use Rattle.linear_atoms.specs.Atoms.{AreLiterals, IsAtom};
+
+use alarm_report::{
+    FamilyAlarm, FamilyInvariant, Literals, Region, alarm_text, invariant_text, leaf_text,
+    variant_report,
+};
+use c_tree::{Declarations, Expr, Kind, Mode, Names, Op, Program, Stmt};
+use decision_tree::Kept;
+use fam_outer::{NoMemory, Place, Text, Values};
+use interval_leaf::IntervalLeaf;
+use leaf_domain::Leaf;
+use linear_atoms::{Atom, Config, Feature, Literal, Terms};
+use octagon_leaf::OctagonLeaf;
+use plain_analysis::{Alarm, Findings, Options, analyse_one};
+use smallvec::SmallVec;
+use std::alloc::Global;
+use std::rc::Rc;
+use std::test::Fail;
+
+fn at(line: u32, column: u32) -> Place
+    ensures { result ≡ record { line = line; column = column } }
+{
+    Place { line, column }
+}
+
+// ---- alarms
+
+fn feature(alloc: Global, name: &[u8], boolean: bool, low: i64, high: i64) -> Result<Feature, Fail> {
+    Ok(Feature {
+        name: Text::from_bytes(alloc, name)?,
+        boolean,
+        low,
+        high,
+    })
+}
+
+/// `A`, which is Boolean, and `N` and `M` from -5 to 5.
+fn features(alloc: Global) -> Result<Vec<Feature>, Fail>
+    ensures { IfOk result (λ made. length made.items ≡ 3) }
+{
+    let switch = feature(alloc, b"A", true, 0, 1)?;
+    let first = feature(alloc, b"N", false, -5, 5)?;
+    let second = feature(alloc, b"M", false, -5, 5)?;
+    Ok(vec![in alloc; switch, first, second]?)
+}
+
+/// A literal of a well-formed atom over three features.
+fn literal(
+    alloc: Global,
+    terms: &[(u32, i64)],
+    bound: i64,
+    positive: bool,
+) -> Result<Literal, Fail>
+    requires { IsAtom 3 (record { terms = terms.now; bound = bound }) }
+    ensures { IfOk result (λ made. IsAtom 3 made.atom) }
+{
+    let terms = Terms::from_vec(SmallVec::from_slice(alloc, terms)?);
+    Ok(Literal {
+        atom: Atom { terms, bound },
+        positive,
+    })
+}
+
+/// The region of these literals with this example.
+fn region(alloc: Global, literals: Vec<Literal>, example: [i64; 3]) -> Result<Region, Fail>
+    requires { AreLiterals 3 literals.items }
+    ensures { IfOk result (λ made. AreLiterals 3 made.literals) }
+{
+    let values = Vec::from_slice(alloc, example.as_slice())?;
+    Ok(Region {
+        literals: Literals::from_vec(literals),
+        example: Config {
+            values: Values::from_vec(values),
+        },
+    })
+}
+
+// `!A`, `N <= 2` and `N - 2*M >= 3`; the second alarm has no literal
+#[test]
+fn alarms_have_texts(rt: HostRuntime) -> Result<(), Fail> {
+    let alloc = rt.alloc();
+    let features = features(alloc)?;
+    let off = literal(alloc, &[(0, 1)], 1, false)?;
+    let few = literal(alloc, &[(1, 1)], 3, false)?;
+    let both = literal(alloc, &[(1, 1), (2, -2)], 3, true)?;
+    let first = FamilyAlarm {
+        place: at(9, 1),
+        kind: Kind::Overflow,
+        region: region(alloc, vec![in alloc; off, few, both]?, [0, -5, -5])?,
+    };
+    let second = FamilyAlarm {
+        place: at(12, 30),
+        kind: Kind::ZeroDivisor,
+        region: region(alloc, Vec::new(alloc), [0, -5, -5])?,
+    };
+    let text = alarm_text(alloc, &features, &[first, second])?;
+    assert_eq!(rt; text.bytes(), b"9:1: overflow if !A && N <= 2 && N - 2*M >= 3; example A=0 N=-5 M=-5\n12:30: zero-divisor if 1; example A=0 N=-5 M=-5\nalarms: 2\n".as_slice());
+    let none = alarm_text(alloc, &features, &[])?;
+    assert_eq!(rt; none.bytes(), b"alarms: 0\n".as_slice());
+    let one = Alarm {
+        place: at(3, 1),
+        kind: Kind::Assertion,
+    };
+    let variant = variant_report(alloc, &[one])?;
+    assert_eq!(rt; variant.bytes(), b"3:1: assertion\nalarms: 1\n".as_slice());
+    Ok(())
+}
+
+// ---- invariants
+
+/// `a op b`.
+fn binary(alloc: Global, op: Op, a: Expr, b: Expr) -> Result<Expr, NoMemory>
+    ensures { IfOk result (λ e. term e ≡ Binary op (term a) (term b)) }
+{
+    let a = Box::new(alloc, a)?;
+    Ok(Expr::Binary(op, a, Box::new(alloc, b)?))
+}
+
+fn names(alloc: Global) -> Result<Names, NoMemory>
+    ensures { IfOk result (λ made. made ≡ (120 ∷ []) ∷ (121 ∷ []) ∷ []) }
+{
+    let mut list = Vec::new(alloc);
+    list.push(Text::from_bytes(alloc, b"x")?)?;
+    list.push(Text::from_bytes(alloc, b"y")?)?;
+    Ok(Names::from_vec(list))
+}
+
+fn starts(alloc: Global) -> Result<Values, NoMemory>
+    ensures { IfOk result (λ made. made ≡ pos 0 ∷ pos 0 ∷ []) }
+{
+    let mut list = Vec::new(alloc);
+    list.push(0)?;
+    list.push(0)?;
+    Ok(Values::from_vec(list))
+}
+
+/// `while (x < 100) { x = x + 1; y = y + 1; }` in line 3, and the end in line 4.
+fn counting(alloc: Global) -> Result<Program, NoMemory>
+    ensures program { IfOk result (λ p. IsProgram (whole p)) }
+    ensures plain { IfOk result (λ p. IsPlainProgram (whole p)) }
+    ensures two { IfOk result (λ p. length p.names ≡ 2) }
+    ensures start { IfOk result (λ p. p.start ≡ pos 0 ∷ pos 0 ∷ []) }
+{
+    let names = names(alloc)?;
+    let start = starts(alloc)?;
+    let mut inner = Vec::new(alloc);
+    inner.push(Stmt::Assign {
+        place: at(3, 20),
+        target: 0,
+        value: binary(alloc, Op::Add, Expr::Var(0), Expr::Number(1))?,
+    })?;
+    inner.push(Stmt::Assign {
+        place: at(3, 31),
+        target: 1,
+        value: binary(alloc, Op::Add, Expr::Var(1), Expr::Number(1))?,
+    })?;
+    let mut body = Vec::new(alloc);
+    body.push(Stmt::While {
+        place: at(3, 1),
+        test: binary(alloc, Op::Lt, Expr::Var(0), Expr::Number(100))?,
+        body: inner,
+    })?;
+    Ok(Program {
+        names,
+        start,
+        declared: Declarations::from_vec(Vec::new(alloc)),
+        body,
+        end: at(4, 1),
+    })
+}
+
+/// What the analysis of a program from its start values finds.
+fn found<L: Leaf>(alloc: Global, program: &Program, start: &L) -> Result<Findings<L>, NoMemory>
+    requires program { IsProgram (whole program.now) }
+    requires plain { IsPlainProgram (whole program.now) }
+    requires variables { (L.value start.now).variables ≡ length program.now.names }
+{
+    let options = Options {
+        delay: 0,
+        narrow: 1,
+        mode: Mode::Stop,
+    };
+    analyse_one(alloc, program, start, &options)
+}
+
+/// Whether the leaves have these texts, place by place.
+fn have_texts<L: Leaf>(
+    alloc: Global,
+    names: &[Text],
+    findings: &Findings<L>,
+    texts: &[&str],
+) -> Result<bool, NoMemory> {
+    let places = findings.places.items();
+    if places.len() != texts.len() {
+        return Ok(false);
+    }
+    for (found, text) in places.iter().zip(texts) {
+        if leaf_text(alloc, names, &found.leaf)?.bytes() != text.as_bytes() {
+            return Ok(false);
+        }
+    }
+    Ok(true)
+}
+
+// octagons know the difference of both counts, and intervals neither that nor a bound of the second
+#[test]
+fn leaves_have_texts(rt: HostRuntime) -> Result<(), Fail> {
+    let alloc = rt.alloc();
+    let program = counting(alloc)?;
+    let names = program.names.items();
+    let octagons = found(alloc, &program, &OctagonLeaf::start(alloc, program.start.items())?)?;
+    let by_octagons = [
+        "x in [0,100], y in [0,100], x-y in [0,0]",
+        "x in [0,99], y in [0,99], x-y in [0,0]",
+        "x in [1,100], y in [0,99], x-y in [1,1]",
+        "x in [100,100], y in [100,100]",
+    ];
+    assert!(rt; have_texts(alloc, names, &octagons, &by_octagons)?);
+    let intervals = found(alloc, &program, &IntervalLeaf::start(alloc, program.start.items())?)?;
+    let by_intervals = [
+        "x in [0,100], y in [0,2147483647]",
+        "x in [0,99], y in [0,2147483647]",
+        "x in [1,100], y in [0,2147483647]",
+        "x in [100,100], y in [0,2147483647]",
+    ];
+    assert!(rt; have_texts(alloc, names, &intervals, &by_intervals)?);
+    let nothing = IntervalLeaf::nothing(alloc, 2)?;
+    assert_eq!(rt; leaf_text(alloc, names, &nothing)?.bytes(), b"unreachable".as_slice());
+    let bare = IntervalLeaf::start(alloc, &[])?;
+    assert_eq!(rt; leaf_text(alloc, &[], &bare)?.bytes(), b"reachable".as_slice());
+    Ok(())
+}
+
+// one invariant where `A` is off
+#[test]
+fn invariants_have_texts(rt: HostRuntime) -> Result<(), Fail> {
+    let alloc = rt.alloc();
+    let features = features(alloc)?;
+    let off = literal(alloc, &[(0, 1)], 1, false)?;
+    let names = names(alloc)?;
+    let value = IntervalLeaf::start(alloc, &[3, -4])?;
+    let one = FamilyInvariant {
+        place: at(6, 1),
+        region: region(alloc, vec![in alloc; off]?, [0, -5, -5])?,
+        leaf: Rc::new(alloc, Kept { number: 0, value })?,
+    };
+    let text = invariant_text(alloc, &features, names.items(), &[one])?;
+    assert_eq!(rt; text.bytes(), b"6:1: if !A: x in [3,3], y in [-4,-4]\n".as_slice());
+    Ok(())
+}
