@@ -13,7 +13,7 @@ echo "famlint.sh: an unproved quick run; to prove and build the program: cd $top
 paths_of() {
     case $1 in
     plain) echo 1 ;;
-    project | variant | run) echo 2 ;;
+    analyse | invariants | project | variant | run) echo 2 ;;
     *) echo 0 ;;
     esac
 }

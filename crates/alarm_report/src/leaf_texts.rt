@@ -18,6 +18,7 @@ use fam_outer::{NoMemory, Text, decimal};
 use leaf_domain::{Form, Leaf, Range, Terms, arithmetic};
 use linear_atoms::Feature;
 use linear_atoms::slices::cut;
+use smallvec::SmallVec;
 use std::alloc::Global;
 
 /// Two variables, by their numbers and names.
@@ -85,7 +86,9 @@ fn same_range(a: Range, b: Range) -> bool
 fn pair_form(alloc: Global, x: u32, y: u32, coefficient: i64) -> Result<Form, NoMemory>
     ensures { IfOk result (λ form. form ≡ pair_form x y coefficient) }
 {
-    let terms = vec![in alloc; (x, 1), (y, coefficient)]?;
+    let mut terms = SmallVec::new(alloc);
+    terms.push((x, 1))?;
+    terms.push((y, coefficient))?;
     Ok(Form {
         terms: Terms::from_vec(terms),
         constant: 0,
