@@ -18,7 +18,7 @@ use Rattle.linear_atoms.specs.Atoms.{AreAtoms, AreLiterals, IsAtom, literal_hold
 use Rattle.cpp_conditions.specs.declared.models.Model.{Model}
 use Rattle.cpp_conditions.specs.Validity.{plain, IsValid}
 use Rattle.atom_solver.specs.Solutions.{IsFirst, all_hold}
-use Rattle.alarm_report.specs.Regions.{literal_of, literals_of, AreStanding, AreRegionsOf, IsRegionOf}
+use Rattle.alarm_report.specs.Regions.{literals_of, AreStanding, AreRegionsOf, IsRegionOf}
 use Rattle.alarm_report.specs.Adding.{Adds, if_true}
 use Rattle.alarm_report.specs.Regions as of
 

@@ -1,5 +1,5 @@
 -- The paths of trees of leaves.
-use Rattle.std.proofs.Common.{◌≡◌, ◌<◌, ℕ, Bool, true, false, List, [], ◌∷◌, ◌++◌, map, refl, ap, sym, ◌∙◌, cond}
+use Rattle.std.proofs.Common.{◌≡◌, ℕ, Bool, true, false, List, [], ◌∷◌, ◌++◌, map, refl, ap, sym, ◌∙◌, cond}
 use Rattle.std.specs.List.{filter}
 use Rattle.decision_tree.specs.Paths.{paths_from, paths_of}
 use Rattle.decision_tree.specs.Plain.{Plain, leaf, node, leaf_of, TestsBelow}

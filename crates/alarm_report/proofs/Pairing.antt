@@ -1,7 +1,7 @@
 -- Forms of two variables are forms.
-use Rattle.std.proofs.Common.{◌≡◌, ◌≢◌, ◌⊎◌, ◌<◌, ◌≤◌, ◌+◌, ℕ, ℤ, pos, negsuc, ◌≤ℤ◌, sym, subst, arith, inl, inr}
+use Rattle.std.proofs.Common.{◌≢◌, ◌<◌, ℕ, ℤ, pos, negsuc, sym, subst, arith, inl, inr}
 use Rattle.std.proofs.lemmas.Int.{ints}
-use Rattle.leaf_domain.specs.Forms.{IsForm, IsFormNumber, AreTerms}
+use Rattle.leaf_domain.specs.Forms.{IsForm, IsFormNumber}
 use Rattle.alarm_report.specs.Forming.{IsSign}
 use Rattle.alarm_report.specs.LeafTexts.{pair_form}
 

@@ -32,7 +32,13 @@ fn at(line: u32, column: u32) -> Place
 
 // ---- alarms
 
-fn feature(alloc: Global, name: &[u8], boolean: bool, low: i64, high: i64) -> Result<Feature, Fail> {
+fn feature(
+    alloc: Global,
+    name: &[u8],
+    boolean: bool,
+    low: i64,
+    high: i64,
+) -> Result<Feature, Fail> {
     Ok(Feature {
         name: Text::from_bytes(alloc, name)?,
         boolean,
@@ -52,12 +58,7 @@ fn features(alloc: Global) -> Result<Vec<Feature>, Fail>
 }
 
 /// A literal of a well-formed atom over three features.
-fn literal(
-    alloc: Global,
-    terms: &[(u32, i64)],
-    bound: i64,
-    positive: bool,
-) -> Result<Literal, Fail>
+fn literal(alloc: Global, terms: &[(u32, i64)], bound: i64, positive: bool) -> Result<Literal, Fail>
     requires { IsAtom 3 (record { terms = terms.now; bound = bound }) }
     ensures { IfOk result (λ made. IsAtom 3 made.atom) }
 {
@@ -101,7 +102,10 @@ fn alarms_have_texts(rt: HostRuntime) -> Result<(), Fail> {
         region: region(alloc, Vec::new(alloc), [0, -5, -5])?,
     };
     let text = alarm_text(alloc, &features, &[first, second])?;
-    assert_eq!(rt; text.bytes(), b"9:1: overflow if !A && N <= 2 && N - 2*M >= 3; example A=0 N=-5 M=-5\n12:30: zero-divisor if 1; example A=0 N=-5 M=-5\nalarms: 2\n".as_slice());
+    assert_eq!(rt;
+        text.bytes(),
+        b"9:1: overflow if !A && N <= 2 && N - 2*M >= 3; example A=0 N=-5 M=-5\n12:30: zero-divisor if 1; example A=0 N=-5 M=-5\nalarms: 2\n".as_slice()
+    );
     let none = alarm_text(alloc, &features, &[])?;
     assert_eq!(rt; none.bytes(), b"alarms: 0\n".as_slice());
     let one = Alarm {
@@ -215,7 +219,11 @@ fn leaves_have_texts(rt: HostRuntime) -> Result<(), Fail> {
     let alloc = rt.alloc();
     let program = counting(alloc)?;
     let names = program.names.items();
-    let octagons = found(alloc, &program, &OctagonLeaf::start(alloc, program.start.items())?)?;
+    let octagons = found(
+        alloc,
+        &program,
+        &OctagonLeaf::start(alloc, program.start.items())?,
+    )?;
     let by_octagons = [
         "x in [0,100], y in [0,100], x-y in [0,0]",
         "x in [0,99], y in [0,99], x-y in [0,0]",
@@ -223,7 +231,11 @@ fn leaves_have_texts(rt: HostRuntime) -> Result<(), Fail> {
         "x in [100,100], y in [100,100]",
     ];
     assert!(rt; have_texts(alloc, names, &octagons, &by_octagons)?);
-    let intervals = found(alloc, &program, &IntervalLeaf::start(alloc, program.start.items())?)?;
+    let intervals = found(
+        alloc,
+        &program,
+        &IntervalLeaf::start(alloc, program.start.items())?,
+    )?;
     let by_intervals = [
         "x in [0,100], y in [0,2147483647]",
         "x in [0,99], y in [0,2147483647]",
@@ -232,9 +244,15 @@ fn leaves_have_texts(rt: HostRuntime) -> Result<(), Fail> {
     ];
     assert!(rt; have_texts(alloc, names, &intervals, &by_intervals)?);
     let nothing = IntervalLeaf::nothing(alloc, 2)?;
-    assert_eq!(rt; leaf_text(alloc, names, &nothing)?.bytes(), b"unreachable".as_slice());
+    assert_eq!(rt;
+        leaf_text(alloc, names, &nothing)?.bytes(),
+        b"unreachable".as_slice()
+    );
     let bare = IntervalLeaf::start(alloc, &[])?;
-    assert_eq!(rt; leaf_text(alloc, &[], &bare)?.bytes(), b"reachable".as_slice());
+    assert_eq!(rt;
+        leaf_text(alloc, &[], &bare)?.bytes(),
+        b"reachable".as_slice()
+    );
     Ok(())
 }
 
@@ -252,6 +270,9 @@ fn invariants_have_texts(rt: HostRuntime) -> Result<(), Fail> {
         leaf: Rc::new(alloc, Kept { number: 0, value })?,
     };
     let text = invariant_text(alloc, &features, names.items(), &[one])?;
-    assert_eq!(rt; text.bytes(), b"6:1: if !A: x in [3,3], y in [-4,-4]\n".as_slice());
+    assert_eq!(rt;
+        text.bytes(),
+        b"6:1: if !A: x in [3,3], y in [-4,-4]\n".as_slice()
+    );
     Ok(())
 }

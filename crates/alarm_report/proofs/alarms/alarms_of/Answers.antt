@@ -1,4 +1,4 @@
-use Rattle.std.proofs.Common.{length, map, take, sym, subst, ap, ◌≡◌, [], ◌∙◌}
+use Rattle.std.proofs.Common.{length, map, sym, subst, ap, []}
 use Rattle.alarm_report.specs.Alarms.{AreAlarms, stop_tree}
 use Rattle.alarm_report.specs.Alarms as stops
 use Rattle.alarm_report.proofs.Dropped.{taken}

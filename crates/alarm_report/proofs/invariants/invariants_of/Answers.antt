@@ -1,4 +1,4 @@
-use Rattle.std.proofs.Common.{length, map, take, sym, subst, ap, ◌≡◌, [], ◌∙◌}
+use Rattle.std.proofs.Common.{length, map, sym, subst, ap, []}
 use Rattle.alarm_report.specs.Invariants.{AreInvariants, leaf_tree, invariant}
 use Rattle.alarm_report.specs.Invariants as invs
 use Rattle.alarm_report.proofs.Dropped.{taken}

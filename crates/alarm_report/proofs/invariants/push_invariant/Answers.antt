@@ -1,5 +1,4 @@
 use Rattle.std.proofs.Common.{rules, ◌≡◌, ◌∷◌, ◌++◌, [], map, sym, subst, ap, ◌∙◌, Some, None}
-use Rattle.leaf_domain.specs.Leaves.{LeafValue}
 use Rattle.alarm_report.specs.Adding.{AddsPath}
 use Rattle.alarm_report.specs.Invariants.{invariant}
 use Rattle.alarm_report.specs.Regions.{IsRegionOf}
