@@ -9,6 +9,7 @@ use Rattle.variant_projector.specs.Variant.{IsVariant}
 use Rattle.interval_leaf.specs.Intervals.{intervals}
 use Rattle.leaf_domain.specs.Leaves.{LeafMeaning}
 use Rattle.octagon_leaf.specs.Octagons.{octagons}
+use Rattle.product_leaf.specs.StrideLeaves.{strides}
 use Rattle.famlint_core.specs.declared.request.Analysis.{Analysis}
 use Rattle.famlint_core.specs.declared.request.LeafKind.{LeafKind}
 use Rattle.famlint_core.specs.declared.request.LeafKind.TheVariants as leaves
@@ -46,6 +47,7 @@ IsTold (Family model file analysis task) content told = (content model ≡ Some 
 abbrev pub meaning_of : LeafKind → LeafMeaning
 meaning_of leaves.Interval = intervals
 meaning_of leaves.Octagon = octagons
+meaning_of leaves.Stride = strides
 
 -- the report on a program, over leaves of this kind
 abbrev pub plain_done : Analysis → Whole → Done

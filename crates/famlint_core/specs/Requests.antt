@@ -57,17 +57,17 @@ are_taken given taken =
 abbrev pub suits : Command → Arguments → Bool
 suits command arguments = are_taken arguments.given (taken_by command)
 
--- the kind of leaf of a domain, if it is built
+-- the kind of leaf of a domain
 abbrev pub leaf_kind : Domain → Option LeafKind
 leaf_kind domains.Interval = Some leaves.Interval
 leaf_kind domains.Octagon = Some leaves.Octagon
-leaf_kind domains.Stride = None
+leaf_kind domains.Stride = Some leaves.Stride
 
 abbrev pub mode_of : Overflow → Mode
 mode_of overflows.Stop = modes.Stop
 mode_of overflows.Wrap = modes.Wrap
 
--- how programs are analysed, where the domain is built
+-- how programs are analysed
 abbrev pub analysis_of : Settings → Option Analysis
 analysis_of settings = option_map
     (λ leaf. record { leaf = leaf; options = record { delay = settings.delay; narrow = settings.narrow; mode = mode_of settings.overflow } })

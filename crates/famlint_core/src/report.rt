@@ -16,6 +16,7 @@ use interval_leaf::IntervalLeaf;
 use leaf_domain::Leaf;
 use octagon_leaf::OctagonLeaf;
 use plain_analysis::{Alarm, Options, analyse_one};
+use product_leaf::StrideLeaf;
 use std::alloc::Global;
 
 /// The status of a report: 1 where there is an alarm.
@@ -53,5 +54,6 @@ pub fn report_by(alloc: Global, program: &Program, analysis: &Analysis) -> Resul
     match analysis.leaf {
         LeafKind::Interval => report_on::<IntervalLeaf>(alloc, program, &analysis.options),
         LeafKind::Octagon => report_on::<OctagonLeaf>(alloc, program, &analysis.options),
+        LeafKind::Stride => report_on::<StrideLeaf>(alloc, program, &analysis.options),
     }
 }

@@ -45,6 +45,7 @@ pub enum Request {
 pub enum LeafKind {
     Interval,
     Octagon,
+    Stride,
 }
 
 /// How programs are analysed.

@@ -85,6 +85,11 @@ fn alarms_with_options(rt: HostRuntime) -> Result<(), Fail> {
         ),
         ("--domain octagon analyse m0 f7", 0, "alarms: 0\n"),
         (
+            "analyse --domain stride ma f38",
+            1,
+            "10:1: assertion if !A; example A=0\nalarms: 1\n",
+        ),
+        (
             "analyse queue.json queue.c",
             1,
             "22:9: overflow if LOG && !FAST; example LOG=1 FAST=0 RETRY=0 SAFE=0 BULK=0 SIZE=1 LIMIT=0\n22:9: overflow if LOG && FAST; example LOG=1 FAST=1 RETRY=0 SAFE=0 BULK=0 SIZE=1 LIMIT=0\n26:5: overflow if !SAFE && BULK; example LOG=0 FAST=0 RETRY=0 SAFE=0 BULK=1 SIZE=1 LIMIT=0\n34:5: zero-divisor if FAST && RETRY && LIMIT >= 1; example LOG=0 FAST=1 RETRY=1 SAFE=0 BULK=0 SIZE=1 LIMIT=1\nalarms: 4\n",
@@ -185,7 +190,7 @@ fn other_words_are_refused(rt: HostRuntime) -> Result<(), Fail> {
         "analyse ma f8 A=1",
         "analyse ma f8 --steps 3",
         "invariants ma f8 --inputs=1",
-        "invariants ma f8 --domain stride",
+        "invariants ma f8 --domain boxes",
     ];
     for line in lines {
         gives(&rt, alloc, line, Vec::new(alloc), (2, "", usage))?;

@@ -44,6 +44,9 @@ const ROW_4: &[u8] =
 
 const ROW_6: &[u8] = b"int x;\nint main(void) {\nwhile (x < 10) x++;\nassert(x == 10);\n}\n";
 
+const STEPS_OF_TWO: &[u8] =
+    b"int x;\nint main(void) {\nwhile (x < 10) x += 2;\nassert(x == 10);\n}\n";
+
 const ROW_7: &[u8] =
     b"int x;\nint y;\nint main(void) {\ny = x;\nwhile (x < 100) {\nx++;\ny++;\n}\nassert(x == y);\n}\n";
 
@@ -92,7 +95,7 @@ fn refuses_words(rt: HostRuntime) -> Result<(), Fail> {
         "plain f --narrow 0 --narrow 0",
         "plain -- f --narrow 0",
         "plain f --overflow halt",
-        "plain f --domain=stride",
+        "plain f --domain=boxes",
     ];
     for line in lines {
         let ran = run(rt.alloc(), line, "f", ROW_1)?;
@@ -181,7 +184,7 @@ fn refuses_files(rt: HostRuntime) -> Result<(), Fail> {
 #[test]
 fn reports(rt: HostRuntime) -> Result<(), Fail> {
     let none: &[u8] = b"alarms: 0\n";
-    let cases: [(&str, &[u8], u8, &[u8]); 24] = [
+    let cases: [(&str, &[u8], u8, &[u8]); 26] = [
         ("plain f", ROW_1, 0, none),
         (
             "plain f",
@@ -225,6 +228,8 @@ fn reports(rt: HostRuntime) -> Result<(), Fail> {
         ),
         ("plain f", ROW_11, 1, b"7:1: assertion\nalarms: 1\n"),
         ("plain --domain octagon f", ROW_7, 0, none),
+        ("plain f", STEPS_OF_TWO, 1, b"4:1: assertion\nalarms: 1\n"),
+        ("plain --domain stride f", STEPS_OF_TWO, 0, none),
         ("plain --domain=octagon f", ROW_11, 0, none),
         (
             "plain --domain octagon f",

@@ -137,7 +137,7 @@ fn other_options_are_refused(rt: HostRuntime) -> Result<(), Fail> {
         "run m0 f6 --domain=interval",
         "variant ma f8 --steps 3",
         "project ma f23 --overflow wrap",
-        "variant ma f8 --domain stride",
+        "variant ma f8 --domain boxes",
     ];
     for line in lines {
         gives(&rt, alloc, line, Vec::new(alloc), (2, "", usage))?;

@@ -81,14 +81,14 @@ fn are_taken(given: Given, taken: Given) -> bool
         && (!given.inputs || taken.inputs)
 }
 
-/// The kind of leaf of a domain, if it is built.
+/// The kind of leaf of a domain.
 fn leaf_kind(domain: Domain) -> Option<LeafKind>
     ensures { result ≡ specs.leaf_kind domain }
 {
     match domain {
         Domain::Interval => Some(LeafKind::Interval),
         Domain::Octagon => Some(LeafKind::Octagon),
-        Domain::Stride => None,
+        Domain::Stride => Some(LeafKind::Stride),
     }
 }
 
@@ -109,7 +109,7 @@ pub fn mode_of(overflow: Overflow) -> Mode
     }
 }
 
-/// How programs are analysed, where the domain is built.
+/// How programs are analysed.
 pub fn analysis_of(settings: &Settings) -> Option<Analysis>
     ensures { result ≡ specs.analysis_of settings.now }
 {

@@ -31,6 +31,7 @@ use leaf_domain::Leaf;
 use lifted_analysis::{FamilyFindings, analyse_family};
 use octagon_leaf::OctagonLeaf;
 use plain_analysis::Options;
+use product_leaf::StrideLeaf;
 use std::alloc::Global;
 
 /// What the analysis of all variants finds, over a kind of leaf.
@@ -178,6 +179,7 @@ fn report_by(
     match analysis.leaf {
         LeafKind::Interval => report_on::<IntervalLeaf>(alloc, line, &analysis.options, task),
         LeafKind::Octagon => report_on::<OctagonLeaf>(alloc, line, &analysis.options, task),
+        LeafKind::Stride => report_on::<StrideLeaf>(alloc, line, &analysis.options, task),
     }
 }
 
