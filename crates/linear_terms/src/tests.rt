@@ -25,7 +25,7 @@ fn terms_are_added(rt: HostRuntime) -> Result<(), Fail> {
     }
     assert!(rt; first.add(rt.alloc(), &second, 6)?.is_none());
     let single = Terms::single(rt.alloc(), 2, -2)?;
-    assert!(rt; single < first);
+    assert!(rt; first < single);
     assert!(rt; Terms::none(rt.alloc()) < single);
     assert!(rt; first.copy(rt.alloc())? == first);
     Ok(())
