@@ -91,7 +91,8 @@ fn push_alarms(
 ) -> Result<(), NoMemory>
     requires atoms { AreAtoms (length prepared.now.features) atoms.now }
     requires tests { TestsBelow (length atoms.now) (plain tree.now.tree) }
-    ensures { IfOk result (λ _. AddsTree prepared.now atoms.now (stop_tree tree.now) list.old.items list.new.items) }
+    ensures { IfOk result (λ _. AddsTree prepared.now atoms.now
+        (stop_tree tree.now) list.old.items list.new.items) }
 {
     let regions = regions_over(alloc, prepared, atoms, &tree.tree)?;
     let mut alarms = placed(alloc, tree.place, tree.kind, regions.into_vec())?;
@@ -113,8 +114,10 @@ pub fn alarms_of(
     requires atoms { AreAtoms (length prepared.now.features) atoms.now }
     requires tests { All (λ (t : AlarmTree). TestsBelow (length atoms.now) (plain t.tree)) trees.now }
     ensures alarms { IfOk result (λ made. AreAlarms prepared.now atoms.now (map stop_tree trees.now) made) }
-    ensures cover { IfOk result (λ made. AreKeyed (map stop_tree trees.now) → CoversStops prepared.now atoms.now (map stop_tree trees.now) made) }
-    ensures fit { IfOk result (λ made. All (λ (a : FamilyAlarm). AreLiterals (length prepared.now.features) a.region.literals) made) }
+    ensures cover { IfOk result (λ made. AreKeyed (map stop_tree trees.now)
+        → CoversStops prepared.now atoms.now (map stop_tree trees.now) made) }
+    ensures fit { IfOk result (λ made. All
+        (λ (a : FamilyAlarm). AreLiterals (length prepared.now.features) a.region.literals) made) }
 {
     let mut list = Vec::new(alloc);
     'trees: for tree in trees {

@@ -59,7 +59,8 @@ fn push_region(
 ) -> Result<(), NoMemory>
     requires atoms { AreAtoms (length prepared.now.features) atoms.now }
     requires tests { All (λ turn. turn.0 < length atoms.now) path.now.turns }
-    ensures { IfOk result (λ _. Adds prepared.now atoms.now (path.now.turns, path.now.leaf.value.value) list.old.items list.new.items) }
+    ensures { IfOk result (λ _. Adds prepared.now atoms.now
+        (path.now.turns, path.now.leaf.value.value) list.old.items list.new.items) }
 {
     if !path.leaf.value {
         return Ok(());

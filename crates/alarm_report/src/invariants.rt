@@ -43,7 +43,9 @@ fn push_invariant<L: Leaf>(
 ) -> Result<(), NoMemory>
     requires atoms { AreAtoms (length prepared.now.features) atoms.now }
     requires tests { All (λ turn. turn.0 < length atoms.now) path.now.turns }
-    ensures { IfOk result (λ _. AddsPath prepared.now atoms.now place (path.now.turns, L.value path.now.leaf.value.value) (map (invariant L.value) list.old.items) (map (invariant L.value) list.new.items)) }
+    ensures { IfOk result (λ _. AddsPath prepared.now atoms.now place
+        (path.now.turns, L.value path.now.leaf.value.value) (map (invariant L.value) list.old.items)
+        (map (invariant L.value) list.new.items)) }
 {
     match region_of(alloc, prepared, atoms, path.turns.items())? {
         None => Ok(()),
@@ -68,7 +70,8 @@ fn invariants_at<L: Leaf>(
 ) -> Result<Vec<FamilyInvariant<L>>, NoMemory>
     requires atoms { AreAtoms (length prepared.now.features) atoms.now }
     requires tests { TestsBelow (length atoms.now) (plain tree.now.tree) }
-    ensures { IfOk result (λ made. AreOfPaths prepared.now atoms.now tree.now.place (paths_of (leaf_tree L.value tree.now).tree) (map (invariant L.value) made.items)) }
+    ensures { IfOk result (λ made. AreOfPaths prepared.now atoms.now tree.now.place
+        (paths_of (leaf_tree L.value tree.now).tree) (map (invariant L.value) made.items)) }
 {
     let place = tree.place;
     let paths = tree.tree.paths(alloc)?;
@@ -89,7 +92,8 @@ fn push_invariants<L: Leaf>(
 ) -> Result<(), NoMemory>
     requires atoms { AreAtoms (length prepared.now.features) atoms.now }
     requires tests { TestsBelow (length atoms.now) (plain tree.now.tree) }
-    ensures { IfOk result (λ _. AddsLeafTree prepared.now atoms.now (leaf_tree L.value tree.now) (map (invariant L.value) list.old.items) (map (invariant L.value) list.new.items)) }
+    ensures { IfOk result (λ _. AddsLeafTree prepared.now atoms.now (leaf_tree L.value tree.now)
+        (map (invariant L.value) list.old.items) (map (invariant L.value) list.new.items)) }
 {
     let mut own = invariants_at(alloc, prepared, atoms, tree)?;
     list.append(&mut own)?;
@@ -109,9 +113,15 @@ pub fn invariants_of<L: Leaf>(
 ) -> Result<Vec<FamilyInvariant<L>>, NoMemory>
     requires atoms { AreAtoms (length prepared.now.features) atoms.now }
     requires tests { All (λ (t : PlaceTree L). TestsBelow (length atoms.now) (plain t.tree)) trees.now }
-    ensures invariants { IfOk result (λ made. AreInvariants prepared.now atoms.now (map (leaf_tree L.value) trees.now) (map (invariant L.value) made.items)) }
-    ensures cover { IfOk result (λ made. ArePlaced (map (leaf_tree L.value) trees.now) → CoversPlaces prepared.now atoms.now (map (leaf_tree L.value) trees.now) (map (invariant L.value) made.items)) }
-    ensures fit { IfOk result (λ made. All (λ (i : FamilyInvariant L). AreLiterals (length prepared.now.features) i.region.literals) made.items) }
+    ensures invariants { IfOk result
+        (λ made. AreInvariants prepared.now atoms.now (map (leaf_tree L.value) trees.now)
+        (map (invariant L.value) made.items)) }
+    ensures cover { IfOk result (λ made. ArePlaced (map (leaf_tree L.value) trees.now)
+        → CoversPlaces prepared.now atoms.now (map (leaf_tree L.value) trees.now)
+        (map (invariant L.value) made.items)) }
+    ensures fit { IfOk result (λ made. All
+        (λ (i : FamilyInvariant L). AreLiterals
+        (length prepared.now.features) i.region.literals) made.items) }
 {
     let mut list = Vec::new(alloc);
     'trees: for tree in trees {

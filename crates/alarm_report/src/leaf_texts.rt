@@ -62,7 +62,8 @@ fn push_variables<L: Leaf>(
     items: &mut Vec<Text>,
 ) -> Result<(), NoMemory>
     requires { length names.now ≤ (L.value leaf.now).variables }
-    ensures { IfOk result (λ _. items.new.items ≡ items.old.items ++ variable_items L.meaning (L.value leaf.now) 0 names.now) }
+    ensures { IfOk result (λ _. items.new.items
+        ≡ items.old.items ++ variable_items L.meaning (L.value leaf.now) 0 names.now) }
 {
     let _few = leaf.variables();
     let mut rest = names;
@@ -136,7 +137,8 @@ fn push_item(
     range: Option<Range>,
     items: &mut Vec<Text>,
 ) -> Result<(), NoMemory>
-    ensures { IfOk result (λ _. items.new.items ≡ items.old.items ++ item_of (pair.now.first.now ++ (sign ∷ pair.now.second.now)) range) }
+    ensures { IfOk result (λ _. items.new.items
+        ≡ items.old.items ++ item_of (pair.now.first.now ++ (sign ∷ pair.now.second.now)) range) }
 {
     let Some(range) = range else {
         return Ok(());
@@ -157,7 +159,9 @@ fn push_pair<L: Leaf>(
 ) -> Result<(), NoMemory>
     requires x { pair.now.x < pair.now.y }
     requires y { pair.now.y < (L.value leaf.now).variables }
-    ensures { IfOk result (λ _. items.new.items ≡ items.old.items ++ pair_items L.meaning (L.value leaf.now) pair.now.x pair.now.first.now pair.now.y pair.now.second.now) }
+    ensures { IfOk result (λ _. items.new.items
+        ≡ items.old.items ++ pair_items L.meaning
+        (L.value leaf.now) pair.now.x pair.now.first.now pair.now.y pair.now.second.now) }
 {
     let Pair { x, y, .. } = *pair;
     let difference = pair_range(alloc, leaf, Op::Sub, -1, x, y)?;
@@ -177,7 +181,8 @@ fn push_pairs_of<L: Leaf>(
     items: &mut Vec<Text>,
 ) -> Result<(), NoMemory>
     requires { x + 1 + length names.now ≤ (L.value leaf.now).variables }
-    ensures { IfOk result (λ _. items.new.items ≡ items.old.items ++ items_with L.meaning (L.value leaf.now) x first.now (x + 1) names.now) }
+    ensures { IfOk result (λ _. items.new.items
+        ≡ items.old.items ++ items_with L.meaning (L.value leaf.now) x first.now (x + 1) names.now) }
 {
     let _few = leaf.variables();
     let mut rest = names;
@@ -204,7 +209,8 @@ fn push_pairs<L: Leaf>(
     items: &mut Vec<Text>,
 ) -> Result<(), NoMemory>
     requires { length names.now ≤ (L.value leaf.now).variables }
-    ensures { IfOk result (λ _. items.new.items ≡ items.old.items ++ all_pairs L.meaning (L.value leaf.now) 0 names.now) }
+    ensures { IfOk result (λ _. items.new.items
+        ≡ items.old.items ++ all_pairs L.meaning (L.value leaf.now) 0 names.now) }
 {
     let _few = leaf.variables();
     let mut rest = names;
@@ -231,7 +237,9 @@ fn named(names: &[Text], variables: usize) -> &[Text]
 /// The items of a leaf.
 fn items_of<L: Leaf>(alloc: Global, names: &[Text], leaf: &L) -> Result<Vec<Text>, NoMemory>
     requires { length names.now ≤ (L.value leaf.now).variables }
-    ensures { IfOk result (λ items. items.items ≡ variable_items L.meaning (L.value leaf.now) 0 names.now ++ all_pairs L.meaning (L.value leaf.now) 0 names.now) }
+    ensures { IfOk result (λ items. items.items
+        ≡ variable_items L.meaning (L.value leaf.now) 0 names.now
+        ++ all_pairs L.meaning (L.value leaf.now) 0 names.now) }
 {
     let mut items = Vec::new(alloc);
     push_variables(alloc, names, leaf, &mut items)?;
@@ -268,7 +276,8 @@ fn push_line<L: Leaf>(
     one: &FamilyInvariant<L>,
 ) -> Result<(), NoMemory>
     requires { AreLiterals (length features.now) one.now.region.literals }
-    ensures { IfOk result (λ _. text.new.items ≡ text.old.items ++ invariant_line L.meaning features.now names.now (invariant L.value one.now)) }
+    ensures { IfOk result (λ _. text.new.items
+        ≡ text.old.items ++ invariant_line L.meaning features.now names.now (invariant L.value one.now)) }
 {
     push_place(alloc, text, one.place)?;
     text.extend_from_slice(": if ".as_bytes())?;
@@ -290,8 +299,10 @@ pub fn invariant_text<L: Leaf>(
     names: &[Text],
     invariants: &[FamilyInvariant<L>],
 ) -> Result<Text, NoMemory>
-    requires { All (λ (i : FamilyInvariant L). AreLiterals (length features.now) i.region.literals) invariants.now }
-    ensures { IfOk result (λ text. text ≡ invariant_text L.meaning features.now names.now (map (invariant L.value) invariants.now)) }
+    requires { All (λ (i : FamilyInvariant L). AreLiterals
+        (length features.now) i.region.literals) invariants.now }
+    ensures { IfOk result (λ text. text
+        ≡ invariant_text L.meaning features.now names.now (map (invariant L.value) invariants.now)) }
 {
     let mut text = Vec::new(alloc);
     'invariants: for one in invariants {

@@ -58,7 +58,8 @@ fn count_in(items: &[Item], line: u32) -> usize
 
 /// Adds a line's group directive, or the items that stand in it.
 fn add_line(out: &mut Vec<Item>, line: &Line, here: &[Item]) -> Result<(), NoMemory>
-    ensures { OnOk result (out.new.items ≡ out.old.items ++ specs.or_directive (specs.group_sign line.now.kind) line.now.place here.now) }
+    ensures { OnOk result (out.new.items
+        ≡ out.old.items ++ specs.or_directive (specs.group_sign line.now.kind) line.now.place here.now) }
 {
     match group_sign(line.kind) {
         Some(sign) => out.push(Item {

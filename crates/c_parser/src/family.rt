@@ -50,7 +50,8 @@ fn name_fault(
     requires fit { AreFit (length model.now.features) model.now.constraints }
     requires atoms { AreAtoms (length model.now.features) atoms.now }
     requires below { All (λ c. IsBelow (length atoms.now) (formula c)) conditions.now }
-    ensures { IfOk result (λ fault. IsFirstNameFault (setting_of model.now atoms.now conditions.now names.now) items.now fault) }
+    ensures { IfOk result (λ fault. IsFirstNameFault
+        (setting_of model.now atoms.now conditions.now names.now) items.now fault) }
 {
     let setting = Setting {
         model,

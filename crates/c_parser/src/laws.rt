@@ -20,14 +20,16 @@ use fam_outer::places_rise;
 
 /// A file is read in one way.
 pub fn reads_at_most_once()
-    ensures { (given : List (List ℕ)) (bytes : List ℕ) (r s : Result Whole (FileCode × Place)) → ReadsOver given bytes r → ReadsOver given bytes s → r ≡ s }
+    ensures { (given : List (List ℕ)) (bytes : List ℕ) (r s : Result Whole (FileCode × Place))
+        → ReadsOver given bytes r → ReadsOver given bytes s → r ≡ s }
 {
     reads_within_the_limits();
 }
 
 /// Each file is read as a program, or has a refusal.
 pub fn reads_something()
-    ensures { (given : List (List ℕ)) (bytes : List ℕ) → (r : Result Whole (FileCode × Place)) × ReadsOver given bytes r }
+    ensures { (given : List (List ℕ)) (bytes : List ℕ)
+        → (r : Result Whole (FileCode × Place)) × ReadsOver given bytes r }
 {
     reads_within_the_limits();
 }
@@ -35,8 +37,10 @@ pub fn reads_something()
 /// The names of a program that is read over no given names are those that its file declares, in the order of their
 /// declarations; there are at most 16.
 pub fn names_are_declared()
-    ensures names { (bytes : List ℕ) (l : Listed) (p : Whole) → items_of [] bytes ≡ Ok l → IsAccepted l p → AreDeclaredNames [] bytes p.names }
-    ensures few { (bytes : List ℕ) (l : Listed) (p : Whole) → items_of [] bytes ≡ Ok l → IsAccepted l p → length l.names ≤ 16 }
+    ensures names { (bytes : List ℕ) (l : Listed) (p : Whole) → items_of [] bytes ≡ Ok l → IsAccepted l p
+        → AreDeclaredNames [] bytes p.names }
+    ensures few { (bytes : List ℕ) (l : Listed) (p : Whole) → items_of [] bytes ≡ Ok l → IsAccepted l p
+        → length l.names ≤ 16 }
 {
     within_the_limits_is_a_file();
 }
@@ -49,7 +53,8 @@ pub fn declarations_are_those_of_the_grammar()
 
 /// Each name of a file with groups occurs among its items.
 pub fn family_names_occur()
-    ensures { (model : Plain) (bytes : List ℕ) (told : Told) (l : Listed) (x : ℕ) → HasItems model bytes told l → x < length l.names → has x l.items ≡ true }
+    ensures { (model : Plain) (bytes : List ℕ) (told : Told) (l : Listed) (x : ℕ)
+        → HasItems model bytes told l → x < length l.names → has x l.items ≡ true }
 {
     reads_longest_lexemes();
     literals_are_decimal();

@@ -70,7 +70,8 @@ fn declare(declared: &mut Vec<u32>, number: u32) -> Result<Option<FileCode>, NoM
 
 /// The fault of an item; without one it is known.
 fn judge(known: &mut Known, sign: Sign) -> Result<Option<FileCode>, NoMemory>
-    ensures { (before : List items.Item) → IsKnown before known.old → IfOk result (λ fault. Judges before sign known.new fault) }
+    ensures { (before : List items.Item) → IsKnown before known.old
+        → IfOk result (λ fault. Judges before sign known.new fault) }
 {
     match sign {
         Sign::Main => {

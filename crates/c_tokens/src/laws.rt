@@ -18,16 +18,19 @@ pub fn reads_longest_lexemes()
 
 /// A text has one reading.
 pub fn one_reading()
-    ensures { (text : List ℕ) (answer : Result (List declared.Token) (FileCode × outer.Place)) → IsReading text answer → answer ≡ tokens_of text }
+    ensures { (text : List ℕ) (answer : Result (List declared.Token) (FileCode × outer.Place))
+        → IsReading text answer → answer ≡ tokens_of text }
 {}
 
 /// The numbers are exactly what `decimal` writes of the numbers from 0 to 2147483647.
 pub fn literals_are_decimal()
     ensures read { (n : ℕ) → n ≤ 2147483647 → kind_of (decimal n) ≡ Some (Number (pos n)) }
-    ensures written { (lexeme : List ℕ) (value : ℤ) → kind_of lexeme ≡ Some (Number value) → (n : ℕ) × (value ≡ pos n) × (n ≤ 2147483647) × (lexeme ≡ decimal n) }
+    ensures written { (lexeme : List ℕ) (value : ℤ) → kind_of lexeme ≡ Some (Number value)
+        → (n : ℕ) × (value ≡ pos n) × (n ≤ 2147483647) × (lexeme ≡ decimal n) }
 {}
 
 /// Lines are read one by one: a line and what stands behind its newline have the tokens that each has alone.
 pub fn lines_are_apart()
-    ensures { (line rest : List ℕ) → tokens_of (line ++ 10 ∷ rest) ≡ line_behind line (tokens_of line) (tokens_of rest) }
+    ensures { (line rest : List ℕ) → tokens_of (line ++ 10 ∷ rest)
+        ≡ line_behind line (tokens_of line) (tokens_of rest) }
 {}

@@ -27,7 +27,7 @@ pub fn project(alloc: Global, code: &Program, truths: &[bool]) -> Result<Program
     let mut body = Vec::new(alloc);
     project_list(alloc, &code.body, truths, &mut body)?;
     let names = code.names.copy(alloc)?;
-    let start = project_start(alloc, code.start.items(), &code.declared, truths)?;
+    let start = start_values(alloc, code.start.items(), code.declared.items(), truths)?;
     Ok(Program {
         names,
         start,
@@ -64,17 +64,19 @@ fn take_declared(start: &mut Vec<i64>, d: &Declared, truths: &[bool])
     }
 }
 
-/// The start values of the declarators whose guards hold, the last one of each variable.
-fn project_start(
+/// The start values that the declarators give: of each variable the value of the last declarator whose
+/// guards hold in the truths, one for each condition, or what stands in `start` where there is none. A
+/// condition without a truth is false. The only refusal is want of memory.
+pub fn start_values(
     alloc: Global,
     start: &[i64],
-    declared: &Declarations,
+    declared: &[Declared],
     truths: &[bool],
 ) -> Result<Values, NoMemory>
-    ensures { IfOk result (λ made. made ≡ projected_start truths.now declared.now start.now) }
+    ensures value { IfOk result (λ made. made ≡ projected_start truths.now declared.now start.now) }
 {
     let mut made = Vec::from_slice(alloc, start)?;
-    for d in declared.items() {
+    for d in declared {
         take_declared(&mut made, d, truths);
     }
     Ok(Values::from_vec(made))
@@ -88,7 +90,8 @@ fn project_list(
     truths: &[bool],
     out: &mut Vec<Stmt>,
 ) -> Result<(), NoMemory>
-    ensures { OnOk result (code out.new.items ≡ followed (code out.old.items) (projected truths.now (code list.now))) }
+    ensures { OnOk result (code out.new.items
+        ≡ followed (code out.old.items) (projected truths.now (code list.now))) }
 {
     for s in list {
         project_stmt(alloc, s, truths, out)?;
@@ -104,7 +107,8 @@ fn project_stmt(
     truths: &[bool],
     out: &mut Vec<Stmt>,
 ) -> Result<(), NoMemory>
-    ensures { OnOk result (code out.new.items ≡ followed (code out.old.items) (projected truths.now (front s.now Done))) }
+    ensures { OnOk result (code out.new.items
+        ≡ followed (code out.old.items) (projected truths.now (front s.now Done))) }
 {
     match s {
         Stmt::Assign { .. } | Stmt::Input { .. } | Stmt::Assert { .. } | Stmt::Skip { .. } => {

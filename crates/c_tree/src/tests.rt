@@ -34,7 +34,13 @@ fn one(alloc: Global, s: Stmt) -> Result<Vec<Stmt>, NoMemory>
 
 /// A declarator of the only variable under one guard.
 fn declared(alloc: Global, value: i64, number: u32, positive: bool) -> Result<Declared, NoMemory>
-    ensures { IfOk result (λ made. made ≡ record { target = 0; value = value; guards = record { number = number; positive = positive } ∷ [] }) }
+    ensures { IfOk result (λ made. made
+        ≡ record {
+          target = 0;
+          value = value;
+          guards = record { number = number; positive = positive }
+              ∷ [];
+        }) }
 {
     let mut guards = Vec::new(alloc);
     guards.push(Guard { number, positive })?;
@@ -59,7 +65,9 @@ fn declarations(alloc: Global) -> Result<Declarations, NoMemory>
 
 /// Statements in lines 2 and 4, that of line 4 where condition 1 is true.
 fn kept_side(alloc: Global) -> Result<Vec<Stmt>, NoMemory>
-    ensures { IfOk result (λ made. code made.items ≡ Skip (record { line = 2; column = 1 }) (Cond 1 (Skip (record { line = 4; column = 1 }) Done) Done Done)) }
+    ensures { IfOk result (λ made. code made.items
+        ≡ Skip (record { line = 2; column = 1 })
+        (Cond 1 (Skip (record { line = 4; column = 1 }) Done) Done Done)) }
 {
     let mut list = one(alloc, skip(2))?;
     list.push(Stmt::Cond {
@@ -130,6 +138,22 @@ fn families_are_projected(rt: HostRuntime) -> Result<(), Fail> {
         assert_eq!(rt; program.start.items(), [start].as_slice());
         assert_eq!(rt; lines(rt.alloc(), &program)?.as_slice(), kept);
         assert!(rt; program.declared.items().is_empty());
+    }
+    Ok(())
+}
+
+#[test]
+fn the_last_declarator_that_holds_gives_the_start_value(rt: HostRuntime) -> Result<(), Fail> {
+    let declared = declarations(rt.alloc())?;
+    let cases: [(&[bool], i64); 4] = [
+        (&[true, true], 7),
+        (&[true, false], 8),
+        (&[false, true], 5),
+        (&[], 8),
+    ];
+    for (truths, start) in cases {
+        let made = start_values(rt.alloc(), &[5], declared.items(), truths)?;
+        assert_eq!(rt; made.items(), [start].as_slice());
     }
     Ok(())
 }

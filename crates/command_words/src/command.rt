@@ -85,7 +85,8 @@ fn with_option<'a>(
     default: &'a str,
     parser: ValueParser<'a>,
 ) -> Result<Command<'a>, AllocError>
-    ensures { IfOk result (λ made. app_of made ≡ with_rule (app_of command.entry) (option_rule name.entry.now default.entry.now parser.entry)) }
+    ensures { IfOk result (λ made. app_of made
+        ≡ with_rule (app_of command.entry) (option_rule name.entry.now default.entry.now parser.entry)) }
 {
     command.arg(option(alloc, name, default, parser))
 }
@@ -121,7 +122,8 @@ fn text_in<'a>(matches: &ArgMatches<'a>, id: &str) -> Option<&'a str>
 
 /// The number of an option, whose text is known.
 fn number_in(matches: &ArgMatches<'_>, id: &str) -> Option<u64>
-    ensures { (text : List ℕ) → one_of id.now (rows_of (found_of matches.now)) ≡ Some text → IsNumberBelow (2 ^ 64) text
+    ensures { (text : List ℕ) → one_of id.now (rows_of (found_of matches.now)) ≡ Some text
+        → IsNumberBelow (2 ^ 64) text
         → result ≡ Some (digits_value 10 text) }
 {
     matches.get_one::<u64>(id)
@@ -129,7 +131,8 @@ fn number_in(matches: &ArgMatches<'_>, id: &str) -> Option<u64>
 
 /// The small number of an option, whose text is known.
 fn small_number_in(matches: &ArgMatches<'_>, id: &str) -> Option<u32>
-    ensures { (text : List ℕ) → one_of id.now (rows_of (found_of matches.now)) ≡ Some text → IsNumberBelow 17 text
+    ensures { (text : List ℕ) → one_of id.now (rows_of (found_of matches.now)) ≡ Some text
+        → IsNumberBelow 17 text
         → result ≡ Some (digits_value 10 text) }
 {
     u32::try_from(number_in(matches, id)?).ok()
@@ -137,21 +140,24 @@ fn small_number_in(matches: &ArgMatches<'_>, id: &str) -> Option<u32>
 
 /// The domain.
 fn domain_in(matches: &ArgMatches<'_>) -> Option<Domain>
-    ensures { (text : List ℕ) → first_of (codes "domain") (rows_of (found_of matches.now)) ≡ Some text → result ≡ domain_by text }
+    ensures { (text : List ℕ) → first_of (codes "domain") (rows_of (found_of matches.now)) ≡ Some text
+        → result ≡ domain_by text }
 {
     Domain::of(text_in(matches, "domain")?)
 }
 
 /// What comes of an overflow.
 fn overflow_in(matches: &ArgMatches<'_>) -> Option<Overflow>
-    ensures { (text : List ℕ) → first_of (codes "overflow") (rows_of (found_of matches.now)) ≡ Some text → result ≡ overflow_by text }
+    ensures { (text : List ℕ) → first_of (codes "overflow") (rows_of (found_of matches.now)) ≡ Some text
+        → result ≡ overflow_by text }
 {
     Overflow::of(text_in(matches, "overflow")?)
 }
 
 /// What the five options set, whose texts are known.
 fn chosen_in(matches: &ArgMatches<'_>) -> Option<Chosen>
-    ensures { (domain delay narrow overflow steps : List ℕ) → HasTexts (rows_of (found_of matches.now)) domain delay narrow overflow steps
+    ensures { (domain delay narrow overflow steps : List ℕ)
+        → HasTexts (rows_of (found_of matches.now)) domain delay narrow overflow steps
         → IsNumberBelow 17 delay → IsNumberBelow 17 narrow → IsNumberBelow (2 ^ 64) steps
         → result ≡ chosen_by (domain_by domain) (Some (digits_value 10 delay)) (Some (digits_value 10 narrow)) (overflow_by overflow) (Some (digits_value 10 steps)) }
 {
@@ -166,7 +172,8 @@ fn chosen_in(matches: &ArgMatches<'_>) -> Option<Chosen>
 
 /// What the words for values that are spelled right set.
 pub fn read_spelled(alloc: Global, words: &[String]) -> Result<Chosen, WordsRefusal>
-    ensures { (values : OptionValues) → texts_of words.now ≡ words_of values → are_spelled values ≡ true → Reads (chosen_of values) result }
+    ensures { (values : OptionValues) → texts_of words.now ≡ words_of values → are_spelled values ≡ true
+        → Reads (chosen_of values) result }
 {
     let matches = match parse_options(alloc, words) {
         Ok(matches) => matches,

@@ -27,7 +27,8 @@ fn input_of(text: &str) -> Option<i64>
 
 /// The parts of a text between its commas.
 fn parts_of(alloc: Global, text: &str) -> Result<Vec<&str>, NoMemory>
-    ensures { IfOk result (λ parts. map (λ part. part.now) parts.items ≡ slice_split (λ c. c == 44) text.now) }
+    ensures { IfOk result (λ parts. map (λ part. part.now) parts.items
+        ≡ slice_split (λ c. c == 44) text.now) }
 {
     Ok(text.split(',').collect(alloc)?)
 }

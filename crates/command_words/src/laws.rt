@@ -26,7 +26,8 @@ pub fn words_after_dashes()
 /// with `-`.
 #[tactic(auto, using(crate::proofs::Spellings::both_same))]
 pub fn spellings_agree()
-    ensures { (front back : List (List ℕ)) (name : OptionName) (value : List ℕ) → list_all (λ word. not (bytes_eq word (codes "--"))) front ≡ true
+    ensures { (front back : List (List ℕ)) (name : OptionName) (value : List ℕ)
+        → list_all (λ word. not (bytes_eq word (codes "--"))) front ≡ true
         → begins_with_dash value ≡ false
         → arguments_of (front ++ (codes "--" ++ text_of name ++ codes "=" ++ value) ∷ back) ≡ arguments_of (front ++ (codes "--" ++ text_of name) ∷ value ∷ back) }
 {}

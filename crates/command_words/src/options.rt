@@ -71,7 +71,8 @@ fn add_word(
     name: &str,
     value: &Option<Word>,
 ) -> Result<(), NoMemory>
-    ensures { OnOk result (texts_of words.new.items ≡ texts_of words.old.items ++ option_word name.now value.now) }
+    ensures { OnOk result (texts_of words.new.items
+        ≡ texts_of words.old.items ++ option_word name.now value.now) }
 {
     match value {
         Some(text) => {

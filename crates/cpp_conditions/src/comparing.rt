@@ -87,7 +87,8 @@ fn signed(alloc: Global, condition: Condition, is_positive: bool) -> Result<Cond
 /// The condition that the form is at least 0.
 fn at_least_zero(alloc: Global, names: &Names<'_>, form: &Linear) -> Result<Condition, LinearFault>
     requires { IsOver names.now form.now }
-    ensures { Means names.now result (meaning.at_least_zero names.now form.now) (forms.is_small_form form.now) }
+    ensures { Means names.now result (meaning.at_least_zero names.now form.now)
+        (forms.is_small_form form.now) }
 {
     match form.normal(alloc)? {
         Normal::Const(truth) => Ok(Condition::Const(truth)),
@@ -151,7 +152,8 @@ pub(crate) fn compare(
 ) -> Result<Condition, LinearFault>
     requires left { IsSmallOver names.now left }
     requires right { IsSmallOver names.now right }
-    ensures { Means names.now result (meaning.compared names.now op (meaning.difference left right)) (is_small_compared op (meaning.difference left right)) }
+    ensures { Means names.now result (meaning.compared names.now op (meaning.difference left right))
+        (is_small_compared op (meaning.difference left right)) }
 {
     let form = difference(alloc, names, left, right)?;
     relation(alloc, names, op, form)

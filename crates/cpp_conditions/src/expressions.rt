@@ -26,7 +26,8 @@ pub(crate) enum Expression<'a> {
 
 /// The first token and what is behind it.
 fn cut<'a, 'b>(tokens: &'b [Token<'a>]) -> Option<(Token<'a>, &'b [Token<'a>])>
-    ensures value { MatchOption result (plain tokens.now ≡ []) (λ x. plain tokens.now ≡ token x.0 ∷ plain x.1.now) }
+    ensures value { MatchOption result (plain tokens.now ≡ [])
+        (λ x. plain tokens.now ≡ token x.0 ∷ plain x.1.now) }
     ensures shorter { IfSome result (λ x. length tokens.now ≡ suc (length x.1.now)) }
 {
     match tokens {
@@ -37,7 +38,8 @@ fn cut<'a, 'b>(tokens: &'b [Token<'a>]) -> Option<(Token<'a>, &'b [Token<'a>])>
 
 /// The operator at the front, if it is of the level or tighter, and what is behind it.
 fn operator<'a, 'b>(tokens: &'b [Token<'a>], level: u32) -> Option<(Operator, &'b [Token<'a>])>
-    ensures value { MatchOption result (Loose (suc level) (plain tokens.now)) (λ x. (plain tokens.now ≡ kinds.Oper x.0 ∷ plain x.1.now) × (tighter x.0 < level)) }
+    ensures value { MatchOption result (Loose (suc level) (plain tokens.now))
+        (λ x. (plain tokens.now ≡ kinds.Oper x.0 ∷ plain x.1.now) × (tighter x.0 < level)) }
     ensures shorter { IfSome result (λ x. length x.1.now < length tokens.now) }
 {
     match cut(tokens) {
@@ -54,7 +56,8 @@ fn operator<'a, 'b>(tokens: &'b [Token<'a>], level: u32) -> Option<(Operator, &'
 
 /// What is behind a closing parenthesis at the front.
 fn close<'a, 'b>(tokens: &'b [Token<'a>]) -> Option<&'b [Token<'a>]>
-    ensures value { MatchOption result (IsNoClose (plain tokens.now)) (λ x. plain tokens.now ≡ kinds.Close ∷ plain x.now) }
+    ensures value { MatchOption result (IsNoClose (plain tokens.now))
+        (λ x. plain tokens.now ≡ kinds.Close ∷ plain x.now) }
     ensures shorter { IfSome result (λ x. length x.now < length tokens.now) }
 {
     match cut(tokens) {
@@ -103,7 +106,8 @@ fn binary<'a>(
 
 /// The operator that stands in front of an operand, and what is behind it.
 fn prefix<'a, 'b>(tokens: &'b [Token<'a>]) -> Option<(Prefix, &'b [Token<'a>])>
-    ensures value { MatchOption result (IsNoPrefix (plain tokens.now)) (λ x. plain tokens.now ≡ sign x.0 ∷ plain x.1.now) }
+    ensures value { MatchOption result (IsNoPrefix (plain tokens.now))
+        (λ x. plain tokens.now ≡ sign x.0 ∷ plain x.1.now) }
     ensures shorter { IfSome result (λ x. length x.1.now < length tokens.now) }
 {
     match cut(tokens) {
@@ -133,7 +137,8 @@ fn single<'a, 'b>(tokens: &'b [Token<'a>]) -> Option<(Expression<'a>, &'b [Token
 
 /// What is behind an opening parenthesis at the front.
 fn open<'a, 'b>(tokens: &'b [Token<'a>]) -> Option<&'b [Token<'a>]>
-    ensures value { MatchOption result (IsNoOpen (plain tokens.now)) (λ x. plain tokens.now ≡ kinds.Open ∷ plain x.now) }
+    ensures value { MatchOption result (IsNoOpen (plain tokens.now))
+        (λ x. plain tokens.now ≡ kinds.Open ∷ plain x.now) }
     ensures shorter { IfSome result (λ x. length x.now < length tokens.now) }
 {
     match cut(tokens) {

@@ -46,7 +46,8 @@ fn number(digits: &[u8]) -> u64
 
 /// The form of a number.
 fn literal(alloc: Global, names: &Names<'_>, digits: &[u8]) -> Result<Linear, LinearFault>
-    ensures { Forms names.now result (forms.constant_form (pos (number_from 0 digits.now))) (forms.is_small (pos (number_from 0 digits.now))) }
+    ensures { Forms names.now result (forms.constant_form (pos (number_from 0 digits.now)))
+        (forms.is_small (pos (number_from 0 digits.now))) }
 {
     Linear::constant(alloc, number(digits) as i64)
 }
@@ -85,7 +86,8 @@ fn signed(
     operand: Linear,
 ) -> Result<Linear, LinearFault>
     requires { IsSmallOver names.now operand }
-    ensures { Forms names.now result (meaning.form_before op operand) (forms.is_small_form (meaning.form_before op operand)) }
+    ensures { Forms names.now result (meaning.form_before op operand)
+        (forms.is_small_form (meaning.form_before op operand)) }
 {
     match op {
         Prefix::Negative => operand.scale(alloc, -1),
@@ -102,7 +104,8 @@ fn product(
 ) -> Result<Linear, LinearFault>
     requires left { IsSmallOver names.now left }
     requires right { IsSmallOver names.now right }
-    ensures { Forms names.now result (combined operators.Times left right) (forms.is_small_form (combined operators.Times left right)) }
+    ensures { Forms names.now result (combined operators.Times left right)
+        (forms.is_small_form (combined operators.Times left right)) }
 {
     if left.terms.items().is_empty() {
         right.scale(alloc, left.constant)
@@ -139,7 +142,9 @@ pub(crate) fn form(
     names: &Names<'_>,
     tree: &Expression<'_>,
 ) -> Result<Linear, LinearFault>
-    ensures exact { IsNumber names.now (expression tree.now) → Forms names.now result (meaning.form names.now (expression tree.now)) (are_small_forms names.now (expression tree.now)) }
+    ensures exact { IsNumber names.now (expression tree.now)
+        → Forms names.now result (meaning.form names.now (expression tree.now))
+        (are_small_forms names.now (expression tree.now)) }
     ensures over { IfOk result (λ made. IsSmallOver names.now made) }
 {
     match tree {

@@ -135,7 +135,8 @@ pub fn number(alloc: Global, condition: &Condition, atoms: &[Atom]) -> Result<Fo
     requires few { length atoms.now < 2 ^ 32 }
     ensures numbered { IfOk result (λ made. IsNumbered atoms.now (proposition condition.now) (formula made)) }
     ensures below { IfOk result (λ made. IsBelow (length atoms.now) (formula made)) }
-    ensures truth { IfOk result (λ made. (values : List ℤ) → true_on (vector_at atoms.now values) (formula made) ≡ true_at values (proposition condition.now)) }
+    ensures truth { IfOk result (λ made. (values : List ℤ)
+        → true_on (vector_at atoms.now values) (formula made) ≡ true_at values (proposition condition.now)) }
 {
     let made = numbered(alloc, condition, atoms)?;
     Ok(made)

@@ -17,7 +17,9 @@ ghost use Rattle.cpp_conditions.specs.Validity.{Plain, all_true, IsValid};
 /// the expression is not 0 (ISO/IEC 9899:2011, 6.10.1 and 6.5), if no truth value in it is used as a number and no
 /// product has a feature on both sides.
 pub fn conditions_have_values()
-    ensures { (features : List Feature) (values : List ℤ) (e : Expression) → IsWithin features values → is_linear features e ≡ true → true_at values (cond features e) ≡ is_nonzero (value features values e) }
+    ensures { (features : List Feature) (values : List ℤ) (e : Expression) → IsWithin features values
+        → is_linear features e ≡ true → true_at values (cond features e)
+        ≡ is_nonzero (value features values e) }
 {}
 
 /// Bytes spell at most one expression.
@@ -27,7 +29,8 @@ pub fn bytes_spell_one_expression()
 
 /// Bytes are read in one way: as a condition, or with one fault.
 pub fn bytes_have_one_reading()
-    ensures { (features : List Feature) (bytes : List ℕ) (r s : Result (Proposition Atom) ConditionFault) → ReadsAs features bytes r → ReadsAs features bytes s → r ≡ s }
+    ensures { (features : List Feature) (bytes : List ℕ) (r s : Result (Proposition Atom) ConditionFault)
+        → ReadsAs features bytes r → ReadsAs features bytes s → r ≡ s }
 {}
 
 #[tactic(auto, using(crate::proofs::Collected::one_list))]
@@ -52,5 +55,6 @@ pub fn valid_configurations_are_within()
 
 /// Bytes are always read in some way.
 pub fn bytes_have_a_reading()
-    ensures { (features : List Feature) (bytes : List ℕ) → (r : Result (Proposition Atom) ConditionFault) × ReadsAs features bytes r }
+    ensures { (features : List Feature) (bytes : List ℕ)
+        → (r : Result (Proposition Atom) ConditionFault) × ReadsAs features bytes r }
 {}

@@ -118,7 +118,8 @@ pub fn read_condition(
 ) -> Result<Condition, ConditionRefusal>
     requires { AreFeatures features.now }
     ensures read { Reads features.now bytes.now result }
-    ensures value { IfOk result (λ made. (e : expressions.Expression) (values : List ℤ) → CSpells e bytes.now → IsWithin features.now values
+    ensures value { IfOk result (λ made. (e : expressions.Expression) (values : List ℤ) → CSpells e bytes.now
+        → IsWithin features.now values
         → true_at values (proposition made) ≡ expressions.is_nonzero (expressions.value features.now values e)) }
     ensures fit { IfOk result (λ made. IsFit (length features.now) (proposition made)) }
     ensures undecided { IfOk result (λ made. IsOpen features.now (proposition made)) }

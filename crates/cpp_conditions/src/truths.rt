@@ -22,7 +22,9 @@ fn of_number(
     names: &Names<'_>,
     tree: &Expression<'_>,
 ) -> Result<Condition, LinearFault>
-    ensures { IsNumber names.now (expression tree.now) → Means names.now result (meaning.cond names.now (expression tree.now)) (is_small_condition names.now (expression tree.now)) }
+    ensures { IsNumber names.now (expression tree.now)
+        → Means names.now result (meaning.cond names.now (expression tree.now))
+        (is_small_condition names.now (expression tree.now)) }
 {
     let form = form(alloc, names, tree)?;
     let zero = is_zero(alloc, names, form)?;
@@ -37,7 +39,8 @@ fn of_comparison(
     left: &Expression<'_>,
     right: &Expression<'_>,
 ) -> Result<Condition, LinearFault>
-    ensures { IsNumber names.now (expression left.now) → IsNumber names.now (expression right.now) → Means names.now result
+    ensures { IsNumber names.now (expression left.now) → IsNumber names.now (expression right.now)
+        → Means names.now result
         (meaning.compared names.now op (meaning.difference (meaning.form names.now (expression left.now)) (meaning.form names.now (expression right.now))))
         ((are_small_forms names.now (expression left.now) && are_small_forms names.now (expression right.now))
         && is_small_compared op (meaning.difference (meaning.form names.now (expression left.now)) (meaning.form names.now (expression right.now)))) }
@@ -54,7 +57,9 @@ pub(crate) fn condition(
     names: &Names<'_>,
     tree: &Expression<'_>,
 ) -> Result<Condition, LinearFault>
-    ensures { meaning.is_linear names.now (expression tree.now) ≡ true → Means names.now result (meaning.cond names.now (expression tree.now)) (is_small_condition names.now (expression tree.now)) }
+    ensures { meaning.is_linear names.now (expression tree.now) ≡ true
+        → Means names.now result (meaning.cond names.now (expression tree.now))
+        (is_small_condition names.now (expression tree.now)) }
 {
     match tree {
         Expression::Unary(op, operand) => match op {

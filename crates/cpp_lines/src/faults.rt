@@ -55,7 +55,8 @@ fn last_line_len(bytes: &[u8]) -> usize
 fn touches_directive(blanked: &[u8], offset: usize, before: usize, comment: &[u8]) -> bool
     requires before { before ≤ offset }
     requires within { offset + length comment.now ≤ length blanked.now }
-    ensures { result ≡ (list_any is_newline comment.now && (directives.begins_directive (drop (offset - before) blanked.now)
+    ensures { result ≡ (list_any is_newline comment.now &&
+        (directives.begins_directive (drop (offset - before) blanked.now)
         || directives.begins_directive (drop (offset + length comment.now - length (last_line comment.now)) blanked.now))) }
 {
     if !comment.contains(&b'\n') {
@@ -69,7 +70,8 @@ fn touches_directive(blanked: &[u8], offset: usize, before: usize, comment: &[u8
 fn comment_fault(blanked: &[u8], offset: usize, before: usize, rest: &[u8]) -> Option<FileCode>
     requires before { before ≤ offset }
     requires within { offset + length rest.now ≤ length blanked.now }
-    ensures { (text : List ℕ) → blanked.now ≡ comments.blank text → rest.now ≡ drop offset text → before ≡ length (last_line (take offset text)) → result ≡ specs.comment_fault text offset rest.now }
+    ensures { (text : List ℕ) → blanked.now ≡ comments.blank text → rest.now ≡ drop offset text
+        → before ≡ length (last_line (take offset text)) → result ≡ specs.comment_fault text offset rest.now }
 {
     if is_open(rest) {
         return Some(FileCode::OpenComment);
@@ -91,7 +93,8 @@ fn fault_at(
 ) -> Option<FileCode>
     requires before { before ≤ offset }
     requires within { offset + length rest.now ≤ length blanked.now }
-    ensures { (text : List ℕ) → blanked.now ≡ comments.blank text → rest.now ≡ drop offset text → before ≡ length (last_line (take offset text)) → result ≡ specs.fault_at text offset left rest.now }
+    ensures { (text : List ℕ) → blanked.now ≡ comments.blank text → rest.now ≡ drop offset text
+        → before ≡ length (last_line (take offset text)) → result ≡ specs.fault_at text offset left rest.now }
 {
     if is_splice(rest) {
         return Some(FileCode::Splice);

@@ -34,7 +34,8 @@ pub fn first_fault_decides()
 
 /// The places of the lines that `plain_lines` answers are places of the text.
 pub fn lines_are_placed()
-    ensures { (text : List ℕ) (lines : List declared.Line) → plain_lines_of text ≡ Ok lines → ArePlaced text lines }
+    ensures { (text : List ℕ) (lines : List declared.Line) → plain_lines_of text ≡ Ok lines
+        → ArePlaced text lines }
 {}
 
 /// Each text is in exactly one way bytes of code and comments, one behind another, and then nothing or a comment without

@@ -15,7 +15,8 @@ use std::alloc::Global;
 
 /// The first line, and what stands behind its newline; none where no newline comes.
 pub(crate) fn cut_line(bytes: &[u8]) -> Option<(&[u8], &[u8])>
-    ensures { MatchOption result (specs.pieces bytes.now ≡ bytes.now ∷ []) (λ x. (specs.pieces bytes.now ≡ x.0.now ∷ specs.pieces x.1.now)
+    ensures { MatchOption result (specs.pieces bytes.now ≡ bytes.now ∷ [])
+        (λ x. (specs.pieces bytes.now ≡ x.0.now ∷ specs.pieces x.1.now)
         × (bytes.now ≡ x.0.now ++ 10 ∷ x.1.now) × (list_any is_newline x.0.now ≡ false)) }
 {
     let (line, behind) = bytes.split_at(line_len(bytes));

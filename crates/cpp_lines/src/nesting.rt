@@ -168,8 +168,10 @@ impl Opens {
     /// Goes on behind a line, whose `#` stands at this place where it is a directive line. It answers an error only for
     /// want of memory.
     pub(crate) fn follow(&mut self, line: &[u8], place: Place) -> Result<(), NoMemory>
-        ensures flags { OnOk result (opens.flags self.new ≡ nesting.opened_by (nesting.named_in line.now) (opens.flags self.old)) }
-        ensures first { OnOk result (self.new.first ≡ opens.first_after (nesting.named_in line.now) place (opens.flags self.old) self.old.first) }
+        ensures flags { OnOk result (opens.flags self.new
+            ≡ nesting.opened_by (nesting.named_in line.now) (opens.flags self.old)) }
+        ensures first { OnOk result (self.new.first
+            ≡ opens.first_after (nesting.named_in line.now) place (opens.flags self.old) self.old.first) }
     {
         let directive = named_in(line);
         if opens_section(directive) {
@@ -186,7 +188,8 @@ impl Opens {
     /// Opens a section.
     fn enter(&mut self, place: Place) -> Result<(), NoMemory>
         ensures flags { OnOk result (opens.flags self.new ≡ opens.inner false (opens.flags self.old)) }
-        ensures first { OnOk result (self.new.first ≡ opens.first_of place (opens.flags self.old) self.old.first) }
+        ensures first { OnOk result (self.new.first
+            ≡ opens.first_of place (opens.flags self.old) self.old.first) }
     {
         match self.inner {
             None => self.first = place,

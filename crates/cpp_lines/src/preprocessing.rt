@@ -36,7 +36,8 @@ fn add_line(
     piece: &[u8],
 ) -> Result<(), NoMemory>
     ensures text { OnOk result (out.new.items ≡ out.old.items ++ kept.kept_line sections.old kind piece.now) }
-    ensures sections { OnOk result (sections.new ≡ groups.sections_after truths.now sections.old (kept.group_of kind)) }
+    ensures sections { OnOk result (sections.new
+        ≡ groups.sections_after truths.now sections.old (kept.group_of kind)) }
 {
     if is_code(kind) && sections.are_kept() {
         out.extend_from_slice(piece)?;

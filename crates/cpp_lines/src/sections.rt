@@ -256,8 +256,11 @@ fn formulas_of(
 ) -> Result<Vec<Formula>, NoMemory>
     requires among { AreAllAmong atoms.now (map proposition conditions.now) }
     requires few { length atoms.now ≤ 64 }
-    ensures numbered { IfOk result (λ made. sections.AreNumbered atoms.now (map proposition conditions.now) made.items) }
-    ensures truths { IfOk result (λ made. (values : List ℤ) → sections.truths_on atoms.now values made.items ≡ sections.truths_at values (map proposition conditions.now)) }
+    ensures numbered { IfOk result (λ made. sections.AreNumbered atoms.now
+        (map proposition conditions.now) made.items) }
+    ensures truths { IfOk result (λ made. (values : List ℤ)
+        → sections.truths_on atoms.now values made.items
+        ≡ sections.truths_at values (map proposition conditions.now)) }
     ensures below { IfOk result (λ made. All (λ f. IsBelow (length atoms.now) (formula f)) made.items) }
 {
     let mut made = Vec::new(alloc);

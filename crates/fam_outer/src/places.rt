@@ -8,7 +8,8 @@ use crate::faults::Place;
 
 /// A later byte of a text has a later place.
 pub fn places_rise()
-    ensures { (text : List ℕ) (i j : ℕ) → i < j → j ≤ length text → IsEarlier (place_at text i) (place_at text j) }
+    ensures { (text : List ℕ) (i j : ℕ) → i < j → j ≤ length text
+        → IsEarlier (place_at text i) (place_at text j) }
 {}
 
 /// The place behind a byte that stands at this place.

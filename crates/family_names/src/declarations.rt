@@ -25,8 +25,10 @@ pub(crate) struct Declaration {
 
 /// One of the formulas or both, without one that is false.
 fn one_of(alloc: Global, left: Formula, right: Formula) -> Result<Formula, NoMemory>
-    ensures truth { IfOk result (λ made. (v : List Bool) → (true_on v (formula left) || true_on v (formula right)) ≡ true_on v (formula made)) }
-    ensures below { IfOk result (λ made. (count : ℕ) → IsBelow count (formula left) → IsBelow count (formula right) → IsBelow count (formula made)) }
+    ensures truth { IfOk result (λ made. (v : List Bool)
+        → (true_on v (formula left) || true_on v (formula right)) ≡ true_on v (formula made)) }
+    ensures below { IfOk result (λ made. (count : ℕ) → IsBelow count (formula left)
+        → IsBelow count (formula right) → IsBelow count (formula made)) }
 {
     match left {
         Formula::Const(false) => Ok(right),
@@ -44,8 +46,10 @@ fn kept(
     declaration: &Declaration,
     name: u32,
 ) -> Result<Formula, NoMemory>
-    ensures truth { IfOk result (λ made. (v : List Bool) → is_kept (truths_on conditions.now v) name declaration.now ≡ true_on v (formula made)) }
-    ensures below { IfOk result (λ made. (count : ℕ) → All (λ f. IsBelow count (formula f)) conditions.now → IsBelow count (formula made)) }
+    ensures truth { IfOk result (λ made. (v : List Bool)
+        → is_kept (truths_on conditions.now v) name declaration.now ≡ true_on v (formula made)) }
+    ensures below { IfOk result (λ made. (count : ℕ) → All (λ f. IsBelow count (formula f)) conditions.now
+        → IsBelow count (formula made)) }
 {
     if declaration.name == name {
         keeping(alloc, conditions, &declaration.groups)
@@ -61,8 +65,10 @@ pub(crate) fn declaring(
     declarations: &[Declaration],
     name: u32,
 ) -> Result<Formula, NoMemory>
-    ensures truth { IfOk result (λ made. (v : List Bool) → is_declared (truths_on conditions.now v) declarations.now name ≡ true_on v (formula made)) }
-    ensures below { IfOk result (λ made. (count : ℕ) → All (λ f. IsBelow count (formula f)) conditions.now → IsBelow count (formula made)) }
+    ensures truth { IfOk result (λ made. (v : List Bool)
+        → is_declared (truths_on conditions.now v) declarations.now name ≡ true_on v (formula made)) }
+    ensures below { IfOk result (λ made. (count : ℕ) → All (λ f. IsBelow count (formula f)) conditions.now
+        → IsBelow count (formula made)) }
 {
     match declarations {
         [] => Ok(Formula::Const(false)),
@@ -79,7 +85,8 @@ pub(crate) fn declaring(
 /// Whether a declaration of the name stands in the outermost of these groups, so that it is kept wherever what stands in
 /// them is. It tries the latest declaration first.
 pub(crate) fn is_clear(declarations: &[Declaration], name: u32, groups: &Groups) -> bool
-    ensures { result ≡ true → (truths : List Bool) → are_kept truths groups.now ≡ true → is_declared truths declarations.now name ≡ true }
+    ensures { result ≡ true → (truths : List Bool) → are_kept truths groups.now ≡ true
+        → is_declared truths declarations.now name ≡ true }
 {
     let mut rest = declarations;
     'declarations: while let Some((declaration, before)) = cut_last(rest) {

@@ -50,7 +50,8 @@ fn missed(
     name: u32,
 ) -> Result<Option<Config>, NoMemory>
     requires { IsFit (plain setting.now) }
-    ensures { IfOk result (λ found. Finds setting.now.model.now (judging.is_missed (plain setting.now) seen.now name) found) }
+    ensures { IfOk result (λ found. Finds setting.now.model.now
+        (judging.is_missed (plain setting.now) seen.now name) found) }
 {
     let kept = keeping(alloc, setting.conditions, &seen.groups)?;
     let declared = declaring(alloc, setting.conditions, &seen.declarations, name)?;
@@ -67,7 +68,8 @@ fn met_again(
     name: u32,
 ) -> Result<Option<Config>, NoMemory>
     requires { IsFit (plain setting.now) }
-    ensures { IfOk result (λ found. Finds setting.now.model.now (judging.is_met_again (plain setting.now) seen.now name) found) }
+    ensures { IfOk result (λ found. Finds setting.now.model.now
+        (judging.is_met_again (plain setting.now) seen.now name) found) }
 {
     let kept = keeping(alloc, setting.conditions, &seen.groups)?;
     let declared = declaring(alloc, setting.conditions, &seen.declarations, name)?;
@@ -85,7 +87,8 @@ fn missing_fault(
     name: u32,
 ) -> Result<Option<FileCode>, NoMemory>
     requires { IsFit (plain setting.now) }
-    ensures { judging.AreSettled (plain setting.now) seen.now.declarations.items settled.old.items → IfOk result (λ fault. judging.Misses (plain setting.now) seen.now settled.new.items name fault) }
+    ensures { judging.AreSettled (plain setting.now) seen.now.declarations.items settled.old.items
+        → IfOk result (λ fault. judging.Misses (plain setting.now) seen.now settled.new.items name fault) }
 {
     if is_clear(&seen.declarations, name, &seen.groups) || is_clear(settled, name, &seen.groups) {
         return Ok(None);
@@ -109,7 +112,8 @@ pub(crate) fn use_fault(
     name: u32,
 ) -> Result<Option<FileCode>, NoMemory>
     requires { IsFit (plain setting.now) }
-    ensures { judging.AreSettled (plain setting.now) seen.now.declarations.items settled.old.items → IfOk result (λ fault. judging.Uses (plain setting.now) seen.now settled.new.items name fault) }
+    ensures { judging.AreSettled (plain setting.now) seen.now.declarations.items settled.old.items
+        → IfOk result (λ fault. judging.Uses (plain setting.now) seen.now settled.new.items name fault) }
 {
     if setting.is_feature(name) {
         return Ok(Some(FileCode::FeatureInCode));
@@ -141,7 +145,8 @@ fn declaration_fault(
     name: u32,
 ) -> Result<Option<FileCode>, NoMemory>
     requires { IsFit (plain setting.now) }
-    ensures { judging.AreNamed seen.now → IfOk result (λ fault. judging.IsAgain (plain setting.now) seen.now name fault) }
+    ensures { judging.AreNamed seen.now
+        → IfOk result (λ fault. judging.IsAgain (plain setting.now) seen.now name fault) }
 {
     if !contains(&seen.names, name) {
         return Ok(new_name_fault(setting, &seen.names, name));
@@ -180,7 +185,8 @@ pub(crate) fn declare(
     name: u32,
 ) -> Result<Option<FileCode>, NoMemory>
     requires { IsFit (plain setting.now) }
-    ensures { judging.AreNamed seen.old → IfOk result (λ fault. judging.Declares (plain setting.now) seen.old name seen.new fault) }
+    ensures { judging.AreNamed seen.old
+        → IfOk result (λ fault. judging.Declares (plain setting.now) seen.old name seen.new fault) }
 {
     let fault = declaration_fault(alloc, setting, seen, name)?;
     if fault.is_none() {

@@ -100,7 +100,8 @@ impl Groups {
     /// Whether these are the outermost of the other groups: then what stands in those is kept only where what stands in
     /// these is.
     pub(crate) fn begins(&self, other: &Groups) -> bool
-        ensures { result ≡ true → (truths : List Bool) → specs.are_kept truths other.now ≡ true → specs.are_kept truths self.now ≡ true }
+        ensures { result ≡ true → (truths : List Bool) → specs.are_kept truths other.now ≡ true
+            → specs.are_kept truths self.now ≡ true }
     {
         let groups = self.items();
         let others = other.items();
@@ -134,7 +135,9 @@ impl Groups {
     /// Goes on behind a group directive: the sections that are open are the same as `cpp_groups` says, whatever the truths
     /// of the conditions. It answers an error only for want of memory.
     pub(crate) fn follow(&mut self, directive: GroupDirective) -> Result<(), NoMemory>
-        ensures { OnOk result ((truths : List Bool) → specs.sections truths self.new ≡ sections_after truths (specs.sections truths self.old) (Some directive)) }
+        ensures { OnOk result ((truths : List Bool)
+            → specs.sections truths self.new
+            ≡ sections_after truths (specs.sections truths self.old) (Some directive)) }
     {
         let _count = self.list.len();
         match directive {

@@ -39,7 +39,9 @@ fn directive(sign: Sign) -> Option<GroupDirective>
 
 /// Goes on behind an item.
 fn pass(groups: &mut Groups, sign: Sign) -> Result<(), NoMemory>
-    ensures { OnOk result ((truths : List Bool) → sections truths groups.new ≡ sections_after truths (sections truths groups.old) (directive_of sign)) }
+    ensures { OnOk result ((truths : List Bool)
+        → sections truths groups.new ≡ sections_after truths (sections truths groups.old)
+        (directive_of sign)) }
 {
     match directive(sign) {
         None => Ok(()),
@@ -56,7 +58,8 @@ fn judge(
     sign: Sign,
 ) -> Result<Option<FileCode>, NoMemory>
     requires { IsFit (plain setting.now) }
-    ensures { (before : List items.Item) → judging.IsSeen before seen.old → judging.AreSettled (plain setting.now) seen.old.declarations.items settled.old.items
+    ensures { (before : List items.Item) → judging.IsSeen before seen.old
+        → judging.AreSettled (plain setting.now) seen.old.declarations.items settled.old.items
         → IfOk result (λ fault. judging.Judges (plain setting.now) before sign seen.new settled.new.items fault) }
 {
     match sign {
@@ -101,7 +104,8 @@ pub fn first_name_fault(
     requires constraints { AreFit (length setting.now.model.now.features) setting.now.model.now.constraints }
     requires ranges { AreRanges setting.now.model.now.features }
     requires atoms { AreAtoms (length setting.now.model.now.features) setting.now.atoms.now }
-    requires conditions { All (λ f. IsBelow (length setting.now.atoms.now) (formula f)) setting.now.conditions.now }
+    requires conditions { All (λ f. IsBelow (length setting.now.atoms.now)
+        (formula f)) setting.now.conditions.now }
     ensures { IfOk result (λ fault. IsFirstNameFault (plain setting.now) items.now fault) }
 {
     let mut seen = Seen {

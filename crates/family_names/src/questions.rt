@@ -18,8 +18,10 @@ use std::alloc::Global;
 /// The condition with this number; false where there is none.
 #[tactic(auto, using(crate::proofs::Asked::truth_with, crate::proofs::Asked::truth_without, crate::proofs::Asked::below_at))]
 fn numbered(alloc: Global, conditions: &[Formula], number: u32) -> Result<Formula, NoMemory>
-    ensures truth { IfOk result (λ made. (v : List Bool) → truth (truths_on conditions.now v) number ≡ true_on v (formula made)) }
-    ensures below { IfOk result (λ made. (count : ℕ) → All (λ f. IsBelow count (formula f)) conditions.now → IsBelow count (formula made)) }
+    ensures truth { IfOk result (λ made. (v : List Bool)
+        → truth (truths_on conditions.now v) number ≡ true_on v (formula made)) }
+    ensures below { IfOk result (λ made. (count : ℕ) → All (λ f. IsBelow count (formula f)) conditions.now
+        → IsBelow count (formula made)) }
 {
     match conditions.get(number as usize) {
         None => Ok(Formula::Const(false)),
@@ -29,8 +31,10 @@ fn numbered(alloc: Global, conditions: &[Formula], number: u32) -> Result<Formul
 
 /// The condition of a group; that of `#else` is true.
 fn condition(alloc: Global, conditions: &[Formula], group: Group) -> Result<Formula, NoMemory>
-    ensures truth { IfOk result (λ made. (v : List Bool) → is_true (truths_on conditions.now v) group ≡ true_on v (formula made)) }
-    ensures below { IfOk result (λ made. (count : ℕ) → All (λ f. IsBelow count (formula f)) conditions.now → IsBelow count (formula made)) }
+    ensures truth { IfOk result (λ made. (v : List Bool)
+        → is_true (truths_on conditions.now v) group ≡ true_on v (formula made)) }
+    ensures below { IfOk result (λ made. (count : ℕ) → All (λ f. IsBelow count (formula f)) conditions.now
+        → IsBelow count (formula made)) }
 {
     match group {
         Group::First(number) => numbered(alloc, conditions, number),
@@ -46,8 +50,10 @@ fn guard(
     group: Group,
     asked: bool,
 ) -> Result<Formula, NoMemory>
-    ensures truth { IfOk result (λ made. (v : List Bool) → is_as_asked asked (is_true (truths_on conditions.now v) group) ≡ true_on v (formula made)) }
-    ensures below { IfOk result (λ made. (count : ℕ) → All (λ f. IsBelow count (formula f)) conditions.now → IsBelow count (formula made)) }
+    ensures truth { IfOk result (λ made. (v : List Bool)
+        → is_as_asked asked (is_true (truths_on conditions.now v) group) ≡ true_on v (formula made)) }
+    ensures below { IfOk result (λ made. (count : ℕ) → All (λ f. IsBelow count (formula f)) conditions.now
+        → IsBelow count (formula made)) }
 {
     let condition = condition(alloc, conditions, group)?;
     if asked {
@@ -65,8 +71,10 @@ fn guards(
     groups: &[Group],
     asked: bool,
 ) -> Result<Formula, NoMemory>
-    ensures truth { IfOk result (λ made. (v : List Bool) → are_as_asked (truths_on conditions.now v) asked (reverse groups.now) ≡ true_on v (formula made)) }
-    ensures below { IfOk result (λ made. (count : ℕ) → All (λ f. IsBelow count (formula f)) conditions.now → IsBelow count (formula made)) }
+    ensures truth { IfOk result (λ made. (v : List Bool)
+        → are_as_asked (truths_on conditions.now v) asked (reverse groups.now) ≡ true_on v (formula made)) }
+    ensures below { IfOk result (λ made. (count : ℕ) → All (λ f. IsBelow count (formula f)) conditions.now
+        → IsBelow count (formula made)) }
 {
     match groups {
         [] => Ok(Formula::Const(true)),
@@ -87,8 +95,10 @@ pub(crate) fn keeping(
     conditions: &[Formula],
     groups: &Groups,
 ) -> Result<Formula, NoMemory>
-    ensures truth { IfOk result (λ made. (v : List Bool) → are_kept (truths_on conditions.now v) groups.now ≡ true_on v (formula made)) }
-    ensures below { IfOk result (λ made. (count : ℕ) → All (λ f. IsBelow count (formula f)) conditions.now → IsBelow count (formula made)) }
+    ensures truth { IfOk result (λ made. (v : List Bool)
+        → are_kept (truths_on conditions.now v) groups.now ≡ true_on v (formula made)) }
+    ensures below { IfOk result (λ made. (count : ℕ) → All (λ f. IsBelow count (formula f)) conditions.now
+        → IsBelow count (formula made)) }
 {
     guards(alloc, conditions, groups.items(), true)
 }

@@ -44,7 +44,8 @@ fn first_misnamed(entries: &[Entry], number: u32) -> Option<u32>
 /// The number of the first entry with a bad range.
 fn first_bad_range(entries: &[Entry], number: u32) -> Option<u32>
     requires { number + length entries.now < 2 ^ 32 }
-    ensures { result ≡ features.first_where (λ (e : Entry). features.is_bad_range e.range) number entries.now }
+    ensures { result ≡ features.first_where
+        (λ (e : Entry). features.is_bad_range e.range) number entries.now }
 {
     let (entry, behind) = cut(entries)?;
     if is_bad_range(entry.range) {
@@ -68,7 +69,8 @@ fn has_name(name: &[u8], entries: &[Entry]) -> bool
 fn first_repeated(entries: &[Entry], before: usize) -> Option<u32>
     requires few { length entries.now < 2 ^ 31 }
     requires within { before ≤ length entries.now }
-    ensures { result ≡ features.first_repeated (take before entries.now) (before + 1) (drop before entries.now) }
+    ensures { result ≡ features.first_repeated (take before entries.now) (before + 1)
+        (drop before entries.now) }
 {
     let (earlier, rest) = entries.split_at(before);
     let (entry, _) = cut(rest)?;

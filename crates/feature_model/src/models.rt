@@ -64,7 +64,8 @@ fn outlined(alloc: Global, bytes: &[u8]) -> Result<Outline, ModelRefusal>
 
 /// The features of an outline.
 fn told(alloc: Global, made: &Outline) -> Result<Vec<Feature>, ModelRefusal>
-    ensures told { Gives (λ v. record { features = v.items; texts = made.now.texts.items }) result (told_from (outline made.now)) }
+    ensures told { Gives (λ v. record { features = v.items; texts = made.now.texts.items }) result
+        (told_from (outline made.now)) }
     ensures features { IfOk result (λ v. AreFeatures v.items) }
     ensures distinct { IfOk result (λ v. AreDistinct v.items) }
     ensures named { IfOk result (λ v. AreNamed v.items) }
@@ -82,7 +83,8 @@ fn told(alloc: Global, made: &Outline) -> Result<Vec<Feature>, ModelRefusal>
 
 /// What the bytes say up to the constraints: the features, and the texts of the constraints.
 fn told_of(alloc: Global, bytes: &[u8]) -> Result<(Vec<Feature>, Vec<Text>), ModelRefusal>
-    ensures told { Gives (λ x. record { features = x.0.items; texts = x.1.items }) result (told_of bytes.now) }
+    ensures told { Gives (λ x. record { features = x.0.items; texts = x.1.items }) result
+        (told_of bytes.now) }
     ensures features { IfOk result (λ x. AreFeatures x.0.items) }
     ensures distinct { IfOk result (λ x. AreDistinct x.0.items) }
     ensures named { IfOk result (λ x. AreNamed x.0.items) }

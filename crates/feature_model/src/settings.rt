@@ -34,7 +34,8 @@ fn all_set(
     words: &[String],
 ) -> Result<Vec<Option<i64>>, ConfigRefusal>
     requires { AreFeatures features.now }
-    ensures sets { given.Gives (λ v. v.items) result (given.steps features.now 1 (given.unset features.now) (map string_bytes words.now)) }
+    ensures sets { given.Gives (λ v. v.items) result
+        (given.steps features.now 1 (given.unset features.now) (map string_bytes words.now)) }
     ensures length { IfOk result (λ v. length v.items ≡ length features.now) }
     ensures small { IfOk result (λ v. given.AreSmall v.items) }
 {
@@ -84,7 +85,8 @@ fn settle(
 ) -> Result<(), ConfigRefusal>
     requires few { number + length features.now ≤ 64 }
     requires small { given.AreSmall slots.now }
-    ensures adds { given.Adds values.old.items values.new.items result (given.settled number features.now slots.now) }
+    ensures adds { given.Adds values.old.items values.new.items result
+        (given.settled number features.now slots.now) }
     ensures small { AreValues values.old.items → AreValues values.new.items }
 {
     let (Some((feature, features)), Some((slot, slots))) = (cut(features), cut_slots(slots)) else {
@@ -151,7 +153,8 @@ pub fn read_config(
 ) -> Result<Config, ConfigRefusal>
     requires features { AreFeatures model.now.features }
     requires fit { AreFit (length model.now.features) model.now.constraints }
-    ensures read { given.Gives (λ c. c.values) result (given.config_of model.now (map string_bytes settings.now)) }
+    ensures read { given.Gives (λ c. c.values) result
+        (given.config_of model.now (map string_bytes settings.now)) }
     ensures valid { IfOk result (λ made. IsValid (plain model.now) made.values) }
     ensures config { IfOk result (λ made. IsConfig model.now.features made.values) }
 {

@@ -52,7 +52,8 @@ fn pair_of(low: Option<i64>, high: Option<i64>) -> Option<Option<(i64, i64)>>
 
 /// Both ends of a range, or no range.
 fn range_of(low: Option<&Value>, high: Option<&Value>) -> Option<Option<(i64, i64)>>
-    ensures { result ≡ shapes.range_of (option_map (λ v. view v.now) low.entry) (option_map (λ v. view v.now) high.entry) }
+    ensures { result ≡ shapes.range_of (option_map (λ v. view v.now) low.entry)
+        (option_map (λ v. view v.now) high.entry) }
 {
     match (low, high) {
         (None, None) => Some(None),
@@ -102,7 +103,8 @@ fn entry_of(alloc: Global, value: &Value) -> Result<Option<Entry>, NoMemory>
 
 /// The features that the items of a list say.
 fn entries_of(alloc: Global, list: &[Value]) -> Result<Option<Vec<Entry>>, NoMemory>
-    ensures { IfOk result (λ made. option_map (λ v. v.items) made ≡ shapes.each shapes.entry_of (items_view list.now)) }
+    ensures { IfOk result (λ made. option_map (λ v. v.items) made
+        ≡ shapes.each shapes.entry_of (items_view list.now)) }
 {
     let mut entries = Vec::new(alloc);
     for value in list {
@@ -116,7 +118,8 @@ fn entries_of(alloc: Global, list: &[Value]) -> Result<Option<Vec<Entry>>, NoMem
 
 /// The texts that the items of a list say.
 fn each_text(alloc: Global, list: &[Value]) -> Result<Option<Vec<Text>>, NoMemory>
-    ensures { IfOk result (λ made. option_map (λ v. v.items) made ≡ shapes.each as_str (items_view list.now)) }
+    ensures { IfOk result (λ made. option_map (λ v. v.items) made
+        ≡ shapes.each as_str (items_view list.now)) }
 {
     let mut texts = Vec::new(alloc);
     for value in list {
@@ -130,7 +133,8 @@ fn each_text(alloc: Global, list: &[Value]) -> Result<Option<Vec<Text>>, NoMemor
 
 /// The features of an array.
 fn features_of(alloc: Global, value: Option<&Value>) -> Result<Option<Vec<Entry>>, NoMemory>
-    ensures { IfOk result (λ made. option_map (λ v. v.items) made ≡ shapes.entries_of (option_map (λ v. view v.now) value.entry)) }
+    ensures { IfOk result (λ made. option_map (λ v. v.items) made
+        ≡ shapes.entries_of (option_map (λ v. view v.now) value.entry)) }
 {
     let Some(value) = value else {
         return Ok(None);
@@ -143,7 +147,8 @@ fn features_of(alloc: Global, value: Option<&Value>) -> Result<Option<Vec<Entry>
 
 /// The texts of an array, or no texts.
 fn texts_of(alloc: Global, value: Option<&Value>) -> Result<Option<Vec<Text>>, NoMemory>
-    ensures { IfOk result (λ made. option_map (λ v. v.items) made ≡ shapes.texts_of (option_map (λ v. view v.now) value.entry)) }
+    ensures { IfOk result (λ made. option_map (λ v. v.items) made
+        ≡ shapes.texts_of (option_map (λ v. view v.now) value.entry)) }
 {
     let Some(value) = value else {
         return Ok(Some(Vec::new(alloc)));

@@ -47,7 +47,8 @@ fn set(
 ) -> Result<(), ConfigFault>
     requires features { AreFeatures features.now }
     requires slots { length slots.old ≡ length features.now }
-    ensures sets { settings.Sets slots.new result (settings.set_at number slots.old value (settings.named name.now 0 features.now)) }
+    ensures sets { settings.Sets slots.new result
+        (settings.set_at number slots.old value (settings.named name.now 0 features.now)) }
     ensures length { length slots.new ≡ length slots.old }
     ensures count { OnOk result (settings.count slots.new ≡ settings.count slots.old + 1) }
     ensures small { settings.AreSmall slots.old → settings.AreSmall slots.new }

@@ -55,7 +55,8 @@ fn is_number(bytes: &[u8]) -> bool
 fn number(before: u32, digits: &[u8]) -> Option<u32>
     requires before { before ≤ 1048576 }
     requires digits { list_all is_digit digits.now ≡ true }
-    ensures { MatchOption result (1048576 < number_from before digits.now) (λ n. (n ≡ number_from before digits.now) × (n ≤ 1048576)) }
+    ensures { MatchOption result (1048576 < number_from before digits.now)
+        (λ n. (n ≡ number_from before digits.now) × (n ≤ 1048576)) }
 {
     match cut(digits) {
         None => Some(before),

@@ -85,7 +85,8 @@ fn with_declared(
     name: u32,
     value: i64,
 ) -> Result<Vec<Declared>, NoMemory>
-    ensures { IfOk result (λ made. made.items ≡ machine.with_declared (as_sections sections.now) declared.items name value) }
+    ensures { IfOk result (λ made. made.items
+        ≡ machine.with_declared (as_sections sections.now) declared.items name value) }
 {
     let mut declared = declared;
     let guards = guards_of(alloc, sections)?;

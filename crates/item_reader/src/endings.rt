@@ -63,7 +63,8 @@ pub(crate) fn closing(
 /// The innermost part, and the others.
 #[tactic(auto, using(crate::proofs::Parts::parts))]
 fn cut(parts: Vec<Tailing>) -> Option<(Tailing, Vec<Tailing>)>
-    ensures { MatchOption result (as_parts parts.items ≡ []) (λ x. as_parts parts.items ≡ as_tailing x.0 ∷ as_parts x.1.items) }
+    ensures { MatchOption result (as_parts parts.items ≡ [])
+        (λ x. as_parts parts.items ≡ as_tailing x.0 ∷ as_parts x.1.items) }
 {
     let mut parts = parts;
     let innermost = parts.pop()?;

@@ -18,7 +18,8 @@ use std::alloc::Global;
 
 /// One more waits, and an operand comes.
 fn waiting(frames: Vec<Frame>, frame: Frame, purpose: Purpose) -> Result<Option<State>, NoMemory>
-    ensures { Moves result (Some (machine.Wants (as_frame frame ∷ as_frames frames.items) (as_purpose purpose))) }
+    ensures { Moves result (Some (machine.Wants (as_frame frame ∷ as_frames frames.items)
+        (as_purpose purpose))) }
 {
     let frames = with_frame(frames, frame)?;
     Ok(Some(State::Wants { frames, purpose }))
@@ -110,7 +111,8 @@ pub(crate) fn updated(
     update: Update,
     by: Expr,
 ) -> Result<Stmt, NoMemory>
-    ensures { IfOk result (λ made. front made Done ≡ grammar.updated place target (as_update update) (term by)) }
+    ensures { IfOk result (λ made. front made Done
+        ≡ grammar.updated place target (as_update update) (term by)) }
 {
     let op = match update {
         Update::Raise => Op::Add,
@@ -225,7 +227,8 @@ fn closed(
     purpose: Purpose,
     operand: Expr,
 ) -> Result<Option<State>, NoMemory>
-    ensures { Moves result (machine.have (as_frames frames.items) (as_purpose purpose) (term operand) signs.Close) }
+    ensures { Moves result (machine.have (as_frames frames.items) (as_purpose purpose)
+        (term operand) signs.Close) }
 {
     let (frames, operand) = settle(alloc, 6, frames, operand)?;
     closed_by(alloc, frames, purpose, operand)
@@ -238,7 +241,8 @@ fn ended(
     purpose: Purpose,
     operand: Expr,
 ) -> Result<Option<State>, NoMemory>
-    ensures { Moves result (machine.have (as_frames frames.items) (as_purpose purpose) (term operand) signs.Semicolon) }
+    ensures { Moves result (machine.have (as_frames frames.items) (as_purpose purpose)
+        (term operand) signs.Semicolon) }
 {
     let (frames, operand) = settle(alloc, 6, frames, operand)?;
     ended_by(alloc, frames, purpose, operand)
@@ -252,7 +256,8 @@ fn operated(
     operand: Expr,
     op: Op,
 ) -> Result<Option<State>, NoMemory>
-    ensures { Moves result (machine.have (as_frames frames.items) (as_purpose purpose) (term operand) (signs.Oper op)) }
+    ensures { Moves result (machine.have (as_frames frames.items) (as_purpose purpose) (term operand)
+        (signs.Oper op)) }
 {
     let (frames, left) = settle(alloc, tighter(op) + 1, frames, operand)?;
     waiting(frames, Frame::Left(op, left), purpose)

@@ -30,7 +30,8 @@ pub(crate) fn with_frame(mut frames: Vec<Frame>, frame: Frame) -> Result<Vec<Fra
 
 /// The innermost that waits, taken out.
 pub(crate) fn take_frame(frames: &mut Vec<Frame>) -> Option<Frame>
-    ensures taken { MatchOption result ((as_frames frames.old.items ≡ []) × (as_frames frames.new.items ≡ [])) (λ frame. as_frames frames.old.items ≡ as_frame frame ∷ as_frames frames.new.items) }
+    ensures taken { MatchOption result ((as_frames frames.old.items ≡ []) × (as_frames frames.new.items ≡ []))
+        (λ frame. as_frames frames.old.items ≡ as_frame frame ∷ as_frames frames.new.items) }
     ensures fewer { IfSome result (λ frame. vec_len frames.new < vec_len frames.old) }
 {
     frames.pop()
@@ -87,8 +88,10 @@ pub(crate) fn settle(
     mut frames: Vec<Frame>,
     operand: Expr,
 ) -> Result<(Vec<Frame>, Expr), NoMemory>
-    ensures frames { IfOk result (λ made. as_frames made.0.items ≡ (machine.settle level (as_frames frames.items) (term operand)).0) }
-    ensures operand { IfOk result (λ made. term made.1 ≡ (machine.settle level (as_frames frames.items) (term operand)).1) }
+    ensures frames { IfOk result (λ made. as_frames made.0.items
+        ≡ (machine.settle level (as_frames frames.items) (term operand)).0) }
+    ensures operand { IfOk result (λ made. term made.1
+        ≡ (machine.settle level (as_frames frames.items) (term operand)).1) }
 {
     match take_frame(&mut frames) {
         None => Ok((frames, operand)),

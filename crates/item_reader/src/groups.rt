@@ -30,7 +30,8 @@ fn with_link(mut links: Vec<Link>, link: Link) -> Result<Vec<Link>, NoMemory>
 
 /// The last of the parts before, taken out.
 fn take_link(links: &mut Vec<Link>) -> Option<Link>
-    ensures taken { MatchOption result ((as_links links.old.items ≡ []) × (as_links links.new.items ≡ [])) (λ link. as_links links.old.items ≡ as_link link ∷ as_links links.new.items) }
+    ensures taken { MatchOption result ((as_links links.old.items ≡ []) × (as_links links.new.items ≡ []))
+        (λ link. as_links links.old.items ≡ as_link link ∷ as_links links.new.items) }
     ensures fewer { IfSome result (λ link. vec_len links.new < vec_len links.old) }
 {
     links.pop()
@@ -38,7 +39,8 @@ fn take_link(links: &mut Vec<Link>) -> Option<Link>
 
 /// The earlier parts of a section around its later ones.
 fn linked(alloc: Global, mut links: Vec<Link>, later: Stmt) -> Result<Stmt, NoMemory>
-    ensures { IfOk result (λ made. front made Done ≡ machine.linked (as_links links.items) (front later Done)) }
+    ensures { IfOk result (λ made. front made Done
+        ≡ machine.linked (as_links links.items) (front later Done)) }
 {
     match take_link(&mut links) {
         None => Ok(later),
@@ -131,7 +133,8 @@ fn section(
     last: Stmt,
     outer: Box<Stack>,
 ) -> Result<Option<State>, NoMemory>
-    ensures { Moves result (Some (machine.Ended (as_stack outer.value) (machine.linked (as_links links.items) (front last Done)))) }
+    ensures { Moves result (Some (machine.Ended (as_stack outer.value)
+        (machine.linked (as_links links.items) (front last Done)))) }
 {
     let statement = linked(alloc, links, last)?;
     let outer = Box::into_inner(outer);

@@ -36,7 +36,8 @@ fn depth(outer: &Stack) -> usize
 
 /// How many are around what comes behind a statement that has ended.
 fn depth_behind(outer: &Stack) -> usize
-    ensures { (statement : Code) → result ≡ capped (limits.depth (machine.folded (as_stack outer.now) statement)) }
+    ensures { (statement : Code) → result
+        ≡ capped (limits.depth (machine.folded (as_stack outer.now) statement)) }
 {
     match outer {
         Stack::ThenOf { outer, .. } | Stack::ElseOf { outer, .. } | Stack::LoopOf { outer, .. } => {

@@ -47,7 +47,8 @@ pub(crate) fn if_else(
     yes: Vec<Stmt>,
     no: Stmt,
 ) -> Result<Stmt, NoMemory>
-    ensures { IfOk result (λ made. front made Done ≡ If place (term test) (code yes.items) (front no Done) Done) }
+    ensures { IfOk result (λ made. front made Done
+        ≡ If place (term test) (code yes.items) (front no Done) Done) }
 {
     let no = only(alloc, no)?;
     Ok(Stmt::If {

@@ -78,7 +78,8 @@ pub(crate) fn folded(alloc: Global, stack: Stack, statement: Stmt) -> Result<Sta
 
 /// The side of an `if` behind `else` comes.
 fn other_side(place: Place, test: Expr, first: Vec<Stmt>, outer: Box<Stack>) -> State
-    ensures { as_state result ≡ machine.Ready (machine.ElseOf place (term test) (code first.items) (as_stack outer.value)) }
+    ensures { as_state result ≡ machine.Ready
+        (machine.ElseOf place (term test) (code first.items) (as_stack outer.value)) }
 {
     State::Ready {
         outer: Stack::ElseOf {

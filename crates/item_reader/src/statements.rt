@@ -113,7 +113,8 @@ fn begin_behind(
     place: Place,
     sign: Sign,
 ) -> Result<Option<State>, NoMemory>
-    ensures { Moves result (machine.begin (machine.folded (as_stack outer) (front statement Done)) place sign) }
+    ensures { Moves result (machine.begin
+        (machine.folded (as_stack outer) (front statement Done)) place sign) }
 {
     let outer = folded(alloc, outer, statement)?;
     begin(alloc, outer, place, sign)
@@ -143,7 +144,8 @@ fn counting(
     update: Update,
     outer: Stack,
 ) -> Result<Option<State>, NoMemory>
-    ensures { Moves result (Some (machine.Finishing (as_stack outer) (grammar.updated place target (as_update update) (Number (pos 1))))) }
+    ensures { Moves result (Some (machine.Finishing (as_stack outer)
+        (grammar.updated place target (as_update update) (Number (pos 1))))) }
 {
     let statement = updated(alloc, place, target, update, Expr::Number(1))?;
     Ok(Some(State::Finishing { outer, statement }))

@@ -158,7 +158,8 @@ fn step_operand(
 /// The closing parenthesis of `input`.
 #[tactic(auto, using(crate::proofs::Holding::holding))]
 fn input_closes(place: Place, target: u32, outer: Stack, sign: Sign) -> Option<State>
-    ensures { option_map as_state result ≡ machine.at_close (machine.Finishing (as_stack outer) (tree.Input place target tree.Done)) sign }
+    ensures { option_map as_state result
+        ≡ machine.at_close (machine.Finishing (as_stack outer) (tree.Input place target tree.Done)) sign }
 {
     let statement = Stmt::Input { place, target };
     at_close(State::Finishing { outer, statement }, sign)

@@ -175,8 +175,11 @@ pub(crate) fn both<L: Leaf>(
 ) -> Result<Split<L>, NoMemory>
     requires { (L.value first.when_false).variables ≡ (L.value second.when_false).variables }
     ensures when_true { IfOk result (λ made. L.value made.when_true ≡ L.value second.when_true) }
-    ensures when_false { IfOk result (λ made. L.value made.when_false ≡ L.meaning.join (L.value first.when_false) (L.value second.when_false)) }
-    ensures same { IfOk result (λ made. (L.value made.when_false).variables ≡ (L.value first.when_false).variables) }
+    ensures when_false { IfOk result
+        (λ made. L.value made.when_false
+        ≡ L.meaning.join (L.value first.when_false) (L.value second.when_false)) }
+    ensures same { IfOk result (λ made. (L.value made.when_false).variables
+        ≡ (L.value first.when_false).variables) }
     ensures stops { IfOk result (λ made. made.stops ≡ joined_stops first.stops second.stops) }
 {
     let when_false = joined(alloc, &first.when_false, &second.when_false)?;
@@ -195,9 +198,12 @@ pub(crate) fn either<L: Leaf>(
     second: Split<L>,
 ) -> Result<Split<L>, NoMemory>
     requires { (L.value first.when_true).variables ≡ (L.value second.when_true).variables }
-    ensures when_true { IfOk result (λ made. L.value made.when_true ≡ L.meaning.join (L.value first.when_true) (L.value second.when_true)) }
+    ensures when_true { IfOk result
+        (λ made. L.value made.when_true
+        ≡ L.meaning.join (L.value first.when_true) (L.value second.when_true)) }
     ensures when_false { IfOk result (λ made. L.value made.when_false ≡ L.value second.when_false) }
-    ensures same { IfOk result (λ made. (L.value made.when_true).variables ≡ (L.value first.when_true).variables) }
+    ensures same { IfOk result (λ made. (L.value made.when_true).variables
+        ≡ (L.value first.when_true).variables) }
     ensures stops { IfOk result (λ made. made.stops ≡ joined_stops first.stops second.stops) }
 {
     let when_true = joined(alloc, &first.when_true, &second.when_true)?;
@@ -253,7 +259,8 @@ fn compare<L: Leaf>(
     requires a { IsOperand (L.value leaf.now).variables a }
     requires b { IsOperand (L.value leaf.now).variables b }
     requires form { HasForm (L.value leaf.now).variables form.now }
-    ensures value { IfOk result (λ made. L.value made ≡ compared_at L.meaning op a b form.now (L.value leaf.now)) }
+    ensures value { IfOk result (λ made. L.value made
+        ≡ compared_at L.meaning op a b form.now (L.value leaf.now)) }
     ensures same { IfOk result (λ made. (L.value made).variables ≡ (L.value leaf.now).variables) }
 {
     let first = cut(op, a.range, b.range);
@@ -279,10 +286,15 @@ fn compare_both<L: Leaf>(
     requires a { IsOperand (L.value leaf.now).variables a }
     requires b { IsOperand (L.value leaf.now).variables b }
     requires form { HasForm (L.value leaf.now).variables form.now }
-    ensures when_true { IfOk result (λ made. L.value made.when_true ≡ compared_at L.meaning op a b form.now (L.value leaf.now)) }
-    ensures when_false { IfOk result (λ made. L.value made.when_false ≡ compared_at L.meaning (negation_of op) a b form.now (L.value leaf.now)) }
-    ensures true_same { IfOk result (λ made. (L.value made.when_true).variables ≡ (L.value leaf.now).variables) }
-    ensures false_same { IfOk result (λ made. (L.value made.when_false).variables ≡ (L.value leaf.now).variables) }
+    ensures when_true { IfOk result
+        (λ made. L.value made.when_true ≡ compared_at L.meaning op a b form.now (L.value leaf.now)) }
+    ensures when_false { IfOk result
+        (λ made. L.value made.when_false
+        ≡ compared_at L.meaning (negation_of op) a b form.now (L.value leaf.now)) }
+    ensures true_same { IfOk result
+        (λ made. (L.value made.when_true).variables ≡ (L.value leaf.now).variables) }
+    ensures false_same { IfOk result
+        (λ made. (L.value made.when_false).variables ≡ (L.value leaf.now).variables) }
 {
     let when_true = compare(alloc, leaf, op, a, b, form)?;
     let when_false = compare(alloc, leaf, negation(op), a, b, form)?;
@@ -306,10 +318,18 @@ pub(crate) fn compare_operands<L: Leaf>(
     requires b { IsTermOf (L.value leaf.now).variables (term b.now) }
     requires left { IsOver (L.value leaf.now).variables left.now }
     requires right { IsOver (L.value leaf.now).variables right.now }
-    ensures when_true { IfOk result (λ made. L.value made.when_true ≡ compared_terms L.meaning op (variable_of (term a.now)) (variable_of (term b.now)) left.now right.now (L.value leaf.now)) }
-    ensures when_false { IfOk result (λ made. L.value made.when_false ≡ compared_terms L.meaning (negation_of op) (variable_of (term a.now)) (variable_of (term b.now)) left.now right.now (L.value leaf.now)) }
-    ensures true_same { IfOk result (λ made. (L.value made.when_true).variables ≡ (L.value leaf.now).variables) }
-    ensures false_same { IfOk result (λ made. (L.value made.when_false).variables ≡ (L.value leaf.now).variables) }
+    ensures when_true { IfOk result
+        (λ made. L.value made.when_true
+        ≡ compared_terms L.meaning op (variable_of (term a.now)) (variable_of (term b.now)) left.now right.now
+        (L.value leaf.now)) }
+    ensures when_false { IfOk result
+        (λ made. L.value made.when_false
+        ≡ compared_terms L.meaning (negation_of op) (variable_of (term a.now))
+        (variable_of (term b.now)) left.now right.now (L.value leaf.now)) }
+    ensures true_same { IfOk result
+        (λ made. (L.value made.when_true).variables ≡ (L.value leaf.now).variables) }
+    ensures false_same { IfOk result
+        (λ made. (L.value made.when_false).variables ≡ (L.value leaf.now).variables) }
 {
     let counts = left.evaluation.fits && right.evaluation.fits;
     let form = difference_where(alloc, &left.form, &right.form, counts)?;
@@ -327,10 +347,16 @@ pub(crate) fn compare_zero<L: Leaf>(
 ) -> Result<Sides<L>, NoMemory>
     requires e { IsTermOf (L.value leaf.now).variables (term e.now) }
     requires found { IsOver (L.value leaf.now).variables found.now }
-    ensures when_true { IfOk result (λ made. L.value made.when_true ≡ compared_zero L.meaning Ne (variable_of (term e.now)) found.now (L.value leaf.now)) }
-    ensures when_false { IfOk result (λ made. L.value made.when_false ≡ compared_zero L.meaning Eq (variable_of (term e.now)) found.now (L.value leaf.now)) }
-    ensures true_same { IfOk result (λ made. (L.value made.when_true).variables ≡ (L.value leaf.now).variables) }
-    ensures false_same { IfOk result (λ made. (L.value made.when_false).variables ≡ (L.value leaf.now).variables) }
+    ensures when_true { IfOk result
+        (λ made. L.value made.when_true
+        ≡ compared_zero L.meaning Ne (variable_of (term e.now)) found.now (L.value leaf.now)) }
+    ensures when_false { IfOk result
+        (λ made. L.value made.when_false
+        ≡ compared_zero L.meaning Eq (variable_of (term e.now)) found.now (L.value leaf.now)) }
+    ensures true_same { IfOk result
+        (λ made. (L.value made.when_true).variables ≡ (L.value leaf.now).variables) }
+    ensures false_same { IfOk result
+        (λ made. (L.value made.when_false).variables ≡ (L.value leaf.now).variables) }
 {
     let form = less_zero_where(alloc, &found.form, found.evaluation.fits)?;
     let zero = Operand {

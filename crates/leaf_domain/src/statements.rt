@@ -23,7 +23,8 @@ fn may_stop<L: Leaf>(
     mode: Mode,
 ) -> Result<bool, NoMemory>
     requires { IsTermOf (L.value leaf.now).variables (term e.now) }
-    ensures { IfOk result (λ b. b ≡ (is_of_value kind && may_term L.meaning mode kind (term e.now) (L.value leaf.now))) }
+    ensures { IfOk result (λ b. b ≡
+        (is_of_value kind && may_term L.meaning mode kind (term e.now) (L.value leaf.now))) }
 {
     if !is_of_value(kind) {
         return Ok(false);

@@ -88,7 +88,8 @@ pub(crate) fn operation<L: Leaf>(
     requires op { IsTrue (is_arithmetic op) }
     requires a { IsOver (L.value leaf.now).variables a.now }
     requires b { IsOver (L.value leaf.now).variables b.now }
-    ensures value { IfOk result (λ found. found ≡ operation_survey L.meaning mode op a.now b.now (L.value leaf.now)) }
+    ensures value { IfOk result (λ found. found
+        ≡ operation_survey L.meaning mode op a.now b.now (L.value leaf.now)) }
     ensures over { IfOk result (IsOver (L.value leaf.now).variables) }
 {
     let form = combined(alloc, op, &a.form, &b.form)?;

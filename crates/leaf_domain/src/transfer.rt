@@ -67,11 +67,18 @@ pub(crate) fn split_with_stops<L: Leaf>(
     mode: Mode,
 ) -> Result<Split<L>, NoMemory>
     requires { IsTermOf (L.value leaf.now).variables (term e.now) }
-    ensures when_true { IfOk result (λ made. L.value made.when_true ≡ (transfer.transfer L.meaning mode (term e.now)).when_true (L.value leaf.now)) }
-    ensures when_false { IfOk result (λ made. L.value made.when_false ≡ (transfer.transfer L.meaning mode (term e.now)).when_false (L.value leaf.now)) }
-    ensures true_same { IfOk result (λ made. (L.value made.when_true).variables ≡ (L.value leaf.now).variables) }
-    ensures false_same { IfOk result (λ made. (L.value made.when_false).variables ≡ (L.value leaf.now).variables) }
-    ensures stops { IfOk result (λ made. made.stops ≡ stops_of L.meaning mode (term e.now) (L.value leaf.now)) }
+    ensures when_true { IfOk result
+        (λ made. L.value made.when_true
+        ≡ (transfer.transfer L.meaning mode (term e.now)).when_true (L.value leaf.now)) }
+    ensures when_false { IfOk result
+        (λ made. L.value made.when_false
+        ≡ (transfer.transfer L.meaning mode (term e.now)).when_false (L.value leaf.now)) }
+    ensures true_same { IfOk result
+        (λ made. (L.value made.when_true).variables ≡ (L.value leaf.now).variables) }
+    ensures false_same { IfOk result
+        (λ made. (L.value made.when_false).variables ≡ (L.value leaf.now).variables) }
+    ensures stops { IfOk result (λ made. made.stops
+        ≡ stops_of L.meaning mode (term e.now) (L.value leaf.now)) }
 {
     if leaf.is_nothing() {
         return copies(alloc, leaf);
@@ -138,10 +145,16 @@ pub fn fits<L: Leaf>(alloc: Global, leaf: &L, e: &Expr, mode: Mode) -> Result<bo
 /// The leaf where an expression is not 0 and the leaf where it is, by one pass over it.
 pub fn split<L: Leaf>(alloc: Global, leaf: &L, e: &Expr, mode: Mode) -> Result<Sides<L>, NoMemory>
     requires { IsTermOf (L.value leaf.now).variables (term e.now) }
-    ensures when_true { IfOk result (λ made. L.value made.when_true ≡ transfer.assumed L.meaning mode (term e.now) true (L.value leaf.now)) }
-    ensures when_false { IfOk result (λ made. L.value made.when_false ≡ transfer.assumed L.meaning mode (term e.now) false (L.value leaf.now)) }
-    ensures true_same { IfOk result (λ made. (L.value made.when_true).variables ≡ (L.value leaf.now).variables) }
-    ensures false_same { IfOk result (λ made. (L.value made.when_false).variables ≡ (L.value leaf.now).variables) }
+    ensures when_true { IfOk result
+        (λ made. L.value made.when_true
+        ≡ transfer.assumed L.meaning mode (term e.now) true (L.value leaf.now)) }
+    ensures when_false { IfOk result
+        (λ made. L.value made.when_false
+        ≡ transfer.assumed L.meaning mode (term e.now) false (L.value leaf.now)) }
+    ensures true_same { IfOk result
+        (λ made. (L.value made.when_true).variables ≡ (L.value leaf.now).variables) }
+    ensures false_same { IfOk result
+        (λ made. (L.value made.when_false).variables ≡ (L.value leaf.now).variables) }
 {
     let made = split_with_stops(alloc, leaf, e, mode)?;
     Ok(sides_of(made))
@@ -156,7 +169,8 @@ pub fn assume<L: Leaf>(
     mode: Mode,
 ) -> Result<L, NoMemory>
     requires { IsTermOf (L.value leaf.now).variables (term e.now) }
-    ensures value { IfOk result (λ made. L.value made ≡ transfer.assumed L.meaning mode (term e.now) want (L.value leaf.now)) }
+    ensures value { IfOk result (λ made. L.value made
+        ≡ transfer.assumed L.meaning mode (term e.now) want (L.value leaf.now)) }
     ensures same { IfOk result (λ made. (L.value made).variables ≡ (L.value leaf.now).variables) }
 {
     let Sides {
@@ -177,7 +191,8 @@ fn set<L: Leaf>(
     requires x { x < (L.value leaf.now).variables }
     requires form { HasForm (L.value leaf.now).variables form.now }
     requires range { IsInInt range }
-    ensures value { IfOk result (λ made. L.value made ≡ transfer.form_set L.meaning x form.now range (L.value leaf.now)) }
+    ensures value { IfOk result (λ made. L.value made
+        ≡ transfer.form_set L.meaning x form.now range (L.value leaf.now)) }
     ensures same { IfOk result (λ made. (L.value made).variables ≡ (L.value leaf.now).variables) }
 {
     leaf_is_valid(leaf);
@@ -191,7 +206,8 @@ fn set<L: Leaf>(
 pub fn assign<L: Leaf>(alloc: Global, leaf: &L, x: u32, e: &Expr, mode: Mode) -> Result<L, NoMemory>
     requires x { x < (L.value leaf.now).variables }
     requires e { IsTermOf (L.value leaf.now).variables (term e.now) }
-    ensures value { IfOk result (λ made. L.value made ≡ transfer.assigned L.meaning mode x (term e.now) (L.value leaf.now)) }
+    ensures value { IfOk result (λ made. L.value made
+        ≡ transfer.assigned L.meaning mode x (term e.now) (L.value leaf.now)) }
     ensures same { IfOk result (λ made. (L.value made).variables ≡ (L.value leaf.now).variables) }
 {
     let Survey {

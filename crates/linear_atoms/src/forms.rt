@@ -62,7 +62,8 @@ impl Linear {
     pub fn feature(alloc: Global, number: u32) -> Result<Linear, NoMemory>
         ensures exact { IfOk result (λ made. made ≡ feature_form number) }
         ensures rising { IfOk result (λ made. IsRising made.terms) }
-        ensures value { (values : List ℤ) → form_at (feature_form number) values ≡ slice_index_or values number (pos 0) }
+        ensures value { (values : List ℤ)
+            → form_at (feature_form number) values ≡ slice_index_or values number (pos 0) }
     {
         Ok(Linear {
             terms: Terms::single(alloc, number, 1)?,
@@ -92,7 +93,9 @@ impl Linear {
         requires right { IsRising other.now.terms }
         ensures exact { FormsWithin result (form_sum self.now other.now) }
         ensures rising { IfOk result (λ made. IsRising made.terms) }
-        ensures value { (values : List ℤ) → form_at (form_sum self.now other.now) values ≡ form_at self.now values +ℤ form_at other.now values }
+        ensures value { (values : List ℤ)
+            → form_at (form_sum self.now other.now) values
+            ≡ form_at self.now values +ℤ form_at other.now values }
     {
         let Some(terms) = self.terms.add(alloc, &other.terms, LARGEST)? else {
             return Err(LinearFault::TooLarge);
@@ -108,7 +111,8 @@ impl Linear {
         requires { IsRising self.now.terms }
         ensures exact { FormsWithin result (form_by by self.now) }
         ensures rising { IfOk result (λ made. IsRising made.terms) }
-        ensures value { (values : List ℤ) → form_at (form_by by self.now) values ≡ form_at self.now values *ℤ by }
+        ensures value { (values : List ℤ)
+            → form_at (form_by by self.now) values ≡ form_at self.now values *ℤ by }
     {
         let Some(terms) = self.terms.scale(alloc, by, LARGEST)? else {
             return Err(LinearFault::TooLarge);

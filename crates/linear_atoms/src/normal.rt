@@ -130,8 +130,10 @@ impl Linear {
     pub fn normal(&self, alloc: Global) -> Result<Normal, LinearFault>
         requires { IsRising self.now.terms }
         ensures exact { NormalWithin result self.now }
-        ensures atom { (count : ℕ) → AreBelow count self.now.terms → IfOk result (λ made. IsNormal count made) }
-        ensures truth { (values : List ℤ) → normal_holds (normal_of self.now) values ≡ int_le (pos 0) (form_at self.now values) }
+        ensures atom { (count : ℕ) → AreBelow count self.now.terms
+            → IfOk result (λ made. IsNormal count made) }
+        ensures truth { (values : List ℤ)
+            → normal_holds (normal_of self.now) values ≡ int_le (pos 0) (form_at self.now values) }
     {
         let terms = self.terms.items();
         if !are_small(terms) || !is_small(self.constant) {

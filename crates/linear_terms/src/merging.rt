@@ -63,10 +63,12 @@ fn next<'a>(
 ) -> Option<(u32, i128, &'a [(u32, i64)], &'a [(u32, i64)])>
     requires left { IsRising left.now }
     requires right { IsRising right.now }
-    ensures first { MatchOption result (terms_sum left.now right.now ≡ []) (λ x. terms_sum left.now right.now ≡ one x.0 x.1 ++ terms_sum x.2.now x.3.now) }
+    ensures first { MatchOption result (terms_sum left.now right.now ≡ [])
+        (λ x. terms_sum left.now right.now ≡ one x.0 x.1 ++ terms_sum x.2.now x.3.now) }
     ensures left { MatchOption result (Unit {0}) (λ x. IsRising x.2.now) }
     ensures right { MatchOption result (Unit {0}) (λ x. IsRising x.3.now) }
-    ensures shorter { MatchOption result (Unit {0}) (λ x. length x.2.now + length x.3.now < length left.now + length right.now) }
+    ensures shorter { MatchOption result (Unit {0})
+        (λ x. length x.2.now + length x.3.now < length left.now + length right.now) }
 {
     match (first_term(left), first_term(right)) {
         (None, None) => None,
@@ -137,7 +139,9 @@ impl Terms {
         requires limit { limit < 9223372036854775808 }
         ensures exact { IfOk result (λ made. made ≡ terms_within limit (terms_sum self.now other.now)) }
         ensures rising { IsRising (terms_sum self.now other.now) }
-        ensures value { (values : List ℤ) → sum_at (terms_sum self.now other.now) values ≡ sum_at self.now values +ℤ sum_at other.now values }
+        ensures value { (values : List ℤ)
+            → sum_at (terms_sum self.now other.now) values
+            ≡ sum_at self.now values +ℤ sum_at other.now values }
     {
         merged(alloc, self.items(), other.items(), limit)
     }
@@ -149,7 +153,8 @@ impl Terms {
         requires { limit < 9223372036854775808 }
         ensures exact { IfOk result (λ made. made ≡ terms_within limit (terms_by by self.now)) }
         ensures rising { IsRising self.now → IsRising (terms_by by self.now) }
-        ensures value { (values : List ℤ) → sum_at (terms_by by self.now) values ≡ sum_at self.now values *ℤ by }
+        ensures value { (values : List ℤ)
+            → sum_at (terms_by by self.now) values ≡ sum_at self.now values *ℤ by }
     {
         multiplied(alloc, self.items(), by, limit)
     }

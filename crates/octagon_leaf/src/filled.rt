@@ -28,7 +28,8 @@ fn filled<F: Fn(u32, u32) -> i64>(
 ) -> Result<Matrix, NoMemory>
     requires few { variables ≤ 16 }
     requires callable { (a b : ℕ) → a < 2 * variables → b < 2 * variables → a ≢ b → F.pre entry a b }
-    requires large { (a b : ℕ) (r : ℤ) → a < 2 * variables → b < 2 * variables → a ≢ b → F.post entry a b r → least_entry ≤ℤ r }
+    requires large { (a b : ℕ) (r : ℤ) → a < 2 * variables → b < 2 * variables → a ≢ b → F.post entry a b r
+        → least_entry ≤ℤ r }
     ensures entries { (f : ℕ → ℕ → ℤ) → IsFull variables f
         → ((a b : ℕ) (r : ℤ) → a < 2 * variables → b < 2 * variables → a ≢ b → F.post entry a b r → r ≡ f a b)
         → IfOk result (λ m. HasEntries m variables f) }

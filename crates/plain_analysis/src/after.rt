@@ -36,7 +36,8 @@ pub(crate) fn after_list<L: Leaf>(
     requires fit { IsCodeOf (L.value leaf.now).variables (code list.now) }
     requires loops { HasLoopsOf (whole task.now.program.now) (code list.now) }
     requires memory { Remembers L.value L.meaning task.now finals.old }
-    ensures value { IfOk result (λ made. L.value made ≡ after_of L.meaning task.now.options (code list.now) (L.value leaf.now)) }
+    ensures value { IfOk result (λ made. L.value made
+        ≡ after_of L.meaning task.now.options (code list.now) (L.value leaf.now)) }
     ensures same { IfOk result (λ made. (L.value made).variables ≡ (L.value leaf.now).variables) }
     ensures memory { OnOk result (Remembers L.value L.meaning task.now finals.new) }
 {
@@ -64,7 +65,8 @@ fn after_stmt<L: Leaf>(
     requires fit { IsCodeOf (L.value leaf.now).variables (front s.now Done) }
     requires loops { HasLoopsOf (whole task.now.program.now) (front s.now Done) }
     requires memory { Remembers L.value L.meaning task.now finals.old }
-    ensures value { IfOk result (λ made. L.value made ≡ after_of L.meaning task.now.options (front s.now Done) (L.value leaf.now)) }
+    ensures value { IfOk result (λ made. L.value made
+        ≡ after_of L.meaning task.now.options (front s.now Done) (L.value leaf.now)) }
     ensures same { IfOk result (λ made. (L.value made).variables ≡ (L.value leaf.now).variables) }
     ensures memory { OnOk result (Remembers L.value L.meaning task.now finals.new) }
 {
@@ -137,7 +139,9 @@ fn after_side<L: Leaf>(
     requires list { IsCodeOf (L.value leaf.now).variables (code list.now) }
     requires loops { HasLoopsOf (whole task.now.program.now) (code list.now) }
     requires memory { Remembers L.value L.meaning task.now finals.old }
-    ensures value { IfOk result (λ made. L.value made ≡ after_of L.meaning task.now.options (code list.now) (assumed L.meaning task.now.options.mode (term test.now) want (L.value leaf.now))) }
+    ensures value { IfOk result (λ made. L.value made
+        ≡ after_of L.meaning task.now.options (code list.now)
+        (assumed L.meaning task.now.options.mode (term test.now) want (L.value leaf.now))) }
     ensures same { IfOk result (λ made. (L.value made).variables ≡ (L.value leaf.now).variables) }
     ensures memory { OnOk result (Remembers L.value L.meaning task.now finals.new) }
 {
@@ -168,7 +172,9 @@ fn turn<L: Leaf>(
     requires body { IsCodeOf (L.value leaf.now).variables (code body.now) }
     requires loops { HasLoopsOf (whole task.now.program.now) (code body.now) }
     requires memory { Remembers L.value L.meaning task.now finals.old }
-    ensures value { IfOk result (λ made. L.value made ≡ loop_turn L.meaning task.now.options (term test.now) (code body.now) (L.value leaf.now) (L.value at.now)) }
+    ensures value { IfOk result (λ made. L.value made
+        ≡ loop_turn L.meaning task.now.options (term test.now) (code body.now) (L.value leaf.now)
+        (L.value at.now)) }
     ensures same { IfOk result (λ made. (L.value made).variables ≡ (L.value leaf.now).variables) }
     ensures memory { OnOk result (Remembers L.value L.meaning task.now finals.new) }
 {
@@ -193,7 +199,9 @@ fn head_at<L: Leaf>(
     requires loops { HasLoopsOf (whole task.now.program.now) (code body.now) }
     requires memory { Remembers L.value L.meaning task.now finals.old }
     ensures at { IfOk result (λ head. L.value head.at ≡ L.value at) }
-    ensures head { IfOk result (λ head. IsHead L.value (loop_turn L.meaning task.now.options (term test.now) (code body.now) (L.value leaf.now)) (L.value leaf.now).variables head) }
+    ensures head { IfOk result (λ head. IsHead L.value
+        (loop_turn L.meaning task.now.options (term test.now) (code body.now) (L.value leaf.now))
+        (L.value leaf.now).variables head) }
     ensures memory { OnOk result (Remembers L.value L.meaning task.now finals.new) }
 {
     let next = turn(alloc, finals, task, body, test, leaf, &at)?;
@@ -215,8 +223,13 @@ fn widened<L: Leaf>(
     requires body { IsCodeOf (L.value leaf.now).variables (code body.now) }
     requires loops { HasLoopsOf (whole task.now.program.now) (code body.now) }
     requires memory { Remembers L.value L.meaning task.now finals.old }
-    ensures value { IfOk result (λ head. L.value head.at ≡ widened_leaf L.meaning task.now.options.delay (loop_turn L.meaning task.now.options (term test.now) (code body.now) (L.value leaf.now)) (L.value leaf.now)) }
-    ensures head { IfOk result (λ head. IsHead L.value (loop_turn L.meaning task.now.options (term test.now) (code body.now) (L.value leaf.now)) (L.value leaf.now).variables head) }
+    ensures value { IfOk result (λ head. L.value head.at
+        ≡ widened_leaf L.meaning task.now.options.delay
+        (loop_turn L.meaning task.now.options (term test.now) (code body.now) (L.value leaf.now))
+        (L.value leaf.now)) }
+    ensures head { IfOk result (λ head. IsHead L.value
+        (loop_turn L.meaning task.now.options (term test.now) (code body.now) (L.value leaf.now))
+        (L.value leaf.now).variables head) }
     ensures memory { OnOk result (Remembers L.value L.meaning task.now finals.new) }
 {
     let delay = u64::from(task.options.delay);
@@ -243,14 +256,22 @@ fn narrowed<L: Leaf>(
     leaf: &L,
     head: &Head<L>,
 ) -> Result<Option<Head<L>>, NoMemory>
-    requires head { IsHead L.value (loop_turn L.meaning task.now.options (term test.now) (code body.now) (L.value leaf.now)) (L.value leaf.now).variables head.now }
+    requires head { IsHead L.value (loop_turn L.meaning task.now.options (term test.now) (code body.now)
+        (L.value leaf.now)) (L.value leaf.now).variables head.now }
     requires test { IsTermOf (L.value leaf.now).variables (term test.now) }
     requires body { IsCodeOf (L.value leaf.now).variables (code body.now) }
     requires loops { HasLoopsOf (whole task.now.program.now) (code body.now) }
     requires memory { Remembers L.value L.meaning task.now finals.old }
-    ensures kept { IfOk result (λ made. IfNone made (narrowing_of L.meaning (loop_turn L.meaning task.now.options (term test.now) (code body.now) (L.value leaf.now)) (L.value head.now.at) ≡ L.value head.now.at)) }
-    ensures taken { IfOk result (λ made. IfSome made (λ next. narrowing_of L.meaning (loop_turn L.meaning task.now.options (term test.now) (code body.now) (L.value leaf.now)) (L.value head.now.at) ≡ L.value next.at)) }
-    ensures head { IfOk result (λ made. IfSome made (λ next. IsHead L.value (loop_turn L.meaning task.now.options (term test.now) (code body.now) (L.value leaf.now)) (L.value leaf.now).variables next)) }
+    ensures kept { IfOk result (λ made. IfNone made
+        (narrowing_of L.meaning (loop_turn L.meaning task.now.options (term test.now) (code body.now)
+        (L.value leaf.now)) (L.value head.now.at) ≡ L.value head.now.at)) }
+    ensures taken { IfOk result (λ made. IfSome made
+        (λ next. narrowing_of L.meaning
+        (loop_turn L.meaning task.now.options (term test.now) (code body.now) (L.value leaf.now))
+        (L.value head.now.at) ≡ L.value next.at)) }
+    ensures head { IfOk result (λ made. IfSome made
+        (λ next. IsHead L.value (loop_turn L.meaning task.now.options (term test.now) (code body.now)
+        (L.value leaf.now)) (L.value leaf.now).variables next)) }
     ensures memory { OnOk result (Remembers L.value L.meaning task.now finals.new) }
 {
     equality_is_exact::<L>();
@@ -281,7 +302,9 @@ fn final_by_rounds<L: Leaf>(
     requires body { IsCodeOf (L.value leaf.now).variables (code body.now) }
     requires loops { HasLoopsOf (whole task.now.program.now) (code body.now) }
     requires memory { Remembers L.value L.meaning task.now finals.old }
-    ensures value { IfOk result (λ made. L.value made ≡ loops.final_leaf L.meaning task.now.options (term test.now) (after_of L.meaning task.now.options (code body.now)) (L.value leaf.now)) }
+    ensures value { IfOk result (λ made. L.value made
+        ≡ loops.final_leaf L.meaning task.now.options (term test.now)
+        (after_of L.meaning task.now.options (code body.now)) (L.value leaf.now)) }
     ensures same { IfOk result (λ made. (L.value made).variables ≡ (L.value leaf.now).variables) }
     ensures memory { OnOk result (Remembers L.value L.meaning task.now finals.new) }
 {
@@ -312,7 +335,9 @@ pub(crate) fn final_leaf<L: Leaf>(
     requires loops { HasLoopsOf (whole task.now.program.now) (code body.now) }
     requires here { IsLoopAt (whole task.now.program.now) place (term test.now) (code body.now) }
     requires memory { Remembers L.value L.meaning task.now finals.old }
-    ensures value { IfOk result (λ made. L.value made ≡ loops.final_leaf L.meaning task.now.options (term test.now) (after_of L.meaning task.now.options (code body.now)) (L.value leaf.now)) }
+    ensures value { IfOk result (λ made. L.value made
+        ≡ loops.final_leaf L.meaning task.now.options (term test.now)
+        (after_of L.meaning task.now.options (code body.now)) (L.value leaf.now)) }
     ensures same { IfOk result (λ made. (L.value made).variables ≡ (L.value leaf.now).variables) }
     ensures memory { OnOk result (Remembers L.value L.meaning task.now finals.new) }
 {

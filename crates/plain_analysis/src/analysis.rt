@@ -44,8 +44,11 @@ pub fn analyse_one<L: Leaf>(
     requires plain { IsPlainProgram (whole program.now) }
     requires variables { (L.value start.now).variables ≡ length program.now.names }
     ensures places { IfOk result (λ f. map (λ at. at.place) f.places ≡ program_places (whole program.now)) }
-    ensures leaves { IfOk result (λ f. map (λ at. L.value at.leaf) f.places ≡ map (at_of L.meaning options.now (whole program.now) (L.value start.now)) (program_places (whole program.now))) }
-    ensures alarms { IfOk result (λ f. f.alarms ≡ alarms_of L.meaning options.now (whole program.now) (L.value start.now)) }
+    ensures leaves { IfOk result (λ f. map (λ at. L.value at.leaf) f.places
+        ≡ map (at_of L.meaning options.now (whole program.now) (L.value start.now))
+        (program_places (whole program.now))) }
+    ensures alarms { IfOk result (λ f. f.alarms
+        ≡ alarms_of L.meaning options.now (whole program.now) (L.value start.now)) }
     ensures runs { RunsForeseen L.meaning options.now (whole program.now) (L.value start.now) }
     ensures settled { LoopsSettle L.meaning options.now }
 {

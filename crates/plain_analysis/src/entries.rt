@@ -39,7 +39,8 @@ fn add_leaf<L: Leaf>(
     place: Place,
     leaf: &L,
 ) -> Result<(), NoMemory>
-    ensures leaves { OnOk result (map (place_and_leaf L.value) found.new.places.items ≡ map (place_and_leaf L.value) found.old.places.items ++ (place, L.value leaf.now) ∷ []) }
+    ensures leaves { OnOk result (map (place_and_leaf L.value) found.new.places.items
+        ≡ map (place_and_leaf L.value) found.old.places.items ++ (place, L.value leaf.now) ∷ []) }
     ensures alarms { OnOk result (found.new.alarms.items ≡ found.old.alarms.items) }
 {
     let leaf = leaf.copy(alloc)?;
@@ -59,7 +60,9 @@ fn add_alarm<L: Leaf>(
 ) -> Result<(), NoMemory>
     requires { IsCodeOf (L.value leaf.now).variables (front s.now Done) }
     ensures leaves { OnOk result (found.new.places.items ≡ found.old.places.items) }
-    ensures alarms { OnOk result (found.new.alarms.items ≡ found.old.alarms.items ++ alarm_where (may_at L.meaning options.mode kind (front s.now Done) (L.value leaf.now)) place kind) }
+    ensures alarms { OnOk result (found.new.alarms.items
+        ≡ found.old.alarms.items ++ alarm_where
+        (may_at L.meaning options.mode kind (front s.now Done) (L.value leaf.now)) place kind) }
 {
     if may(alloc, leaf, kind, s, options.mode)? {
         found.alarms.push(Alarm { place, kind })?;
@@ -77,7 +80,8 @@ fn enter<L: Leaf>(
     options: Options,
 ) -> Result<(), NoMemory>
     requires { IsCodeOf (L.value leaf.now).variables (front s.now Done) }
-    ensures { OnOk result (HasEntered L.value L.meaning options found.old found.new (record { place = place; statement = front s.now Done; leaf = L.value leaf.now } ∷ [])) }
+    ensures { OnOk result (HasEntered L.value L.meaning options found.old found.new
+        (record { place = place; statement = front s.now Done; leaf = L.value leaf.now } ∷ [])) }
 {
     add_leaf(alloc, found, place, leaf)?;
     add_alarm(alloc, found, s, place, Kind::Overflow, leaf, options)?;
@@ -98,9 +102,11 @@ pub(crate) fn enter_list<L: Leaf>(
     requires fit { IsCodeOf (L.value leaf.now).variables (code list.now) }
     requires loops { HasLoopsOf (whole task.now.program.now) (code list.now) }
     requires memory { Remembers L.value L.meaning task.now finals.old }
-    ensures value { IfOk result (λ made. L.value made ≡ after_of L.meaning task.now.options (code list.now) (L.value leaf.now)) }
+    ensures value { IfOk result (λ made. L.value made
+        ≡ after_of L.meaning task.now.options (code list.now) (L.value leaf.now)) }
     ensures same { IfOk result (λ made. (L.value made).variables ≡ (L.value leaf.now).variables) }
-    ensures entered { OnOk result (HasEntered L.value L.meaning task.now.options found.old found.new (entries_of L.meaning task.now.options (code list.now) (L.value leaf.now))) }
+    ensures entered { OnOk result (HasEntered L.value L.meaning task.now.options found.old found.new
+        (entries_of L.meaning task.now.options (code list.now) (L.value leaf.now))) }
     ensures memory { OnOk result (Remembers L.value L.meaning task.now finals.new) }
 {
     let mut made = leaf.copy(alloc)?;
@@ -124,9 +130,11 @@ fn enter_stmt<L: Leaf>(
     requires fit { IsCodeOf (L.value leaf.now).variables (front s.now Done) }
     requires loops { HasLoopsOf (whole task.now.program.now) (front s.now Done) }
     requires memory { Remembers L.value L.meaning task.now finals.old }
-    ensures value { IfOk result (λ made. L.value made ≡ after_of L.meaning task.now.options (front s.now Done) (L.value leaf.now)) }
+    ensures value { IfOk result (λ made. L.value made
+        ≡ after_of L.meaning task.now.options (front s.now Done) (L.value leaf.now)) }
     ensures same { IfOk result (λ made. (L.value made).variables ≡ (L.value leaf.now).variables) }
-    ensures entered { OnOk result (HasEntered L.value L.meaning task.now.options found.old found.new (entries_of L.meaning task.now.options (front s.now Done) (L.value leaf.now))) }
+    ensures entered { OnOk result (HasEntered L.value L.meaning task.now.options found.old found.new
+        (entries_of L.meaning task.now.options (front s.now Done) (L.value leaf.now))) }
     ensures memory { OnOk result (Remembers L.value L.meaning task.now finals.new) }
 {
     match s {
@@ -191,9 +199,13 @@ fn enter_side<L: Leaf>(
     requires list { IsCodeOf (L.value leaf.now).variables (code list.now) }
     requires loops { HasLoopsOf (whole task.now.program.now) (code list.now) }
     requires memory { Remembers L.value L.meaning task.now finals.old }
-    ensures value { IfOk result (λ made. L.value made ≡ after_of L.meaning task.now.options (code list.now) (assumed L.meaning task.now.options.mode (term test.now) want (L.value leaf.now))) }
+    ensures value { IfOk result (λ made. L.value made
+        ≡ after_of L.meaning task.now.options (code list.now)
+        (assumed L.meaning task.now.options.mode (term test.now) want (L.value leaf.now))) }
     ensures same { IfOk result (λ made. (L.value made).variables ≡ (L.value leaf.now).variables) }
-    ensures entered { OnOk result (HasEntered L.value L.meaning task.now.options found.old found.new (entries_of L.meaning task.now.options (code list.now) (assumed L.meaning task.now.options.mode (term test.now) want (L.value leaf.now)))) }
+    ensures entered { OnOk result (HasEntered L.value L.meaning task.now.options found.old found.new
+        (entries_of L.meaning task.now.options (code list.now)
+        (assumed L.meaning task.now.options.mode (term test.now) want (L.value leaf.now)))) }
     ensures memory { OnOk result (Remembers L.value L.meaning task.now finals.new) }
 {
     let inside = assume(alloc, leaf, test, want, task.options.mode)?;

@@ -40,7 +40,8 @@ pub(crate) fn remember<L: Eq + Hash + Drop>(
     key: Entered<L>,
     last: L,
 ) -> Result<(), NoMemory>
-    ensures { OnOk result (entries.new.entries ≡ insert_entry (same_entered L.eq) entries.old.entries key last) }
+    ensures { OnOk result (entries.new.entries
+        ≡ insert_entry (same_entered L.eq) entries.old.entries key last) }
 {
     entries.insert(key, last)?;
     Ok(())

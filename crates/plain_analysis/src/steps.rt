@@ -23,7 +23,8 @@ pub fn joined<L: Leaf>(alloc: Global, a: &L, b: &L) -> Result<L, NoMemory>
 /// comes in.
 pub fn narrowed_by<L: Leaf>(alloc: Global, at: &L, next: &L) -> Result<L, NoMemory>
     requires { (L.value at.now).variables ≡ (L.value next.now).variables }
-    ensures value { IfOk result (λ made. L.value made ≡ L.meaning.narrow (L.value at.now) (L.value next.now)) }
+    ensures value { IfOk result (λ made. L.value made
+        ≡ L.meaning.narrow (L.value at.now) (L.value next.now)) }
     ensures same { IfOk result (λ made. (L.value made).variables ≡ (L.value at.now).variables) }
 {
     leaf_is_valid(at);
@@ -40,10 +41,14 @@ pub fn moved<L: Leaf>(
     is_early: bool,
 ) -> Result<Option<L>, NoMemory>
     requires { (L.value at.now).variables ≡ (L.value next.now).variables }
-    ensures stable { IfOk result (λ made. IfNone made (L.meaning.leq (L.value next.now) (L.value at.now) ≡ true)) }
-    ensures moved { IfOk result (λ made. IfSome made (λ leaf. L.meaning.leq (L.value next.now) (L.value at.now) ≡ false)) }
-    ensures value { IfOk result (λ made. IfSome made (λ leaf. L.value leaf ≡ moved_by L.meaning is_early (L.value at.now) (L.value next.now))) }
-    ensures same { IfOk result (λ made. IfSome made (λ leaf. (L.value leaf).variables ≡ (L.value at.now).variables)) }
+    ensures stable { IfOk result (λ made. IfNone made
+        (L.meaning.leq (L.value next.now) (L.value at.now) ≡ true)) }
+    ensures moved { IfOk result (λ made. IfSome made
+        (λ leaf. L.meaning.leq (L.value next.now) (L.value at.now) ≡ false)) }
+    ensures value { IfOk result (λ made. IfSome made
+        (λ leaf. L.value leaf ≡ moved_by L.meaning is_early (L.value at.now) (L.value next.now))) }
+    ensures same { IfOk result (λ made. IfSome made
+        (λ leaf. (L.value leaf).variables ≡ (L.value at.now).variables)) }
 {
     leaf_is_valid(at);
     leaf_is_valid(next);
@@ -60,7 +65,8 @@ pub fn moved<L: Leaf>(
 /// The leaf at the head of a loop after one round, where it may stay.
 pub fn round<L: Leaf>(alloc: Global, at: &L, next: &L, is_early: bool) -> Result<L, NoMemory>
     requires { (L.value at.now).variables ≡ (L.value next.now).variables }
-    ensures value { IfOk result (λ made. L.value made ≡ round_by L.meaning is_early (L.value at.now) (L.value next.now)) }
+    ensures value { IfOk result (λ made. L.value made
+        ≡ round_by L.meaning is_early (L.value at.now) (L.value next.now)) }
     ensures same { IfOk result (λ made. (L.value made).variables ≡ (L.value at.now).variables) }
 {
     match moved(alloc, at, next, is_early)? {

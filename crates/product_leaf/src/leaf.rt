@@ -139,7 +139,8 @@ impl StrideLeaf {
         requires x { x < self.now.variables }
         requires own { IfSome part IsOwn }
         requires best { IfSome part (λ b. b ≡ reduced b) }
-        ensures { (b : strided.Strided) → part ≡ best_part b → IfOk result (λ leaf. leaf ≡ stride_with self.now x b) }
+        ensures { (b : strided.Strided) → part ≡ best_part b
+            → IfOk result (λ leaf. leaf ≡ stride_with self.now x b) }
     {
         let Some(parts) = self.best_parts() else {
             return Ok(StrideLeaf::none(self.count()));

@@ -92,7 +92,8 @@ pub fn step(
     requires fit { IsFit (standing state.old) }
     requires ints { All IsInt inputs.now }
     ensures progress { IfOk result (λ p. p ≡ progress_of (next_of mode inputs.now (standing state.old))) }
-    ensures left { OnOk result (standing state.new ≡ left_by (next_of mode inputs.now (standing state.old)) (standing state.old)) }
+    ensures left { OnOk result (standing state.new
+        ≡ left_by (next_of mode inputs.now (standing state.old)) (standing state.old)) }
     ensures err { OnErr result (standing state.new ≡ standing state.old) }
     ensures fit { IsFit (standing state.new) }
 {
@@ -174,8 +175,12 @@ fn place_of(head: &Stmt) -> Place
 /// Does what is planned for the first statement.
 fn act(state: &mut State, plan: Plan, inputs: &[i64]) -> Result<Progress, NoMemory>
     requires { IsWithin (length state.old.store.items) (length inputs.now - state.old.taken) plan }
-    ensures progress { IfOk result (λ p. p ≡ progress_of (performed plan (below state.old.todo.items) (pile state.old.todo.items) state.old.store.items state.old.taken)) }
-    ensures left { OnOk result (standing state.new ≡ left_by (performed plan (below state.old.todo.items) (pile state.old.todo.items) state.old.store.items state.old.taken) (standing state.old)) }
+    ensures progress { IfOk result (λ p. p
+        ≡ progress_of (performed plan (below state.old.todo.items)
+        (pile state.old.todo.items) state.old.store.items state.old.taken)) }
+    ensures left { OnOk result (standing state.new
+        ≡ left_by (performed plan (below state.old.todo.items)
+        (pile state.old.todo.items) state.old.store.items state.old.taken) (standing state.old)) }
     ensures err { OnErr result (standing state.new ≡ standing state.old) }
 {
     match plan {
@@ -232,7 +237,9 @@ fn plan_for(
     requires plain { IsPlain (front head.now Done) }
     requires ints { All IsInt store.now }
     ensures target { IfOk result (IsWithin (length store.now) (length inputs.now - taken)) }
-    ensures does { IfOk result (λ plan. (rest : Code) → step_of mode inputs.now (front head.now rest) store.now taken ≡ performed plan rest (front head.now rest) store.now taken) }
+    ensures does { IfOk result (λ plan. (rest : Code)
+        → step_of mode inputs.now (front head.now rest) store.now taken
+        ≡ performed plan rest (front head.now rest) store.now taken) }
 {
     match head {
         Stmt::Assign {
@@ -298,7 +305,8 @@ fn input_at(inputs: &[i64], taken: u64) -> Option<i64>
 /// The statement that comes first.
 #[tactic(auto, using(crate::proofs::Stacks::head_is))]
 fn head_of(todo: &Vec<Stmt>) -> Option<&Stmt>
-    ensures { MatchOption result (pile todo.now.items ≡ Done) (λ s. pile todo.now.items ≡ front s.now (below todo.now.items)) }
+    ensures { MatchOption result (pile todo.now.items ≡ Done)
+        (λ s. pile todo.now.items ≡ front s.now (below todo.now.items)) }
 {
     todo.last()
 }

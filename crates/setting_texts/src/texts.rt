@@ -29,7 +29,8 @@ pub fn push_settings<N: Named>(
     named: &[N],
     values: &[i64],
 ) -> Result<(), NoMemory>
-    ensures { IfOk result (λ _. text.new.items ≡ text.old.items ++ spaced_settings (map N.name_of named.now) values.now) }
+    ensures { IfOk result (λ _. text.new.items
+        ≡ text.old.items ++ spaced_settings (map N.name_of named.now) values.now) }
 {
     let mut names = named;
     let mut rest = values;
