@@ -124,6 +124,9 @@ pinned m ss i w t h g e f r same =
 pub serves_none : (m : List ℤ → Bool) (ss : List Span) → AreRanges (ranges ss) → Serves m ss ss
 serves_none m ss h = record { long = refl; some = h; finds = λ found k. k; no_wider = omega arith }
 
+pub serves_same : (m : List ℤ → Bool) (old new : List Span) → AreRanges (ranges old) → new ≡ old → Serves m old new
+serves_same m old new h e = subst (Serves m old) (sym e) (serves_none m old h)
+
 pub serves_more : (m : List ℤ → Bool) (old mid new : List Span) → Serves m old mid → Serves m mid new → Serves m old new
 serves_more m old mid new h k = record {
   long = k.long ∙ h.long;
@@ -131,6 +134,18 @@ serves_more m old mid new h k = record {
   finds = λ found f. h.finds found (k.finds found f);
   no_wider = (let a = h.no_wider in let b = k.no_wider in omega arith);
 }
+
+pub served_fit : (m : List ℤ → Bool) (old new d : List Span) (cs : List Condition) → Serves m old new → d ≡ new → AreFit (length old) cs → AreFit (length d) cs
+served_fit m old new d cs s e h = subst (λ x. AreFit x cs) (sym (ap length e ∙ s.long)) h
+
+pub served_ranges : (m : List ℤ → Bool) (old new d : List Span) → Serves m old new → d ≡ new → AreRanges (ranges d)
+served_ranges m old new d s e = subst (λ x. AreRanges (ranges x)) (sym e) s.some
+
+pub served_found : (m : List ℤ → Bool) (old new d : List Span) (found : Option Config) → Serves m old new → d ≡ new → FindsIn (ranges d) m found → FindsIn (ranges old) m found
+served_found m old new d found s e f = s.finds found (subst (λ x. FindsIn (ranges x) m found) e f)
+
+pub served_more : (m : List ℤ → Bool) (old mid d new : List Span) → Serves m old mid → d ≡ mid → Serves m d new → Serves m old new
+served_more m old mid d new s e t = serves_more m old mid new s (subst (λ x. Serves m x new) e t)
 
 pub narrow_serves : (cs : List Condition) (p : Proposition Atom) (old new : List Span) → Narrows cs p old new → Serves (meets cs p) old new
 narrow_serves cs p old new n = record { long = n.long; some = n.some; finds = λ found f. narrowed_finds cs p old new found n f; no_wider = n.no_wider }

@@ -36,6 +36,22 @@ pub or_right : (a b : Bool) → b ≡ true → true ≡ (a || b)
 or_right true b e = refl
 or_right false b e = sym e
 
+pub and_first : (a b : Bool) → (a && b) ≡ false → b ≡ true → a ≡ false
+and_first true b h e = absurd (false≢true (sym h ∙ e))
+and_first false b h e = refl
+
+pub and_second : (a b : Bool) → (a && b) ≡ false → a ≡ true → b ≡ false
+and_second true b h e = h
+and_second false b h e = absurd (false≢true e)
+
+pub or_first : (a b : Bool) → (a || b) ≡ true → b ≡ false → a ≡ true
+or_first true b h e = refl
+or_first false b h e = absurd (false≢true (sym e ∙ h))
+
+pub or_second : (a b : Bool) → (a || b) ≡ true → a ≡ false → b ≡ true
+or_second true b h e = absurd (false≢true (sym e))
+or_second false b h e = h
+
 truth_at : (atoms : List Atom) (values : List ℤ) (n : ℕ) (a : Atom) → n < length atoms → a ≡ get_or atoms n a → get_or (vector_at atoms values) n false ≡ holds a values
 truth_at [] values n a h e = absurd (omega arith)
 truth_at (b ∷ bs) values zero a h e = ap (λ x. holds x values) (sym e)
@@ -57,12 +73,12 @@ denied atoms ks values n m a c b h k e f s d w =
 
 -- ---- rounds
 
-pub kept_once : (atoms : List Atom) (old mid new : List (Option Bool)) (p q : Proposition ℕ) → ((v : List Bool) → Knows old v → true_on v q ≡ true_on v p) → ((v : List Bool) → Knows old v → true_on v q ≡ true → Knows mid v)
-    → ((values : List ℤ) → Knows mid (vector_at atoms values) → Knows new (vector_at atoms values)) → Keeps atoms old p new q
-kept_once atoms old mid new p q r f o = record {
-  knows = λ vs k t. o vs (f (vector_at atoms vs) k (r (vector_at atoms vs) k ∙ t));
-  true_still = λ vs k t. r (vector_at atoms vs) k ∙ t;
-}
+pub kept_step : (atoms : List Atom) (old mid new : List (Option Bool)) (p : Proposition ℕ) → ((v : List Bool) → Knows old v → true_on v p ≡ true → Knows mid v)
+    → ((values : List ℤ) → Knows mid (vector_at atoms values) → Knows new (vector_at atoms values)) → Keeps atoms old p new p
+kept_step atoms old mid new p f o = record { knows = λ vs k t. o vs (f (vector_at atoms vs) k t); true_still = λ vs k t. t }
+
+pub kept_left : (atoms : List Atom) (known : List (Option Bool)) (p q : Proposition ℕ) → ((v : List Bool) → Knows known v → true_on v q ≡ true_on v p) → Keeps atoms known p known q
+kept_left atoms known p q r = record { knows = λ vs k t. k; true_still = λ vs k t. r (vector_at atoms vs) k ∙ t }
 
 pub kept_more : (atoms : List Atom) (old mid new : List (Option Bool)) (p q r : Proposition ℕ) → Keeps atoms old p mid q → Keeps atoms mid q new r → Keeps atoms old p new r
 kept_more atoms old mid new p q r h k = record {

@@ -1,6 +1,7 @@
 pub mod Facts
 pub mod Free
 pub mod Narrowing
+pub mod Parts
 pub mod Plausible
 pub mod Solutions
 pub mod Spans

@@ -1,12 +1,12 @@
 -- What is known of the truths of numbered tests.
-use Rattle.std.specs.Prelude.{◌≡◌, ℕ, ◌<◌, ℤ, Bool, true, false, List, length, map, slice_index_or, Option, None}
+use Rattle.std.specs.Prelude.{◌≡◌, ℕ, ℤ, Bool, true, false, List, ◌++◌, length, map, slice_index_or, Option, None}
 use Rattle.linear_atoms.specs.declared.atoms.Atom.{Atom}
 use Rattle.linear_atoms.specs.declared.forms.Linear.{Linear}
 use Rattle.linear_atoms.specs.Atoms.{AreAtoms}
 use Rattle.cpp_conditions.specs.declared.conditions.Condition.{Condition}
-use Rattle.cpp_conditions.specs.Numbering.{AreAmong, AreAllAmong, vector_at}
-use Rattle.cpp_conditions.specs.Propositions.{Proposition, IsFit, true_on}
-use Rattle.cpp_conditions.specs.Validity.{AreFit}
+use Rattle.cpp_conditions.specs.Numbering.{AreAmong, vector_at}
+use Rattle.cpp_conditions.specs.Propositions.{Proposition, IsFit, IsBelow, true_at, true_on}
+use Rattle.cpp_conditions.specs.Validity.{AreFit, all_true}
 use Rattle.cpp_conditions.specs.View.{proposition}
 use Rattle.atom_solver.specs.Facts.{AreMet, AreRising}
 use Rattle.atom_solver.specs.Spans.{Agrees, meets}
@@ -29,12 +29,23 @@ pub record AddsKnown (atoms : List Atom) (known : List (Option Bool)) (old new :
   pub rising : AreRising old → AreRising new
   pub met : (values : List ℤ) → AreMet values old → Knows known (vector_at atoms values) → AreMet values new
 
--- atoms that the constraints and what is wanted are over, few enough to be numbered
-pub record ListsAtoms (constraints : List Condition) (wanted : Proposition Atom) (atoms : List Atom) : Type 0 where
-  pub all : AreAllAmong atoms (map proposition constraints)
-  pub last : AreAmong atoms wanted
-  pub few : length atoms < 4294967296
-  pub fit : (n : ℕ) → AreFit n constraints → IsFit n wanted → AreAtoms n atoms
+-- atoms, and a formula over their numbers that is true where the constraints are
+pub record StandsForAll (constraints : List Condition) (atoms : List Atom) (f : Proposition ℕ) : Type 0 where
+  pub met : (values : List ℤ) → all_true values (map proposition constraints) ≡ true → true_on (vector_at atoms values) f ≡ true
+  pub below : IsBelow (length atoms) f
+  pub fit : (n : ℕ) → AreFit n constraints → AreAtoms n atoms
+
+-- atoms behind others, those of the proposition that don't stand there
+pub record Extends (p : Proposition Atom) (old new : List Atom) : Type 0 where
+  pub more : List Atom
+  pub new_is : new ≡ old ++ more
+  pub among : AreAmong new p
+  pub fit : (n : ℕ) → AreAtoms n old → IsFit n p → AreAtoms n new
+
+-- a formula over numbers of atoms that is true where an old one over old atoms is, and what is wanted
+pub record AsksToo (wanted : Proposition Atom) (old : List Atom) (f : Proposition ℕ) (new : List Atom) (g : Proposition ℕ) : Type 0 where
+  pub met : (values : List ℤ) → true_on (vector_at old values) f ≡ true → true_at values wanted ≡ true → true_on (vector_at new values) g ≡ true
+  pub fit : (n : ℕ) → AreAtoms n old → IsFit n wanted → AreAtoms n new
 
 -- a formula over numbers of atoms that is true where the constraints and what is wanted are
 pub record StandsFor (constraints : List Condition) (wanted : Proposition Atom) (atoms : List Atom) (f : Proposition ℕ) : Type 0 where

@@ -76,7 +76,8 @@ fn with_truth(
     number: u32,
     truth: bool,
 ) -> Result<Vec<Option<bool>>, NoMemory>
-    ensures { IfOk result (λ made. (v : List Bool) → Knows known.now v → slice_index_or v number false ≡ truth → Knows made.items v) }
+    ensures { IfOk result (λ made. (v : List Bool) → Knows known.now v → slice_index_or v number false ≡ truth
+        → Knows made.items v) }
 {
     let mut made = Vec::from_slice(alloc, known)?;
     learn(&mut made, number, truth);
@@ -89,13 +90,14 @@ fn with_truth(
 fn is_refuted(
     alloc: Global,
     atoms: &[Atom],
+    order: &[u32],
     part: &Formula,
     known: &mut [Option<bool>],
     turns: u32,
 ) -> Result<(bool, u32), NoMemory>
     ensures { IfOk result (λ answer. answer.0 ≡ true → IsVoid atoms.now known.old (formula part.now)) }
 {
-    let left = propagated(alloc, atoms, part, known, atoms.len())?;
+    let left = propagated(alloc, atoms, order, part, known, atoms.len())?;
     if is_false(&left) {
         return Ok((true, turns));
     }
@@ -109,12 +111,12 @@ fn is_refuted(
         None => Ok((false, turns)),
         Some(number) => {
             let mut on = with_truth(alloc, known, number, true)?;
-            let (is_out, rest) = is_refuted(alloc, atoms, &left, &mut on, turns - 1)?;
+            let (is_out, rest) = is_refuted(alloc, atoms, order, &left, &mut on, turns - 1)?;
             if !is_out {
                 return Ok((false, rest));
             }
             let mut off = with_truth(alloc, known, number, false)?;
-            is_refuted(alloc, atoms, &left, &mut off, rest.min(turns - 1))
+            is_refuted(alloc, atoms, order, &left, &mut off, rest.min(turns - 1))
         }
     }
 }
@@ -124,7 +126,8 @@ fn is_refuted(
 fn learn_within(atoms: &[Atom], spans: &[Span], place: u32, known: &mut [Option<bool>])
     requires atoms { AreAtoms (length spans.now) atoms.now }
     requires ranges { AreRanges (ranges spans.now) }
-    ensures { (values : List ℤ) → IsWithin (ranges spans.now) values → Knows known.old (vector_at atoms.now values) → Knows known.new (vector_at atoms.now values) }
+    ensures { (values : List ℤ) → IsWithin (ranges spans.now) values
+        → Knows known.old (vector_at atoms.now values) → Knows known.new (vector_at atoms.now values) }
 {
     if place as usize >= atoms.len() || place == u32::MAX {
         return;
@@ -150,7 +153,8 @@ fn known_within(
 ) -> Result<Vec<Option<bool>>, NoMemory>
     requires atoms { AreAtoms (length spans.now) atoms.now }
     requires ranges { AreRanges (ranges spans.now) }
-    ensures { IfOk result (λ made. (values : List ℤ) → IsWithin (ranges spans.now) values → Knows made.items (vector_at atoms.now values)) }
+    ensures { IfOk result (λ made. (values : List ℤ) → IsWithin (ranges spans.now) values
+        → Knows made.items (vector_at atoms.now values)) }
 {
     let mut known = unknown(alloc, atoms.len())?;
     learn_within(atoms, spans, 0, &mut known);
@@ -162,13 +166,15 @@ pub(crate) fn is_untrue(
     alloc: Global,
     spans: &[Span],
     atoms: &[Atom],
+    order: &[u32],
     asked: &Formula,
 ) -> Result<bool, NoMemory>
     requires atoms { AreAtoms (length spans.now) atoms.now }
     requires ranges { AreRanges (ranges spans.now) }
-    ensures { IfOk result (λ answer. answer ≡ true → (values : List ℤ) → IsWithin (ranges spans.now) values → true_on (vector_at atoms.now values) (formula asked.now) ≡ true → ⊥) }
+    ensures { IfOk result (λ answer. answer ≡ true → (values : List ℤ) → IsWithin (ranges spans.now) values
+        → true_on (vector_at atoms.now values) (formula asked.now) ≡ true → ⊥) }
 {
     let mut known = known_within(alloc, spans, atoms)?;
-    let (is_out, _turns) = is_refuted(alloc, atoms, asked, &mut known, MOST_TURNS)?;
+    let (is_out, _turns) = is_refuted(alloc, atoms, order, asked, &mut known, MOST_TURNS)?;
     Ok(is_out)
 }

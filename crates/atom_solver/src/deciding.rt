@@ -66,7 +66,8 @@ pub(crate) fn decided(condition: &Condition, spans: &[Span]) -> Option<bool>
 fn has_truth(condition: &Condition, truth: bool, spans: &[Span]) -> bool
     requires fit { IsFit (length spans.now) (proposition condition.now) }
     requires ranges { AreRanges (ranges spans.now) }
-    ensures { result ≡ true → (values : List ℤ) → IsWithin (ranges spans.now) values → true_at values (proposition condition.now) ≡ truth }
+    ensures { result ≡ true → (values : List ℤ) → IsWithin (ranges spans.now) values
+        → true_at values (proposition condition.now) ≡ truth }
 {
     match condition {
         Condition::Const(value) => *value == truth,
@@ -97,7 +98,8 @@ pub(crate) fn is_ruled_out(spans: &[Span], constraints: &[Condition], wanted: &C
     requires constraints { AreFit (length spans.now) constraints.now }
     requires wanted { IsFit (length spans.now) (proposition wanted.now) }
     requires ranges { AreRanges (ranges spans.now) }
-    ensures { result ≡ true → (values : List ℤ) → IsWithin (ranges spans.now) values → meets constraints.now (proposition wanted.now) values ≡ false }
+    ensures { result ≡ true → (values : List ℤ) → IsWithin (ranges spans.now) values
+        → meets constraints.now (proposition wanted.now) values ≡ false }
 {
     match cut(constraints) {
         None => has_truth(wanted, false, spans),

@@ -29,7 +29,7 @@ fn cut_term(terms: &[(u32, i64)]) -> Option<(u32, i64, &[(u32, i64)])>
 
 /// A form times a number; None where a number becomes too large.
 #[tactic(auto, using(crate::proofs::Stated::times_is))]
-fn times(alloc: Global, form: &Linear, by: i64) -> Result<Option<Linear>, NoMemory>
+pub(crate) fn times(alloc: Global, form: &Linear, by: i64) -> Result<Option<Linear>, NoMemory>
     requires { IsRising form.now.terms }
     ensures { IfOk result (λ made. MatchOption made (Unit {0}) (λ f. IsTimes form.now by f)) }
 {
@@ -212,7 +212,8 @@ pub(crate) fn gather_all(
     wanted: &Condition,
     facts: &mut Vec<Linear>,
 ) -> Result<(), NoMemory>
-    ensures { IfOk result (λ _. AddsAll constraints.now (proposition wanted.now) facts.old.items facts.new.items) }
+    ensures { IfOk result (λ _. AddsAll constraints.now
+        (proposition wanted.now) facts.old.items facts.new.items) }
 {
     match cut(constraints) {
         None => gather(alloc, wanted, true, facts),

@@ -37,7 +37,9 @@ fn is_unread(terms: &[(u32, i64)], place: usize) -> bool
 
 /// Whether no test of a condition names a feature.
 fn is_unnamed(condition: &Condition, place: usize) -> bool
-    ensures { result ≡ true → (values : List ℤ) (x : ℤ) → true_at (put place x values) (proposition condition.now) ≡ true_at values (proposition condition.now) }
+    ensures { result ≡ true → (values : List ℤ) (x : ℤ)
+        → true_at (put place x values) (proposition condition.now)
+        ≡ true_at values (proposition condition.now) }
 {
     match condition {
         Condition::Const(_truth) => true,
@@ -52,7 +54,8 @@ fn is_unnamed(condition: &Condition, place: usize) -> bool
 fn is_decided(condition: &Condition, spans: &[Span], place: usize) -> bool
     requires fit { IsFit (length spans.now) (proposition condition.now) }
     requires ranges { AreRanges (ranges spans.now) }
-    ensures { result ≡ true → IsSame (ranges spans.now) place (λ (values : List ℤ). true_at values (proposition condition.now)) }
+    ensures { result ≡ true → IsSame (ranges spans.now) place
+        (λ (values : List ℤ). true_at values (proposition condition.now)) }
 {
     match decided(condition, spans) {
         None => false,
@@ -65,7 +68,8 @@ fn is_decided(condition: &Condition, spans: &[Span], place: usize) -> bool
 fn is_free(condition: &Condition, spans: &[Span], place: usize) -> bool
     requires fit { IsFit (length spans.now) (proposition condition.now) }
     requires ranges { AreRanges (ranges spans.now) }
-    ensures { result ≡ true → IsSame (ranges spans.now) place (λ (values : List ℤ). true_at values (proposition condition.now)) }
+    ensures { result ≡ true → IsSame (ranges spans.now) place
+        (λ (values : List ℤ). true_at values (proposition condition.now)) }
 {
     if is_unnamed(condition, place) {
         return true;
@@ -91,7 +95,8 @@ fn are_free(spans: &[Span], place: usize, constraints: &[Condition], wanted: &Co
     requires constraints { AreFit (length spans.now) constraints.now }
     requires wanted { IsFit (length spans.now) (proposition wanted.now) }
     requires ranges { AreRanges (ranges spans.now) }
-    ensures { result ≡ true → IsSame (ranges spans.now) place (meets constraints.now (proposition wanted.now)) }
+    ensures { result ≡ true → IsSame (ranges spans.now) place
+        (meets constraints.now (proposition wanted.now)) }
 {
     match cut(constraints) {
         None => is_free(wanted, spans, place),
@@ -125,6 +130,9 @@ fn pin(spans: &mut [Span], place: usize, constraints: &[Condition], wanted: &Con
     ensures { Serves (meets constraints.now (proposition wanted.now)) spans.old spans.new }
 {
     let span = range_at(spans, place);
+    if span.low >= span.high {
+        return;
+    }
     if are_free(spans, place, constraints, wanted) {
         spans[place] = low_alone(span);
     }
@@ -154,7 +162,8 @@ pub(crate) fn reduced(
     requires constraints { AreFit (length spans.now) constraints.now }
     requires wanted { IsFit (length spans.now) (proposition wanted.now) }
     requires ranges { AreRanges (ranges spans.now) }
-    ensures { IfOk result (λ made. Serves (meets constraints.now (proposition wanted.now)) spans.now made.items) }
+    ensures { IfOk result (λ made. Serves
+        (meets constraints.now (proposition wanted.now)) spans.now made.items) }
 {
     let mut inner = narrowed(alloc, spans, constraints, wanted)?;
     pin_from(&mut inner, 0, constraints, wanted);

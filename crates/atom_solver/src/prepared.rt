@@ -4,15 +4,18 @@
 ghost use Rattle.std.specs.Prelude.{◌≡◌, ℤ, List, IfOk, IfSome, length};
 ghost use Rattle.linear_atoms.specs.Atoms.{AreRanges, IsAtom, AreAtoms, AreLiterals};
 ghost use Rattle.cpp_conditions.specs.Numbering.{vector_at};
-ghost use Rattle.cpp_conditions.specs.Propositions.{IsBelow, true_on};
+ghost use Rattle.cpp_conditions.specs.Propositions.{IsBelow, IsFit, true_at, true_on};
 ghost use Rattle.cpp_conditions.specs.Validity.{AreFit, IsConfig};
-ghost use Rattle.cpp_conditions.specs.View.{formula};
+ghost use Rattle.cpp_conditions.specs.View.{formula, proposition};
 ghost use Rattle.atom_solver.specs.Narrowing.{HasAllValid};
 ghost use Rattle.atom_solver.specs.Solutions.{Finds, IsImplied, all_hold};
 
 use crate::branching::is_untrue;
+use crate::labels::{labels_of, parts_of, untouched};
 use crate::narrowing::narrowed;
-use crate::numbering::numbered;
+use crate::numbering::{Question, numbered};
+use crate::parting::box_apart;
+use crate::parts::first_by_parts;
 use crate::searching::first_valid;
 use crate::spans::spans_of;
 use crate::wanted::{denial, of_formula, of_literals};
@@ -22,18 +25,23 @@ use linear_atoms::{Atom, Config, Literal, Span};
 use std::alloc::Global;
 use std::marker;
 
-/// A model with what its constraints alone say of the ranges of its features, made once for many questions. Contracts
-/// see it as the model.
+/// A model with what its constraints alone say of the ranges of its features, with numbers for their tests, a label for
+/// each feature, the same for those that constraints link, and the least valid configuration, if there is one: made once
+/// for many questions. Contracts see it as the model.
 #[derive(Drop)]
 pub struct Prepared<'a> {
     model: &'a Model,
     spans: Vec<Span>,
+    question: Question,
+    labels: Vec<usize>,
+    least: Option<Config>,
 }
 
 impl<'a> marker::Model for Prepared<'a> {
     ghost use Rattle.cpp_conditions.specs.declared.models.Model.{Model};
     ghost use Rattle.cpp_conditions.specs.contracts.models.Model as of_model;
     ghost use Rattle.std.specs.Coded.{codes};
+    ghost use Rattle.cpp_conditions.specs.View.{formula};
     ghost use Rattle.atom_solver.specs.Narrowing.{IsPrepared};
 
     ghost Value = { Model };
@@ -42,24 +50,29 @@ impl<'a> marker::Model for Prepared<'a> {
 
     ghost view = { λ prepared. prepared.model.now };
 
-    ghost invariant = { λ prepared. IsPrepared prepared.model.now prepared.spans.items };
+    ghost invariant = { λ prepared. IsPrepared prepared.model.now prepared.spans.items prepared.question.atoms.items (formula prepared.question.asked) prepared.least };
 }
 
 /// The box of all valid configurations that bounds leave of the ranges of a model. Where there is none, bounds are not
 /// asked: they may take long to show it.
-fn valid_box(alloc: Global, model: &Model) -> Result<Vec<Span>, NoMemory>
+fn valid_box(alloc: Global, model: &Model, question: &Question) -> Result<Vec<Span>, NoMemory>
     requires constraints { AreFit (length model.now.features) model.now.constraints }
     requires ranges { AreRanges model.now.features }
+    requires atoms { AreAtoms (length model.now.features) question.now.atoms.items }
     ensures { IfOk result (λ made. HasAllValid model.now made.items) }
 {
     let whole = spans_of(alloc, model.features.items())?;
-    let constraints = model.constraints.items();
-    let every = Condition::Const(true);
-    let question = numbered(alloc, constraints, &every)?;
-    if is_untrue(alloc, &whole, &question.atoms, &question.asked)? {
+    if is_untrue(
+        alloc,
+        &whole,
+        &question.atoms,
+        &question.order,
+        &question.asked,
+    )? {
         return Ok(whole);
     }
-    narrowed(alloc, &whole, constraints, &every)
+    let every = Condition::Const(true);
+    narrowed(alloc, &whole, model.constraints.items(), &every)
 }
 
 impl<'a> Prepared<'a> {
@@ -72,8 +85,47 @@ impl<'a> Prepared<'a> {
         requires ranges { AreRanges model.now.features }
         ensures { IfOk result (λ made. made ≡ model.now) }
     {
-        let spans = valid_box(alloc, model)?;
-        Ok(Prepared { model, spans })
+        let question = numbered(alloc, model.constraints.items())?;
+        let spans = valid_box(alloc, model, &question)?;
+        let constraints = model.constraints.items();
+        let labels = labels_of(alloc, spans.len(), constraints)?;
+        let parts = parts_of(alloc, &labels, constraints)?;
+        let least = first_by_parts(alloc, &spans, constraints, &question, &parts)?;
+        Ok(Prepared {
+            model,
+            spans,
+            question,
+            labels,
+            least,
+        })
+    }
+
+    /// The model.
+    pub fn model(&self) -> &Model
+        ensures { result.now ≡ self.now }
+    {
+        self.model
+    }
+
+    /// The first of the valid configurations at which the condition is true. The features of parts that it does not name
+    /// keep the values of the least valid configuration.
+    #[tactic(auto, using(crate::proofs::Boxed::least_at, crate::proofs::Boxed::box_serves, crate::proofs::Boxed::void_finds))]
+    fn first(&self, alloc: Global, wanted: &Condition) -> Result<Option<Config>, NoMemory>
+        requires { IsFit (length self.now.features) (proposition wanted.now) }
+        ensures first { IfOk result (λ found. Finds self.now
+            (λ (values : List ℤ). true_at values (proposition wanted.now)) found) }
+        ensures config { IfOk result (λ found. IfSome found
+            (λ config. IsConfig self.now.features config.values)) }
+    {
+        match &self.least {
+            None => Ok(None),
+            Some(least) => {
+                let marks = untouched(alloc, &self.labels, wanted)?;
+                let constraints = self.model.constraints.items();
+                let inner = box_apart(alloc, &self.spans, constraints, wanted, least, &marks)?;
+                first_valid(alloc, self.model, &inner, &self.question, wanted)
+            }
+        }
     }
 
     /// The least of the valid configurations that meet all literals, by the order of the features. It answers None
@@ -83,11 +135,13 @@ impl<'a> Prepared<'a> {
     /// features.
     pub fn least(&self, alloc: Global, literals: &[Literal]) -> Result<Option<Config>, NoMemory>
         requires { AreLiterals (length self.now.features) literals.now }
-        ensures first { IfOk result (λ found. Finds self.now (λ (values : List ℤ). all_hold literals.now values) found) }
-        ensures config { IfOk result (λ found. IfSome found (λ config. IsConfig self.now.features config.values)) }
+        ensures first { IfOk result (λ found. Finds self.now
+            (λ (values : List ℤ). all_hold literals.now values) found) }
+        ensures config { IfOk result (λ found. IfSome found
+            (λ config. IsConfig self.now.features config.values)) }
     {
         let wanted = of_literals(alloc, literals, Condition::Const(true))?;
-        first_valid(alloc, self.model, &self.spans, &wanted)
+        self.first(alloc, &wanted)
     }
 
     /// The least of the valid configurations at which the formula holds: at the truths of the atoms there. It answers
@@ -103,11 +157,13 @@ impl<'a> Prepared<'a> {
     ) -> Result<Option<Config>, NoMemory>
         requires atoms { AreAtoms (length self.now.features) atoms.now }
         requires numbers { IsBelow (length atoms.now) (formula wanted.now) }
-        ensures first { IfOk result (λ found. Finds self.now (λ (values : List ℤ). true_on (vector_at atoms.now values) (formula wanted.now)) found) }
-        ensures config { IfOk result (λ found. IfSome found (λ config. IsConfig self.now.features config.values)) }
+        ensures first { IfOk result (λ found. Finds self.now
+            (λ (values : List ℤ). true_on (vector_at atoms.now values) (formula wanted.now)) found) }
+        ensures config { IfOk result (λ found. IfSome found
+            (λ config. IsConfig self.now.features config.values)) }
     {
         let wanted = of_formula(alloc, atoms, wanted)?;
-        first_valid(alloc, self.model, &self.spans, &wanted)
+        self.first(alloc, &wanted)
     }
 
     /// Whether every valid configuration that meets the literals meets this one too. It answers an error only for want
@@ -124,7 +180,7 @@ impl<'a> Prepared<'a> {
     {
         let denied = denial(alloc, literal)?;
         let wanted = of_literals(alloc, literals, denied)?;
-        let found = first_valid(alloc, self.model, &self.spans, &wanted)?;
+        let found = self.first(alloc, &wanted)?;
         Ok(found.is_none())
     }
 }

@@ -6,11 +6,11 @@ ghost use Rattle.linear_atoms.specs.Forms.{IsRising, form_at};
 ghost use Rattle.cpp_conditions.specs.View.{proposition};
 ghost use Rattle.atom_solver.specs.Spans.{meets};
 ghost use Rattle.cpp_conditions.specs.Numbering.{vector_at};
-ghost use Rattle.atom_solver.specs.Facts.{AreMet, AreRising, IsSum};
+ghost use Rattle.atom_solver.specs.Facts.{AreMet, AreRising, IsMixed, IsSum};
 ghost use Rattle.atom_solver.specs.Truths.{Knows};
 
 use crate::cycles::cycle;
-use crate::facts::{gather_all, gather_known, number};
+use crate::facts::{gather_all, gather_known, number, times};
 use cpp_conditions::Condition;
 use fam_outer::NoMemory;
 use linear_atoms::slices::cut;
@@ -57,23 +57,130 @@ fn cancels(terms: &[(u32, i64)], form: &[(u32, i64)]) -> bool {
     }
 }
 
-/// One of the forms, which has the opposite of a form's first term.
+/// The first term.
+fn first_term(terms: &[(u32, i64)]) -> Option<(u32, i64)> {
+    match terms {
+        [] => None,
+        [(number, coefficient), ..] => Some((*number, *coefficient)),
+    }
+}
+
+/// Whether two forms have first terms of one feature and of opposite signs.
+fn are_opposite(terms: &[(u32, i64)], form: &[(u32, i64)]) -> bool {
+    match first_term(terms) {
+        None => false,
+        Some((number, coefficient)) => match first_term(form) {
+            None => false,
+            Some((other, by)) => number == other && (coefficient < 0) != (by < 0),
+        },
+    }
+}
+
+/// How forms are chosen that are added to a sum.
+#[derive(Clone, Copy)]
+enum Choice {
+    /// One that has the opposite of the sum's first term.
+    Opposite,
+    /// One whose first term is of the same feature and of the other sign: both are multiplied.
+    Leading,
+}
+
+/// Whether a form is to be added to a sum.
+fn is_chosen(sum: &[(u32, i64)], form: &[(u32, i64)], choice: Choice) -> bool {
+    match choice {
+        Choice::Opposite => cancels(sum, form),
+        Choice::Leading => are_opposite(sum, form),
+    }
+}
+
+/// One of the forms, which is to be added to a sum.
 #[tactic(auto, using(crate::proofs::Refuted::first_met, crate::proofs::Refuted::later_met))]
-fn partner<'a>(sum: &Linear, forms: &'a [Linear]) -> Option<&'a Linear>
+fn partner<'a>(sum: &Linear, forms: &'a [Linear], choice: Choice) -> Option<&'a Linear>
     requires { AreRising forms.now }
     ensures rising { MatchOption result (Unit {0}) (λ f. IsRising f.now.terms) }
-    ensures met { MatchOption result (Unit {0}) (λ f. (values : List ℤ) → AreMet values forms.now → pos 0 ≤ℤ form_at f.now values) }
+    ensures met { MatchOption result (Unit {0})
+        (λ f. (values : List ℤ) → AreMet values forms.now → pos 0 ≤ℤ form_at f.now values) }
 {
     match cut(forms) {
         None => None,
         Some((first, behind)) => {
-            if cancels(sum.terms.items(), first.terms.items()) {
+            if is_chosen(sum.terms.items(), first.terms.items(), choice) {
                 Some(first)
             } else {
-                partner(sum, behind)
+                partner(sum, behind, choice)
             }
         }
     }
+}
+
+/// The size of a number, or 0 where it is too large.
+fn size(n: i64) -> i64
+    ensures { pos 0 ≤ℤ result }
+{
+    if n >= 0 {
+        n
+    } else if n > -1000000000000 {
+        -n
+    } else {
+        0
+    }
+}
+
+/// By what a form is multiplied that is added to a multiple of another, so that their first terms cancel if they are of
+/// one feature.
+fn multiplier(terms: &[(u32, i64)], others: &[(u32, i64)]) -> i64
+    ensures { pos 0 ≤ℤ result }
+{
+    match first_term(terms) {
+        None => 1,
+        Some((number, a)) => match first_term(others) {
+            None => 1,
+            Some((other, b)) => {
+                if number == other && size(a) != size(b) {
+                    size(b)
+                } else {
+                    1
+                }
+            }
+        },
+    }
+}
+
+/// The sum of multiples of two forms by numbers of at least 0; None where a number becomes too large.
+fn mixed(
+    alloc: Global,
+    left: &Linear,
+    by: i64,
+    right: &Linear,
+    with: i64,
+) -> Result<Option<Linear>, NoMemory>
+    requires left { IsRising left.now.terms }
+    requires right { IsRising right.now.terms }
+    requires by { pos 0 ≤ℤ by }
+    requires with { pos 0 ≤ℤ with }
+    ensures { IfOk result (λ made. MatchOption made (Unit {0}) (λ f. IsMixed left.now right.now f)) }
+{
+    match times(alloc, left, by)? {
+        None => Ok(None),
+        Some(first) => match times(alloc, right, with)? {
+            None => Ok(None),
+            Some(second) => match sum(alloc, &first, &second)? {
+                None => Ok(None),
+                Some(made) => Ok(Some(made)),
+            },
+        },
+    }
+}
+
+/// The sum of multiples of two forms in which their first terms cancel, if they are of one feature.
+fn joined(alloc: Global, left: &Linear, right: &Linear) -> Result<Option<Linear>, NoMemory>
+    requires left { IsRising left.now.terms }
+    requires right { IsRising right.now.terms }
+    ensures { IfOk result (λ made. MatchOption made (Unit {0}) (λ f. IsMixed left.now right.now f)) }
+{
+    let by = multiplier(left.terms.items(), right.terms.items());
+    let with = multiplier(right.terms.items(), left.terms.items());
+    mixed(alloc, left, by, right, with)
 }
 
 /// Whether a form, with others of a list added to it, becomes a number below 0: then they clash.
@@ -81,11 +188,13 @@ fn clashes_with(
     alloc: Global,
     start: &Linear,
     forms: &[Linear],
+    choice: Choice,
     fuel: usize,
 ) -> Result<bool, NoMemory>
     requires start { IsRising start.now.terms }
     requires rising { AreRising forms.now }
-    ensures { IfOk result (λ answer. answer ≡ true → (values : List ℤ) → AreMet values forms.now → pos 0 ≤ℤ form_at start.now values → ⊥) }
+    ensures { IfOk result (λ answer. answer ≡ true → (values : List ℤ) → AreMet values forms.now
+        → pos 0 ≤ℤ form_at start.now values → ⊥) }
 {
     if is_negative(start) {
         return Ok(true);
@@ -93,31 +202,50 @@ fn clashes_with(
     if fuel == 0 {
         return Ok(false);
     }
-    match partner(start, forms) {
+    match partner(start, forms, choice) {
         None => Ok(false),
-        Some(other) => match sum(alloc, start, other)? {
+        Some(other) => match joined(alloc, start, other)? {
             None => Ok(false),
-            Some(more) => clashes_with(alloc, &more, forms, fuel - 1),
+            Some(more) => clashes_with(alloc, &more, forms, choice, fuel - 1),
         },
     }
 }
 
 /// Whether one of some forms, with others of a list added to it, becomes a number below 0.
 #[tactic(auto, using(crate::proofs::Refuted::first_met, crate::proofs::Refuted::later_met))]
-fn any_clashes(alloc: Global, starts: &[Linear], forms: &[Linear]) -> Result<bool, NoMemory>
+fn any_clashes(
+    alloc: Global,
+    starts: &[Linear],
+    forms: &[Linear],
+    choice: Choice,
+) -> Result<bool, NoMemory>
     requires starts { AreRising starts.now }
     requires rising { AreRising forms.now }
-    ensures { IfOk result (λ answer. answer ≡ true → (values : List ℤ) → AreMet values starts.now → AreMet values forms.now → ⊥) }
+    ensures { IfOk result (λ answer. answer ≡ true → (values : List ℤ) → AreMet values starts.now
+        → AreMet values forms.now → ⊥) }
 {
     match cut(starts) {
         None => Ok(false),
         Some((first, behind)) => {
-            if clashes_with(alloc, first, forms, forms.len())? {
+            if clashes_with(alloc, first, forms, choice, forms.len())? {
                 Ok(true)
             } else {
-                any_clashes(alloc, behind, forms)
+                any_clashes(alloc, behind, forms, choice)
             }
         }
+    }
+}
+
+/// Whether forms clash, by sums that are found in one way or the other.
+fn clash(alloc: Global, forms: &[Linear]) -> Result<bool, NoMemory>
+    requires { AreRising forms.now }
+    ensures { IfOk result (λ answer. answer ≡ true → (values : List ℤ) → AreMet values forms.now
+        → AreMet values forms.now → ⊥) }
+{
+    if any_clashes(alloc, forms, forms, Choice::Opposite)? {
+        Ok(true)
+    } else {
+        any_clashes(alloc, forms, forms, Choice::Leading)
     }
 }
 
@@ -127,11 +255,12 @@ pub(crate) fn are_opposed(
     constraints: &[Condition],
     wanted: &Condition,
 ) -> Result<bool, NoMemory>
-    ensures { IfOk result (λ answer. answer ≡ true → (values : List ℤ) → meets constraints.now (proposition wanted.now) values ≡ false) }
+    ensures { IfOk result (λ answer. answer ≡ true → (values : List ℤ)
+        → meets constraints.now (proposition wanted.now) values ≡ false) }
 {
     let mut facts = Vec::new(alloc);
     gather_all(alloc, constraints, wanted, &mut facts)?;
-    any_clashes(alloc, &facts, &facts)
+    clash(alloc, &facts)
 }
 
 /// The form at a place.
@@ -139,7 +268,8 @@ pub(crate) fn are_opposed(
 fn form_of(forms: &[Linear], place: usize) -> Option<&Linear>
     requires { AreRising forms.now }
     ensures rising { MatchOption result (Unit {0}) (λ f. IsRising f.now.terms) }
-    ensures met { MatchOption result (Unit {0}) (λ f. (values : List ℤ) → AreMet values forms.now → pos 0 ≤ℤ form_at f.now values) }
+    ensures met { MatchOption result (Unit {0})
+        (λ f. (values : List ℤ) → AreMet values forms.now → pos 0 ≤ℤ form_at f.now values) }
 {
     match cut(forms) {
         None => None,
@@ -162,7 +292,8 @@ fn adds_up(
 ) -> Result<bool, NoMemory>
     requires start { IsRising start.now.terms }
     requires rising { AreRising forms.now }
-    ensures { IfOk result (λ answer. answer ≡ true → (values : List ℤ) → AreMet values forms.now → pos 0 ≤ℤ form_at start.now values → ⊥) }
+    ensures { IfOk result (λ answer. answer ≡ true → (values : List ℤ) → AreMet values forms.now
+        → pos 0 ≤ℤ form_at start.now values → ⊥) }
 {
     match cut(places) {
         None => Ok(is_negative(start)),
@@ -210,7 +341,8 @@ pub(crate) fn is_clash(
     atoms: &[Atom],
     known: &[Option<bool>],
 ) -> Result<bool, NoMemory>
-    ensures { IfOk result (λ answer. answer ≡ true → (values : List ℤ) → Knows known.now (vector_at atoms.now values) → ⊥) }
+    ensures { IfOk result (λ answer. answer ≡ true → (values : List ℤ)
+        → Knows known.now (vector_at atoms.now values) → ⊥) }
 {
     if !are_linked(atoms, known) {
         return Ok(false);

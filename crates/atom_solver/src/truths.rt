@@ -27,7 +27,8 @@ fn truth_of(known: &[Option<bool>], number: u32) -> Option<bool>
 /// Adds the truth of a test, if there is none.
 #[tactic(auto, using(crate::proofs::Learned::learned))]
 pub(crate) fn learn(known: &mut [Option<bool>], number: u32, truth: bool)
-    ensures { (v : List Bool) → Knows known.old v → slice_index_or v number false ≡ truth → Knows known.new v }
+    ensures { (v : List Bool) → Knows known.old v → slice_index_or v number false ≡ truth
+        → Knows known.new v }
 {
     let place = number as usize;
     if place < known.len() && known[place].is_none() {
@@ -47,7 +48,8 @@ fn constant(part: &Formula) -> Option<bool>
 
 /// The negation of what is left of a formula.
 fn negation_of(alloc: Global, part: Formula) -> Result<Formula, NoMemory>
-    ensures { IfOk result (λ made. (v : List Bool) → true_on v (formula made) ≡ not (true_on v (formula part))) }
+    ensures { IfOk result (λ made. (v : List Bool)
+        → true_on v (formula made) ≡ not (true_on v (formula part))) }
 {
     match constant(&part) {
         Some(truth) => Ok(Formula::Const(!truth)),
@@ -58,7 +60,8 @@ fn negation_of(alloc: Global, part: Formula) -> Result<Formula, NoMemory>
 /// What is left of two formulas together.
 #[tactic(auto, using(crate::proofs::Learned::and_left, crate::proofs::Learned::and_right))]
 fn both_of(alloc: Global, left: Formula, right: Formula) -> Result<Formula, NoMemory>
-    ensures { IfOk result (λ made. (v : List Bool) → true_on v (formula made) ≡ (true_on v (formula left) && true_on v (formula right))) }
+    ensures { IfOk result (λ made. (v : List Bool)
+        → true_on v (formula made) ≡ (true_on v (formula left) && true_on v (formula right))) }
 {
     match constant(&left) {
         Some(truth) => {
@@ -84,7 +87,8 @@ fn both_of(alloc: Global, left: Formula, right: Formula) -> Result<Formula, NoMe
 /// What is left of one of two formulas.
 #[tactic(auto, using(crate::proofs::Learned::or_left, crate::proofs::Learned::or_right))]
 fn either_of(alloc: Global, left: Formula, right: Formula) -> Result<Formula, NoMemory>
-    ensures { IfOk result (λ made. (v : List Bool) → true_on v (formula made) ≡ (true_on v (formula left) || true_on v (formula right))) }
+    ensures { IfOk result (λ made. (v : List Bool)
+        → true_on v (formula made) ≡ (true_on v (formula left) || true_on v (formula right))) }
 {
     match constant(&left) {
         Some(truth) => {
@@ -113,7 +117,8 @@ pub(crate) fn residual(
     part: &Formula,
     known: &[Option<bool>],
 ) -> Result<Formula, NoMemory>
-    ensures { IfOk result (λ made. (v : List Bool) → Knows known.now v → true_on v (formula made) ≡ true_on v (formula part.now)) }
+    ensures { IfOk result (λ made. (v : List Bool) → Knows known.now v
+        → true_on v (formula made) ≡ true_on v (formula part.now)) }
 {
     match part {
         Formula::Const(truth) => Ok(Formula::Const(*truth)),
@@ -138,7 +143,38 @@ pub(crate) fn residual(
     }
 }
 
-/// Adds the truths that tests must have where the formula has one.
+/// Whether a formula is known to have a truth. It looks no further than it must.
+#[tactic(auto, using(crate::proofs::Known::right_false, crate::proofs::Known::right_true))]
+fn has_truth(part: &Formula, truth: bool, known: &[Option<bool>]) -> bool
+    ensures { result ≡ true → (v : List Bool) → Knows known.now v → true_on v (formula part.now) ≡ truth }
+{
+    match part {
+        Formula::Const(value) => *value == truth,
+        Formula::Test(number) => match truth_of(known, *number) {
+            None => false,
+            Some(value) => value == truth,
+        },
+        Formula::Not(inner) => has_truth(inner, !truth, known),
+        Formula::And(left, right) => {
+            if truth {
+                has_truth(left, true, known) && has_truth(right, true, known)
+            } else {
+                has_truth(left, false, known) || has_truth(right, false, known)
+            }
+        }
+        Formula::Or(left, right) => {
+            if truth {
+                has_truth(left, true, known) || has_truth(right, true, known)
+            } else {
+                has_truth(left, false, known) && has_truth(right, false, known)
+            }
+        }
+    }
+}
+
+/// Adds the truths that tests must have where the formula has one: of two formulas of which one must be true, where the
+/// other is known to be false. The second comes first: a chain of `||` has its single tests there.
+#[tactic(auto, using(crate::proofs::Learned::and_first, crate::proofs::Learned::and_second, crate::proofs::Learned::or_first, crate::proofs::Learned::or_second))]
 fn force(part: &Formula, truth: bool, known: &mut [Option<bool>])
     ensures { (v : List Bool) → Knows known.old v → true_on v (formula part.now) ≡ truth → Knows known.new v }
 {
@@ -150,12 +186,20 @@ fn force(part: &Formula, truth: bool, known: &mut [Option<bool>])
             if truth {
                 force(left, true, known);
                 force(right, true, known);
+            } else if has_truth(right, true, known) {
+                force(left, false, known);
+            } else if has_truth(left, true, known) {
+                force(right, false, known);
             }
         }
         Formula::Or(left, right) => {
             if !truth {
                 force(left, false, known);
                 force(right, false, known);
+            } else if has_truth(right, false, known) {
+                force(left, true, known);
+            } else if has_truth(left, false, known) {
+                force(right, true, known);
             }
         }
     }
@@ -164,7 +208,8 @@ fn force(part: &Formula, truth: bool, known: &mut [Option<bool>])
 /// Adds the truth of an atom that follows from that of another of equal terms.
 #[tactic(auto, using(crate::proofs::Learned::denied))]
 fn follow(atoms: &[Atom], from: u32, to: u32, known: &mut [Option<bool>])
-    ensures { (values : List ℤ) → Knows known.old (vector_at atoms.now values) → Knows known.new (vector_at atoms.now values) }
+    ensures { (values : List ℤ) → Knows known.old (vector_at atoms.now values)
+        → Knows known.new (vector_at atoms.now values) }
 {
     if from as usize >= atoms.len() || to as usize >= atoms.len() {
         return;
@@ -179,51 +224,55 @@ fn follow(atoms: &[Atom], from: u32, to: u32, known: &mut [Option<bool>])
     }
 }
 
-/// The same down a list whose atoms of equal terms stand together, by rising bounds.
-fn follow_down(atoms: &[Atom], place: u32, known: &mut [Option<bool>])
-    ensures { (values : List ℤ) → Knows known.old (vector_at atoms.now values) → Knows known.new (vector_at atoms.now values) }
+/// The number at a place of an order.
+fn number_at(order: &[u32], place: usize) -> u32 {
+    match order.get(place) {
+        None => u32::MAX,
+        Some(number) => *number,
+    }
+}
+
+/// The same down an order in which atoms of equal terms stand together, by rising bounds.
+fn follow_down(atoms: &[Atom], order: &[u32], place: usize, known: &mut [Option<bool>])
+    ensures { (values : List ℤ) → Knows known.old (vector_at atoms.now values)
+        → Knows known.new (vector_at atoms.now values) }
 {
     if place == 0 {
         return;
     }
-    follow(atoms, place, place - 1, known);
-    follow_down(atoms, place - 1, known);
+    follow(
+        atoms,
+        number_at(order, place),
+        number_at(order, place - 1),
+        known,
+    );
+    follow_down(atoms, order, place - 1, known);
 }
 
-/// The same up a list, this many steps.
-fn follow_up(atoms: &[Atom], place: u32, steps: u32, known: &mut [Option<bool>])
-    ensures { (values : List ℤ) → Knows known.old (vector_at atoms.now values) → Knows known.new (vector_at atoms.now values) }
+/// The same up an order, this many steps.
+fn follow_up(atoms: &[Atom], order: &[u32], place: usize, steps: usize, known: &mut [Option<bool>])
+    ensures { (values : List ℤ) → Knows known.old (vector_at atoms.now values)
+        → Knows known.new (vector_at atoms.now values) }
 {
-    if steps == 0 || place == u32::MAX {
+    if steps == 0 || place == usize::MAX {
         return;
     }
-    follow(atoms, place, place + 1, known);
-    follow_up(atoms, place + 1, steps - 1, known);
+    follow(
+        atoms,
+        number_at(order, place),
+        number_at(order, place + 1),
+        known,
+    );
+    follow_up(atoms, order, place + 1, steps - 1, known);
 }
 
 /// Adds the truths that follow from those of atoms of equal terms.
-fn follow_all(atoms: &[Atom], known: &mut [Option<bool>])
-    ensures { (values : List ℤ) → Knows known.old (vector_at atoms.now values) → Knows known.new (vector_at atoms.now values) }
+fn follow_all(atoms: &[Atom], order: &[u32], known: &mut [Option<bool>])
+    ensures { (values : List ℤ) → Knows known.old (vector_at atoms.now values)
+        → Knows known.new (vector_at atoms.now values) }
 {
-    let count = u32::try_from(atoms.len()).unwrap_or(0);
-    follow_down(atoms, count, known);
-    follow_up(atoms, 0, count, known);
-}
-
-/// What is left of the formula, and the truths that its tests must have then.
-#[tactic(auto, using(crate::proofs::Learned::kept_once))]
-fn round(
-    alloc: Global,
-    atoms: &[Atom],
-    part: &Formula,
-    known: &mut [Option<bool>],
-) -> Result<Formula, NoMemory>
-    ensures { IfOk result (λ made. Keeps atoms.now known.old (formula part.now) known.new (formula made)) }
-{
-    let left = residual(alloc, part, known)?;
-    force(&left, true, known);
-    follow_all(atoms, known);
-    Ok(left)
+    follow_down(atoms, order, order.len(), known);
+    follow_up(atoms, order, 0, order.len(), known);
 }
 
 /// How many truths are known.
@@ -237,10 +286,34 @@ fn count_of(known: &[Option<bool>]) -> usize {
     count
 }
 
-/// The same again and again, until nothing more follows or the rounds are used up: unit propagation.
+/// Adds the truths that the tests of a formula must have where it is true, and those that follow from these.
+#[tactic(auto, using(crate::proofs::Learned::kept_step))]
+fn round(atoms: &[Atom], order: &[u32], part: &Formula, known: &mut [Option<bool>])
+    ensures { Keeps atoms.now known.old (formula part.now) known.new (formula part.now) }
+{
+    force(part, true, known);
+    follow_all(atoms, order, known);
+}
+
+/// What is left of a formula, and that it is true where the formula is.
+#[tactic(auto, using(crate::proofs::Learned::kept_left))]
+fn left_of(
+    alloc: Global,
+    atoms: &[Atom],
+    part: &Formula,
+    known: &[Option<bool>],
+) -> Result<Formula, NoMemory>
+    ensures { IfOk result (λ made. Keeps atoms.now known.now (formula part.now) known.now (formula made)) }
+{
+    let left = residual(alloc, part, known)?;
+    Ok(left)
+}
+
+/// What is left of a formula after as many rounds as add truths, or as are allowed: unit propagation.
 pub(crate) fn propagated(
     alloc: Global,
     atoms: &[Atom],
+    order: &[u32],
     part: &Formula,
     known: &mut [Option<bool>],
     rounds: usize,
@@ -248,9 +321,9 @@ pub(crate) fn propagated(
     ensures { IfOk result (λ made. Keeps atoms.now known.old (formula part.now) known.new (formula made)) }
 {
     let before = count_of(known);
-    let left = round(alloc, atoms, part, known)?;
+    round(atoms, order, part, known);
     if rounds == 0 || count_of(known) == before {
-        return Ok(left);
+        return left_of(alloc, atoms, part, known);
     }
-    propagated(alloc, atoms, &left, known, rounds - 1)
+    propagated(alloc, atoms, order, part, known, rounds - 1)
 }

@@ -1,17 +1,17 @@
 //! Models without a valid configuration, behind features that no constraint names, with ample memory.
 
 ghost use Rattle.std.specs.Prelude.{◌≡◌, ◌+◌, ◌<◌, ◌≤◌, ◌∷◌, [], pos, negsuc, ◌≤ℤ◌, length, unsigned_abs, IfOk};
-ghost use Rattle.linear_atoms.specs.Atoms.{AreRanges};
+ghost use Rattle.linear_atoms.specs.Atoms.{AreRanges, IsAtom};
 ghost use Rattle.linear_atoms.specs.Forms.{IsRising};
 ghost use Rattle.cpp_conditions.specs.Propositions.{IsFit};
 ghost use Rattle.cpp_conditions.specs.Validity.{AreFit};
 ghost use Rattle.cpp_conditions.specs.View.{proposition};
 
-use atom_solver::least;
+use atom_solver::{Prepared, least};
 use cpp_conditions::conditions::{both, either, negation};
 use cpp_conditions::{Condition, Conditions, Features, Model};
 use fam_outer::Text;
-use linear_atoms::{Atom, Config, Feature, Linear};
+use linear_atoms::{Atom, Config, Feature, Linear, Literal};
 use std::alloc::Global;
 use std::test::Fail;
 
@@ -109,48 +109,67 @@ fn difference(alloc: Global, left: u32, right: u32) -> Result<Linear, Fail>
     }
 }
 
-/// A feature is greater than another that is behind it.
-fn exceeds(alloc: Global, left: u32, right: u32) -> Result<Condition, Fail>
+/// The test that a feature is greater than another that is behind it.
+fn above(alloc: Global, left: u32, right: u32) -> Result<Atom, Fail>
     requires order { left < right }
-    requires right { right < 4 }
-    ensures { IfOk result (λ made. IsFit 4 (proposition made)) }
+    requires right { right < 5 }
+    ensures { IfOk result (λ made. IsAtom 5 made) }
 {
     let form = difference(alloc, left, right)?;
     let terms = form.terms.copy(alloc)?;
-    Ok(Condition::Test(Atom { terms, bound: 1 }))
+    Ok(Atom { terms, bound: 1 })
+}
+
+/// A feature is greater than another that is behind it.
+fn exceeds(alloc: Global, left: u32, right: u32) -> Result<Condition, Fail>
+    requires order { left < right }
+    requires right { right < 5 }
+    ensures { IfOk result (λ made. IsFit 5 (proposition made)) }
+{
+    let atom = above(alloc, left, right)?;
+    Ok(Condition::Test(atom))
 }
 
 /// A feature is at least another that is behind it.
 fn reaches(alloc: Global, left: u32, right: u32) -> Result<Condition, Fail>
     requires order { left < right }
-    requires right { right < 4 }
-    ensures { IfOk result (λ made. IsFit 4 (proposition made)) }
+    requires right { right < 5 }
+    ensures { IfOk result (λ made. IsFit 5 (proposition made)) }
 {
     let form = difference(alloc, left, right)?;
     let terms = form.terms.copy(alloc)?;
     Ok(Condition::Test(Atom { terms, bound: 0 }))
 }
 
-/// The first two features differ, or the last two are equal.
-fn choice(alloc: Global) -> Result<Condition, Fail>
-    ensures { IfOk result (λ made. IsFit 4 (proposition made)) }
+/// A feature is not equal to another that is behind it.
+fn unequal(alloc: Global, left: u32, right: u32) -> Result<Condition, Fail>
+    requires order { left < right }
+    requires right { right < 5 }
+    ensures { IfOk result (λ made. IsFit 5 (proposition made)) }
 {
-    let below = negation(alloc, reaches(alloc, 0, 1)?)?;
-    let differ = either(alloc, exceeds(alloc, 0, 1)?, below)?;
+    let below = negation(alloc, reaches(alloc, left, right)?)?;
+    Ok(either(alloc, exceeds(alloc, left, right)?, below)?)
+}
+
+/// The first two features differ, or the next two are equal.
+fn choice(alloc: Global) -> Result<Condition, Fail>
+    ensures { IfOk result (λ made. IsFit 5 (proposition made)) }
+{
+    let differ = unequal(alloc, 0, 1)?;
     let not_above = negation(alloc, exceeds(alloc, 2, 3)?)?;
     let equal = both(alloc, reaches(alloc, 2, 3)?, not_above)?;
     Ok(either(alloc, differ, equal)?)
 }
 
-/// Four features of 0 to 2^20 and these constraints.
+/// Five features of 0 to 2^20 and these constraints.
 fn wide(alloc: Global, constraints: Vec<Condition>) -> Result<Model, Fail>
-    requires { AreFit 4 constraints.items }
-    ensures count { IfOk result (λ made. length made.features ≡ 4) }
+    requires { AreFit 5 constraints.items }
+    ensures count { IfOk result (λ made. length made.features ≡ 5) }
     ensures ranges { IfOk result (λ made. AreRanges made.features) }
-    ensures fit { IfOk result (λ made. AreFit 4 made.constraints) }
+    ensures fit { IfOk result (λ made. AreFit 5 made.constraints) }
 {
     Ok(Model {
-        features: Features::from_vec(before(alloc, 4, 1_048_576, Vec::new(alloc))?),
+        features: Features::from_vec(before(alloc, 5, 1_048_576, Vec::new(alloc))?),
         constraints: Conditions::from_vec(constraints),
     })
 }
@@ -186,10 +205,12 @@ fn denials_are_refuted(rt: HostRuntime) -> Result<(), Fail> {
     Ok(())
 }
 
-/// The values of four features.
-fn four(found: Option<Config>) -> Option<(i64, i64, i64, i64)> {
+/// The values of five features.
+fn five(found: Option<Config>) -> Option<(i64, i64, i64, i64, i64)> {
     match found?.values.items() {
-        [first, second, third, fourth] => Some((*first, *second, *third, *fourth)),
+        [first, second, third, fourth, fifth] => {
+            Some((*first, *second, *third, *fourth, *fifth))
+        }
         _ => None,
     }
 }
@@ -203,6 +224,66 @@ fn rings_are_refuted_in_the_search(rt: HostRuntime) -> Result<(), Fail> {
     let ring = both(alloc, both(alloc, first, second)?, exceeds(alloc, 1, 3)?)?;
     let either = either(alloc, exceeds(alloc, 0, 1)?, ring)?;
     let model = wide(alloc, vec![in alloc; either]?)?;
-    assert!(rt; four(least(alloc, &model, &[])?) == Some((1, 0, 0, 0)));
+    assert!(rt; five(least(alloc, &model, &[])?) == Some((1, 0, 0, 0, 0)));
+    Ok(())
+}
+
+/// Two features of 0 to 2^20 that differ, and three of 0 to a number that differ pairwise.
+fn two_parts(alloc: Global, high: i64) -> Result<Model, Fail>
+    requires some { pos 0 ≤ℤ high }
+    requires high { unsigned_abs high ≤ 1048576 }
+    ensures count { IfOk result (λ made. length made.features ≡ 5) }
+    ensures ranges { IfOk result (λ made. AreRanges made.features) }
+    ensures fit { IfOk result (λ made. AreFit 5 made.constraints) }
+{
+    let last = before(alloc, 3, high, Vec::new(alloc))?;
+    let features = before(alloc, 2, 1_048_576, last)?;
+    let alone = unequal(alloc, 0, 1)?;
+    let first = unequal(alloc, 2, 3)?;
+    let second = unequal(alloc, 3, 4)?;
+    let third = unequal(alloc, 2, 4)?;
+    Ok(Model {
+        features: Features::from_vec(features),
+        constraints: Conditions::from_vec(vec![in alloc; alone, first, second, third]?),
+    })
+}
+
+/// Three values of 0 to 1 can't differ pairwise, which shows only when they are tried: not with each solution of the rest.
+#[test]
+fn parts_without_a_solution_are_refuted_alone(rt: HostRuntime) -> Result<(), Fail> {
+    let alloc = rt.alloc();
+    let model = two_parts(alloc, 1)?;
+    assert!(rt; least(alloc, &model, &[])?.is_none());
+    Ok(())
+}
+
+#[test]
+fn parts_that_are_not_asked_for_keep_their_least_values(rt: HostRuntime) -> Result<(), Fail> {
+    let alloc = rt.alloc();
+    let model = two_parts(alloc, 2)?;
+    let prepared = Prepared::new(alloc, &model)?;
+    let literals = [
+        Literal {
+            atom: above(alloc, 2, 3)?,
+            positive: true,
+        },
+        Literal {
+            atom: above(alloc, 3, 4)?,
+            positive: true,
+        },
+        Literal {
+            atom: above(alloc, 0, 1)?,
+            positive: true,
+        },
+    ];
+    let cases = [
+        (0, (0, 1, 0, 1, 2)),
+        (1, (0, 1, 1, 0, 2)),
+        (2, (0, 1, 2, 1, 0)),
+        (3, (1, 0, 2, 1, 0)),
+    ];
+    for (count, values) in cases {
+        assert!(rt; five(prepared.least(alloc, &literals[..count])?) == Some(values));
+    }
     Ok(())
 }

@@ -1,7 +1,5 @@
-use Rattle.std.proofs.Common.{true, length, map, ap, refl, sym, subst, ◌∙◌}
+use Rattle.std.proofs.Common.{length, map, ap, sym, subst, ◌∙◌}
 use Rattle.linear_atoms.specs.Atoms.{AreAtoms}
-use Rattle.cpp_conditions.specs.Propositions.{Const}
-use Rattle.cpp_conditions.specs.View.{formula}
 use Rattle.atom_solver.specs.Spans.{span_of}
 use Rattle.atom_solver.proofs.Boxed.{whole_box, atoms_box}
 use Rattle.atom_solver.proofs.Pointing.{box_is}
@@ -10,8 +8,8 @@ use Rattle.atom_solver.proofs.prepared.valid_box.Goals as goal
 pub is_untrue-requires-clause-atoms : goal.is_untrue-requires-clause-atoms
 is_untrue-requires-clause-atoms c =
     subst (λ x. AreAtoms (length c.deref.result.now) x) (sym c.deref-2.ensures.value)
-    (atoms_box c.args.model.now c.deref.result.now c.in_ok-whole.whole.items c.items-constraints.result.now (Const true) c.in_ok-question.question.atoms.items (formula c.in_ok-question.question.asked)
-    c.deref.ensures.value (c.in_ok-whole.ensures ∙ ap (map span_of) c.items.ensures) c.items-constraints.ensures refl c.requires.constraints c.in_ok-question.ensures)
+    (atoms_box c.args.model.now c.deref.result.now c.in_ok-whole.whole.items c.args.question.now.atoms.items
+    c.deref.ensures.value (c.in_ok-whole.ensures ∙ ap (map span_of) c.items.ensures) c.requires.atoms)
 
 pub is_untrue-requires-clause-ranges : goal.is_untrue-requires-clause-ranges
 is_untrue-requires-clause-ranges c =
@@ -23,4 +21,4 @@ returns-then-branch c =
 
 pub narrowed-requires-clause-ranges : goal.narrowed-requires-clause-ranges
 narrowed-requires-clause-ranges c =
-    box_is c.args.model.now.features c.deref-3.result.now (c.deref-3.ensures.value ∙ c.in_ok-whole.ensures ∙ ap (map span_of) c.items.ensures) c.requires.ranges
+    box_is c.args.model.now.features c.deref-4.result.now (c.deref-4.ensures.value ∙ c.in_ok-whole.ensures ∙ ap (map span_of) c.items.ensures) c.requires.ranges

@@ -1,25 +1,36 @@
 use Rattle.std.specs.Prelude.{IfSome}
 use Rattle.std.proofs.lemmas.Result.{IfOk-weaker}
-use Rattle.std.proofs.Common.{ℤ, List, Option}
+use Rattle.std.proofs.Common.{ℤ, List, Option, sym, subst}
 use Rattle.linear_atoms.specs.declared.atoms.Config.{Config}
 use Rattle.cpp_conditions.specs.Propositions.{true_at}
 use Rattle.cpp_conditions.specs.Validity.{IsConfig}
-use Rattle.cpp_conditions.specs.View.{proposition}
+use Rattle.cpp_conditions.specs.View.{proposition, formula}
 use Rattle.atom_solver.specs.Solutions.{Finds}
 use Rattle.atom_solver.specs.Spans.{ranges, meets, FindsIn}
+use Rattle.atom_solver.specs.Truths.{StandsFor}
+use Rattle.atom_solver.proofs.Listed.{stands_too}
 use Rattle.atom_solver.proofs.Boxed.{fit_box, wanted_box, found_box}
 use Rattle.atom_solver.proofs.Pointing.{found_config}
 use Rattle.atom_solver.proofs.EqualTerms.{none_meets}
 use Rattle.atom_solver.proofs.searching.first_valid.Goals as goal
 
 pub search-requires-clause-constraints : goal.search-requires-clause-constraints
-search-requires-clause-constraints c = fit_box c.args.model.now c.args.spans.now c.items-constraints.result.now c.requires.spans c.items-constraints.ensures c.requires.constraints
+search-requires-clause-constraints c = fit_box c.args.model.now c.args.spans.now (meets c.args.model.now.constraints (proposition c.args.wanted.now)) c.items-constraints.result.now c.requires.spans c.items-constraints.ensures c.requires.constraints
 
 pub search-requires-clause-wanted : goal.search-requires-clause-wanted
-search-requires-clause-wanted c = wanted_box c.args.model.now c.args.spans.now (proposition c.args.wanted.now) c.requires.spans c.requires.wanted
+search-requires-clause-wanted c = wanted_box c.args.model.now c.args.spans.now (meets c.args.model.now.constraints (proposition c.args.wanted.now)) (proposition c.args.wanted.now) c.requires.spans c.requires.wanted
 
 pub search-requires-clause-ranges : goal.search-requires-clause-ranges
 search-requires-clause-ranges c = c.requires.spans.some
+
+pub search-requires-clause-asked : goal.search-requires-clause-asked
+search-requires-clause-asked c =
+    let p = proposition c.args.wanted.now in
+    let old = c.args.question.now in
+    let new = c.in_ok-whole.whole in
+    subst (λ x. StandsFor c.items-constraints.result.now p x (formula new.asked)) (sym c.deref.ensures.value)
+    (subst (λ x. StandsFor x p new.atoms.items (formula new.asked)) (sym c.items-constraints.ensures)
+    (stands_too c.args.model.now.constraints p old.atoms.items new.atoms.items (formula old.asked) (formula new.asked) c.requires.question c.in_ok-whole.ensures))
 
 pub returns-clause-first : goal.returns-clause-first
 returns-clause-first c =

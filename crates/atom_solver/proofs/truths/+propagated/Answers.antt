@@ -12,7 +12,16 @@ returns t c =
     let mid = c.round.new.known in
     let new = c.propagated.new.known in
     let p = formula c.args.part.now in
-    let q = formula c.in_ok-left.left in
-    IfOk-weaker c.propagated.result (λ (made : Formula). Keeps atoms mid q new (formula made)) (λ (made : Formula). Keeps atoms old p new (formula made))
-    (λ made k. kept_more atoms old mid new p q (formula made) c.in_ok-left.ensures k)
+    IfOk-weaker c.propagated.result (λ (made : Formula). Keeps atoms mid p new (formula made)) (λ (made : Formula). Keeps atoms old p new (formula made))
+    (λ made k. kept_more atoms old mid new p p (formula made) c.round.ensures k)
     c.propagated.ensures
+
+pub returns-then-rounds-eq0 : goal.returns-then-rounds-eq0
+returns-then-rounds-eq0 t c =
+    let atoms = c.args.atoms.now in
+    let old = c.args.known.now in
+    let mid = c.round.new.known in
+    let p = formula c.args.part.now in
+    IfOk-weaker c.left_of.result (λ (made : Formula). Keeps atoms mid p mid (formula made)) (λ (made : Formula). Keeps atoms old p mid (formula made))
+    (λ made k. kept_more atoms old mid mid p p (formula made) c.round.ensures k)
+    c.left_of.ensures
