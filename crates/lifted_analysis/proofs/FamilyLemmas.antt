@@ -8,7 +8,7 @@ use Rattle.c_tree.specs.declared.tree.Expr.{Expr}
 use Rattle.c_tree.specs.declared.tree.Stmt.{Stmt}
 use Rattle.c_tree.specs.declared.tree.Stmt.TheVariants as variant
 use Rattle.c_tree.specs.declared.tree.Stmt.TheViews.{outs-Cond}
-use Rattle.c_tree.specs.Tree.{Code, Done, Cond}
+use Rattle.c_tree.specs.Tree.{Code, Done, Cond, Whole}
 use Rattle.c_tree.specs.View.{term, front, code}
 use Rattle.c_tree.specs.Fit.{IsCodeOf}
 use Rattle.c_tree.specs.Project.{projected}
@@ -21,6 +21,7 @@ use Rattle.decision_tree.specs.View.{numbered, plain}
 use Rattle.leaf_domain.specs.Leaves.{LeafValue, LeafMeaning, LeafLaws, nothing_of}
 use Rattle.leaf_domain.specs.Soundness.{TransferAnswers}
 use Rattle.leaf_domain.specs.Transfer.{assumed}
+use Rattle.plain_analysis.specs.Stated.{HasLoopsOf}
 use Rattle.plain_analysis.specs.Statements.{after_of}
 use Rattle.plain_analysis.proofs.Listed.{after_of-followed, front-If, front-While, front-Block}
 use Rattle.plain_analysis.proofs.Nothing.{after_nothing}
@@ -132,4 +133,9 @@ group_smaller s number p q l m h j k =
 pub fit_Cond : (count : ℕ) (s : Stmt) (number : ℕ) (p q : Vec Stmt Global) → s ≡ variant.Cond number p q → IsCodeOf count (front s Done) → IsCodeOf count (code p.items) × IsCodeOf count (code q.items)
 fit_Cond count s number p q h k =
     let w : IsCodeOf count (Cond number (code p.items) (code q.items) Done) = subst (IsCodeOf count) (ap (λ s. front s Done) h ∙ front-Cond number p q) k in
+    (w.0, w.1)
+
+pub loops_Cond : (p : Whole) (s : Stmt) (number : ℕ) (a b : Vec Stmt Global) → s ≡ variant.Cond number a b → HasLoopsOf p (front s Done) → HasLoopsOf p (code a.items) × HasLoopsOf p (code b.items)
+loops_Cond p s number a b h k =
+    let w : HasLoopsOf p (Cond number (code a.items) (code b.items) Done) = subst (HasLoopsOf p) (ap (λ s. front s Done) h ∙ front-Cond number a b) k in
     (w.0, w.1)

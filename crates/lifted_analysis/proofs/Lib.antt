@@ -10,3 +10,4 @@ pub mod FoundLemmas
 pub mod ConditionLemmas
 pub mod Answered
 pub mod CanonLaws
+pub mod FinalsLemmas

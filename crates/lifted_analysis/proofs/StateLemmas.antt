@@ -1,5 +1,8 @@
 -- States that are made leaf by leaf.
-use Rattle.std.proofs.Common.{◌≡◌, List, Bool, ap, sym, ◌∙◌, inl, inr, Result, Ok, Err, IfOk, refl, subst, true, false, if◌then◌else◌}
+use Rattle.std.proofs.Common.{◌≡◌, ◌≤◌, List, Bool, ap, sym, ◌∙◌, inl, inr, Result, Ok, Err, IfOk, refl, subst, true, false, if◌then◌else◌}
+use Rattle.c_tree.specs.declared.tree.Mode.{Mode}
+use Rattle.c_tree.specs.Tree.{Done, Assign, Input}
+use Rattle.c_tree.specs.View.{term}
 use Rattle.decision_tree.specs.declared.tree.Tree.{Tree}
 use Rattle.decision_tree.specs.Plain.{Plain, leaf_of}
 use Rattle.decision_tree.specs.Numbered.{Numbered, erase}
@@ -8,11 +11,14 @@ use Rattle.decision_tree.specs.View.{numbered, plain}
 use Rattle.decision_tree.proofs.Numbers.{tree_stays, numbered_tree, keeps_same, keeps_both}
 use Rattle.decision_tree.proofs.Reached.{has_leaf_of}
 use Rattle.leaf_domain.specs.Leaves.{LeafValue, LeafMeaning, LeafLaws, nothing_of, is_nothing_of}
-use Rattle.plain_analysis.proofs.Nothing.{nothing_value}
+use Rattle.leaf_domain.specs.Soundness.{TransferAnswers}
+use Rattle.plain_analysis.proofs.Nothing.{nothing_value, after_stays}
 use Rattle.tree_unify.specs.Leafwise.{IsMapped, IsUnified, LeavesComeFrom, LeavesComeFromBoth, TestsAreOf, TestsAreOfEither}
 use Rattle.lifted_analysis.specs.declared.family.Family.{Family}
 use Rattle.lifted_analysis.specs.declared.operations.Combination.TheVariants.{Join}
-use Rattle.lifted_analysis.specs.Steps.{kept_by, combined_by}
+use Rattle.lifted_analysis.specs.declared.operations.Step.{Step}
+use Rattle.lifted_analysis.specs.declared.operations.Step.TheVariants as step
+use Rattle.lifted_analysis.specs.Steps.{stepped_by, kept_by, combined_by}
 use Rattle.lifted_analysis.specs.States.{IsState, IsLifted, IsJoint, IsTruth}
 
 -- what holds at Ok
@@ -24,6 +30,17 @@ if_ok_by (Err e) P Q f p = tt
 pub kept_or : (M : LeafMeaning) → LeafLaws M → (b : Bool) (x y : LeafValue) → x.variables ≡ y.variables → M.join (kept_by true b x) (kept_by false b y) ≡ (if b then x else y)
 kept_or M laws true x y e = ap (λ n. M.join x (nothing_of n)) (sym e) ∙ laws.nothing_join x
 kept_or M laws false x y e = ap (λ n. M.join (nothing_of n) y) e ∙ laws.join_nothing y
+
+-- a step of Nothing
+pub stepped_stays : (M : LeafMeaning) → LeafLaws M → (mode : Mode) → TransferAnswers M mode → (x : LeafValue) → x.variables ≤ 16 → is_nothing_of x ≡ true → (s : Step) → stepped_by M mode s x ≡ x
+stepped_stays M laws mode answers x few is (step.Assign y e) = after_stays M laws (record { delay = 0; narrow = 0; mode = mode }) answers x few is (Assign (record { line = 0; column = 0 }) y (term e.now) Done)
+stepped_stays M laws mode answers x few is (step.Forget y) = after_stays M laws (record { delay = 0; narrow = 0; mode = mode }) answers x few is (Input (record { line = 0; column = 0 }) y Done)
+stepped_stays M laws mode answers x few is (step.Assume e want) = answers.assumed_of_nothing (term e.now) want x is
+
+-- a leaf that is kept
+pub kept_is : (want b : Bool) (x : LeafValue) → b ≡ want → x ≡ kept_by want b x
+kept_is true b x e = ap (λ (c : Bool). if c then x else nothing_of x.variables) (sym e)
+kept_is false b x e = ap (λ (c : Bool). if c then nothing_of x.variables else x) (sym e)
 
 module _ {L : Type 0} (value : L → LeafValue) (family : Family) where
   pub state_stays : (before after : List (Plain L)) (t : Numbered L) → Keeps before after → IsState value family before t → IsState value family after t

@@ -7,3 +7,4 @@ pub mod Start
 pub mod Promises
 pub mod Conditions
 pub mod Findings
+pub mod Finals

@@ -1,27 +1,30 @@
 //! The tree after statements of a family.
 #![tactic(auto)]
 
-ghost use Rattle.std.specs.Prelude.{◌≡◌, IfOk, true, List, Bool};
+ghost use Rattle.std.specs.Prelude.{◌≡◌, IfOk, OnOk, true, List, Bool};
 ghost use Rattle.c_tree.specs.Tree.{Done};
-ghost use Rattle.c_tree.specs.View.{term, front, code};
+ghost use Rattle.c_tree.specs.View.{term, front, code, whole};
 ghost use Rattle.c_tree.specs.Fit.{IsTermOf, IsCodeOf};
 ghost use Rattle.decision_tree.specs.Listed.{Keeps};
 ghost use Rattle.decision_tree.specs.Plain.{leaf_of};
 ghost use Rattle.decision_tree.specs.View.{numbered, plain};
 ghost use Rattle.leaf_domain.specs.Transfer.{assumed};
 ghost use Rattle.plain_analysis.specs.Loops.{widened_leaf, narrowing_of};
+ghost use Rattle.plain_analysis.specs.Stated.{IsLoopAt, HasLoopsOf};
+ghost use Rattle.lifted_analysis.specs.Finals.{Remembers};
 ghost use Rattle.lifted_analysis.specs.Heads.{IsHeadOf};
 ghost use Rattle.lifted_analysis.specs.States.{IsFamily, IsState, IsLifted, IsTruth};
 ghost use Rattle.lifted_analysis.specs.Steps.{after_at, if_at, group_at, turn_at, final_at};
 
 use crate::family::{Family, Tables};
+use crate::finals::{Entered, Finals, find, remember};
 use crate::operations::{Combination, Step};
 use crate::states::{
-    below, combined, is_nothing_everywhere, is_true_everywhere, joined, kept, selected, stepped,
+    below, combined, is_everywhere, is_nothing_everywhere, joined, kept, selected, stepped,
 };
 use c_tree::{Expr, Stmt};
 use decision_tree::Tree;
-use fam_outer::NoMemory;
+use fam_outer::{NoMemory, Place};
 use leaf_domain::{Leaf, transfer_is_sound};
 use std::sync::ledger::Ledger;
 
@@ -29,6 +32,7 @@ use std::sync::ledger::Ledger;
 #[cycle(after)]
 pub(crate) fn after_list<L: Leaf, K: Ledger>(
     tables: &mut Tables<L, K>,
+    finals: &mut Finals<L>,
     family: &Family,
     list: &[Stmt],
     t: &Tree<L>,
@@ -36,7 +40,11 @@ pub(crate) fn after_list<L: Leaf, K: Ledger>(
     requires family { IsFamily family.now }
     requires fit { IsCodeOf family.now.variables (code list.now) }
     requires state { IsState L.value family.now tables.old.leaves (numbered t.now) }
-    ensures { IfOk result (λ r. IsLifted L.value family.now tables.old.leaves tables.new.leaves (after_at L.meaning family.now (code list.now)) (plain t.now) (numbered r)) }
+    requires loops { HasLoopsOf (whole family.now.program.now) (code list.now) }
+    requires memory { Remembers L.value L.meaning family.now tables.old.leaves finals.old }
+    ensures lifted { IfOk result (λ r. IsLifted L.value family.now tables.old.leaves tables.new.leaves
+        (after_at L.meaning family.now (code list.now)) (plain t.now) (numbered r)) }
+    ensures memory { OnOk result (Remembers L.value L.meaning family.now tables.new.leaves finals.new) }
 {
     transfer_is_sound::<L>();
     if is_nothing_everywhere(t) {
@@ -44,15 +52,16 @@ pub(crate) fn after_list<L: Leaf, K: Ledger>(
     }
     let mut made = t.share()?;
     for s in list {
-        made = after_stmt(tables, family, s, &made)?;
+        made = after_stmt(tables, finals, family, s, &made)?;
     }
     Ok(made)
 }
 
-/// The tree after a statement that is entered with `t`.
+/// The tree after a statement that is entered with `t`. Nothing stays Nothing.
 #[cycle(after)]
 fn after_stmt<L: Leaf, K: Ledger>(
     tables: &mut Tables<L, K>,
+    finals: &mut Finals<L>,
     family: &Family,
     s: &Stmt,
     t: &Tree<L>,
@@ -60,24 +69,32 @@ fn after_stmt<L: Leaf, K: Ledger>(
     requires family { IsFamily family.now }
     requires fit { IsCodeOf family.now.variables (front s.now Done) }
     requires state { IsState L.value family.now tables.old.leaves (numbered t.now) }
-    ensures { IfOk result (λ r. IsLifted L.value family.now tables.old.leaves tables.new.leaves (after_at L.meaning family.now (front s.now Done)) (plain t.now) (numbered r)) }
+    requires loops { HasLoopsOf (whole family.now.program.now) (front s.now Done) }
+    requires memory { Remembers L.value L.meaning family.now tables.old.leaves finals.old }
+    ensures lifted { IfOk result (λ r. IsLifted L.value family.now tables.old.leaves tables.new.leaves
+        (after_at L.meaning family.now (front s.now Done)) (plain t.now) (numbered r)) }
+    ensures memory { OnOk result (Remembers L.value L.meaning family.now tables.new.leaves finals.new) }
 {
+    transfer_is_sound::<L>();
+    if is_nothing_everywhere(t) {
+        return t.share();
+    }
     match s {
         Stmt::Assign { target, value, .. } => {
             stepped(tables, family, &Step::Assign(*target, value), t)
         }
         Stmt::Input { target, .. } => stepped(tables, family, &Step::Forget(*target), t),
         Stmt::Assert { test, .. } => stepped(tables, family, &Step::Assume(test, true), t),
-        Stmt::If { test, yes, no, .. } => after_if(tables, family, yes, no, test, t),
-        Stmt::While { test, body, .. } => {
-            let last = final_tree(tables, family, body, test, t)?;
+        Stmt::If { test, yes, no, .. } => after_if(tables, finals, family, yes, no, test, t),
+        Stmt::While { place, test, body } => {
+            let last = final_tree(tables, finals, family, *place, body, test, t)?;
             stepped(tables, family, &Step::Assume(test, false), &last)
         }
-        Stmt::Block { body, .. } => after_list(tables, family, body, t),
+        Stmt::Block { body, .. } => after_list(tables, finals, family, body, t),
         Stmt::Skip { .. } => t.share(),
         Stmt::Cond { number, yes, no } => {
             let choice = family.choice(*number);
-            after_group(tables, family, yes, no, choice, t)
+            after_group(tables, finals, family, yes, no, choice, t)
         }
     }
 }
@@ -86,6 +103,7 @@ fn after_stmt<L: Leaf, K: Ledger>(
 #[cycle(after)]
 fn after_if<L: Leaf, K: Ledger>(
     tables: &mut Tables<L, K>,
+    finals: &mut Finals<L>,
     family: &Family,
     yes: &[Stmt],
     no: &[Stmt],
@@ -97,12 +115,18 @@ fn after_if<L: Leaf, K: Ledger>(
     requires yes { IsCodeOf family.now.variables (code yes.now) }
     requires no { IsCodeOf family.now.variables (code no.now) }
     requires state { IsState L.value family.now tables.old.leaves (numbered t.now) }
-    ensures { IfOk result (λ r. IsLifted L.value family.now tables.old.leaves tables.new.leaves (if_at L.meaning family.now (term test.now) (code yes.now) (code no.now)) (plain t.now) (numbered r)) }
+    requires yes_loops { HasLoopsOf (whole family.now.program.now) (code yes.now) }
+    requires no_loops { HasLoopsOf (whole family.now.program.now) (code no.now) }
+    requires memory { Remembers L.value L.meaning family.now tables.old.leaves finals.old }
+    ensures lifted { IfOk result (λ r. IsLifted L.value family.now tables.old.leaves tables.new.leaves
+        (if_at L.meaning family.now (term test.now) (code yes.now) (code no.now)) (plain t.now)
+        (numbered r)) }
+    ensures memory { OnOk result (Remembers L.value L.meaning family.now tables.new.leaves finals.new) }
 {
     let in_yes = stepped(tables, family, &Step::Assume(test, true), t)?;
     let in_no = stepped(tables, family, &Step::Assume(test, false), t)?;
-    let after_yes = after_list(tables, family, yes, &in_yes)?;
-    let after_no = after_list(tables, family, no, &in_no)?;
+    let after_yes = after_list(tables, finals, family, yes, &in_yes)?;
+    let after_no = after_list(tables, finals, family, no, &in_no)?;
     joined(tables, family, &after_yes, &after_no)
 }
 
@@ -110,6 +134,7 @@ fn after_if<L: Leaf, K: Ledger>(
 #[cycle(after)]
 fn after_group<L: Leaf, K: Ledger>(
     tables: &mut Tables<L, K>,
+    finals: &mut Finals<L>,
     family: &Family,
     yes: &[Stmt],
     no: &[Stmt],
@@ -121,13 +146,19 @@ fn after_group<L: Leaf, K: Ledger>(
     requires yes { IsCodeOf family.now.variables (code yes.now) }
     requires no { IsCodeOf family.now.variables (code no.now) }
     requires state { IsState L.value family.now tables.old.leaves (numbered t.now) }
-    ensures { IfOk result (λ r. IsLifted L.value family.now tables.old.leaves tables.new.leaves (group_at L.meaning family.now (plain choice.now) (code yes.now) (code no.now)) (plain t.now) (numbered r)) }
+    requires yes_loops { HasLoopsOf (whole family.now.program.now) (code yes.now) }
+    requires no_loops { HasLoopsOf (whole family.now.program.now) (code no.now) }
+    requires memory { Remembers L.value L.meaning family.now tables.old.leaves finals.old }
+    ensures lifted { IfOk result (λ r. IsLifted L.value family.now tables.old.leaves tables.new.leaves
+        (group_at L.meaning family.now (plain choice.now) (code yes.now) (code no.now)) (plain t.now)
+        (numbered r)) }
+    ensures memory { OnOk result (Remembers L.value L.meaning family.now tables.new.leaves finals.new) }
 {
     transfer_is_sound::<L>();
     let in_yes = kept(tables, family, choice, true, t)?;
     let in_no = kept(tables, family, choice, false, t)?;
-    let after_yes = after_list(tables, family, yes, &in_yes)?;
-    let after_no = after_list(tables, family, no, &in_no)?;
+    let after_yes = after_list(tables, finals, family, yes, &in_yes)?;
+    let after_no = after_list(tables, finals, family, no, &in_no)?;
     joined(tables, family, &after_yes, &after_no)
 }
 
@@ -142,6 +173,7 @@ pub(crate) struct Head<L> {
 #[cycle(after)]
 fn head_at<L: Leaf, K: Ledger>(
     tables: &mut Tables<L, K>,
+    finals: &mut Finals<L>,
     family: &Family,
     body: &[Stmt],
     test: &Expr,
@@ -153,12 +185,17 @@ fn head_at<L: Leaf, K: Ledger>(
     requires body { IsCodeOf family.now.variables (code body.now) }
     requires state { IsState L.value family.now tables.old.leaves (numbered t.now) }
     requires at { IsState L.value family.now tables.old.leaves (numbered at) }
+    requires loops { HasLoopsOf (whole family.now.program.now) (code body.now) }
+    requires memory { Remembers L.value L.meaning family.now tables.old.leaves finals.old }
     ensures at { IfOk result (λ head. numbered head.at ≡ numbered at) }
-    ensures head { IfOk result (λ head. IsHeadOf L.value family.now tables.new.leaves (λ v. turn_at L.meaning family.now (term test.now) (code body.now) v (L.value (leaf_of (plain t.now) v))) head) }
+    ensures head { IfOk result (λ head. IsHeadOf L.value family.now tables.new.leaves
+        (λ v. turn_at L.meaning family.now (term test.now) (code body.now) v
+        (L.value (leaf_of (plain t.now) v))) head) }
     ensures keeps { IfOk result (λ head. Keeps tables.old.leaves tables.new.leaves) }
+    ensures memory { OnOk result (Remembers L.value L.meaning family.now tables.new.leaves finals.new) }
 {
     let inside = stepped(tables, family, &Step::Assume(test, true), &at)?;
-    let end = after_list(tables, family, body, &inside)?;
+    let end = after_list(tables, finals, family, body, &inside)?;
     let next = joined(tables, family, t, &end)?;
     Ok(Head { at, next })
 }
@@ -168,6 +205,7 @@ fn head_at<L: Leaf, K: Ledger>(
 #[cycle(after)]
 fn widened<L: Leaf, K: Ledger>(
     tables: &mut Tables<L, K>,
+    finals: &mut Finals<L>,
     family: &Family,
     body: &[Stmt],
     test: &Expr,
@@ -177,22 +215,31 @@ fn widened<L: Leaf, K: Ledger>(
     requires test { IsTermOf family.now.variables (term test.now) }
     requires body { IsCodeOf family.now.variables (code body.now) }
     requires state { IsState L.value family.now tables.old.leaves (numbered t.now) }
-    ensures at_each { IfOk result (λ head. (v : List Bool) → L.value (leaf_of (plain head.at) v) ≡ widened_leaf L.meaning family.now.options.delay (turn_at L.meaning family.now (term test.now) (code body.now) v (L.value (leaf_of (plain t.now) v))) (L.value (leaf_of (plain t.now) v))) }
-    ensures head { IfOk result (λ head. IsHeadOf L.value family.now tables.new.leaves (λ v. turn_at L.meaning family.now (term test.now) (code body.now) v (L.value (leaf_of (plain t.now) v))) head) }
+    requires loops { HasLoopsOf (whole family.now.program.now) (code body.now) }
+    requires memory { Remembers L.value L.meaning family.now tables.old.leaves finals.old }
+    ensures at_each { IfOk result (λ head. (v : List Bool)
+        → L.value (leaf_of (plain head.at) v)
+        ≡ widened_leaf L.meaning family.now.options.delay
+        (turn_at L.meaning family.now (term test.now) (code body.now) v (L.value (leaf_of (plain t.now) v)))
+        (L.value (leaf_of (plain t.now) v))) }
+    ensures head { IfOk result (λ head. IsHeadOf L.value family.now tables.new.leaves
+        (λ v. turn_at L.meaning family.now (term test.now) (code body.now) v
+        (L.value (leaf_of (plain t.now) v))) head) }
     ensures keeps { IfOk result (λ head. Keeps tables.old.leaves tables.new.leaves) }
+    ensures memory { OnOk result (Remembers L.value L.meaning family.now tables.new.leaves finals.new) }
 {
     let delay = u64::from(family.options.delay);
     let rounds = delay + u64::from(L::bound_count(family.variables)) + 1;
     let start = t.share()?;
-    let mut head = head_at(tables, family, body, test, t, start)?;
+    let mut head = head_at(tables, finals, family, body, test, t, start)?;
     for k in 0..rounds {
         let stable = below(tables, family, &head.next, &head.at)?;
-        if is_true_everywhere(&stable) {
+        if is_everywhere(&stable, true) {
             return Ok(head);
         }
         let how = Combination::Round(k < delay);
         let made = combined(tables, family, how, &head.at, &head.next)?;
-        head = head_at(tables, family, body, test, t, made)?;
+        head = head_at(tables, finals, family, body, test, t, made)?;
     }
     Ok(head)
 }
@@ -202,6 +249,7 @@ fn widened<L: Leaf, K: Ledger>(
 #[cycle(after)]
 fn narrowed<L: Leaf, K: Ledger>(
     tables: &mut Tables<L, K>,
+    finals: &mut Finals<L>,
     family: &Family,
     body: &[Stmt],
     test: &Expr,
@@ -212,27 +260,38 @@ fn narrowed<L: Leaf, K: Ledger>(
     requires test { IsTermOf family.now.variables (term test.now) }
     requires body { IsCodeOf family.now.variables (code body.now) }
     requires state { IsState L.value family.now tables.old.leaves (numbered t.now) }
-    requires head { IsHeadOf L.value family.now tables.old.leaves (λ v. turn_at L.meaning family.now (term test.now) (code body.now) v (L.value (leaf_of (plain t.now) v))) head }
-    ensures at_each { IfOk result (λ made. (v : List Bool) → L.value (leaf_of (plain made.at) v) ≡ narrowing_of L.meaning (turn_at L.meaning family.now (term test.now) (code body.now) v (L.value (leaf_of (plain t.now) v))) (L.value (leaf_of (plain head.at) v))) }
-    ensures head { IfOk result (λ made. IsHeadOf L.value family.now tables.new.leaves (λ v. turn_at L.meaning family.now (term test.now) (code body.now) v (L.value (leaf_of (plain t.now) v))) made) }
+    requires head { IsHeadOf L.value family.now tables.old.leaves
+        (λ v. turn_at L.meaning family.now (term test.now) (code body.now) v
+        (L.value (leaf_of (plain t.now) v))) head }
+    requires loops { HasLoopsOf (whole family.now.program.now) (code body.now) }
+    requires memory { Remembers L.value L.meaning family.now tables.old.leaves finals.old }
+    ensures at_each { IfOk result (λ made. (v : List Bool)
+        → L.value (leaf_of (plain made.at) v)
+        ≡ narrowing_of L.meaning (turn_at L.meaning family.now (term test.now) (code body.now) v
+        (L.value (leaf_of (plain t.now) v))) (L.value (leaf_of (plain head.at) v))) }
+    ensures head { IfOk result (λ made. IsHeadOf L.value family.now tables.new.leaves
+        (λ v. turn_at L.meaning family.now (term test.now) (code body.now) v
+        (L.value (leaf_of (plain t.now) v))) made) }
     ensures keeps { IfOk result (λ made. Keeps tables.old.leaves tables.new.leaves) }
+    ensures memory { OnOk result (Remembers L.value L.meaning family.now tables.new.leaves finals.new) }
 {
     let candidate = combined(tables, family, Combination::Narrow, &head.at, &head.next)?;
     if candidate.number() == head.at.number() {
         return Ok(head);
     }
-    let made = head_at(tables, family, body, test, t, candidate)?;
+    let made = head_at(tables, finals, family, body, test, t, candidate)?;
     let stable = below(tables, family, &made.next, &made.at)?;
     let at = selected(tables, family, &stable, &made.at, &head.at)?;
     let next = selected(tables, family, &stable, &made.next, &head.next)?;
     Ok(Head { at, next })
 }
 
-/// The final tree of a loop that is entered with `t`. Nothing stays Nothing, and the rounds of narrowing end with the first
-/// that changes nothing at any vector.
+/// The final tree of a loop that is entered with `t`, by its rounds. Those of narrowing end with the first that changes nothing
+/// at any vector.
 #[cycle(after)]
-pub(crate) fn final_tree<L: Leaf, K: Ledger>(
+fn final_by_rounds<L: Leaf, K: Ledger>(
     tables: &mut Tables<L, K>,
+    finals: &mut Finals<L>,
     family: &Family,
     body: &[Stmt],
     test: &Expr,
@@ -242,19 +301,59 @@ pub(crate) fn final_tree<L: Leaf, K: Ledger>(
     requires test { IsTermOf family.now.variables (term test.now) }
     requires body { IsCodeOf family.now.variables (code body.now) }
     requires state { IsState L.value family.now tables.old.leaves (numbered t.now) }
-    ensures { IfOk result (λ r. IsLifted L.value family.now tables.old.leaves tables.new.leaves (final_at L.meaning family.now (term test.now) (code body.now)) (plain t.now) (numbered r)) }
+    requires loops { HasLoopsOf (whole family.now.program.now) (code body.now) }
+    requires memory { Remembers L.value L.meaning family.now tables.old.leaves finals.old }
+    ensures lifted { IfOk result (λ r. IsLifted L.value family.now tables.old.leaves tables.new.leaves
+        (final_at L.meaning family.now (term test.now) (code body.now)) (plain t.now) (numbered r)) }
+    ensures memory { OnOk result (Remembers L.value L.meaning family.now tables.new.leaves finals.new) }
 {
-    transfer_is_sound::<L>();
-    if is_nothing_everywhere(t) {
-        return t.share();
-    }
-    let mut head = widened(tables, family, body, test, t)?;
+    let mut head = widened(tables, finals, family, body, test, t)?;
     for _k in 0..family.options.narrow {
         let before = head.at.number();
-        head = narrowed(tables, family, body, test, t, head)?;
+        head = narrowed(tables, finals, family, body, test, t, head)?;
         if head.at.number() == before {
             return Ok(head.at);
         }
     }
     Ok(head.at)
+}
+
+/// The final tree of the loop at a place that is entered with `t`: Nothing stays Nothing, and else it is as remembered, or made
+/// by its rounds and then remembered.
+#[cycle(after)]
+pub(crate) fn final_tree<L: Leaf, K: Ledger>(
+    tables: &mut Tables<L, K>,
+    finals: &mut Finals<L>,
+    family: &Family,
+    place: Place,
+    body: &[Stmt],
+    test: &Expr,
+    t: &Tree<L>,
+) -> Result<Tree<L>, NoMemory>
+    requires family { IsFamily family.now }
+    requires test { IsTermOf family.now.variables (term test.now) }
+    requires body { IsCodeOf family.now.variables (code body.now) }
+    requires state { IsState L.value family.now tables.old.leaves (numbered t.now) }
+    requires loops { HasLoopsOf (whole family.now.program.now) (code body.now) }
+    requires here { IsLoopAt (whole family.now.program.now) place (term test.now) (code body.now) }
+    requires memory { Remembers L.value L.meaning family.now tables.old.leaves finals.old }
+    ensures lifted { IfOk result (λ r. IsLifted L.value family.now tables.old.leaves tables.new.leaves
+        (final_at L.meaning family.now (term test.now) (code body.now)) (plain t.now) (numbered r)) }
+    ensures memory { OnOk result (Remembers L.value L.meaning family.now tables.new.leaves finals.new) }
+{
+    transfer_is_sound::<L>();
+    if is_nothing_everywhere(t) {
+        return t.share();
+    }
+    let key = Entered {
+        place,
+        number: t.number(),
+    };
+    if let Some(last) = find(&finals.entries, &key) {
+        return last.share();
+    }
+    let last = final_by_rounds(tables, finals, family, body, test, t)?;
+    let kept = last.share()?;
+    remember(&mut finals.entries, key, kept)?;
+    Ok(last)
 }

@@ -22,12 +22,14 @@ ghost use Rattle.lifted_analysis.specs.Promises.{variant_at, begin_at, leaf_at, 
 
 use crate::entries::{Found, enter_list};
 use crate::family::{Family, Tables};
+use crate::finals::Finals;
 use crate::findings::{AlarmTree, FamilyFindings, PlaceTree};
 use crate::start::start_tree;
 use c_tree::{Kind, Program};
 use cpp_conditions::Formula;
 use decision_tree::{Forest, Tree};
 use fam_outer::{NoMemory, Place};
+use indexmap::IndexMap;
 use leaf_domain::{Leaf, equality_is_exact, transfer_is_sound};
 use plain_analysis::Options;
 use std::alloc::Global;
@@ -60,8 +62,11 @@ fn add_never<L: Leaf>(
     kind: Kind,
 ) -> Result<(), NoMemory>
     requires { IsFamily family.now }
-    ensures stops { OnOk result ((v : List Bool) → map (stop_there v) found.new.alarms.items ≡ map (stop_there v) found.old.alarms.items ++ ((place, kind), false) ∷ []) }
-    ensures trees { OnOk result (AreReducedStops family.now found.old.alarms.items → AreReducedStops family.now found.new.alarms.items) }
+    ensures stops { OnOk result ((v : List Bool)
+        → map (stop_there v) found.new.alarms.items
+        ≡ map (stop_there v) found.old.alarms.items ++ ((place, kind), false) ∷ []) }
+    ensures trees { OnOk result (AreReducedStops family.now found.old.alarms.items
+        → AreReducedStops family.now found.new.alarms.items) }
     ensures places { found.new.places.items ≡ found.old.places.items }
 {
     let tree = family.never.share()?;
@@ -86,26 +91,29 @@ fn add_end<L: Leaf>(
     add_never(found, family, place, Kind::Assertion)
 }
 
-/// What is found of a program, whose trees of conditions are the family's.
+/// What is found of a family's program.
 fn findings_of<L: Leaf, K: Ledger>(
     tables: &mut Tables<L, K>,
     family: &Family,
-    code: &Program,
 ) -> Result<FamilyFindings<L>, NoMemory>
     requires family { IsFamily family.now }
     requires plausible { IsTruth family.now (numbered family.now.plausible.now) }
-    requires program { IsProgram (whole code.now) }
-    requires count { family.now.variables ≡ length code.now.names }
-    ensures { IfOk result (λ f. HasFound L.value L.meaning family.now (whole code.now) f) }
+    requires program { IsProgram (whole family.now.program.now) }
+    requires count { family.now.variables ≡ length family.now.program.now.names }
+    ensures { IfOk result (λ f. HasFound L.value L.meaning family.now (whole family.now.program.now) f) }
 {
     transfer_is_sound::<L>();
     let alloc = tables.alloc;
+    let code = family.program;
     let start = start_tree(tables, family, code.start.items(), &code.declared)?;
     let mut found = Found {
         places: Vec::new(alloc),
         alarms: Vec::new(alloc),
     };
-    let tree = enter_list(tables, family, &code.body, &start, &mut found)?;
+    let mut finals = Finals {
+        entries: IndexMap::new(alloc),
+    };
+    let tree = enter_list(tables, &mut finals, &mut found, family, &code.body, &start)?;
     add_end(&mut found, family, code.end, tree)?;
     Ok(FamilyFindings {
         places: found.places,
@@ -127,7 +135,8 @@ fn analyse_counted<L: Leaf, K: Ledger>(
     requires some { 0 < K.parts }
     requires program { IsProgram (whole code.now) }
     requires below { AreBelow 64 conditions.now plausible.now }
-    ensures { IfOk result (λ f. AreFindings L.value L.meaning options (whole code.now) conditions.now plausible.now f) }
+    ensures { IfOk result (λ f. AreFindings L.value L.meaning options
+        (whole code.now) conditions.now plausible.now f) }
 {
     equality_is_exact::<L>();
     let mut tables = Tables {
@@ -140,13 +149,14 @@ fn analyse_counted<L: Leaf, K: Ledger>(
     let plausible = test_tree_in(alloc, &mut tables.truths, plausible, &mut tables.steps)?;
     let never = tables.truths.leaf(false)?;
     let family = Family {
+        program: code,
         choices: &choices,
         plausible: &plausible,
         never: &never,
         variables: code.names.items().len() as u32,
         options,
     };
-    findings_of(&mut tables, &family, code)
+    findings_of(&mut tables, &family)
 }
 
 /// The analysis of all variants of a family at once.
@@ -173,14 +183,27 @@ pub fn analyse_family<L: Leaf>(
     requires conditioned { IsConditioned (length conditions.now) (whole code.now) }
     requires below { AreBelow 64 conditions.now plausible.now }
     ensures places { IfOk result (λ f. map (λ p. p.place) f.places.items ≡ program_places (whole code.now)) }
-    ensures trees { IfOk result (λ f. (m : ℕ) → AreBelow m conditions.now plausible.now → All (λ p. IsTreeOf m (leaf_at L.meaning options.now (whole code.now) conditions.now plausible.now p.place) (valued L.value (plain p.tree))) f.places.items) }
-    ensures kinds { IfOk result (λ f. map (λ a. (a.place, a.kind)) f.alarms.items ≡ by_kind (program_places (whole code.now))) }
-    ensures alarms { IfOk result (λ f. (m : ℕ) → AreBelow m conditions.now plausible.now → All (λ (a : AlarmTree). IsTreeOf m (stop_at L.meaning options.now (whole code.now) conditions.now plausible.now (a.place, a.kind)) (plain a.tree)) f.alarms.items) }
+    ensures trees { IfOk result (λ f. (m : ℕ) → AreBelow m conditions.now plausible.now
+        → All (λ p. IsTreeOf m (leaf_at L.meaning options.now
+        (whole code.now) conditions.now plausible.now p.place)
+        (valued L.value (plain p.tree))) f.places.items) }
+    ensures kinds { IfOk result (λ f. map (λ a. (a.place, a.kind)) f.alarms.items
+        ≡ by_kind (program_places (whole code.now))) }
+    ensures alarms { IfOk result (λ f. (m : ℕ) → AreBelow m conditions.now plausible.now
+        → All (λ (a : AlarmTree). IsTreeOf m
+        (stop_at L.meaning options.now (whole code.now) conditions.now plausible.now (a.place, a.kind))
+        (plain a.tree)) f.alarms.items) }
     ensures reduced { IfOk result (λ f. All (λ p. IsReduced (plain p.tree)) f.places.items) }
-    ensures below { IfOk result (λ f. (m : ℕ) → AreBelow m conditions.now plausible.now → All (λ p. TestsBelow m (plain p.tree)) f.places.items) }
-    ensures tests { IfOk result (λ f. All (λ p. (k : ℕ) → HasTest k (plain p.tree) → Occurs conditions.now plausible.now k) f.places.items) }
-    ensures alarm_tests { IfOk result (λ f. All (λ (a : AlarmTree). (k : ℕ) → HasTest k (plain a.tree) → Occurs conditions.now plausible.now k) f.alarms.items) }
-    ensures runs { (v : List Bool) → RunsForeseen L.meaning options.now (variant_at (whole code.now) conditions.now v) (begin_at L.meaning (whole code.now) conditions.now plausible.now v) }
+    ensures below { IfOk result (λ f. (m : ℕ) → AreBelow m conditions.now plausible.now
+        → All (λ p. TestsBelow m (plain p.tree)) f.places.items) }
+    ensures tests { IfOk result (λ f. All
+        (λ p. (k : ℕ) → HasTest k (plain p.tree) → Occurs conditions.now plausible.now k) f.places.items) }
+    ensures alarm_tests { IfOk result
+        (λ f. All (λ (a : AlarmTree). (k : ℕ) → HasTest k (plain a.tree)
+        → Occurs conditions.now plausible.now k) f.alarms.items) }
+    ensures runs { (v : List Bool) → RunsForeseen L.meaning options.now
+        (variant_at (whole code.now) conditions.now v)
+        (begin_at L.meaning (whole code.now) conditions.now plausible.now v) }
     ensures settled { LoopsSettle L.meaning options.now }
 {
     transfer_is_sound::<L>();

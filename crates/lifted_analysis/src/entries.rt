@@ -3,18 +3,21 @@
 
 ghost use Rattle.std.specs.Prelude.{◌≡◌, ◌++◌, ◌∷◌, [], map, IfOk, OnOk, List, Bool};
 ghost use Rattle.c_tree.specs.Tree.{Done};
-ghost use Rattle.c_tree.specs.View.{term, front, code};
+ghost use Rattle.c_tree.specs.View.{term, front, code, whole};
 ghost use Rattle.c_tree.specs.Fit.{IsTermOf, IsCodeOf};
 ghost use Rattle.decision_tree.specs.Listed.{Keeps};
 ghost use Rattle.decision_tree.specs.Plain.{leaf_of};
 ghost use Rattle.decision_tree.specs.View.{numbered, plain};
 ghost use Rattle.leaf_domain.specs.Stops.{may_at};
+ghost use Rattle.plain_analysis.specs.Stated.{HasLoopsOf};
 ghost use Rattle.lifted_analysis.specs.Entries.{leaf_there, stop_there, IsReducedTree, AreReduced, AreReducedStops, entered_with, entered_sides, entered_group, entered_body, HasEntered};
+ghost use Rattle.lifted_analysis.specs.Finals.{Remembers};
 ghost use Rattle.lifted_analysis.specs.States.{IsFamily, IsState, IsLifted, IsTruth};
 ghost use Rattle.lifted_analysis.specs.Steps.{after_at, if_at, group_at};
 
 use crate::after::final_tree;
 use crate::family::{Family, Tables};
+use crate::finals::Finals;
 use crate::findings::{AlarmTree, PlaceTree};
 use crate::operations::Step;
 use crate::states::{joined, kept, stepped};
@@ -43,14 +46,17 @@ fn may_stop<L: Leaf, K: Ledger>(
     requires fit { IsCodeOf family.now.variables (front s.now Done) }
     requires state { IsState L.value family.now tables.old.leaves (numbered t.now) }
     ensures reduced { IfOk result (λ r. IsReducedTree family.now (plain r)) }
-    ensures at_each { IfOk result (λ r. (v : List Bool) → leaf_of (plain r) v ≡ may_at L.meaning family.now.options.mode kind (front s.now Done) (L.value (leaf_of (plain t.now) v))) }
+    ensures at_each { IfOk result (λ r. (v : List Bool)
+        → leaf_of (plain r) v ≡ may_at L.meaning family.now.options.mode kind (front s.now Done)
+        (L.value (leaf_of (plain t.now) v))) }
     ensures same { tables.new.leaves ≡ tables.old.leaves }
 {
     let alloc = tables.alloc;
     let mode = family.options.mode;
     let asks = |leaf: &L| -> Result<bool, NoMemory>
         requires { IsCodeOf (L.value leaf.now).variables (front s.now Done) }
-        ensures { IfOk result (λ b. b ≡ may_at L.meaning mode kind (front s.entry.now Done) (L.value leaf.now)) }
+        ensures { IfOk result (λ b. b ≡ may_at L.meaning mode kind (front s.entry.now Done)
+            (L.value leaf.now)) }
     { may(alloc, leaf, kind, s, mode) };
     map_in(alloc, &mut tables.truths, &asks, t, &mut tables.steps)
 }
@@ -63,8 +69,12 @@ fn add_tree<L: Leaf>(
     t: &Tree<L>,
 ) -> Result<(), NoMemory>
     requires { IsReducedTree family.now (plain t.now) }
-    ensures leaves { OnOk result ((v : List Bool) → map (leaf_there L.value v) found.new.places.items ≡ map (leaf_there L.value v) found.old.places.items ++ (place, L.value (leaf_of (plain t.now) v)) ∷ []) }
-    ensures trees { OnOk result (AreReduced family.now found.old.places.items → AreReduced family.now found.new.places.items) }
+    ensures leaves { OnOk result ((v : List Bool)
+        → map (leaf_there L.value v) found.new.places.items
+        ≡ map (leaf_there L.value v) found.old.places.items
+        ++ (place, L.value (leaf_of (plain t.now) v)) ∷ []) }
+    ensures trees { OnOk result (AreReduced family.now found.old.places.items
+        → AreReduced family.now found.new.places.items) }
     ensures alarms { found.new.alarms.items ≡ found.old.alarms.items }
 {
     let _family = family.variables;
@@ -85,8 +95,16 @@ fn add_alarm<L: Leaf, K: Ledger>(
 ) -> Result<(), NoMemory>
     requires fit { IsCodeOf family.now.variables (front s.now Done) }
     requires state { IsState L.value family.now tables.old.leaves (numbered t.now) }
-    ensures stops { OnOk result ((v : List Bool) → map (stop_there v) found.new.alarms.items ≡ map (stop_there v) found.old.alarms.items ++ ((place, kind), may_at L.meaning family.now.options.mode kind (front s.now Done) (L.value (leaf_of (plain t.now) v))) ∷ []) }
-    ensures trees { OnOk result (AreReducedStops family.now found.old.alarms.items → AreReducedStops family.now found.new.alarms.items) }
+    ensures stops { OnOk result ((v : List Bool)
+        → map (stop_there v) found.new.alarms.items
+        ≡ map (stop_there v) found.old.alarms.items
+        ++ (
+          (place, kind),
+          may_at L.meaning family.now.options.mode kind (front s.now Done)
+              (L.value (leaf_of (plain t.now) v)),
+        ) ∷ []) }
+    ensures trees { OnOk result (AreReducedStops family.now found.old.alarms.items
+        → AreReducedStops family.now found.new.alarms.items) }
     ensures places { found.new.places.items ≡ found.old.places.items }
     ensures same { tables.new.leaves ≡ tables.old.leaves }
 {
@@ -106,7 +124,9 @@ fn enter<L: Leaf, K: Ledger>(
 ) -> Result<(), NoMemory>
     requires fit { IsCodeOf family.now.variables (front s.now Done) }
     requires state { IsState L.value family.now tables.old.leaves (numbered t.now) }
-    ensures entered { OnOk result (HasEntered L.value L.meaning family.now found.old found.new (λ v. record { place = place; statement = front s.now Done; leaf = L.value (leaf_of (plain t.now) v) } ∷ [])) }
+    ensures entered { OnOk result (HasEntered L.value L.meaning family.now found.old found.new
+        (λ v. record { place = place; statement = front s.now Done; leaf = L.value (leaf_of (plain t.now) v) }
+        ∷ [])) }
     ensures same { tables.new.leaves ≡ tables.old.leaves }
 {
     add_tree(found, family, place, t)?;
@@ -119,20 +139,26 @@ fn enter<L: Leaf, K: Ledger>(
 #[cycle(enter)]
 pub(crate) fn enter_list<L: Leaf, K: Ledger>(
     tables: &mut Tables<L, K>,
+    finals: &mut Finals<L>,
+    found: &mut Found<L>,
     family: &Family,
     list: &[Stmt],
     t: &Tree<L>,
-    found: &mut Found<L>,
 ) -> Result<Tree<L>, NoMemory>
     requires family { IsFamily family.now }
     requires fit { IsCodeOf family.now.variables (code list.now) }
     requires state { IsState L.value family.now tables.old.leaves (numbered t.now) }
-    ensures lifted { IfOk result (λ r. IsLifted L.value family.now tables.old.leaves tables.new.leaves (after_at L.meaning family.now (code list.now)) (plain t.now) (numbered r)) }
-    ensures entered { OnOk result (HasEntered L.value L.meaning family.now found.old found.new (entered_with L.value L.meaning family.now (code list.now) (plain t.now))) }
+    requires loops { HasLoopsOf (whole family.now.program.now) (code list.now) }
+    requires memory { Remembers L.value L.meaning family.now tables.old.leaves finals.old }
+    ensures lifted { IfOk result (λ r. IsLifted L.value family.now tables.old.leaves tables.new.leaves
+        (after_at L.meaning family.now (code list.now)) (plain t.now) (numbered r)) }
+    ensures entered { OnOk result (HasEntered L.value L.meaning family.now found.old found.new
+        (entered_with L.value L.meaning family.now (code list.now) (plain t.now))) }
+    ensures memory { OnOk result (Remembers L.value L.meaning family.now tables.new.leaves finals.new) }
 {
     let mut made = t.share()?;
     for s in list {
-        made = enter_stmt(tables, family, s, &made, found)?;
+        made = enter_stmt(tables, finals, found, family, s, &made)?;
     }
     Ok(made)
 }
@@ -142,16 +168,22 @@ pub(crate) fn enter_list<L: Leaf, K: Ledger>(
 #[cycle(enter)]
 fn enter_stmt<L: Leaf, K: Ledger>(
     tables: &mut Tables<L, K>,
+    finals: &mut Finals<L>,
+    found: &mut Found<L>,
     family: &Family,
     s: &Stmt,
     t: &Tree<L>,
-    found: &mut Found<L>,
 ) -> Result<Tree<L>, NoMemory>
     requires family { IsFamily family.now }
     requires fit { IsCodeOf family.now.variables (front s.now Done) }
     requires state { IsState L.value family.now tables.old.leaves (numbered t.now) }
-    ensures lifted { IfOk result (λ r. IsLifted L.value family.now tables.old.leaves tables.new.leaves (after_at L.meaning family.now (front s.now Done)) (plain t.now) (numbered r)) }
-    ensures entered { OnOk result (HasEntered L.value L.meaning family.now found.old found.new (entered_with L.value L.meaning family.now (front s.now Done) (plain t.now))) }
+    requires loops { HasLoopsOf (whole family.now.program.now) (front s.now Done) }
+    requires memory { Remembers L.value L.meaning family.now tables.old.leaves finals.old }
+    ensures lifted { IfOk result (λ r. IsLifted L.value family.now tables.old.leaves tables.new.leaves
+        (after_at L.meaning family.now (front s.now Done)) (plain t.now) (numbered r)) }
+    ensures entered { OnOk result (HasEntered L.value L.meaning family.now found.old found.new
+        (entered_with L.value L.meaning family.now (front s.now Done) (plain t.now))) }
+    ensures memory { OnOk result (Remembers L.value L.meaning family.now tables.new.leaves finals.new) }
 {
     match s {
         Stmt::Assign {
@@ -177,17 +209,17 @@ fn enter_stmt<L: Leaf, K: Ledger>(
             no,
         } => {
             enter(tables, family, found, s, *place, t)?;
-            enter_if(tables, family, yes, no, test, t, found)
+            enter_if(tables, finals, found, family, yes, no, test, t)
         }
         Stmt::While { place, test, body } => {
-            let last = final_tree(tables, family, body, test, t)?;
+            let last = final_tree(tables, finals, family, *place, body, test, t)?;
             enter(tables, family, found, s, *place, &last)?;
-            enter_body(tables, family, body, test, &last, found)?;
+            enter_body(tables, finals, found, family, body, test, &last)?;
             stepped(tables, family, &Step::Assume(test, false), &last)
         }
         Stmt::Block { place, body } => {
             enter(tables, family, found, s, *place, t)?;
-            enter_list(tables, family, body, t, found)
+            enter_list(tables, finals, found, family, body, t)
         }
         Stmt::Skip { place } => {
             enter(tables, family, found, s, *place, t)?;
@@ -195,7 +227,7 @@ fn enter_stmt<L: Leaf, K: Ledger>(
         }
         Stmt::Cond { number, yes, no } => {
             let choice = family.choice(*number);
-            enter_group(tables, family, yes, no, choice, t, found)
+            enter_group(tables, finals, found, family, yes, no, choice, t)
         }
     }
 }
@@ -204,25 +236,34 @@ fn enter_stmt<L: Leaf, K: Ledger>(
 #[cycle(enter)]
 fn enter_if<L: Leaf, K: Ledger>(
     tables: &mut Tables<L, K>,
+    finals: &mut Finals<L>,
+    found: &mut Found<L>,
     family: &Family,
     yes: &[Stmt],
     no: &[Stmt],
     test: &Expr,
     t: &Tree<L>,
-    found: &mut Found<L>,
 ) -> Result<Tree<L>, NoMemory>
     requires family { IsFamily family.now }
     requires test { IsTermOf family.now.variables (term test.now) }
     requires yes { IsCodeOf family.now.variables (code yes.now) }
     requires no { IsCodeOf family.now.variables (code no.now) }
     requires state { IsState L.value family.now tables.old.leaves (numbered t.now) }
-    ensures lifted { IfOk result (λ r. IsLifted L.value family.now tables.old.leaves tables.new.leaves (if_at L.meaning family.now (term test.now) (code yes.now) (code no.now)) (plain t.now) (numbered r)) }
-    ensures entered { OnOk result (HasEntered L.value L.meaning family.now found.old found.new (entered_sides L.value L.meaning family.now (term test.now) (code yes.now) (code no.now) (plain t.now))) }
+    requires yes_loops { HasLoopsOf (whole family.now.program.now) (code yes.now) }
+    requires no_loops { HasLoopsOf (whole family.now.program.now) (code no.now) }
+    requires memory { Remembers L.value L.meaning family.now tables.old.leaves finals.old }
+    ensures lifted { IfOk result (λ r. IsLifted L.value family.now tables.old.leaves tables.new.leaves
+        (if_at L.meaning family.now (term test.now) (code yes.now) (code no.now)) (plain t.now)
+        (numbered r)) }
+    ensures entered { OnOk result (HasEntered L.value L.meaning family.now found.old found.new
+        (entered_sides L.value L.meaning family.now (term test.now) (code yes.now) (code no.now)
+        (plain t.now))) }
+    ensures memory { OnOk result (Remembers L.value L.meaning family.now tables.new.leaves finals.new) }
 {
     let in_yes = stepped(tables, family, &Step::Assume(test, true), t)?;
     let in_no = stepped(tables, family, &Step::Assume(test, false), t)?;
-    let after_yes = enter_list(tables, family, yes, &in_yes, found)?;
-    let after_no = enter_list(tables, family, no, &in_no, found)?;
+    let after_yes = enter_list(tables, finals, found, family, yes, &in_yes)?;
+    let after_no = enter_list(tables, finals, found, family, no, &in_no)?;
     joined(tables, family, &after_yes, &after_no)
 }
 
@@ -230,26 +271,35 @@ fn enter_if<L: Leaf, K: Ledger>(
 #[cycle(enter)]
 fn enter_group<L: Leaf, K: Ledger>(
     tables: &mut Tables<L, K>,
+    finals: &mut Finals<L>,
+    found: &mut Found<L>,
     family: &Family,
     yes: &[Stmt],
     no: &[Stmt],
     choice: &Tree<bool>,
     t: &Tree<L>,
-    found: &mut Found<L>,
 ) -> Result<Tree<L>, NoMemory>
     requires family { IsFamily family.now }
     requires choice { IsTruth family.now (numbered choice.now) }
     requires yes { IsCodeOf family.now.variables (code yes.now) }
     requires no { IsCodeOf family.now.variables (code no.now) }
     requires state { IsState L.value family.now tables.old.leaves (numbered t.now) }
-    ensures lifted { IfOk result (λ r. IsLifted L.value family.now tables.old.leaves tables.new.leaves (group_at L.meaning family.now (plain choice.now) (code yes.now) (code no.now)) (plain t.now) (numbered r)) }
-    ensures entered { OnOk result (HasEntered L.value L.meaning family.now found.old found.new (entered_group L.value L.meaning family.now (plain choice.now) (code yes.now) (code no.now) (plain t.now))) }
+    requires yes_loops { HasLoopsOf (whole family.now.program.now) (code yes.now) }
+    requires no_loops { HasLoopsOf (whole family.now.program.now) (code no.now) }
+    requires memory { Remembers L.value L.meaning family.now tables.old.leaves finals.old }
+    ensures lifted { IfOk result (λ r. IsLifted L.value family.now tables.old.leaves tables.new.leaves
+        (group_at L.meaning family.now (plain choice.now) (code yes.now) (code no.now)) (plain t.now)
+        (numbered r)) }
+    ensures entered { OnOk result (HasEntered L.value L.meaning family.now found.old found.new
+        (entered_group L.value L.meaning family.now (plain choice.now) (code yes.now) (code no.now)
+        (plain t.now))) }
+    ensures memory { OnOk result (Remembers L.value L.meaning family.now tables.new.leaves finals.new) }
 {
     transfer_is_sound::<L>();
     let in_yes = kept(tables, family, choice, true, t)?;
     let in_no = kept(tables, family, choice, false, t)?;
-    let after_yes = enter_list(tables, family, yes, &in_yes, found)?;
-    let after_no = enter_list(tables, family, no, &in_no, found)?;
+    let after_yes = enter_list(tables, finals, found, family, yes, &in_yes)?;
+    let after_no = enter_list(tables, finals, found, family, no, &in_no)?;
     joined(tables, family, &after_yes, &after_no)
 }
 
@@ -257,20 +307,25 @@ fn enter_group<L: Leaf, K: Ledger>(
 #[cycle(enter)]
 fn enter_body<L: Leaf, K: Ledger>(
     tables: &mut Tables<L, K>,
+    finals: &mut Finals<L>,
+    found: &mut Found<L>,
     family: &Family,
     body: &[Stmt],
     test: &Expr,
     last: &Tree<L>,
-    found: &mut Found<L>,
 ) -> Result<(), NoMemory>
     requires family { IsFamily family.now }
     requires test { IsTermOf family.now.variables (term test.now) }
     requires body { IsCodeOf family.now.variables (code body.now) }
     requires state { IsState L.value family.now tables.old.leaves (numbered last.now) }
-    ensures entered { OnOk result (HasEntered L.value L.meaning family.now found.old found.new (entered_body L.value L.meaning family.now (term test.now) (code body.now) (plain last.now))) }
+    requires loops { HasLoopsOf (whole family.now.program.now) (code body.now) }
+    requires memory { Remembers L.value L.meaning family.now tables.old.leaves finals.old }
+    ensures entered { OnOk result (HasEntered L.value L.meaning family.now found.old found.new
+        (entered_body L.value L.meaning family.now (term test.now) (code body.now) (plain last.now))) }
     ensures keeps { OnOk result (Keeps tables.old.leaves tables.new.leaves) }
+    ensures memory { OnOk result (Remembers L.value L.meaning family.now tables.new.leaves finals.new) }
 {
     let inside = stepped(tables, family, &Step::Assume(test, true), last)?;
-    enter_list(tables, family, body, &inside, found)?;
+    enter_list(tables, finals, found, family, body, &inside)?;
     Ok(())
 }

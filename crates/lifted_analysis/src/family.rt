@@ -6,6 +6,7 @@ ghost use Rattle.decision_tree.specs.Plain.{leaf_of};
 ghost use Rattle.decision_tree.specs.View.{numbered, plain};
 ghost use Rattle.lifted_analysis.specs.States.{IsFamily, IsTruth, truths_in};
 
+use c_tree::Program;
 use decision_tree::{Forest, Tree};
 use leaf_domain::Leaf;
 use plain_analysis::Options;
@@ -13,10 +14,11 @@ use std::alloc::Global;
 use std::sync::ledger::Ledger;
 use tree_unify::Steps;
 
-/// What is known of a family: the trees of its conditions, that of the vectors that are plausible, that of no vector, how many
-/// variables it has, and how it is analysed.
+/// What is known of a family: its program, the trees of its conditions, that of the vectors that are plausible, that of no
+/// vector, how many variables it has, and how it is analysed.
 #[derive(Clone, Copy)]
 pub(crate) struct Family<'a> {
+    pub(crate) program: &'a Program,
     pub(crate) choices: &'a [Tree<bool>],
     pub(crate) plausible: &'a Tree<bool>,
     pub(crate) never: &'a Tree<bool>,
@@ -30,7 +32,8 @@ impl Family<'_> {
     pub(crate) fn choice(&self, number: u32) -> &Tree<bool>
         requires { IsFamily self.now }
         ensures truth { IsTruth self.now (numbered result.now) }
-        ensures at_each { (v : List Bool) → leaf_of (plain result.now) v ≡ slice_index_or (truths_in self.now.choices.now v) number false }
+        ensures at_each { (v : List Bool)
+            → leaf_of (plain result.now) v ≡ slice_index_or (truths_in self.now.choices.now v) number false }
     {
         match self.choices.get(number as usize) {
             Some(choice) => choice,

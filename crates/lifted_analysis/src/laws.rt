@@ -10,8 +10,10 @@ ghost use Rattle.lifted_analysis.specs.Canon.{IsTreeOf, IsCanon};
 /// test to the first; and there is exactly one such tree.
 #[tactic(auto, using(crate::proofs::CanonLaws::leaf_trees, crate::proofs::CanonLaws::one_leaf_tree, crate::proofs::CanonLaws::some_leaf_tree))]
 pub fn leaf_trees_are_canonical()
-    ensures exact { (m : ℕ) (f : List Bool → LeafValue) (t : Plain LeafValue) → IsTreeOf m f t ↔ IsCanon m f t }
-    ensures unique { (m : ℕ) (f : List Bool → LeafValue) (t u : Plain LeafValue) → IsCanon m f t → IsCanon m f u → t ≡ u }
+    ensures exact { (m : ℕ) (f : List Bool → LeafValue) (t : Plain LeafValue)
+        → IsTreeOf m f t ↔ IsCanon m f t }
+    ensures unique { (m : ℕ) (f : List Bool → LeafValue) (t u : Plain LeafValue) → IsCanon m f t
+        → IsCanon m f u → t ≡ u }
     ensures there { (m : ℕ) (f : List Bool → LeafValue) → (t : Plain LeafValue) × IsCanon m f t }
 {}
 
@@ -19,6 +21,7 @@ pub fn leaf_trees_are_canonical()
 #[tactic(auto, using(crate::proofs::CanonLaws::truth_trees, crate::proofs::CanonLaws::one_truth_tree, crate::proofs::CanonLaws::some_truth_tree))]
 pub fn truth_trees_are_canonical()
     ensures exact { (m : ℕ) (f : List Bool → Bool) (t : Plain Bool) → IsTreeOf m f t ↔ IsCanon m f t }
-    ensures unique { (m : ℕ) (f : List Bool → Bool) (t u : Plain Bool) → IsCanon m f t → IsCanon m f u → t ≡ u }
+    ensures unique { (m : ℕ) (f : List Bool → Bool) (t u : Plain Bool) → IsCanon m f t → IsCanon m f u
+        → t ≡ u }
     ensures there { (m : ℕ) (f : List Bool → Bool) → (t : Plain Bool) × IsCanon m f t }
 {}

@@ -6,6 +6,7 @@ mod after;
 pub mod analysis;
 mod entries;
 mod family;
+mod finals;
 pub mod findings;
 pub mod laws;
 mod operations;

@@ -6,7 +6,7 @@ ghost use Rattle.lifted_analysis.specs.Steps.{IsStepOf, stepped_by};
 
 use c_tree::{Expr, Mode};
 use fam_outer::NoMemory;
-use leaf_domain::{Leaf, assign, assume, forget, leaf_is_valid};
+use leaf_domain::{Leaf, assign, assume, forget, leaf_is_valid, transfer_is_sound};
 use plain_analysis::{joined, narrowed_by, round};
 use std::alloc::Global;
 use tree_unify::Operation;
@@ -21,12 +21,18 @@ pub(crate) enum Step<'a> {
 }
 
 impl Step<'_> {
-    /// The leaf after the step.
+    /// The leaf after the step. Nothing stays Nothing, and no expression is looked at.
     pub(crate) fn at<L: Leaf>(&self, alloc: Global, leaf: &L, mode: Mode) -> Result<L, NoMemory>
         requires { IsStepOf (L.value leaf.now).variables self.now }
-        ensures value { IfOk result (λ made. L.value made ≡ stepped_by L.meaning mode self.now (L.value leaf.now)) }
+        ensures value { IfOk result (λ made. L.value made
+            ≡ stepped_by L.meaning mode self.now (L.value leaf.now)) }
         ensures same { IfOk result (λ made. (L.value made).variables ≡ (L.value leaf.now).variables) }
     {
+        transfer_is_sound::<L>();
+        leaf_is_valid(leaf);
+        if leaf.is_nothing() {
+            return leaf.copy(alloc);
+        }
         match self {
             Step::Assign(x, e) => assign(alloc, leaf, *x, e, mode),
             Step::Forget(x) => forget(alloc, leaf, *x),

@@ -123,7 +123,8 @@ fn guards_tree<L: Leaf, K: Ledger>(
     guards: &[Guard],
 ) -> Result<Tree<bool>, NoMemory>
     requires { IsFamily family.now }
-    ensures tree { IfOk result (λ r. IsTreeAt family.now (λ v. guards_hold (truths_in family.now.choices.now v) guards.now) r) }
+    ensures tree { IfOk result (λ r. IsTreeAt family.now
+        (λ v. guards_hold (truths_in family.now.choices.now v) guards.now) r) }
     ensures same { tables.new.leaves ≡ tables.old.leaves }
 {
     let alloc = tables.alloc;
@@ -153,7 +154,8 @@ fn values_tree<L: Leaf, K: Ledger>(
     declared: &Declarations,
 ) -> Result<Tree<StartValues>, NoMemory>
     requires { IsFamily family.now }
-    ensures tree { IfOk result (λ r. IsTreeAt family.now (λ v. projected_start (truths_in family.now.choices.now v) declared.now start.now) r) }
+    ensures tree { IfOk result (λ r. IsTreeAt family.now
+        (λ v. projected_start (truths_in family.now.choices.now v) declared.now start.now) r) }
     ensures same { tables.new.leaves ≡ tables.old.leaves }
 {
     let alloc = tables.alloc;
@@ -181,7 +183,8 @@ pub(crate) fn start_tree<L: Leaf, K: Ledger>(
     requires ints { All IsInt start.now }
     requires declared { All (IsDeclaredOf family.now.variables) declared.now }
     ensures state { IfOk result (λ r. IsState L.value family.now tables.new.leaves (numbered r)) }
-    ensures at_each { IfOk result (λ r. (v : List Bool) → L.value (leaf_of (plain r) v) ≡ start_at L.meaning family.now start.now declared.now v) }
+    ensures at_each { IfOk result (λ r. (v : List Bool)
+        → L.value (leaf_of (plain r) v) ≡ start_at L.meaning family.now start.now declared.now v) }
 {
     let alloc = tables.alloc;
     let values = values_tree(tables, family, start, declared)?;

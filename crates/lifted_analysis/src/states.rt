@@ -27,13 +27,15 @@ pub(crate) fn stepped<L: Leaf, K: Ledger>(
 ) -> Result<Tree<L>, NoMemory>
     requires state { IsState L.value family.now tables.old.leaves (numbered t.now) }
     requires step { IsStepOf family.now.variables step.now }
-    ensures { IfOk result (λ r. IsLifted L.value family.now tables.old.leaves tables.new.leaves (λ v. stepped_by L.meaning family.now.options.mode step.now) (plain t.now) (numbered r)) }
+    ensures { IfOk result (λ r. IsLifted L.value family.now tables.old.leaves tables.new.leaves
+        (λ v. stepped_by L.meaning family.now.options.mode step.now) (plain t.now) (numbered r)) }
 {
     let alloc = tables.alloc;
     let mode = family.options.mode;
     let act = |leaf: &L| -> Result<L, NoMemory>
         requires { IsStepOf (L.value leaf.now).variables step.now }
-        ensures value { IfOk result (λ made. L.value made ≡ stepped_by L.meaning mode step.entry.now (L.value leaf.now)) }
+        ensures value { IfOk result (λ made. L.value made
+            ≡ stepped_by L.meaning mode step.entry.now (L.value leaf.now)) }
         ensures same { IfOk result (λ made. (L.value made).variables ≡ (L.value leaf.now).variables) }
     { step.at(alloc, leaf, mode) };
     map_in(alloc, &mut tables.leaves, &act, t, &mut tables.steps)
@@ -49,7 +51,8 @@ pub(crate) fn combined<L: Leaf, K: Ledger>(
 ) -> Result<Tree<L>, NoMemory>
     requires t { IsState L.value family.now tables.old.leaves (numbered t.now) }
     requires u { IsState L.value family.now tables.old.leaves (numbered u.now) }
-    ensures { IfOk result (λ r. IsJoint L.value family.now tables.old.leaves tables.new.leaves (λ v. combined_by L.meaning how) (plain t.now) (plain u.now) (numbered r)) }
+    ensures { IfOk result (λ r. IsJoint L.value family.now tables.old.leaves tables.new.leaves
+        (λ v. combined_by L.meaning how) (plain t.now) (plain u.now) (numbered r)) }
 {
     let alloc = tables.alloc;
     let op = Combine { alloc, how };
@@ -65,7 +68,8 @@ pub(crate) fn joined<L: Leaf, K: Ledger>(
 ) -> Result<Tree<L>, NoMemory>
     requires t { IsState L.value family.now tables.old.leaves (numbered t.now) }
     requires u { IsState L.value family.now tables.old.leaves (numbered u.now) }
-    ensures { IfOk result (λ r. IsJoint L.value family.now tables.old.leaves tables.new.leaves (λ v. combined_by L.meaning Join) (plain t.now) (plain u.now) (numbered r)) }
+    ensures { IfOk result (λ r. IsJoint L.value family.now tables.old.leaves tables.new.leaves
+        (λ v. combined_by L.meaning Join) (plain t.now) (plain u.now) (numbered r)) }
 {
     if is_nothing_everywhere(u) {
         return t.share();
@@ -86,7 +90,9 @@ pub(crate) fn below<L: Leaf, K: Ledger>(
     requires t { IsState L.value family.now tables.old.leaves (numbered t.now) }
     requires u { IsState L.value family.now tables.old.leaves (numbered u.now) }
     ensures truth { IfOk result (λ r. IsTruth family.now (numbered r)) }
-    ensures at_each { IfOk result (λ r. (v : List Bool) → leaf_of (plain r) v ≡ L.meaning.leq (L.value (leaf_of (plain t.now) v)) (L.value (leaf_of (plain u.now) v))) }
+    ensures at_each { IfOk result (λ r. (v : List Bool)
+        → leaf_of (plain r) v ≡ L.meaning.leq (L.value (leaf_of (plain t.now) v))
+        (L.value (leaf_of (plain u.now) v))) }
     ensures same { tables.new.leaves ≡ tables.old.leaves }
 {
     let alloc = tables.alloc;
@@ -94,7 +100,7 @@ pub(crate) fn below<L: Leaf, K: Ledger>(
     unify_in(alloc, &mut tables.truths, &Below, t, u, &mut tables.steps)
 }
 
-/// The tree with Nothing where the truth is other than wanted.
+/// The tree with Nothing where the truth is other than wanted. Where it is so nowhere, no leaf is copied.
 pub(crate) fn kept<L: Leaf, K: Ledger>(
     tables: &mut Tables<L, K>,
     family: &Family,
@@ -104,8 +110,12 @@ pub(crate) fn kept<L: Leaf, K: Ledger>(
 ) -> Result<Tree<L>, NoMemory>
     requires truth { IsTruth family.now (numbered truth.now) }
     requires state { IsState L.value family.now tables.old.leaves (numbered t.now) }
-    ensures { IfOk result (λ r. IsLifted L.value family.now tables.old.leaves tables.new.leaves (λ v. kept_by want (leaf_of (plain truth.now) v)) (plain t.now) (numbered r)) }
+    ensures { IfOk result (λ r. IsLifted L.value family.now tables.old.leaves tables.new.leaves
+        (λ v. kept_by want (leaf_of (plain truth.now) v)) (plain t.now) (numbered r)) }
 {
+    if is_everywhere(truth, want) {
+        return t.share();
+    }
     let alloc = tables.alloc;
     let op = Keep { alloc, want };
     unify_in(alloc, &mut tables.leaves, &op, truth, t, &mut tables.steps)
@@ -122,7 +132,8 @@ pub(crate) fn selected<L: Leaf, K: Ledger>(
     requires truth { IsTruth family.now (numbered truth.now) }
     requires t { IsState L.value family.now tables.old.leaves (numbered t.now) }
     requires u { IsState L.value family.now tables.old.leaves (numbered u.now) }
-    ensures { IfOk result (λ r. IsJoint L.value family.now tables.old.leaves tables.new.leaves (λ v x y. if leaf_of (plain truth.now) v then x else y) (plain t.now) (plain u.now) (numbered r)) }
+    ensures { IfOk result (λ r. IsJoint L.value family.now tables.old.leaves tables.new.leaves
+        (λ v x y. if leaf_of (plain truth.now) v then x else y) (plain t.now) (plain u.now) (numbered r)) }
 {
     let where_true = kept(tables, family, truth, true, t)?;
     let where_false = kept(tables, family, truth, false, u)?;
@@ -139,12 +150,12 @@ pub(crate) fn is_nothing_everywhere<L: Leaf>(t: &Tree<L>) -> bool
     }
 }
 
-/// Whether a tree is true at all vectors.
-pub(crate) fn is_true_everywhere(t: &Tree<bool>) -> bool
-    ensures { result ≡ true → (v : List Bool) → leaf_of (plain t.now) v ≡ true }
+/// Whether a tree of truths has the same one, as wanted, at all vectors.
+pub(crate) fn is_everywhere(t: &Tree<bool>, want: bool) -> bool
+    ensures { result ≡ true → (v : List Bool) → leaf_of (plain t.now) v ≡ want }
 {
     match t {
-        Tree::Leaf(leaf) => leaf.value,
+        Tree::Leaf(leaf) => leaf.value == want,
         Tree::Node(_) => false,
     }
 }

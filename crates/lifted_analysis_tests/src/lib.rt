@@ -2,6 +2,10 @@
 #![tactic(auto)]
 
 #[cfg(test)]
+mod bounds;
+#[cfg(test)]
 mod families;
+#[cfg(test)]
+mod steps;
 #[cfg(test)]
 mod tests;

@@ -6,7 +6,7 @@ ghost use Rattle.c_tree.specs.Whole.{IsProgram};
 ghost use Rattle.c_tree.specs.Project.{IsConditioned};
 ghost use Rattle.lifted_analysis.specs.Promises.{AreBelow};
 
-use crate::families::family;
+use crate::families::{family, unsteady_family};
 use c_tree::{Mode, Program, project};
 use cpp_conditions::Formula;
 use decision_tree::Tree;
@@ -107,19 +107,27 @@ fn analyse_variant(
     analyse_one(alloc, &program, &start, options)
 }
 
-/// Whether the trees of the family are right at all vectors.
-fn is_right(alloc: Global, options: &Options) -> Result<bool, NoMemory> {
-    let code = family(alloc)?;
+/// Whether the trees of a family of so many places are right at all vectors.
+fn is_right(
+    alloc: Global,
+    code: &Program,
+    places: usize,
+    options: &Options,
+) -> Result<bool, NoMemory>
+    requires program { IsProgram (whole code.now) }
+    requires conditions { IsConditioned 3 (whole code.now) }
+{
     let conditions = [Formula::Test(0), Formula::Test(1), Formula::Test(2)];
     let first = Box::new(alloc, Formula::Test(0))?;
     let third = Box::new(alloc, Formula::Test(2))?;
     let plausible = Formula::Or(first, third);
-    let found = analyse_family::<IntervalLeaf>(alloc, &code, &conditions, &plausible, options)?;
-    let mut is_right = found.places.len() == 11 && found.alarms.len() == 33;
+    let found = analyse_family::<IntervalLeaf>(alloc, code, &conditions, &plausible, options)?;
+    let mut is_right = found.places.len() == places
+        && found.alarms.len() == places.saturating_mul(3);
     for number in 0..8u32 {
         let vector = [number & 1 == 1, number & 2 == 2, number & 4 == 4];
         let is_plausible = vector[0] || vector[2];
-        let one = analyse_variant(alloc, &code, &vector, is_plausible, options)?;
+        let one = analyse_variant(alloc, code, &vector, is_plausible, options)?;
         is_right = is_right && are_same(alloc, &found, &one, &vector)?;
     }
     Ok(is_right)
@@ -130,16 +138,20 @@ fn trees_are_those_of_the_variants(rt: HostRuntime) -> Result<(), Fail> {
     let cases = [
         (0, 0, Mode::Stop),
         (0, 3, Mode::Stop),
+        (0, 3, Mode::Wrap),
         (1, 2, Mode::Wrap),
         (12, 1, Mode::Stop),
     ];
+    let mixed = family(rt.alloc())?;
+    let unsteady = unsteady_family(rt.alloc())?;
     for (delay, narrow, mode) in cases {
         let options = Options {
             delay,
             narrow,
             mode,
         };
-        assert!(rt; is_right(rt.alloc(), &options)?);
+        assert!(rt; is_right(rt.alloc(), &mixed, 11, &options)?);
+        assert!(rt; is_right(rt.alloc(), &unsteady, 8, &options)?);
     }
     Ok(())
 }

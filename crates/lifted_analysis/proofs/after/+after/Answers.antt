@@ -1,6 +1,6 @@
 use Rattle.std.proofs.Common.{rules, arith, ◌≡◌, ◌-◌, ◌+◌, ◌∙◌, ap, sym, subst, refl, true, false, take, nat_lt, List, Bool}
 use Rattle.c_tree.specs.Tree.{Done}
-use Rattle.c_tree.specs.View.{term, front, code}
+use Rattle.c_tree.specs.View.{term, front, code, whole}
 use Rattle.c_tree.specs.Fit.{IsCodeOf}
 use Rattle.decision_tree.specs.Numbered.{erase}
 use Rattle.decision_tree.specs.Plain.{leaf_of}
@@ -12,15 +12,19 @@ use Rattle.plain_analysis.specs.Loops.{round_by, rounds_of, narrowings_of}
 use Rattle.plain_analysis.proofs.Listed.{IsCodeOf-at}
 use Rattle.plain_analysis.proofs.Rounds.{rounds_stay, narrowings_stay, narrowings_move}
 use Rattle.plain_analysis.proofs.Sizes.{size-at}
+use Rattle.plain_analysis.proofs.StatedLemmas.{loops-at}
+use Rattle.plain_analysis.specs.Stated.{HasLoopsOf}
+use Rattle.lifted_analysis.specs.declared.finals.Entered.{Entered}
 use Rattle.lifted_analysis.specs.Steps.{kept_by, after_at, if_at, group_at, turn_at, final_at}
 use Rattle.lifted_analysis.proofs.StateLemmas.{state_stays, counted, lifted_then, lifted_as}
 use Rattle.lifted_analysis.proofs.FamilyLemmas.{after_at-more, after_at-While, after_at-Cond, kept_joins}
 use Rattle.lifted_analysis.proofs.LoopLemmas.{rounds_go}
+use Rattle.lifted_analysis.proofs.FinalsLemmas.{memory_stays, memory_same, memory_lifted, memory_joint, recalled_made, remembered}
 use Rattle.lifted_analysis.proofs.AfterLemmas.{front-Skip, shared_made, then_made, as_made, both_made, nothing_stays, nothing_ends}
 use Rattle.lifted_analysis.proofs.after.+after.Goals as goal
 
-pub after_group-returns : goal.after_group-returns
-after_group-returns g t c =
+pub after_group-returns-clause-lifted : goal.after_group-returns-clause-lifted
+after_group-returns-clause-lifted g t c =
     let value = g.L.Leaf.value in
     let M = g.L.Leaf.meaning in
     let family = c.args.family.now in
@@ -30,12 +34,12 @@ after_group-returns g t c =
     both_made value family c.joined.result M c.args.tables.now.leaves c.kept.new.tables.leaves c.kept-2.new.tables.leaves c.after_list.new.tables.leaves c.after_list-2.new.tables.leaves c.joined.new.tables.leaves
     (λ v. kept_by true (leaf_of choice v)) _ (after_at M family p) (after_at M family q) (group_at M family choice p q)
     (plain c.args.t.now) (numbered c.in_ok-in_yes.in_yes) (numbered c.in_ok-in_no.in_no) (numbered c.in_ok-after_yes.after_yes) (numbered c.in_ok-after_no.after_no)
-    c.in_ok-in_yes.ensures c.in_ok-in_no.ensures c.in_ok-after_yes.ensures c.in_ok-after_no.ensures
+    c.in_ok-in_yes.ensures c.in_ok-in_no.ensures c.in_ok-after_yes.ensures.lifted c.in_ok-after_no.ensures.lifted
     (λ v e f. kept_joins M family g.met.L.Leaf.laws (c.transfer_is_sound.ensures.answers family.options.mode) c.requires.family.few p q v (leaf_of choice v) (value (leaf_of (plain c.args.t.now) v)) (counted value family c.args.tables.now.leaves (numbered c.args.t.now) v c.requires.state) e f)
     c.joined.ensures
 
-pub after_if-returns : goal.after_if-returns
-after_if-returns g t c =
+pub after_if-returns-clause-lifted : goal.after_if-returns-clause-lifted
+after_if-returns-clause-lifted g t c =
     let M = g.L.Leaf.meaning in
     let family = c.args.family.now in
     let p = code c.args.yes.now in
@@ -43,12 +47,12 @@ after_if-returns g t c =
     both_made g.L.Leaf.value family c.joined.result M c.args.tables.now.leaves c.stepped.new.tables.leaves c.stepped-2.new.tables.leaves c.after_list.new.tables.leaves c.after_list-2.new.tables.leaves c.joined.new.tables.leaves
     _ _ (after_at M family p) (after_at M family q) (if_at M family (term c.args.test.now) p q)
     (plain c.args.t.now) (numbered c.in_ok-in_yes.in_yes) (numbered c.in_ok-in_no.in_no) (numbered c.in_ok-after_yes.after_yes) (numbered c.in_ok-after_no.after_no)
-    c.in_ok-in_yes.ensures c.in_ok-in_no.ensures c.in_ok-after_yes.ensures c.in_ok-after_no.ensures
+    c.in_ok-in_yes.ensures c.in_ok-in_no.ensures c.in_ok-after_yes.ensures.lifted c.in_ok-after_no.ensures.lifted
     (λ v e f. refl)
     c.joined.ensures
 
-pub after_list-returns-then-is_nothing_everywhere : goal.after_list-returns-then-is_nothing_everywhere
-after_list-returns-then-is_nothing_everywhere g t c =
+pub after_list-returns-then-is_nothing_everywhere-clause-lifted : goal.after_list-returns-then-is_nothing_everywhere-clause-lifted
+after_list-returns-then-is_nothing_everywhere-clause-lifted g t c =
     let value = g.L.Leaf.value in
     let M = g.L.Leaf.meaning in
     let family = c.args.family.now in
@@ -61,7 +65,10 @@ pub after_list-after_stmt-requires : goal.after_list-after_stmt-requires
 after_list-after_stmt-requires g t c κs within =
     let s = c.s-item.result in
     let fit : IsCodeOf c.args.family.now.variables (front s Done) = IsCodeOf-at c.args.family.now.variables c.args.list.now c.loop-s.s-index s c.loop-s-test.true c.s-item.is c.requires.fit in
-    let state = c.loop-s.invariant.state in
+    let state = c.loop-s.invariant.made.state in
+    let p = whole c.args.family.now.program.now in
+    let loops : HasLoopsOf p (front s Done) = loops-at p c.args.list.now c.loop-s.s-index s c.loop-s-test.true c.s-item.is c.requires.loops in
+    let memory = c.loop-s.invariant.memory in
     (omega (arith, size-at c.args.list.now c.loop-s.s-index s c.loop-s-test.true c.s-item.is), search rules)
 
 pub after_list-loop-s-preserved : goal.after_list-loop-s-preserved
@@ -78,35 +85,38 @@ after_list-loop-s-preserved g t c =
     let b = c.loop-s.tables.leaves in
     let z = c.after_stmt.new.tables.leaves in
     let made = numbered c.in_ok-made-2.made in
-    lifted_as value family c.args.tables.now.leaves z (λ v x. here v (so_far v x)) (after_at M family (code (take (i + 1) list))) t made
-    (λ v. sym (after_at-more M family list i s v (value (leaf_of t v)) c.loop-s-test.true c.s-item.is))
-    (lifted_then value family c.args.tables.now.leaves b z so_far here t (numbered c.loop-s.made) made c.loop-s.invariant c.in_ok-made-2.ensures)
+    record {
+      made = lifted_as value family c.args.tables.now.leaves z (λ v x. here v (so_far v x)) (after_at M family (code (take (i + 1) list))) t made
+          (λ v. sym (after_at-more M family list i s v (value (leaf_of t v)) c.loop-s-test.true c.s-item.is))
+          (lifted_then value family c.args.tables.now.leaves b z so_far here t (numbered c.loop-s.made) made c.loop-s.invariant.made c.in_ok-made-2.ensures.lifted);
+      memory = c.in_ok-made-2.ensures.memory;
+    }
 
-pub after_stmt-returns-in_ok-last-in-While : goal.after_stmt-returns-in_ok-last-in-While
-after_stmt-returns-in_ok-last-in-While g t c =
+pub after_stmt-returns-in_ok-last-in-While-clause-lifted : goal.after_stmt-returns-in_ok-last-in-While-clause-lifted
+after_stmt-returns-in_ok-last-in-While-clause-lifted g t c =
     let value = g.L.Leaf.value in
     let M = g.L.Leaf.meaning in
     let family = c.args.family.now in
     let w = c.in-While in
     let t = plain c.args.t.now in
     then_made value family c.stepped-in-While.result c.args.tables.now.leaves c.final_tree.new.tables.leaves c.stepped-in-While.new.tables.leaves
-    (final_at M family (term w.test) (code c.deref-in-While.result.now)) _ (after_at M family (front c.args.s.now Done)) t (numbered c.in_ok-last-in-While.last) c.in_ok-last-in-While.ensures
+    (final_at M family (term w.test) (code c.deref-in-While.result.now)) _ (after_at M family (front c.args.s.now Done)) t (numbered c.in_ok-last-in-While.last) c.in_ok-last-in-While.ensures.lifted
     (λ v. let x = value (leaf_of t v) in
     ap (λ l. assumed M family.options.mode (term w.test) false (final_at M family (term w.test) (code l) v x)) c.deref-in-While.ensures.value
     ∙ after_at-While M family c.args.s.now w.place w.test w.body v x w.is)
     c.stepped-in-While.ensures
 
-pub after_stmt-returns-in-Skip : goal.after_stmt-returns-in-Skip
-after_stmt-returns-in-Skip g t c =
+pub after_stmt-returns-in-Skip-clause-lifted : goal.after_stmt-returns-in-Skip-clause-lifted
+after_stmt-returns-in-Skip-clause-lifted g t c =
     let value = g.L.Leaf.value in
     let M = g.L.Leaf.meaning in
     let family = c.args.family.now in
-    shared_made value family c.share.result c.args.tables.now.leaves (after_at M family (front c.args.s.now Done)) (numbered c.args.t.now) c.requires.state
+    shared_made value family c.share-in-Skip.result c.args.tables.now.leaves (after_at M family (front c.args.s.now Done)) (numbered c.args.t.now) c.requires.state
     (λ v. ap (λ a. after_at M family a v (value (leaf_of (plain c.args.t.now) v))) (sym (ap (λ s. front s Done) c.in-Skip.is ∙ front-Skip c.in-Skip.place)))
-    c.share.ensures
+    c.share-in-Skip.ensures
 
-pub after_stmt-returns-in-Cond : goal.after_stmt-returns-in-Cond
-after_stmt-returns-in-Cond g t c =
+pub after_stmt-returns-in-Cond-clause-lifted : goal.after_stmt-returns-in-Cond-clause-lifted
+after_stmt-returns-in-Cond-clause-lifted g t c =
     let value = g.L.Leaf.value in
     let M = g.L.Leaf.meaning in
     let family = c.args.family.now in
@@ -118,10 +128,10 @@ after_stmt-returns-in-Cond g t c =
     ap (λ l. group_at M family choice (code l) (code c.deref-in-Cond-2.result.now) v x) c.deref-in-Cond.ensures.value
     ∙ (ap (λ l. group_at M family choice (code w.yes.items) (code l) v x) c.deref-in-Cond-2.ensures.value
     ∙ after_at-Cond M family c.args.s.now w.number w.yes w.no (leaf_of choice v) v x w.is (sym (c.choice-choice.ensures.at_each v))))
-    c.after_group.ensures
+    c.after_group.ensures.lifted
 
-pub final_tree-returns-then-is_nothing_everywhere : goal.final_tree-returns-then-is_nothing_everywhere
-final_tree-returns-then-is_nothing_everywhere g t c =
+pub final_tree-returns-then-is_nothing_everywhere-clause-lifted : goal.final_tree-returns-then-is_nothing_everywhere-clause-lifted
+final_tree-returns-then-is_nothing_everywhere-clause-lifted g t c =
     let value = g.L.Leaf.value in
     let M = g.L.Leaf.meaning in
     let family = c.args.family.now in
@@ -130,8 +140,8 @@ final_tree-returns-then-is_nothing_everywhere g t c =
     (nothing_ends value family M g.met.L.Leaf.laws (c.transfer_is_sound.ensures.answers family.options.mode) c.requires.family forest (numbered c.args.t.now) (term c.args.test.now) (code c.args.body.now) c.requires.state (c.is_nothing_everywhere.ensures c.if-is_nothing_everywhere.true))
     c.share.ensures
 
-pub final_tree-loop-k-init : goal.final_tree-loop-k-init
-final_tree-loop-k-init g t c =
+pub final_by_rounds-loop-k-init : goal.final_by_rounds-loop-k-init
+final_by_rounds-loop-k-init g t c =
     let value = g.L.Leaf.value in
     let M = g.L.Leaf.meaning in
     let family = c.args.family.now in
@@ -142,10 +152,11 @@ final_tree-loop-k-init g t c =
       rest = λ v. ap (λ m. narrowings_of M (G v) m (value (leaf_of (plain c.in_ok-head.head.at) v))) zero_less ∙ ap (narrowings_of M (G v) n) (c.in_ok-head.ensures.at_each v);
       head = c.in_ok-head.ensures.head;
       keeps = c.in_ok-head.ensures.keeps;
+      memory = c.in_ok-head.ensures.memory;
     }
 
-pub final_tree-returns-then-number-before : goal.final_tree-returns-then-number-before
-final_tree-returns-then-number-before g t c =
+pub final_by_rounds-returns-then-number-before-clause-lifted : goal.final_by_rounds-returns-then-number-before-clause-lifted
+final_by_rounds-returns-then-number-before-clause-lifted g t c =
     let value = g.L.Leaf.value in
     let M = g.L.Leaf.meaning in
     let family = c.args.family.now in
@@ -163,8 +174,8 @@ final_tree-returns-then-number-before g t c =
           e ∙ (sym (narrowings_stay M (G v) (family.options.narrow - c.loop-k._k) (value (leaf_of (erase old) v)) (sym (made.at_each v) ∙ e)) ∙ c.loop-k.invariant.rest v);
     }
 
-pub final_tree-loop-k-preserved : goal.final_tree-loop-k-preserved
-final_tree-loop-k-preserved g t c =
+pub final_by_rounds-loop-k-preserved : goal.final_by_rounds-loop-k-preserved
+final_by_rounds-loop-k-preserved g t c =
     let value = g.L.Leaf.value in
     let M = g.L.Leaf.meaning in
     let family = c.args.family.now in
@@ -174,10 +185,11 @@ final_tree-loop-k-preserved g t c =
       rest = λ v. narrowings_move M (G v) family.options.narrow c.loop-k._k (value (leaf_of (plain c.loop-k.head.at) v)) (value (leaf_of (plain c.in_ok-head-2.head.at) v)) _ c.loop-k-test.true (sym (made.at_each v)) (c.loop-k.invariant.rest v);
       head = made.head;
       keeps = keeps_both c.args.tables.now.leaves c.loop-k.tables.leaves c.narrowed.new.tables.leaves c.loop-k.invariant.keeps made.keeps;
+      memory = made.memory;
     }
 
-pub final_tree-returns : goal.final_tree-returns
-final_tree-returns g t c =
+pub final_by_rounds-returns-clause-lifted : goal.final_by_rounds-returns-clause-lifted
+final_by_rounds-returns-clause-lifted g t c =
     let value = g.L.Leaf.value in
     let M = g.L.Leaf.meaning in
     let family = c.args.family.now in
@@ -214,10 +226,11 @@ widened-loop-k-init g t c =
           ∙ ap (λ u. rounds_of M family.options.delay (G v) (family.options.delay + M.bound_count d.variables + 1) 0 (value (leaf_of (erase u) v))) (c.in_ok-head.ensures.at ∙ c.in_ok-start.ensures);
       head = c.in_ok-head.ensures.head;
       keeps = c.in_ok-head.ensures.keeps;
+      memory = c.in_ok-head.ensures.memory;
     }
 
-pub widened-returns-then-is_true_everywhere-clause-at_each : goal.widened-returns-then-is_true_everywhere-clause-at_each
-widened-returns-then-is_true_everywhere-clause-at_each g t c =
+pub widened-returns-then-is_everywhere-clause-at_each : goal.widened-returns-then-is_everywhere-clause-at_each
+widened-returns-then-is_everywhere-clause-at_each g t c =
     let value = g.L.Leaf.value in
     let M = g.L.Leaf.meaning in
     let family = c.args.family.now in
@@ -225,12 +238,12 @@ widened-returns-then-is_true_everywhere-clause-at_each g t c =
     λ v.
     let x = value (leaf_of (plain c.loop-k.head.at) v) in
     let below : M.leq (G v x) x ≡ true =
-    ap (λ w. M.leq w x) (sym (c.loop-k.invariant.head.next v)) ∙ (sym (c.in_ok-stable.ensures.at_each v) ∙ c.is_true_everywhere.ensures c.if-is_true_everywhere.true v)
+    ap (λ w. M.leq w x) (sym (c.loop-k.invariant.head.next v)) ∙ (sym (c.in_ok-stable.ensures.at_each v) ∙ c.is_everywhere.ensures c.if-is_everywhere.true v)
     in
     sym (rounds_stay M family.options.delay (G v) (c.from-delay.result + c.from.result + 1 - c.loop-k.k) c.loop-k.k x below) ∙ c.loop-k.invariant.rest v
 
-pub widened-returns-then-is_true_everywhere-clause-keeps : goal.widened-returns-then-is_true_everywhere-clause-keeps
-widened-returns-then-is_true_everywhere-clause-keeps g t c =
+pub widened-returns-then-is_everywhere-clause-keeps : goal.widened-returns-then-is_everywhere-clause-keeps
+widened-returns-then-is_everywhere-clause-keeps g t c =
     keeps_both c.args.tables.now.leaves c.loop-k.tables.leaves c.below.new.tables.leaves c.loop-k.invariant.keeps (keeps_same c.loop-k.tables.leaves c.below.new.tables.leaves c.in_ok-stable.ensures.same)
 
 pub widened-loop-k-preserved : goal.widened-loop-k-preserved
@@ -256,7 +269,153 @@ widened-loop-k-preserved g t c =
           rounds_go M family.options.delay (G v) (c.from-delay.result + c.from.result + 1) c.loop-k.k x w y _ c.loop-k-test.true (c.loop-k.invariant.head.next v) moved (c.loop-k.invariant.rest v);
       head = next.head;
       keeps = keeps_both a e c.head_at-in-loop-k.new.tables.leaves (keeps_both a d e (keeps_both a b d c.loop-k.invariant.keeps (keeps_same b d c.in_ok-stable.ensures.same)) made.keeps) next.keeps;
+      memory = next.memory;
     }
 
 pub widened-returns-clause-keeps : goal.widened-returns-clause-keeps
 widened-returns-clause-keeps g t c = c.loop-k.invariant.keeps
+
+pub after_stmt-returns-then-is_nothing_everywhere-clause-lifted : goal.after_stmt-returns-then-is_nothing_everywhere-clause-lifted
+after_stmt-returns-then-is_nothing_everywhere-clause-lifted g t c =
+    let value = g.L.Leaf.value in
+    let M = g.L.Leaf.meaning in
+    let family = c.args.family.now in
+    let forest = c.args.tables.now.leaves in
+    shared_made value family c.share.result forest (after_at M family (front c.args.s.now Done)) (numbered c.args.t.now) c.requires.state
+    (nothing_stays value family M g.met.L.Leaf.laws (c.transfer_is_sound.ensures.answers family.options.mode) c.requires.family forest (numbered c.args.t.now) (front c.args.s.now Done) c.requires.state (c.is_nothing_everywhere.ensures c.if-is_nothing_everywhere.true))
+    c.share.ensures
+
+pub final_tree-returns-in-Some-clause-lifted : goal.final_tree-returns-in-Some-clause-lifted
+final_tree-returns-in-Some-clause-lifted g t c =
+    let family = c.args.family.now in
+    let key : Entered = record { place = c.args.place; number = c.number.result } in
+    recalled_made g.L.Leaf.value g.L.Leaf.meaning family c.share-in-Some.result c.args.tables.now.leaves c.args.finals.now key c.in-Some.last.now (numbered c.args.t.now) (term c.args.test.now) (code c.args.body.now)
+    c.requires.memory (search rules) (sym c.number.ensures.number) c.requires.state c.requires.here c.share-in-Some.ensures
+
+pub final_tree-returns-clause-memory : goal.final_tree-returns-clause-memory
+final_tree-returns-clause-memory g t c =
+    let family = c.args.family.now in
+    let key : Entered = record { place = c.args.place; number = c.number.result } in
+    let last = c.in_ok-last.ensures in
+    remembered g.L.Leaf.value g.L.Leaf.meaning family c.args.tables.now.leaves c.final_by_rounds.new.tables.leaves c.final_by_rounds.new.finals _ key c.in_ok-kept.kept (numbered c.args.t.now) (numbered c.in_ok-last.last)
+    (term c.args.test.now) (code c.args.body.now) last.memory (sym c.number.ensures.number) c.requires.state c.requires.here last.lifted c.in_ok-kept.ensures c.in_ok-remember.ensures
+
+pub narrowed-returns-clause-memory : goal.narrowed-returns-clause-memory
+narrowed-returns-clause-memory g t c =
+    let value = g.L.Leaf.value in
+    let M = g.L.Leaf.meaning in
+    let family = c.args.family.now in
+    let d = c.head_at.new.tables.leaves in
+    let e = c.below.new.tables.leaves in
+    let f = c.selected.new.tables.leaves in
+    let z = c.selected-2.new.tables.leaves in
+    let m = c.head_at.new.finals in
+    memory_stays value M family f z m c.in_ok-next.ensures.keeps (memory_stays value M family e f m c.in_ok-at.ensures.keeps (memory_same value M family d e m c.in_ok-stable.ensures.same c.in_ok-made.ensures.memory))
+
+pub widened-returns-then-is_everywhere-clause-memory : goal.widened-returns-then-is_everywhere-clause-memory
+widened-returns-then-is_everywhere-clause-memory g t c =
+    memory_same g.L.Leaf.value g.L.Leaf.meaning c.args.family.now c.loop-k.tables.leaves c.below.new.tables.leaves c.loop-k.finals c.in_ok-stable.ensures.same c.loop-k.invariant.memory
+
+pub after_if-after_list-requires : goal.after_if-after_list-requires
+after_if-after_list-requires g t c κs within =
+    let value = g.L.Leaf.value in
+    let M = g.L.Leaf.meaning in
+    let family = c.args.family.now in
+    let a = c.args.tables.now.leaves in
+    let b = c.stepped.new.tables.leaves in
+    let d = c.stepped-2.new.tables.leaves in
+    let f = c.args.finals.now in
+    let state = state_stays value family b d (numbered c.in_ok-in_yes.in_yes) c.in_ok-in_no.ensures.keeps c.in_ok-in_yes.ensures.state in
+    let memory = memory_stays value M family b d f c.in_ok-in_no.ensures.keeps (memory_stays value M family a b f c.in_ok-in_yes.ensures.keeps c.requires.memory) in
+    (omega arith, search rules)
+
+pub after_if-returns-clause-memory : goal.after_if-returns-clause-memory
+after_if-returns-clause-memory g t c =
+    memory_joint g.L.Leaf.value g.L.Leaf.meaning c.args.family.now c.joined.result c.after_list-2.new.tables.leaves c.joined.new.tables.leaves c.after_list-2.new.finals _ _ _
+    c.joined.ensures c.in_ok-after_no.ensures.memory
+
+pub after_group-after_list-requires : goal.after_group-after_list-requires
+after_group-after_list-requires g t c κs within =
+    let value = g.L.Leaf.value in
+    let M = g.L.Leaf.meaning in
+    let family = c.args.family.now in
+    let a = c.args.tables.now.leaves in
+    let b = c.kept.new.tables.leaves in
+    let d = c.kept-2.new.tables.leaves in
+    let f = c.args.finals.now in
+    let state = state_stays value family b d (numbered c.in_ok-in_yes.in_yes) c.in_ok-in_no.ensures.keeps c.in_ok-in_yes.ensures.state in
+    let memory = memory_stays value M family b d f c.in_ok-in_no.ensures.keeps (memory_stays value M family a b f c.in_ok-in_yes.ensures.keeps c.requires.memory) in
+    (omega arith, search rules)
+
+pub after_group-returns-clause-memory : goal.after_group-returns-clause-memory
+after_group-returns-clause-memory g t c =
+    memory_joint g.L.Leaf.value g.L.Leaf.meaning c.args.family.now c.joined.result c.after_list-2.new.tables.leaves c.joined.new.tables.leaves c.after_list-2.new.finals _ _ _
+    c.joined.ensures c.in_ok-after_no.ensures.memory
+
+pub after_stmt-returns-in-Assign-clause-memory : goal.after_stmt-returns-in-Assign-clause-memory
+after_stmt-returns-in-Assign-clause-memory g t c =
+    memory_lifted g.L.Leaf.value g.L.Leaf.meaning c.args.family.now c.stepped.result c.args.tables.now.leaves c.stepped.new.tables.leaves c.args.finals.now _ _ c.stepped.ensures c.requires.memory
+
+pub after_stmt-returns-in-Input-clause-memory : goal.after_stmt-returns-in-Input-clause-memory
+after_stmt-returns-in-Input-clause-memory g t c =
+    memory_lifted g.L.Leaf.value g.L.Leaf.meaning c.args.family.now c.stepped-in-Input.result c.args.tables.now.leaves c.stepped-in-Input.new.tables.leaves c.args.finals.now _ _ c.stepped-in-Input.ensures c.requires.memory
+
+pub after_stmt-returns-in-Assert-clause-memory : goal.after_stmt-returns-in-Assert-clause-memory
+after_stmt-returns-in-Assert-clause-memory g t c =
+    memory_lifted g.L.Leaf.value g.L.Leaf.meaning c.args.family.now c.stepped-in-Assert.result c.args.tables.now.leaves c.stepped-in-Assert.new.tables.leaves c.args.finals.now _ _ c.stepped-in-Assert.ensures c.requires.memory
+
+pub after_stmt-returns-in_ok-last-in-While-clause-memory : goal.after_stmt-returns-in_ok-last-in-While-clause-memory
+after_stmt-returns-in_ok-last-in-While-clause-memory g t c =
+    memory_lifted g.L.Leaf.value g.L.Leaf.meaning c.args.family.now c.stepped-in-While.result c.final_tree.new.tables.leaves c.stepped-in-While.new.tables.leaves c.final_tree.new.finals _ _
+    c.stepped-in-While.ensures c.in_ok-last-in-While.ensures.memory
+
+pub head_at-after_list-requires : goal.head_at-after_list-requires
+head_at-after_list-requires g t c κs within =
+    let value = g.L.Leaf.value in
+    let M = g.L.Leaf.meaning in
+    let family = c.args.family.now in
+    let state = c.in_ok-inside.ensures.state in
+    let memory = memory_stays value M family c.args.tables.now.leaves c.stepped.new.tables.leaves c.args.finals.now c.in_ok-inside.ensures.keeps c.requires.memory in
+    (omega arith, search rules)
+
+pub head_at-returns-clause-keeps : goal.head_at-returns-clause-keeps
+head_at-returns-clause-keeps g t c =
+    let a = c.args.tables.now.leaves in
+    let b = c.stepped.new.tables.leaves in
+    let d = c.after_list.new.tables.leaves in
+    keeps_both a d c.joined.new.tables.leaves (keeps_both a b d c.in_ok-inside.ensures.keeps c.in_ok-end.ensures.lifted.keeps) c.in_ok-next.ensures.keeps
+
+pub head_at-returns-clause-memory : goal.head_at-returns-clause-memory
+head_at-returns-clause-memory g t c =
+    memory_stays g.L.Leaf.value g.L.Leaf.meaning c.args.family.now c.after_list.new.tables.leaves c.joined.new.tables.leaves c.after_list.new.finals c.in_ok-next.ensures.keeps c.in_ok-end.ensures.memory
+
+pub narrowed-returns-then-number-clause-memory : goal.narrowed-returns-then-number-clause-memory
+narrowed-returns-then-number-clause-memory g t c =
+    memory_stays g.L.Leaf.value g.L.Leaf.meaning c.args.family.now c.args.tables.now.leaves c.combined.new.tables.leaves c.args.finals.now c.in_ok-candidate.ensures.keeps c.requires.memory
+
+pub narrowed-head_at-requires : goal.narrowed-head_at-requires
+narrowed-head_at-requires g t c κs within =
+    let value = g.L.Leaf.value in
+    let M = g.L.Leaf.meaning in
+    let family = c.args.family.now in
+    let a = c.args.tables.now.leaves in
+    let b = c.combined.new.tables.leaves in
+    let state = state_stays value family a b (numbered c.args.t.now) c.in_ok-candidate.ensures.keeps c.requires.state in
+    let at = c.in_ok-candidate.ensures.state in
+    let memory = memory_stays value M family a b c.args.finals.now c.in_ok-candidate.ensures.keeps c.requires.memory in
+    (omega arith, search rules)
+
+pub widened-head_at-requires-in-loop-k : goal.widened-head_at-requires-in-loop-k
+widened-head_at-requires-in-loop-k g t c κs within =
+    let value = g.L.Leaf.value in
+    let M = g.L.Leaf.meaning in
+    let family = c.args.family.now in
+    let a = c.loop-k.tables.leaves in
+    let b = c.below.new.tables.leaves in
+    let d = c.combined.new.tables.leaves in
+    let f = c.loop-k.finals in
+    let keeps = keeps_both a b d (keeps_same a b c.in_ok-stable.ensures.same) c.in_ok-made.ensures.keeps in
+    let state = state_stays value family a d (numbered c.args.t.now) keeps (state_stays value family c.args.tables.now.leaves a (numbered c.args.t.now) c.loop-k.invariant.keeps c.requires.state) in
+    let at = c.in_ok-made.ensures.state in
+    let memory = memory_stays value M family a d f keeps c.loop-k.invariant.memory in
+    (omega arith, search rules)

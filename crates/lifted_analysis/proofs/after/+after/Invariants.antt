@@ -7,6 +7,7 @@ use Rattle.decision_tree.specs.View.{numbered, plain}
 use Rattle.leaf_domain.specs.Leaves.{LeafValue}
 use Rattle.plain_analysis.specs.Loops.{rounds_of, widened_leaf, narrowings_of}
 use Rattle.plain_analysis.proofs.Sizes.{size_of}
+use Rattle.lifted_analysis.specs.Finals.{Remembers}
 use Rattle.lifted_analysis.specs.Heads.{IsHeadOf}
 use Rattle.lifted_analysis.specs.States.{IsLifted}
 use Rattle.lifted_analysis.specs.Steps.{after_at, turn_at, final_at}
@@ -15,7 +16,10 @@ use Rattle.lifted_analysis.proofs.after.+after.Given as goal
 -- the tree after the statements so far
 abbrev pub invariant-after_list-loop-s : goal.invariant-after_list-loop-s
 invariant-after_list-loop-s g l =
-    IsLifted g.L.Leaf.value l.family l.initial.tables.leaves l.tables.leaves (after_at g.L.Leaf.meaning l.family (code (take l.s-index l.list))) (plain l.t) (numbered l.made)
+    record {
+      made : IsLifted g.L.Leaf.value l.family l.initial.tables.leaves l.tables.leaves (after_at g.L.Leaf.meaning l.family (code (take l.s-index l.list))) (plain l.t) (numbered l.made);
+      memory : Remembers g.L.Leaf.value g.L.Leaf.meaning l.family l.tables.leaves l.finals;
+    }
 
 -- at each vector, the rounds that are left lead from here to where all lead from the start
 abbrev pub invariant-widened-loop-k : goal.invariant-widened-loop-k
@@ -28,10 +32,11 @@ invariant-widened-loop-k g l =
       rest : (v : List Bool) → rounds_of M family.options.delay (G v) (l.rounds - l.k) l.k (value (leaf_of (plain l.head.at) v)) ≡ widened_leaf M family.options.delay (G v) (value (leaf_of (plain l.t) v));
       head : IsHeadOf value family l.tables.leaves G l.head;
       keeps : Keeps l.fn.tables.leaves l.tables.leaves;
+      memory : Remembers value M family l.tables.leaves l.finals;
     }
 
-abbrev pub invariant-final_tree-loop-k : goal.invariant-final_tree-loop-k
-invariant-final_tree-loop-k g l =
+abbrev pub invariant-final_by_rounds-loop-k : goal.invariant-final_by_rounds-loop-k
+invariant-final_by_rounds-loop-k g l =
     let value = g.L.Leaf.value in
     let M = g.L.Leaf.meaning in
     let family = l.family in
@@ -40,6 +45,7 @@ invariant-final_tree-loop-k g l =
       rest : (v : List Bool) → narrowings_of M (G v) (family.options.narrow - l._k) (value (leaf_of (plain l.head.at) v)) ≡ final_at M family (term l.test) (code l.body) v (value (leaf_of (plain l.t) v));
       head : IsHeadOf value family l.tables.leaves G l.head;
       keeps : Keeps l.fn.tables.leaves l.tables.leaves;
+      memory : Remembers value M family l.tables.leaves l.finals;
     }
 
 -- the size of the statements, and then the order of the calls
@@ -64,5 +70,8 @@ decreases-widened g l = 8 * size_of (code l.body.now) + 3
 abbrev pub decreases-narrowed : goal.decreases-narrowed
 decreases-narrowed g l = 8 * size_of (code l.body.now) + 3
 
+abbrev pub decreases-final_by_rounds : goal.decreases-final_by_rounds
+decreases-final_by_rounds g l = 8 * size_of (code l.body.now) + 4
+
 abbrev pub decreases-final_tree : goal.decreases-final_tree
-decreases-final_tree g l = 8 * size_of (code l.body.now) + 4
+decreases-final_tree g l = 8 * size_of (code l.body.now) + 5

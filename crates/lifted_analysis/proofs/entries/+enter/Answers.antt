@@ -1,7 +1,7 @@
 use Rattle.std.proofs.Common.{rules, arith, ◌≡◌, ◌+◌, ◌∙◌, ◌++◌, ◌∷◌, [], ap, sym, subst, refl, true, false, take}
 use Rattle.std.specs.Prelude.{IfOk}
 use Rattle.c_tree.specs.Tree.{Done}
-use Rattle.c_tree.specs.View.{term, front, code}
+use Rattle.c_tree.specs.View.{term, front, code, whole}
 use Rattle.c_tree.specs.Fit.{IsCodeOf}
 use Rattle.decision_tree.specs.Plain.{leaf_of}
 use Rattle.decision_tree.specs.View.{numbered, plain}
@@ -11,10 +11,13 @@ use Rattle.leaf_domain.specs.Transfer.{assumed}
 use Rattle.plain_analysis.proofs.EnteredLemmas.{on_ok, on_ok_by}
 use Rattle.plain_analysis.proofs.Listed.{IsCodeOf-at}
 use Rattle.plain_analysis.proofs.Sizes.{size-at}
+use Rattle.plain_analysis.proofs.StatedLemmas.{loops-at}
+use Rattle.plain_analysis.specs.Stated.{HasLoopsOf}
 use Rattle.lifted_analysis.specs.Entries.{entries_at, entered_with, entered_sides, entered_group, entered_body, HasEntered}
 use Rattle.lifted_analysis.specs.States.{IsLifted, truths_in}
 use Rattle.lifted_analysis.specs.Steps.{kept_by, after_at, if_at, group_at, final_at}
-use Rattle.lifted_analysis.proofs.StateLemmas.{counted, lifted_then, lifted_as}
+use Rattle.lifted_analysis.proofs.StateLemmas.{state_stays, counted, lifted_then, lifted_as}
+use Rattle.lifted_analysis.proofs.FinalsLemmas.{memory_stays, memory_same, memory_lifted, memory_joint}
 use Rattle.lifted_analysis.proofs.FamilyLemmas.{after_at-more, after_at-While, after_at-Cond, kept_joins}
 use Rattle.lifted_analysis.proofs.AfterLemmas.{front-Skip, shared_made, then_made, as_made, behind_made, both_made}
 use Rattle.lifted_analysis.proofs.EntryLemmas.{entered_then, entries_at-more, entries_at-If, entries_at-While, entries_at-Block}
@@ -93,6 +96,9 @@ enter_list-enter_stmt-requires g t c κs within =
     let s = c.s-item.result in
     let fit : IsCodeOf c.args.family.now.variables (front s Done) = IsCodeOf-at c.args.family.now.variables c.args.list.now c.loop-s.s-index s c.loop-s-test.true c.s-item.is c.requires.fit in
     let state = c.loop-s.invariant.made.state in
+    let p = whole c.args.family.now.program.now in
+    let loops : HasLoopsOf p (front s Done) = loops-at p c.args.list.now c.loop-s.s-index s c.loop-s-test.true c.s-item.is c.requires.loops in
+    let memory = c.loop-s.invariant.memory in
     (omega (arith, size-at c.args.list.now c.loop-s.s-index s c.loop-s-test.true c.s-item.is), search rules)
 
 pub enter_list-loop-s-preserved : goal.enter_list-loop-s-preserved
@@ -121,6 +127,7 @@ enter_list-loop-s-preserved g t c =
           ap (λ y. entries_at M family.options ts (code (take i list)) x ++ entries_at M family.options ts (front s Done) y) (c.loop-s.invariant.made.at_each v)
           ∙ entries_at-more M family.options ts list i s x c.loop-s-test.true c.s-item.is)
           c.loop-s.invariant.entered new.entered;
+      memory = new.memory;
     }
 
 pub enter_stmt-returns-in_ok-enter-in-If-clause-entered : goal.enter_stmt-returns-in_ok-enter-in-If-clause-entered
@@ -161,7 +168,7 @@ enter_stmt-returns-in_ok-enter_body-in-While-clause-lifted g t c =
     let z = c.stepped-in-While.new.tables.leaves in
     let last = c.in_ok-last-in-While.last in
     then_made value family c.stepped-in-While.result a b z
-    (final_at M family (term w.test) (code c.deref-in-While.result.now)) (λ v. assumed M family.options.mode (term w.test) false) (after_at M family (front c.args.s.now Done)) t (numbered last) c.in_ok-last-in-While.ensures
+    (final_at M family (term w.test) (code c.deref-in-While.result.now)) (λ v. assumed M family.options.mode (term w.test) false) (after_at M family (front c.args.s.now Done)) t (numbered last) c.in_ok-last-in-While.ensures.lifted
     (λ v. let x = value (leaf_of t v) in
     ap (λ l. assumed M family.options.mode (term w.test) false (final_at M family (term w.test) (code l) v x)) c.deref-in-While.ensures.value
     ∙ after_at-While M family c.args.s.now w.place w.test w.body v x w.is)
@@ -189,7 +196,7 @@ enter_stmt-returns-in_ok-enter_body-in-While-clause-entered g t c =
     let ts = truths_in family.choices.now v in
     let x = value (leaf_of t v) in
     let F = final_at M family e (code w.body.items) v x in
-    let is : value (leaf_of last v) ≡ F = c.in_ok-last-in-While.ensures.at_each v ∙ ap (λ l. final_at M family e (code l) v x) c.deref-in-While.ensures.value in
+    let is : value (leaf_of last v) ≡ F = c.in_ok-last-in-While.ensures.lifted.at_each v ∙ ap (λ l. final_at M family e (code l) v x) c.deref-in-While.ensures.value in
     ap (λ l. (record { place = w.place; statement = front c.args.s.now Done; leaf = value (leaf_of last v) } ∷ []) ++ entries_at M o ts (code l) (assumed M o.mode e true (value (leaf_of last v)))) c.deref-in-While-2.ensures.value
     ∙ (ap (λ (y : LeafValue). (record { place = w.place; statement = front c.args.s.now Done; leaf = y } ∷ []) ++ entries_at M o ts (code w.body.items) (assumed M o.mode e true y)) is
     ∙ entries_at-While M o ts c.args.s.now w.place w.test w.body x w.is))
@@ -244,3 +251,83 @@ enter_stmt-returns-in-Cond-clause-lifted g t c =
     ∙ (ap (λ l. group_at M family choice (code w.yes.items) (code l) v x) c.deref-in-Cond-2.ensures.value
     ∙ after_at-Cond M family c.args.s.now w.number w.yes w.no (leaf_of choice v) v x w.is (sym (c.choice-choice.ensures.at_each v))))
     c.enter_group.ensures.lifted
+
+pub enter_if-enter_list-requires : goal.enter_if-enter_list-requires
+enter_if-enter_list-requires g t c κs within =
+    let value = g.L.Leaf.value in
+    let M = g.L.Leaf.meaning in
+    let family = c.args.family.now in
+    let a = c.args.tables.now.leaves in
+    let b = c.stepped.new.tables.leaves in
+    let d = c.stepped-2.new.tables.leaves in
+    let f = c.args.finals.now in
+    let state = state_stays value family b d (numbered c.in_ok-in_yes.in_yes) c.in_ok-in_no.ensures.keeps c.in_ok-in_yes.ensures.state in
+    let memory = memory_stays value M family b d f c.in_ok-in_no.ensures.keeps (memory_stays value M family a b f c.in_ok-in_yes.ensures.keeps c.requires.memory) in
+    (omega arith, search rules)
+
+pub enter_if-returns-clause-memory : goal.enter_if-returns-clause-memory
+enter_if-returns-clause-memory g t c =
+    memory_joint g.L.Leaf.value g.L.Leaf.meaning c.args.family.now c.joined.result c.enter_list-2.new.tables.leaves c.joined.new.tables.leaves c.enter_list-2.new.finals _ _ _
+    c.joined.ensures c.in_ok-after_no.ensures.memory
+
+pub enter_group-enter_list-requires : goal.enter_group-enter_list-requires
+enter_group-enter_list-requires g t c κs within =
+    let value = g.L.Leaf.value in
+    let M = g.L.Leaf.meaning in
+    let family = c.args.family.now in
+    let a = c.args.tables.now.leaves in
+    let b = c.kept.new.tables.leaves in
+    let d = c.kept-2.new.tables.leaves in
+    let f = c.args.finals.now in
+    let state = state_stays value family b d (numbered c.in_ok-in_yes.in_yes) c.in_ok-in_no.ensures.keeps c.in_ok-in_yes.ensures.state in
+    let memory = memory_stays value M family b d f c.in_ok-in_no.ensures.keeps (memory_stays value M family a b f c.in_ok-in_yes.ensures.keeps c.requires.memory) in
+    (omega arith, search rules)
+
+pub enter_group-returns-clause-memory : goal.enter_group-returns-clause-memory
+enter_group-returns-clause-memory g t c =
+    memory_joint g.L.Leaf.value g.L.Leaf.meaning c.args.family.now c.joined.result c.enter_list-2.new.tables.leaves c.joined.new.tables.leaves c.enter_list-2.new.finals _ _ _
+    c.joined.ensures c.in_ok-after_no.ensures.memory
+
+pub enter_body-enter_list-requires : goal.enter_body-enter_list-requires
+enter_body-enter_list-requires g t c κs within =
+    let value = g.L.Leaf.value in
+    let M = g.L.Leaf.meaning in
+    let family = c.args.family.now in
+    let state = c.in_ok-inside.ensures.state in
+    let memory = memory_stays value M family c.args.tables.now.leaves c.stepped.new.tables.leaves c.args.finals.now c.in_ok-inside.ensures.keeps c.requires.memory in
+    (omega arith, search rules)
+
+pub enter_stmt-returns-in_ok-enter-in-Assign-clause-memory : goal.enter_stmt-returns-in_ok-enter-in-Assign-clause-memory
+enter_stmt-returns-in_ok-enter-in-Assign-clause-memory g t c =
+    let value = g.L.Leaf.value in
+    let M = g.L.Leaf.meaning in
+    let family = c.args.family.now in
+    let a = c.args.tables.now.leaves in
+    let b = c.enter.new.tables.leaves in
+    let f = c.args.finals.now in
+    memory_lifted value M family c.stepped.result b c.stepped.new.tables.leaves f _ _ c.stepped.ensures (memory_same value M family a b f c.in_ok-enter-in-Assign.ensures.same c.requires.memory)
+
+pub enter_stmt-returns-in_ok-enter-in-Input-clause-memory : goal.enter_stmt-returns-in_ok-enter-in-Input-clause-memory
+enter_stmt-returns-in_ok-enter-in-Input-clause-memory g t c =
+    let value = g.L.Leaf.value in
+    let M = g.L.Leaf.meaning in
+    let family = c.args.family.now in
+    let a = c.args.tables.now.leaves in
+    let b = c.enter-in-Input.new.tables.leaves in
+    let f = c.args.finals.now in
+    memory_lifted value M family c.stepped-in-Input.result b c.stepped-in-Input.new.tables.leaves f _ _ c.stepped-in-Input.ensures (memory_same value M family a b f c.in_ok-enter-in-Input.ensures.same c.requires.memory)
+
+pub enter_stmt-returns-in_ok-enter-in-Assert-clause-memory : goal.enter_stmt-returns-in_ok-enter-in-Assert-clause-memory
+enter_stmt-returns-in_ok-enter-in-Assert-clause-memory g t c =
+    let value = g.L.Leaf.value in
+    let M = g.L.Leaf.meaning in
+    let family = c.args.family.now in
+    let a = c.args.tables.now.leaves in
+    let b = c.enter-in-Assert.new.tables.leaves in
+    let f = c.args.finals.now in
+    memory_lifted value M family c.stepped-in-Assert.result b c.stepped-in-Assert.new.tables.leaves f _ _ c.stepped-in-Assert.ensures (memory_same value M family a b f c.in_ok-enter-in-Assert.ensures.same c.requires.memory)
+
+pub enter_stmt-returns-in_ok-enter_body-in-While-clause-memory : goal.enter_stmt-returns-in_ok-enter_body-in-While-clause-memory
+enter_stmt-returns-in_ok-enter_body-in-While-clause-memory g t c =
+    memory_lifted g.L.Leaf.value g.L.Leaf.meaning c.args.family.now c.stepped-in-While.result c.enter_body.new.tables.leaves c.stepped-in-While.new.tables.leaves c.enter_body.new.finals _ _
+    c.stepped-in-While.ensures c.in_ok-enter_body-in-While.ensures.memory

@@ -4,6 +4,7 @@ use Rattle.c_tree.specs.View.{front, code}
 use Rattle.decision_tree.specs.View.{numbered, plain}
 use Rattle.plain_analysis.proofs.Sizes.{size_of}
 use Rattle.lifted_analysis.specs.Entries.{entered_with, HasEntered}
+use Rattle.lifted_analysis.specs.Finals.{Remembers}
 use Rattle.lifted_analysis.specs.States.{IsLifted}
 use Rattle.lifted_analysis.specs.Steps.{after_at}
 use Rattle.lifted_analysis.proofs.entries.+enter.Given as goal
@@ -16,6 +17,7 @@ invariant-enter_list-loop-s g l =
     record {
       made : IsLifted value l.family l.fn.tables.leaves l.tables.leaves (after_at M l.family (code (take l.s-index l.list))) (plain l.t) (numbered l.made);
       entered : HasEntered value M l.family l.fn.found l.found (entered_with value M l.family (code (take l.s-index l.list)) (plain l.t));
+      memory : Remembers value M l.family l.tables.leaves l.finals;
     }
 
 -- the size of the statements, and then the order of the calls
