@@ -19,10 +19,11 @@ use Rattle.cpp_conditions.specs.declared.formulas.Formula.{Formula}
 use Rattle.c_parser.specs.Items.{Listed}
 use Rattle.c_parser.specs.Families.{HasItems, has}
 use Rattle.c_parser.specs.FamilyReading.{IsFamilyRead, IsJudged, setting_of}
-use Rattle.c_parser.specs.FamilyStages.{IsListedFamily, IsFamilySpelledAs}
+use Rattle.c_parser.specs.FamilyStages.{IsListedFamily}
+use Rattle.c_parser.specs.Stages.{IsSpelledAs}
 use Rattle.c_parser.proofs.FewNames.{few_names}
 
-pub not_spelled : (model : Model) (bytes : List ℕ) (made : FamilyItems) (e : FileRefusal) → IsListedFamily (plain model) bytes made → IsFamilySpelledAs made.names made.items.items (end_place bytes) (Err e) → IsFamilyRead model bytes (Err e)
+pub not_spelled : (model : Model) (bytes : List ℕ) (made : FamilyItems) (e : FileRefusal) → IsListedFamily (plain model) bytes made → IsSpelledAs made.names made.items.items (end_place bytes) (Err e) → IsFamilyRead model bytes (Err e)
 not_spelled model bytes made NoMemory l s = tt
 not_spelled model bytes made (Fault code place) l (inl w) = inr (record { told = l.told; listed = record { names = made.names; items = made.items.items }; items = l.items; is = inl w })
 not_spelled model bytes made (Fault code place) l (inr d) = inr (record { told = l.told; listed = record { names = made.names; items = made.items.items }; items = l.items; is = inr (inl d) })

@@ -15,10 +15,10 @@ use Rattle.c_tree.specs.View.{whole}
 use Rattle.family_names.specs.Laws.{NamesAreJudgedOnce}
 use Rattle.family_names.specs.Names.{IsFirstNameFault}
 use Rattle.c_parser.specs.declared.family.Family.{Family}
-use Rattle.c_parser.specs.Families.{HasItems, HasEarlyFault, HasWrongItem, family_listed, wrong_code}
+use Rattle.c_parser.specs.Families.{HasItems, HasEarlyFault, family_listed}
 use Rattle.c_parser.specs.FamilyReading.{HasNameFault, IsFamilyOf, IsFamilyRefused, IsJudged, setting_of}
 use Rattle.c_parser.specs.Items.{Listed}
-use Rattle.c_parser.specs.Reading.{HasDeep, items_of_code}
+use Rattle.c_parser.specs.Reading.{HasWrong, HasDeep, wrong_code, items_of_code}
 use Rattle.c_parser.specs.Variants.{FamiliesAreReadOnce, FamiliesAreNotRefused, FamiliesAreRefusedOnce}
 use Rattle.c_parser.proofs.KeptTexts.{TextsAreReadOnce}
 use Rattle.c_parser.proofs.Readings.{Answer, GrammarLaws, deep_spelled, program_spelled, spelled_by, with_names, wrong_spelled}
@@ -98,7 +98,7 @@ judged_ends laws model bytes told l end p atoms conditions fault j =
     subst (λ (x : Answer). Ends model told l x (with_names fault p)) (sym (program_spelled laws (wrong_code l.items) l end p j.spelled)) (fault, record { atoms = atoms; conditions = conditions; are = j.conditions_are; is = j.names }, refl)
 
 fault_ends : GrammarLaws → (model : Model) (bytes : List ℕ) (told : Told) (l : Listed) (end : Place) (fault : FileCode × Place)
-    → HasWrongItem l end fault ⊎ (HasDeep l end fault ⊎ HasNameFault model bytes told l fault) → Ends model told l (spelled l end) (Err fault)
+    → HasWrong l end fault ⊎ (HasDeep l end fault ⊎ HasNameFault model bytes told l fault) → Ends model told l (spelled l end) (Err fault)
 fault_ends laws model bytes told l end fault (inl w) = subst (λ (x : Answer). Ends model told l x (Err fault)) (sym (wrong_spelled laws (wrong_code l.items) l end w.position w.wrong)) (ap (λ (f : FileCode × Place). Err f) w.is)
 fault_ends laws model bytes told l end fault (inr (inl w)) = subst (λ (x : Answer). Ends model told l x (Err fault)) (sym (deep_spelled laws (wrong_code l.items) l end w.position w.deep)) (ap (λ (f : FileCode × Place). Err f) w.is)
 fault_ends laws model bytes told l end fault (inr (inr n)) = judged_ends laws model bytes told l end n.program n.atoms n.conditions (Some fault) n.judged

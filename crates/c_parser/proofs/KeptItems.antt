@@ -42,7 +42,7 @@ word_plain : (names : List (List ℕ)) (w : List ℕ) (o : Option Sign) → IfSo
 word_plain names w (Some s) c = c.1
 word_plain names w None c = refl
 
-sign_plain : (names : List (List ℕ)) (kind : TokenKind) (w : List ℕ) → is_group (sign_of names kind w) ≡ false
+pub sign_plain : (names : List (List ℕ)) (kind : TokenKind) (w : List ℕ) → is_group (sign_of names kind w) ≡ false
 sign_plain names (tokens.Number n) w = refl
 sign_plain names tokens.Word w = word_plain names w (keyword_of w) (keyword_constant w)
 sign_plain names tokens.Mark w = (unwrapped_constant (sign_in marks w) (table_constant marks marks_constant w)).1

@@ -4,7 +4,7 @@ use Rattle.std.proofs.lemmas.Bool.{lt-ltb}
 use Rattle.std.proofs.lemmas.List.{length-append}
 use Rattle.fam_outer.specs.declared.faults.Place.{Place}
 use Rattle.fam_outer.specs.declared.faults.FileCode.{FileCode}
-use Rattle.fam_outer.specs.declared.faults.FileCode.TheVariants.{Syntax, TooDeep, TooLong}
+use Rattle.fam_outer.specs.declared.faults.FileCode.TheVariants.{TooDeep, TooLong}
 use Rattle.fam_outer.specs.Limits.{file_bytes}
 use Rattle.fam_outer.specs.Places.{end_place}
 use Rattle.fam_outer.specs.Results.{and_then}
@@ -20,7 +20,7 @@ use Rattle.item_reader.specs.Reading.{IsWrongAt, IsDeepAt}
 use Rattle.c_parser.specs.Items.{Listed}
 use Rattle.c_parser.specs.Names.{first_name_fault}
 use Rattle.cpp_lines.specs.Whole.{file_place}
-use Rattle.c_parser.specs.Reading.{IsAccepted, Refuses, ReadsOver, code_of_file, items_of, place_with}
+use Rattle.c_parser.specs.Reading.{IsAccepted, Refuses, ReadsOver, code_of_file, items_of, place_with, wrong_code}
 
 -- the laws of the grammar that are used here
 pub record GrammarLaws : Type 0 where
@@ -91,24 +91,21 @@ abbrev pub with_names : Option (FileCode × Place) → Whole → Answer
 with_names None p = Ok p
 with_names (Some fault) p = Err fault
 
-abbrev syntax_at : ℕ → FileCode
-syntax_at n = Syntax
-
 abbrev answer_over : Listed → Place → Answer
-answer_over l end = and_then (spelled_by syntax_at l end) (with_names (first_name_fault l.items))
+answer_over l end = and_then (spelled_by (wrong_code l.items) l end) (with_names (first_name_fault l.items))
 
 abbrev answer : List (List ℕ) → List ℕ → Answer
 answer given bytes = and_then (items_of given bytes) (λ l. answer_over l (end_place bytes))
 
 named : GrammarLaws → (l : Listed) (end : Place) (p : Whole) (fault : Option (FileCode × Place)) → SpellsWithin l.names p l.items → first_name_fault l.items ≡ fault → answer_over l end ≡ with_names fault p
 named laws l end p fault s e =
-    ap (λ (x : Answer). and_then x (with_names (first_name_fault l.items))) (program_spelled laws syntax_at l end p s) ∙ ap (λ (o : Option (FileCode × Place)). with_names o p) e
+    ap (λ (x : Answer). and_then x (with_names (first_name_fault l.items))) (program_spelled laws (wrong_code l.items) l end p s) ∙ ap (λ (o : Option (FileCode × Place)). with_names o p) e
 
 refused_answer : GrammarLaws → (l : Listed) (end : Place) (fault : FileCode × Place) → Refuses l end fault → answer_over l end ≡ Err fault
 refused_answer laws l end fault (inl w) =
-    ap (λ (x : Answer). and_then x (with_names (first_name_fault l.items))) (wrong_spelled laws syntax_at l end w.position w.wrong) ∙ ap (λ (f : FileCode × Place). Err f) (sym w.is)
+    ap (λ (x : Answer). and_then x (with_names (first_name_fault l.items))) (wrong_spelled laws (wrong_code l.items) l end w.position w.wrong) ∙ ap (λ (f : FileCode × Place). Err f) (sym w.is)
 refused_answer laws l end fault (inr (inl w)) =
-    ap (λ (x : Answer). and_then x (with_names (first_name_fault l.items))) (deep_spelled laws syntax_at l end w.position w.deep) ∙ ap (λ (f : FileCode × Place). Err f) (sym w.is)
+    ap (λ (x : Answer). and_then x (with_names (first_name_fault l.items))) (deep_spelled laws (wrong_code l.items) l end w.position w.deep) ∙ ap (λ (f : FileCode × Place). Err f) (sym w.is)
 refused_answer laws l end fault (inr (inr w)) = named laws l end w.program (Some fault) w.spelled w.is
 
 is_answer : GrammarLaws → (given : List (List ℕ)) (bytes : List ℕ) (r : Answer) → ReadsOver given bytes r → answer given bytes ≡ r
@@ -135,7 +132,7 @@ by_machine laws l end (Ok f) e = with_fault l end (whole_of l.names l.items f) (
 by_machine laws l end (Err (limits.Wrong k)) e =
     let b = (laws.stops_wrong l.items k).0 e in
     let w = b.0 in (
-      Err (Syntax, place_with l.items (length w.before) end),
+      Err (wrong_code l.items (length w.before), place_with l.items (length w.before) end),
       inl (record {
         position = length w.before;
         wrong = record { left = k; position = omega (arith, ap length w.cut, length-append w.before w.rest, w.left); wrong = w; shallow = b.1 };

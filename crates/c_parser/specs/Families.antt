@@ -1,15 +1,13 @@
 -- The items of a file with groups: its tokens and its group directives, line by line (ISO/IEC 9899:2011, 5.1.1.2 and 6.10.1).
-use Rattle.std.specs.Prelude.{◌≡◌, ◌⊎◌, ℕ, zero, suc, nat_eq, nat_lt, Bool, true, false, ◌||◌, ◌&&◌, if◌then◌else◌, List, [], ◌∷◌, ◌++◌, slice_get, Option, Some, None, Ok, Err}
+use Rattle.std.specs.Prelude.{◌≡◌, ◌⊎◌, ℕ, nat_eq, nat_lt, Bool, false, List, [], ◌∷◌, ◌++◌, Option, Some, None, Ok, Err}
 use Rattle.std.specs.List.{filter, list_any}
 use Rattle.fam_outer.specs.declared.faults.Place.{Place}
 use Rattle.fam_outer.specs.declared.faults.FileCode.{FileCode}
-use Rattle.fam_outer.specs.declared.faults.FileCode.TheVariants.{Syntax, GroupInsideStatement}
 use Rattle.cpp_conditions.specs.Validity.{Plain}
 use Rattle.c_grammar.specs.declared.items.Item.{Item}
 use Rattle.c_grammar.specs.declared.items.Sign.{Sign}
 use Rattle.c_grammar.specs.declared.items.Sign.TheVariants as signs
-use Rattle.c_grammar.specs.Grammar.{at, is_group}
-use Rattle.item_reader.specs.Reading.{IsWrongAt}
+use Rattle.c_grammar.specs.Grammar.{at}
 use Rattle.cpp_lines.specs.Code.{code_of}
 use Rattle.cpp_lines.specs.Sections.{Told, TextIsRead}
 use Rattle.cpp_lines.specs.Whole.{blanked_file, HasLineFault}
@@ -17,11 +15,7 @@ use Rattle.cpp_lines.specs.declared.line.Line.{Line}
 use Rattle.cpp_lines.specs.declared.line.LineKind.{LineKind}
 use Rattle.cpp_lines.specs.declared.line.LineKind.TheVariants as kinds
 use Rattle.c_parser.specs.Items.{Listed}
-use Rattle.c_parser.specs.Reading.{items_of_code, place_with}
-
-abbrev pub is_else : Sign → Bool
-is_else signs.Else = true
-is_else _ = false
+use Rattle.c_parser.specs.Reading.{items_of_code}
 
 -- the sign of a line's group directive
 abbrev pub group_sign : LineKind → Option Sign
@@ -87,29 +81,3 @@ pub record HasTokenFault (model : Plain) (bytes : List ℕ) (fault : FileCode ×
 
 abbrev pub HasEarlyFault : Plain → List ℕ → FileCode × Place → Type 0
 HasEarlyFault model bytes fault = (blanked_file bytes ≡ Err fault) ⊎ (HasLineFault model bytes fault ⊎ HasTokenFault model bytes fault)
-
--- ---- the grammar
-
-abbrev pub is_group_item : Option Item → Bool
-is_group_item None = false
-is_group_item (Some x) = is_group x.sign
-
-abbrev pub is_else_item : Option Item → Bool
-is_else_item None = false
-is_else_item (Some x) = is_else x.sign
-
--- the item before a position
-abbrev pub item_before : List Item → ℕ → Option Item
-item_before items zero = None
-item_before items (suc n) = slice_get items n
-
--- the code of the first wrong item: a group directive, or an `else` directly behind one, stands inside a statement
-abbrev pub wrong_code : List Item → ℕ → FileCode
-wrong_code items n =
-    if is_group_item (slice_get items n) || (is_else_item (slice_get items n) && is_group_item (item_before items n)) then GroupInsideStatement else Syntax
-
--- the item at a position, or the end behind all, is the first wrong one
-pub record HasWrongItem (l : Listed) (end : Place) (fault : FileCode × Place) : Type 0 where
-  pub position : ℕ
-  pub wrong : IsWrongAt l.items position
-  pub is : fault ≡ (wrong_code l.items position, place_with l.items position end)

@@ -16,8 +16,8 @@ use Rattle.c_grammar.specs.Within.{SpellsWithin}
 use Rattle.family_names.specs.Names.{Setting, IsFirstNameFault}
 use Rattle.c_parser.specs.declared.family.Family.{Family}
 use Rattle.c_parser.specs.Items.{Listed}
-use Rattle.c_parser.specs.Reading.{HasDeep}
-use Rattle.c_parser.specs.Families.{HasItems, HasEarlyFault, HasWrongItem}
+use Rattle.c_parser.specs.Reading.{HasWrong, HasDeep}
+use Rattle.c_parser.specs.Families.{HasItems, HasEarlyFault}
 
 abbrev pub setting_of : Model → List Atom → List Formula → List (List ℕ) → Setting
 setting_of model atoms conditions names = record { model = model; atoms = atoms; conditions = conditions; names = names }
@@ -47,7 +47,7 @@ pub record HasItemFault (model : Model) (bytes : List ℕ) (fault : FileCode × 
   pub told : Told
   pub listed : Listed
   pub items : HasItems (plain model) bytes told listed
-  pub is : HasWrongItem listed (end_place bytes) fault ⊎ (HasDeep listed (end_place bytes) fault ⊎ HasNameFault model bytes told listed fault)
+  pub is : HasWrong listed (end_place bytes) fault ⊎ (HasDeep listed (end_place bytes) fault ⊎ HasNameFault model bytes told listed fault)
 
 -- the bytes have this fault: one of an earlier phase, or else of their items
 abbrev pub IsFamilyRefused : Model → List ℕ → FileCode × Place → Type 0

@@ -1,7 +1,6 @@
 -- What the phases of reading a family answer.
-use Rattle.std.specs.Prelude.{◌⊎◌, ⊤, ℕ, ◌≤◌, List, length, Result, Ok, Err}
+use Rattle.std.specs.Prelude.{⊤, ℕ, ◌≤◌, List, length, Result, Ok, Err}
 use Rattle.std.specs.List.{All}
-use Rattle.fam_outer.specs.declared.faults.Place.{Place}
 use Rattle.fam_outer.specs.declared.faults.FileRefusal.{FileRefusal}
 use Rattle.fam_outer.specs.declared.faults.FileRefusal.TheVariants as refusals
 use Rattle.linear_atoms.specs.Atoms.{AreAtoms}
@@ -9,15 +8,9 @@ use Rattle.cpp_conditions.specs.Propositions.{IsBelow}
 use Rattle.cpp_conditions.specs.Validity.{Plain}
 use Rattle.cpp_conditions.specs.View.{formula}
 use Rattle.cpp_lines.specs.Sections.{Told, AreConditionsOf}
-use Rattle.c_tree.specs.View.{whole}
-use Rattle.c_tree.specs.declared.tree.Program.{Program}
-use Rattle.c_grammar.specs.declared.items.Item.{Item}
 use Rattle.c_grammar.specs.Facts as facts
-use Rattle.c_grammar.specs.Within.{SpellsWithin}
 use Rattle.c_parser.specs.declared.families.FamilyItems.{FamilyItems}
-use Rattle.c_parser.specs.Items.{Listed}
-use Rattle.c_parser.specs.Reading.{HasDeep}
-use Rattle.c_parser.specs.Families.{HasItems, HasEarlyFault, HasWrongItem}
+use Rattle.c_parser.specs.Families.{HasItems, HasEarlyFault}
 
 -- the names, items, conditions and atoms of a family
 pub record IsListedFamily (model : Plain) (bytes : List ℕ) (made : FamilyItems) : Type 0 where
@@ -38,12 +31,3 @@ pub record IsProperFamily (features : ℕ) (made : FamilyItems) : Type 0 where
   pub few : length made.atoms ≤ 64
   pub atoms : AreAtoms features made.atoms
   pub below : All (λ f. IsBelow (length made.atoms) (formula f)) made.conditions
-
-abbrev list : List (List ℕ) → List Item → Listed
-list names items = record { names = names; items = items }
-
--- the program of the items, or the first wrong item, or the first too deep one
-abbrev pub IsFamilySpelledAs : List (List ℕ) → List Item → Place → Result Program FileRefusal → Type 0
-IsFamilySpelledAs names items end (Ok program) = SpellsWithin names (whole program) items
-IsFamilySpelledAs names items end (Err (refusals.Fault code place)) = HasWrongItem (list names items) end (code, place) ⊎ HasDeep (list names items) end (code, place)
-IsFamilySpelledAs names items end (Err refusals.NoMemory) = ⊤

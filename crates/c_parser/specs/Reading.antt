@@ -1,8 +1,8 @@
 -- What a file is read as: the program that it spells, or its refusal.
-use Rattle.std.specs.Prelude.{◌≡◌, ◌⊎◌, ◌<◌, ⊤, ℕ, nat_eq, true, List, [], length, slice_get, Option, Some, None, Result, Ok, Err}
+use Rattle.std.specs.Prelude.{◌≡◌, ◌⊎◌, ◌<◌, ⊤, ℕ, zero, suc, nat_eq, Bool, true, false, ◌||◌, ◌&&◌, if◌then◌else◌, List, [], length, slice_get, Option, Some, None, Result, Ok, Err}
 use Rattle.fam_outer.specs.declared.faults.Place.{Place}
 use Rattle.fam_outer.specs.declared.faults.FileCode.{FileCode}
-use Rattle.fam_outer.specs.declared.faults.FileCode.TheVariants.{Syntax, TooDeep}
+use Rattle.fam_outer.specs.declared.faults.FileCode.TheVariants.{Syntax, TooDeep, GroupInsideStatement}
 use Rattle.fam_outer.specs.declared.faults.FileRefusal.{FileRefusal}
 use Rattle.fam_outer.specs.declared.faults.FileRefusal.TheVariants as refusals
 use Rattle.fam_outer.specs.Places.{end_place}
@@ -15,7 +15,9 @@ use Rattle.c_tree.specs.Tree.{Whole}
 use Rattle.c_tree.specs.View.{whole}
 use Rattle.c_tree.specs.declared.tree.Program.{Program}
 use Rattle.c_grammar.specs.declared.items.Item.{Item}
-use Rattle.c_grammar.specs.Grammar.{File, Forms}
+use Rattle.c_grammar.specs.declared.items.Sign.{Sign}
+use Rattle.c_grammar.specs.declared.items.Sign.TheVariants as signs
+use Rattle.c_grammar.specs.Grammar.{File, Forms, is_group}
 use Rattle.c_grammar.specs.Within.{SpellsWithin}
 use Rattle.item_reader.specs.Reading.{IsWrongAt, IsDeepAt}
 use Rattle.c_parser.specs.Items.{Listed, listed}
@@ -53,11 +55,34 @@ pub record IsAccepted (l : Listed) (p : Whole) : Type 0 where
   pub spelled : SpellsWithin l.names p l.items
   pub names : first_name_fault l.items ≡ None
 
+abbrev pub is_group_item : Option Item → Bool
+is_group_item None = false
+is_group_item (Some x) = is_group x.sign
+
+abbrev pub is_else : Sign → Bool
+is_else signs.Else = true
+is_else _ = false
+
+abbrev pub is_else_item : Option Item → Bool
+is_else_item None = false
+is_else_item (Some x) = is_else x.sign
+
+-- the item before a position
+abbrev pub item_before : List Item → ℕ → Option Item
+item_before items zero = None
+item_before items (suc n) = slice_get items n
+
+-- the code of the first wrong item: a group directive, or an `else` directly behind one, stands inside a statement; a file without
+-- groups has no such item
+abbrev pub wrong_code : List Item → ℕ → FileCode
+wrong_code items n =
+    if is_group_item (slice_get items n) || (is_else_item (slice_get items n) && is_group_item (item_before items n)) then GroupInsideStatement else Syntax
+
 -- the item at a position, or the end behind all, is the first wrong one
 pub record HasWrong (l : Listed) (end : Place) (fault : FileCode × Place) : Type 0 where
   pub position : ℕ
   pub wrong : IsWrongAt l.items position
-  pub is : fault ≡ (Syntax, place_with l.items position end)
+  pub is : fault ≡ (wrong_code l.items position, place_with l.items position end)
 
 -- the item at a position is the first too deep one
 pub record HasDeep (l : Listed) (end : Place) (fault : FileCode × Place) : Type 0 where

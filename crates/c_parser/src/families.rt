@@ -1,29 +1,24 @@
 //! The items of a file with groups.
 #![tactic(auto)]
 
-ghost use Rattle.std.specs.Prelude.{◌≡◌, ◌≤◌, ◌++◌, false, length, slice_get, IfOk, OnOk};
+ghost use Rattle.std.specs.Prelude.{◌≡◌, ◌≤◌, ◌++◌, length, IfOk, OnOk};
 ghost use Rattle.std.specs.List.{prefix_len};
-ghost use Rattle.fam_outer.specs.Places as outer;
 ghost use Rattle.cpp_conditions.specs.Distinct.{HaveFewAtoms};
 ghost use Rattle.cpp_conditions.specs.Naming.{AreFeatures};
 ghost use Rattle.cpp_conditions.specs.Validity as validity;
-ghost use Rattle.c_tree.specs.View.{whole};
-ghost use Rattle.c_tree.specs.Whole.{IsProgram, IsPlainProgram};
-ghost use Rattle.c_grammar.specs.Facts.{AreFit, AreRising};
-ghost use Rattle.c_grammar.specs.Grammar.{has_groups};
+ghost use Rattle.c_grammar.specs.Facts.{AreRising};
 ghost use Rattle.cpp_lines.specs.Lines.{AreCounted};
 ghost use Rattle.c_parser.specs.Families as specs;
 ghost use Rattle.c_parser.specs.FamilyStages as stages;
 
 use crate::numbering::Numbered;
-use crate::plain::{number_code, place_with, refused};
+use crate::plain::number_code;
 use c_grammar::{Item, Sign};
-use c_tree::{Names, Program};
+use c_tree::Names;
 use cpp_conditions::Model;
 use cpp_lines::laws::places_stay;
 use cpp_lines::{Atoms, Formulas, Line, LineKind, blanked_file, code_text, read_sections};
-use fam_outer::{FILE_BYTES, FileCode, FileRefusal, NoMemory};
-use item_reader::{Unread, UnreadRefusal, read_items};
+use fam_outer::{FILE_BYTES, FileRefusal, NoMemory};
 use std::alloc::Global;
 
 /// The sign of a line's group directive.
@@ -124,66 +119,4 @@ pub(crate) fn list_family(
         conditions: sections.conditions,
         atoms: sections.atoms,
     })
-}
-
-/// Whether the item at a position is a group directive.
-fn is_group_at(items: &[Item], position: usize) -> bool
-    ensures { result ≡ specs.is_group_item (slice_get items.now position) }
-{
-    match items.get(position) {
-        None => false,
-        Some(item) => matches!(
-            item.sign,
-            Sign::GroupIf(_) | Sign::GroupElif(_) | Sign::GroupElse | Sign::GroupEnd
-        ),
-    }
-}
-
-/// Whether the item at a position is `else`.
-fn is_else_at(items: &[Item], position: usize) -> bool
-    ensures { result ≡ specs.is_else_item (slice_get items.now position) }
-{
-    match items.get(position) {
-        None => false,
-        Some(item) => matches!(item.sign, Sign::Else),
-    }
-}
-
-/// The code of the first wrong item.
-fn wrong_code(items: &[Item], position: usize) -> FileCode
-    ensures { result ≡ specs.wrong_code items.now position }
-{
-    let is_behind_group = position > 0 && is_group_at(items, position - 1);
-    if is_group_at(items, position) || is_else_at(items, position) && is_behind_group {
-        FileCode::GroupInsideStatement
-    } else {
-        FileCode::Syntax
-    }
-}
-
-/// The program of a file with groups whose names may have a fault.
-pub(crate) fn spelled(
-    alloc: Global,
-    names: Names,
-    items: &[Item],
-    bytes: &[u8],
-) -> Result<Program, FileRefusal>
-    requires short { length bytes.now ≤ FILE_BYTES }
-    requires fit { AreFit (length names) items.now }
-    requires rising { AreRising items.now }
-    ensures spelled { stages.IsFamilySpelledAs names items.now (outer.end_place bytes.now) result }
-    ensures program { length names ≤ 16 → IfOk result (λ p. IsProgram (whole p)) }
-    ensures plain { has_groups items.now ≡ false → IfOk result (λ p. IsPlainProgram (whole p)) }
-{
-    match read_items(alloc, names, items) {
-        Ok(program) => Ok(program),
-        Err(UnreadRefusal::NoMemory) => Err(FileRefusal::NoMemory),
-        Err(UnreadRefusal::Fault(Unread::Wrong(position))) => Err(refused(
-            wrong_code(items, position),
-            place_with(items, position, bytes),
-        )),
-        Err(UnreadRefusal::Fault(Unread::Deep(position))) => {
-            Err(refused(FileCode::TooDeep, place_with(items, position, bytes)))
-        }
-    }
 }

@@ -16,9 +16,10 @@ ghost use Rattle.c_grammar.specs.Laws.{AtMostOne};
 ghost use Rattle.c_parser.specs.FamilyReading.{IsFamilyRead, setting_of};
 ghost use Rattle.family_names.specs.Names.{IsFirstNameFault};
 
-use crate::families::{FamilyItems, list_family, spelled};
+use crate::families::{FamilyItems, list_family};
 use crate::laws::family_names_occur;
-use crate::plain::refused;
+use crate::spelled::{refused, spelled};
+use atom_solver::Prepared;
 use c_grammar::Item;
 use c_grammar::laws::{files_are_programs, spells_at_most_one, within_the_limits_is_a_file};
 use c_tree::{Names, Program};
@@ -53,8 +54,9 @@ fn name_fault(
     ensures { IfOk result (λ fault. IsFirstNameFault
         (setting_of model.now atoms.now conditions.now names.now) items.now fault) }
 {
+    let prepared = Prepared::new(alloc, model)?;
     let setting = Setting {
-        model,
+        model: &prepared,
         atoms: atoms.items(),
         conditions: conditions.items(),
         names: names.items(),

@@ -1,18 +1,19 @@
 //! Laws of reading files, for the crates above: each function does nothing, and its contract is the law.
 #![tactic(auto)]
 
-ghost use Rattle.std.specs.Prelude.{◌≡◌, ◌≤◌, ◌<◌, true, ℕ, List, [], length, Result, Ok};
+ghost use Rattle.std.specs.Prelude.{◌≡◌, ◌≤◌, ◌<◌, true, false, ℕ, List, [], length, Result, Ok};
 ghost use Rattle.fam_outer.specs.declared.faults.FileCode.{FileCode};
+ghost use Rattle.fam_outer.specs.declared.faults.FileCode.TheVariants.{Syntax};
 ghost use Rattle.fam_outer.specs.declared.faults.Place.{Place};
 ghost use Rattle.c_tree.specs.Tree.{Whole};
 ghost use Rattle.c_parser.specs.Items.{Listed};
 ghost use Rattle.c_grammar.specs.declared.items.Item.{Item};
-ghost use Rattle.c_grammar.specs.Grammar.{File, Forms};
+ghost use Rattle.c_grammar.specs.Grammar.{File, Forms, has_groups};
 ghost use Rattle.cpp_conditions.specs.Validity.{Plain};
 ghost use Rattle.cpp_lines.specs.Sections.{Told};
 ghost use Rattle.c_parser.specs.Families.{HasItems, has};
 ghost use Rattle.c_parser.specs.Names.{declared_by, targets};
-ghost use Rattle.c_parser.specs.Reading.{ReadsOver, items_of, IsAccepted, AreDeclaredNames};
+ghost use Rattle.c_parser.specs.Reading.{ReadsOver, items_of, wrong_code, IsAccepted, AreDeclaredNames};
 
 use c_grammar::laws::{reads_within_the_limits, within_the_limits_is_a_file};
 use c_tokens::laws::{lines_are_apart, literals_are_decimal, one_reading, reads_longest_lexemes};
@@ -62,3 +63,12 @@ pub fn family_names_occur()
     lines_are_apart();
     one_reading();
 }
+
+/// The items of a file without groups have no group directive, so that its first wrong item is a fault of syntax:
+/// `GroupInsideStatement` is a fault of families alone.
+#[tactic(auto, using(crate::proofs::PlainItems::plain_items, crate::proofs::PlainItems::plain_code))]
+pub fn plain_files_have_no_groups()
+    ensures items { (given : List (List ℕ)) (bytes : List ℕ) (l : Listed)
+        → items_of given bytes ≡ Ok l → has_groups l.items ≡ false }
+    ensures wrong { (items : List Item) (n : ℕ) → has_groups items ≡ false → wrong_code items n ≡ Syntax }
+{}

@@ -8,6 +8,7 @@ mod names;
 mod numbering;
 pub mod plain;
 mod signs;
+mod spelled;
 pub mod variants;
 
 pub use family::{Family, read_family};

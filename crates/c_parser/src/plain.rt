@@ -1,37 +1,26 @@
 //! The program of a file without groups.
 #![tactic(auto)]
 
-ghost use Rattle.std.specs.Prelude.{◌≡◌, ◌≤◌, false, [], length, IfOk};
+ghost use Rattle.std.specs.Prelude.{◌≡◌, ◌≤◌, [], length, IfOk};
 ghost use Rattle.c_tree.specs.View.{whole};
 ghost use Rattle.c_tree.specs.Whole.{IsProgram, IsPlainProgram};
-ghost use Rattle.c_grammar.specs.Grammar.{has_groups};
 ghost use Rattle.c_grammar.specs.Laws.{AtMostOne};
-ghost use Rattle.fam_outer.specs.Places as outer;
 ghost use Rattle.fam_outer.specs.Refusals.{Gives};
 ghost use Rattle.c_parser.specs.Items.{AreDistinct};
 ghost use Rattle.c_parser.specs.Reading as specs;
-ghost use Rattle.fam_outer.specs.declared.faults.FileRefusal.TheVariants as refusals;
-ghost use Rattle.c_parser.specs.Stages.{Lists, AreProper, ProperIn, IsSpelledAs};
+ghost use Rattle.c_parser.specs.Stages.{Lists, ProperIn};
 
 use crate::names::first_name_fault;
 use crate::numbering::{Numbered, number};
-use c_grammar::Item;
+use crate::spelled::{refused, spelled};
 use c_grammar::laws::{spells_at_most_one, within_the_limits_is_a_file};
 use c_tokens::laws::{literals_are_decimal, reads_longest_lexemes};
 use c_tokens::tokens;
-use c_tree::{Names, Program};
+use c_tree::Program;
 use cpp_lines::laws::places_stay;
-use cpp_lines::{blanked_file, code_text, end_place, plain_lines};
-use fam_outer::{FILE_BYTES, FileCode, FileRefusal, Place, Text, places_rise};
-use item_reader::{Unread, UnreadRefusal, read_items};
+use cpp_lines::{blanked_file, code_text, plain_lines};
+use fam_outer::{FILE_BYTES, FileRefusal, Text, places_rise};
 use std::alloc::Global;
-
-/// A fault at a place.
-pub(crate) fn refused(code: FileCode, place: Place) -> FileRefusal
-    ensures { result ≡ refusals.Fault code place }
-{
-    FileRefusal::Fault { code, place }
-}
 
 /// The code of a file: its bytes without comments and directive lines, so that all places stay.
 #[tactic(auto, unfolding(crate::specs::Reading::code_of_file))]
@@ -76,42 +65,6 @@ fn list_items(alloc: Global, given: &[Text], bytes: &[u8]) -> Result<Numbered, F
 {
     let code = file_code(alloc, bytes)?;
     number_code(alloc, given, code.bytes())
-}
-
-/// The place of the item at a position, or the end of the text.
-pub(crate) fn place_with(items: &[Item], position: usize, bytes: &[u8]) -> Place
-    requires { length bytes.now ≤ FILE_BYTES }
-    ensures { result ≡ specs.place_with items.now position (outer.end_place bytes.now) }
-{
-    match items.get(position) {
-        Some(item) => item.place,
-        None => end_place(bytes),
-    }
-}
-
-/// The program of a file whose names may have a fault.
-fn spelled(
-    alloc: Global,
-    names: Names,
-    items: &[Item],
-    bytes: &[u8],
-) -> Result<Program, FileRefusal>
-    requires short { length bytes.now ≤ FILE_BYTES }
-    requires proper { AreProper names items.now }
-    ensures spelled { IsSpelledAs names items.now (outer.end_place bytes.now) result }
-    ensures program { length names ≤ 16 → IfOk result (λ p. IsProgram (whole p)) }
-    ensures plain { has_groups items.now ≡ false → IfOk result (λ p. IsPlainProgram (whole p)) }
-{
-    match read_items(alloc, names, items) {
-        Ok(program) => Ok(program),
-        Err(UnreadRefusal::NoMemory) => Err(FileRefusal::NoMemory),
-        Err(UnreadRefusal::Fault(Unread::Wrong(position))) => {
-            Err(refused(FileCode::Syntax, place_with(items, position, bytes)))
-        }
-        Err(UnreadRefusal::Fault(Unread::Deep(position))) => {
-            Err(refused(FileCode::TooDeep, place_with(items, position, bytes)))
-        }
-    }
 }
 
 /// The program of a file, where names are given before its own.

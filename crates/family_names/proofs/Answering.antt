@@ -1,6 +1,7 @@
 -- What the solver answers.
-use Rattle.std.proofs.Common.{◌≡◌, ℕ, ℤ, Bool, true, false, not, ◌&&◌, List, [], ◌∷◌, ◌++◌, Option, Some, None, refl, sym, subst, ◌∙◌, nat_eq}
+use Rattle.std.proofs.Common.{◌≡◌, ℕ, ℤ, Bool, true, false, not, ◌&&◌, List, [], ◌∷◌, ◌++◌, Option, Some, None, refl, sym, ap, subst, ◌∙◌, nat_eq}
 use Rattle.std.specs.Prelude.{◌||◌}
+use Rattle.std.specs.Option.{is_none, is_some}
 use Rattle.std.proofs.lemmas.List.Folds.{list_any-append}
 use Rattle.std.proofs.lemmas.Bool.{eqb-true}
 use Rattle.family_names.specs.declared.groups.Group.{Group}
@@ -16,7 +17,7 @@ use Rattle.family_names.specs.declared.faults.Seen.{Seen}
 use Rattle.family_names.specs.Declarations.{is_kept, is_declared}
 use Rattle.family_names.specs.Groups.{are_kept}
 use Rattle.family_names.specs.Names.{Setting, truths_at}
-use Rattle.family_names.specs.Judging.{AreSettled, is_missed, Misses}
+use Rattle.family_names.specs.Judging.{AreSettled, is_missed, is_undeclared, Misses}
 
 -- the same is found where the same holds
 pub found_same : (model : Model) (a b : List ℤ → Bool) → ((values : List ℤ) → a values ≡ b values) → (found : Option Config) → Finds model a found → Finds model b found
@@ -92,3 +93,30 @@ settle setting seen old settled x d s none e name groups = record {
       (kept_declared (are_kept (truths_at setting values) seen.groups) (is_declared (truths_at setting values) seen.declarations.items x) (none values valid)
       (subst (λ (gs : List Group). are_kept (truths_at setting values) gs ≡ true) groups n.1))));
 }
+
+declared_if : (b : Bool) → not b ≡ false → b ≡ true
+declared_if true e = refl
+declared_if false e = absurd cc
+
+-- an answer that there is none
+pub answered_none : (found : Option Config) (answer : Bool) → is_some found ≡ not answer → answer ≡ true → is_none found ≡ true
+answered_none None answer e h = refl
+answered_none (Some config) answer e h = absurd (true_or_false (e ∙ ap not h))
+  where
+    true_or_false : true ≡ false → ⊥
+    true_or_false k = absurd cc
+
+-- where no valid configuration lacks a declaration of the name, it is settled everywhere
+pub settle_everywhere : (setting : Setting) (seen : Seen) (old settled : List Declaration) (x : ℕ) (d : Declaration) (found : Option Config) → AreSettled setting seen.declarations.items old
+    → Finds setting.model (is_undeclared setting seen.declarations.items x) found → is_none found ≡ true → settled ≡ old ++ d ∷ [] → d.name ≡ x → Misses setting seen settled x None
+settle_everywhere setting seen old settled x d (Some config) s finds none e name = absurd cc
+settle_everywhere setting seen old settled x d None s finds none e name =
+    never_missed setting seen settled x
+    (subst (AreSettled setting seen.declarations.items) (sym e) (settled_more setting seen.declarations.items old d s
+    (λ values y valid k.
+    let n = kept_name y d.name (are_kept (truths_at setting values) d.groups) k in
+    subst (λ (z : ℕ). is_declared (truths_at setting values) seen.declarations.items z ≡ true) (sym (n.0 ∙ name)) (here values valid))))
+    (λ values valid kept. here values valid)
+  where
+    here : (values : List ℤ) → IsValid (plain setting.model) values → is_declared (truths_at setting values) seen.declarations.items x ≡ true
+    here values valid = declared_if (is_declared (truths_at setting values) seen.declarations.items x) (finds values valid)

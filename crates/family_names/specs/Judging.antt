@@ -25,6 +25,10 @@ abbrev pub AreSettled : Setting → List Declaration → List Declaration → Ty
 AreSettled setting declarations settled =
     (values : List ℤ) (x : ℕ) → IsValid (plain setting.model) values → is_declared (truths_at setting values) settled x ≡ true → is_declared (truths_at setting values) declarations x ≡ true
 
+-- no declaration of the name is kept
+abbrev pub is_undeclared : Setting → List Declaration → ℕ → List ℤ → Bool
+is_undeclared setting declarations x values = not (is_declared (truths_at setting values) declarations x)
+
 -- the name that stands here is kept, and no declaration of it
 abbrev pub is_missed : Setting → Seen → ℕ → List ℤ → Bool
 is_missed setting seen x values = are_kept (truths_at setting values) seen.groups && not (is_declared (truths_at setting values) seen.declarations.items x)

@@ -11,7 +11,6 @@ use crate::declarations::{Declaration, declaring, is_clear};
 use crate::groups::Groups;
 use crate::questions::keeping;
 use crate::setting::Setting;
-use atom_solver::least_where;
 use cpp_conditions::formulas::{both, negation};
 use fam_outer::{FileCode, NoMemory};
 use linear_atoms::Config;
@@ -57,7 +56,23 @@ fn missed(
     let declared = declaring(alloc, setting.conditions, &seen.declarations, name)?;
     let none = negation(alloc, declared)?;
     let wanted = both(alloc, kept, none)?;
-    least_where(alloc, setting.model, setting.atoms, &wanted)
+    setting.model.least_where(alloc, setting.atoms, &wanted)
+}
+
+/// The least valid configuration that keeps no declaration of the name, wherever it stands.
+fn undeclared(
+    alloc: Global,
+    setting: &Setting<'_>,
+    seen: &Seen,
+    name: u32,
+) -> Result<Option<Config>, NoMemory>
+    requires { IsFit (plain setting.now) }
+    ensures { IfOk result (λ found. Finds setting.now.model.now
+        (judging.is_undeclared (plain setting.now) seen.now.declarations.items name) found) }
+{
+    let declared = declaring(alloc, setting.conditions, &seen.declarations, name)?;
+    let none = negation(alloc, declared)?;
+    setting.model.least_where(alloc, setting.atoms, &none)
 }
 
 /// The least valid configuration that keeps the name which stands here, and a declaration of it.
@@ -74,11 +89,16 @@ fn met_again(
     let kept = keeping(alloc, setting.conditions, &seen.groups)?;
     let declared = declaring(alloc, setting.conditions, &seen.declarations, name)?;
     let wanted = both(alloc, kept, declared)?;
-    least_where(alloc, setting.model, setting.atoms, &wanted)
+    setting.model.least_where(alloc, setting.atoms, &wanted)
+}
+
+/// Whether the name is settled, in whatever groups.
+fn has_settled(settled: &[Declaration], name: u32) -> bool {
+    settled.iter().any(|declaration| declaration.name == name)
 }
 
 /// The fault of a use of a name that is declared; without one it is settled that a declaration is kept wherever the name
-/// is. Where that is clear, nothing is asked.
+/// is. Where that is clear, nothing is asked; and the first question of a name is whether it is so everywhere.
 fn missing_fault(
     alloc: Global,
     setting: &Setting<'_>,
@@ -91,6 +111,11 @@ fn missing_fault(
         → IfOk result (λ fault. judging.Misses (plain setting.now) seen.now settled.new.items name fault) }
 {
     if is_clear(&seen.declarations, name, &seen.groups) || is_clear(settled, name, &seen.groups) {
+        return Ok(None);
+    }
+    if !has_settled(settled, name) && undeclared(alloc, setting, seen, name)?.is_none() {
+        let groups = Groups::new(alloc);
+        settled.push(Declaration { name, groups })?;
         return Ok(None);
     }
     match missed(alloc, setting, seen, name)? {

@@ -3,9 +3,8 @@
 
 ghost use Rattle.std.specs.Prelude.{◌≡◌, Bool, List, length, IfOk, OnOk};
 ghost use Rattle.std.specs.List.{All};
-ghost use Rattle.linear_atoms.specs.Atoms.{AreAtoms, AreRanges};
+ghost use Rattle.linear_atoms.specs.Atoms.{AreAtoms};
 ghost use Rattle.cpp_conditions.specs.Propositions.{IsBelow};
-ghost use Rattle.cpp_conditions.specs.Validity.{AreFit};
 ghost use Rattle.cpp_conditions.specs.View.{formula};
 ghost use Rattle.cpp_groups.specs.Kept.{sections_after};
 ghost use Rattle.c_grammar.specs.declared.items.Item as items;
@@ -92,7 +91,7 @@ fn judge(
 ///
 /// Before `main` each name is declared, and behind it each is used; F13 is said of no feature's name. A configuration
 /// keeps an item where each group around it is the kept one of its section (6.10.1). The formulas' numbers are below the
-/// number of atoms, and the model and the atoms are as for `least_where`. It answers an error only for want of memory.
+/// number of atoms, and the atoms are as for `Prepared::least_where`. It answers an error only for want of memory.
 ///
 /// The solver is asked once for each name and list of groups around it, and not where a declaration stands in the
 /// outermost of those groups. Otherwise the time is that of the items by the declarations and these answers.
@@ -101,8 +100,6 @@ pub fn first_name_fault(
     setting: &Setting<'_>,
     items: &[Item],
 ) -> Result<Option<(FileCode, Place)>, NoMemory>
-    requires constraints { AreFit (length setting.now.model.now.features) setting.now.model.now.constraints }
-    requires ranges { AreRanges setting.now.model.now.features }
     requires atoms { AreAtoms (length setting.now.model.now.features) setting.now.atoms.now }
     requires conditions { All (λ f. IsBelow (length setting.now.atoms.now)
         (formula f)) setting.now.conditions.now }

@@ -7,15 +7,16 @@ ghost use Rattle.std.specs.Str.{bytes_eq};
 ghost use Rattle.family_names.specs.Names.{is_feature};
 ghost use Rattle.family_names.specs.Settings.{plain};
 
-use cpp_conditions::{Formula, Model};
+use atom_solver::Prepared;
+use cpp_conditions::Formula;
 use fam_outer::Text;
 use linear_atoms::{Atom, Feature};
 
-/// What the names of a file are judged by: a model, the atoms and the conditions of the file's groups, and the list of its
+/// What the names of a file are judged by: a model, prepared for the questions about them all, the atoms and the conditions of the file's groups, and the list of its
 /// names.
 #[derive(Clone, Copy)]
 pub struct Setting<'a> {
-    pub model: &'a Model,
+    pub model: &'a Prepared<'a>,
     pub atoms: &'a [Atom],
     pub conditions: &'a [Formula],
     pub names: &'a [Text],
@@ -40,7 +41,7 @@ impl Setting<'_> {
     {
         match self.names.get(name as usize) {
             None => false,
-            Some(text) => has_feature(self.model.features.items(), text),
+            Some(text) => has_feature(self.model.model().features.items(), text),
         }
     }
 }

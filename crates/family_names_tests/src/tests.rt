@@ -11,6 +11,7 @@ ghost use Rattle.cpp_conditions.specs.Propositions.{IsBelow};
 ghost use Rattle.cpp_conditions.specs.Validity.{AreFit};
 ghost use Rattle.cpp_conditions.specs.View.{formula};
 
+use atom_solver::Prepared;
 use c_grammar::{Item, Sign};
 use cpp_conditions::{Condition, Conditions, Features, Formula, Model};
 use fam_outer::{FileCode, NoMemory, Place, Text};
@@ -117,8 +118,9 @@ fn fault(alloc: Global, file: &[u8]) -> Result<Option<(FileCode, Place)>, Fail> 
     let conditions = conditions(alloc)?;
     let names = names(alloc)?;
     let items = items(alloc, file)?;
+    let prepared = Prepared::new(alloc, &model)?;
     let setting = Setting {
-        model: &model,
+        model: &prepared,
         atoms: &atoms,
         conditions: &conditions,
         names: &names,

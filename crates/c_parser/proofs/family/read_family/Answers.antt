@@ -8,7 +8,7 @@ use Rattle.c_grammar.specs.declared.items.Item.{Item}
 use Rattle.c_grammar.specs.Within.{SpellsWithin}
 use Rattle.family_names.specs.Names.{IsFirstNameFault}
 use Rattle.c_parser.specs.FamilyReading.{setting_of}
-use Rattle.c_parser.specs.FamilyStages.{IsFamilySpelledAs}
+use Rattle.c_parser.specs.Stages.{IsSpelledAs}
 use Rattle.c_parser.proofs.FamilyAnswers.{not_spelled, wrong_name, family_read, sixteen_names}
 use Rattle.c_parser.proofs.family.read_family.Goals as goal
 
@@ -16,7 +16,7 @@ pub returns-in_err-code-clause-reads : goal.returns-in_err-code-clause-reads
 returns-in_err-code-clause-reads c =
     let p = err_from_is_err_and c.from_residual-in_err-code.result c.from_residual-in_err-code.ensures.1 in
     rw (p.1, p.2) (not_spelled c.args.model.now c.args.bytes.now c.in_ok-names.field-0 c.in_err-code.field-0.0 c.in_ok-names.ensures.listed
-    (subst (λ (xs : List Item). IsFamilySpelledAs c.in_ok-names.field-0.names xs (end_place c.args.bytes.now) (Err c.in_err-code.field-0.0)) c.deref.ensures.value c.in_err-code.ensures.spelled))
+    (subst (λ (xs : List Item). IsSpelledAs c.in_ok-names.field-0.names xs (end_place c.args.bytes.now) (Err c.in_err-code.field-0.0)) c.deref.ensures.value c.in_err-code.ensures.spelled))
 
 pub returns-in-Some-clause-reads : goal.returns-in-Some-clause-reads
 returns-in-Some-clause-reads c =
