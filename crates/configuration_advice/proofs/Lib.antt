@@ -1,0 +1,12 @@
+pub mod Added
+pub mod Advised
+pub mod Asked
+pub mod Belows
+pub mod Chosen
+pub mod Compared
+pub mod Formed
+pub mod Found
+pub mod Halved
+pub mod Ranged
+pub mod Searched
+pub mod Untrue

@@ -1,0 +1,17 @@
+use Rattle.std.proofs.Common.{◌≡◌, ◌+◌, ◌<◌, ◌^◌, ◌++◌, length, take}
+use Rattle.linear_atoms.specs.Atoms.{AreValues}
+use Rattle.configuration_advice.specs.Searching.{pairs}
+use Rattle.configuration_advice.proofs.question.with_pairs.Given as goal
+
+abbrev pub invariant-loop-atom : goal.invariant-loop-atom
+invariant-loop-atom l = l.list.items ≡ take l.atom-index l.atoms
+
+abbrev pub invariant-features : goal.invariant-features
+invariant-features l = record {
+  all : l.list.items ++ pairs l.number l.rest ≡ l.fn.atoms ++ pairs 0 l.fn.given;
+  few : l.number + length l.rest < 2 ^ 32;
+  values : AreValues l.rest;
+}
+
+abbrev pub decreases-features : goal.decreases-features
+decreases-features l = length l.rest
