@@ -9,16 +9,15 @@ use Rattle.clap.specs.declared.error.Error.{Error}
 use Rattle.clap.specs.declared.error.kind.ErrorKind.{ErrorKind}
 use Rattle.clap.specs.declared.error.kind.ErrorKind.TheVariants as kind
 use Rattle.command_words.specs.declared.named.OptionValues.{OptionValues}
-use Rattle.command_words.specs.declared.command.Chosen.{Chosen}
+use Rattle.command_words.specs.declared.settings.Chosen.{Chosen}
 use Rattle.command_words.specs.declared.settings.Domain.{Domain}
 use Rattle.command_words.specs.declared.settings.Domain.TheVariants.{Interval}
-use Rattle.command_words.specs.declared.settings.Overflow.{Overflow}
-use Rattle.command_words.specs.declared.settings.Overflow.TheVariants.{Stop}
-use Rattle.command_words.specs.declared.settings.Settings.{Settings}
+use Rattle.c_tree.specs.declared.tree.Mode.{Mode}
+use Rattle.c_tree.specs.declared.tree.Mode.TheVariants.{Stop}
 use Rattle.fam_outer.specs.declared.refusal.Refusal.TheVariants as refusal
 use Rattle.command_words.specs.declared.refusal.Usage.{Usage}
-use Rattle.command_words.specs.Arguments.{◌>>=◌, Reads, meant, domain_of, delay_of, narrow_of, overflow_of, steps_of, inputs_set, settings_of}
-use Rattle.command_words.specs.Options.{HasTexts, IsNumberBelow, are_spelled, chosen_by, chosen_of, five_app, passes, settings_from, words_of}
+use Rattle.command_words.specs.Arguments.{Reads, meant, domain_of, delay_of, narrow_of, overflow_of, steps_of, chosen_by, chosen_of}
+use Rattle.command_words.specs.Options.{HasTexts, IsNumberBelow, are_spelled, five_app, passes, words_of}
 use Rattle.command_words.specs.Spelling.{domain_by, is_number, number_up_to, overflow_by}
 use Rattle.command_words.proofs.Faults.{fault_parts, fits, or_else_none, range_faults, refused_unless, words_fault}
 use Rattle.command_words.proofs.Numbers.{accepted}
@@ -26,14 +25,14 @@ use Rattle.command_words.proofs.Texts.{end_none, five_texts}
 
 -- ---- nothing is chosen where one option means nothing
 
-no_domain : (l n : Option ℕ) (o : Option Overflow) (s : Option ℕ) → chosen_by None l n o s ≡ None
+no_domain : (l n : Option ℕ) (o : Option Mode) (s : Option ℕ) → chosen_by None l n o s ≡ None
 no_domain l n o s = refl
 
-no_delay : (d : Option Domain) (n : Option ℕ) (o : Option Overflow) (s : Option ℕ) → chosen_by d None n o s ≡ None
+no_delay : (d : Option Domain) (n : Option ℕ) (o : Option Mode) (s : Option ℕ) → chosen_by d None n o s ≡ None
 no_delay None n o s = refl
 no_delay (Some d) n o s = refl
 
-no_narrow : (d : Option Domain) (l : Option ℕ) (o : Option Overflow) (s : Option ℕ) → chosen_by d l None o s ≡ None
+no_narrow : (d : Option Domain) (l : Option ℕ) (o : Option Mode) (s : Option ℕ) → chosen_by d l None o s ≡ None
 no_narrow None l o s = refl
 no_narrow (Some d) None o s = refl
 no_narrow (Some d) (Some l) o s = refl
@@ -44,7 +43,7 @@ no_overflow (Some d) None n s = refl
 no_overflow (Some d) (Some l) None s = refl
 no_overflow (Some d) (Some l) (Some n) s = refl
 
-no_steps : (d : Option Domain) (l n : Option ℕ) (o : Option Overflow) → chosen_by d l n o None ≡ None
+no_steps : (d : Option Domain) (l n : Option ℕ) (o : Option Mode) → chosen_by d l n o None ≡ None
 no_steps None l n o = refl
 no_steps (Some d) None n o = refl
 no_steps (Some d) (Some l) None o = refl
@@ -195,7 +194,7 @@ chosen-refused v error spelled fails other =
 
 -- ---- what the command reads
 
-same_chosen : (d d' : Option Domain) (l l' n n' : Option ℕ) (o o' : Option Overflow) (s s' : Option ℕ)
+same_chosen : (d d' : Option Domain) (l l' n n' : Option ℕ) (o o' : Option Mode) (s s' : Option ℕ)
     → d ≡ d' → l ≡ l' → n ≡ n' → o ≡ o' → s ≡ s' → chosen_by d l n o s ≡ chosen_by d' l' n' o' s'
 same_chosen d d' l l' n n' o o' s s' e f g h i = rw (e, f, g, h, i) refl
 
@@ -229,28 +228,3 @@ chosen-read v rows words r spelled e rows_are none reads =
 pub Reads-ok_or : {A : Type 0} (usage : Usage) (expected given : Option A) → given ≡ expected → Reads expected (ok_or given (refusal.Fault usage))
 Reads-ok_or usage expected None e = sym e
 Reads-ok_or usage expected (Some x) e = sym e
-
--- ---- all settings, by the five and the inputs
-
-abbrev pub settings_by : Option Domain → Option ℕ → Option ℕ → Option Overflow → Option ℕ → Option (List ℤ) → Option Settings
-settings_by domain_meant delay_meant narrow_meant overflow_meant steps_meant inputs_meant = do
-  domain ← domain_meant
-  delay ← delay_meant
-  narrow ← narrow_meant
-  overflow ← overflow_meant
-  steps ← steps_meant
-  inputs ← inputs_meant
-  Some (record { domain = domain; delay = delay; narrow = narrow; overflow = overflow; steps = steps; inputs = inputs })
-
-joined : (d : Option Domain) (l n : Option ℕ) (o : Option Overflow) (s : Option ℕ) (i : Option (List ℤ))
-    → settings_from (chosen_by d l n o s) i ≡ settings_by d l n o s i
-joined None l n o s i = refl
-joined (Some d) None n o s i = refl
-joined (Some d) (Some l) None o s i = refl
-joined (Some d) (Some l) (Some n) None s i = refl
-joined (Some d) (Some l) (Some n) (Some o) None i = refl
-joined (Some d) (Some l) (Some n) (Some o) (Some s) i = refl
-
-pub settings-parts : (v : OptionValues) → settings_from (chosen_of v) (inputs_set v) ≡ settings_of v
-unfolding chosen_of settings_of
-settings-parts v = joined (domain_of v) (delay_of v) (narrow_of v) (overflow_of v) (steps_of v) (inputs_set v)

@@ -5,7 +5,7 @@ use Rattle.std.specs.List.{list_all}
 use Rattle.std.proofs.lemmas.Bool.{and_parts, not-true}
 use Rattle.std.proofs.lemmas.List.{append-nil}
 use Rattle.command_words.specs.declared.sorting.State.{State}
-use Rattle.command_words.specs.Arguments.{all_positional, arguments_of, inputs_set, settings_of}
+use Rattle.command_words.specs.Arguments.{all_positional, arguments_of, chosen_of, inputs_set, settings_of}
 use Rattle.command_words.specs.Sorting.{begins_with_dash, sorted, sorted_from, start, step}
 
 -- after these positional words
@@ -50,7 +50,7 @@ all_past front (word ∷ words) =
     ∙ ap (λ (words : List (List ℕ)). Some (past words)) (one_more front word words)
 
 said : (words texts : List (List ℕ)) (b : Bool) → sorted words ≡ Some (record start { positional = texts; is_trailing = b }) → arguments_of words ≡ Some (all_positional texts)
-unfolding settings_of inputs_set
+unfolding settings_of chosen_of inputs_set
 said words texts b e = rw e refl
 
 pub no_option : (words : List (List ℕ)) → list_all (λ word. not (begins_with_dash word)) words ≡ true → arguments_of words ≡ Some (all_positional words)

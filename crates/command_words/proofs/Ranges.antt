@@ -1,19 +1,17 @@
 -- What is set is in its range.
 use Rattle.std.proofs.Common.{◌≡◌, ◌≤◌, ℕ, ℤ, pos, negsuc, ◌≤ℤ◌, List, [], ◌∷◌, ◌++◌, Bool, true, false, refl, subst, arith}
-use Rattle.std.specs.Prelude.{Option, Some, None, option_and_then, Result, Ok, Err, IfOk, ◌&&◌, ◌==◌, int_le, nat_le}
+use Rattle.std.specs.Prelude.{Option, Some, None, option_and_then, ◌&&◌, ◌==◌, int_le, nat_le}
 use Rattle.std.specs.List.{All, slice_split}
 use Rattle.std.specs.Str.Parse.{digits_value, signed_digits_value}
 use Rattle.std.proofs.lemmas.Bool.{and_parts, leb-true}
 use Rattle.std.proofs.lemmas.List.Elements.{All-nil, All-push}
 use Rattle.command_words.specs.declared.named.OptionValues.{OptionValues}
-use Rattle.command_words.specs.declared.refusal.Usage.{Usage}
-use Rattle.fam_outer.specs.declared.refusal.Refusal.{Refusal}
+use Rattle.command_words.specs.declared.settings.Chosen.{Chosen}
 use Rattle.command_words.specs.declared.settings.Domain.{Domain}
-use Rattle.command_words.specs.declared.settings.Overflow.{Overflow}
+use Rattle.c_tree.specs.declared.tree.Mode.{Mode}
 use Rattle.command_words.specs.declared.settings.Settings.{Settings}
-use Rattle.command_words.specs.Arguments.{AreInRange, Reads, meant, domain_of, delay_of, narrow_of, overflow_of, steps_of, inputs_set, settings_of}
+use Rattle.command_words.specs.Arguments.{AreInRange, meant, domain_of, delay_of, narrow_of, overflow_of, steps_of, inputs_set, chosen_by, chosen_of, settings_from, settings_of}
 use Rattle.command_words.specs.Spelling.{input_of, inputs_after, inputs_of, is_in_int, is_input, is_number, number_up_to}
-use Rattle.command_words.proofs.Choosing.{settings_by}
 use Rattle.command_words.proofs.Numbers.{in_order}
 
 some_is : {A : Type 0} (x y : A) → Some x ≡ Some y → x ≡ y
@@ -68,7 +66,7 @@ set_near (Some text) zs e = inputs_near [] (slice_split (λ c. c == 44) text) zs
 
 -- ---- all settings
 
-ranged : (d : Option Domain) (l n : Option ℕ) (o : Option Overflow) (t : Option ℕ) (i : Option (List ℤ)) (s : Settings) → settings_by d l n o t i ≡ Some s
+ranged : (d : Option Domain) (l n : Option ℕ) (o : Option Mode) (t : Option ℕ) (i : Option (List ℤ)) (s : Settings) → settings_from (chosen_by d l n o t) i ≡ Some s
     → ((x : ℕ) → l ≡ Some x → x ≤ 16) → ((x : ℕ) → n ≡ Some x → x ≤ 8) → ((x : ℕ) → t ≡ Some x → x ≤ 1000000) → ((zs : List ℤ) → i ≡ Some zs → All IsNear zs) → AreInRange s
 ranged None l n o t i s e a b c f = absurd cc
 ranged (Some d) None n o t i s e a b c f = absurd cc
@@ -77,16 +75,17 @@ ranged (Some d) (Some l) (Some n) None t i s e a b c f = absurd cc
 ranged (Some d) (Some l) (Some n) (Some o) None i s e a b c f = absurd cc
 ranged (Some d) (Some l) (Some n) (Some o) (Some t) None s e a b c f = absurd cc
 ranged (Some d) (Some l) (Some n) (Some o) (Some t) (Some i) s e a b c f =
-    subst AreInRange (some_is (record { domain = d; delay = l; narrow = n; overflow = o; steps = t; inputs = i }) s e)
+    subst AreInRange (some_is (record { chosen = record { domain = d; delay = l; narrow = n; overflow = o; steps = t }; inputs = i }) s e)
     (record { delay = a l refl; narrow = b n refl; steps = c t refl; inputs = f i refl })
 
 settings_ranged : (v : OptionValues) (s : Settings) → settings_of v ≡ Some s → AreInRange s
-unfolding settings_of inputs_set
+unfolding settings_of chosen_of inputs_set
 settings_ranged v s e =
     ranged (domain_of v) (delay_of v) (narrow_of v) (overflow_of v) (steps_of v) (inputs_set v) s e
     (λ x h. number_low 0 16 v.delay x (omega arith) h) (λ x h. number_low 1 8 v.narrow x (omega arith) h)
     (λ x h. number_low 1000 1000000 v.steps x (omega arith) h) (λ zs h. set_near v.inputs zs h)
 
-pub answer_ranged : (v : OptionValues) (r : Result Settings (Refusal Usage)) → Reads (settings_of v) r → IfOk r (λ settings. AreInRange settings)
-answer_ranged v (Ok s) h = settings_ranged v s h
-answer_ranged v (Err e) h = tt
+-- what is set by parts that are told
+pub parts_ranged : (v : OptionValues) (c : Chosen) (i : List ℤ) → chosen_of v ≡ Some c → inputs_set v ≡ Some i → AreInRange (record { chosen = c; inputs = i })
+unfolding settings_of
+parts_ranged v c i h k = settings_ranged v (record { chosen = c; inputs = i }) (rw (h, k) refl)

@@ -3,10 +3,11 @@ use Rattle.std.specs.Prelude.{ℕ, ℤ, pos, negsuc, ◌≡◌, ◌≤◌, ◌�
 use Rattle.std.specs.List.{All}
 use Rattle.std.specs.declared.string.String.{String}
 use Rattle.command_words.specs.declared.named.OptionValues.{OptionValues}
+use Rattle.command_words.specs.declared.settings.Chosen.{Chosen}
 use Rattle.command_words.specs.declared.settings.Domain.{Domain}
 use Rattle.command_words.specs.declared.settings.Domain.TheVariants.{Interval}
-use Rattle.command_words.specs.declared.settings.Overflow.{Overflow}
-use Rattle.command_words.specs.declared.settings.Overflow.TheVariants.{Stop}
+use Rattle.c_tree.specs.declared.tree.Mode.{Mode}
+use Rattle.c_tree.specs.declared.tree.Mode.TheVariants.{Stop}
 use Rattle.command_words.specs.declared.settings.Settings.{Settings}
 use Rattle.command_words.specs.declared.settings.Given.{Given}
 use Rattle.command_words.specs.declared.reading.Arguments.{Arguments}
@@ -43,7 +44,7 @@ abbrev pub narrow_of : OptionValues → Option ℕ
 narrow_of values = meant 1 (number_up_to 8) values.narrow
 
 -- what `--overflow` sets
-abbrev pub overflow_of : OptionValues → Option Overflow
+abbrev pub overflow_of : OptionValues → Option Mode
 overflow_of values = meant Stop overflow_by values.overflow
 
 -- what `--steps` sets
@@ -54,16 +55,29 @@ steps_of values = meant 1000 (number_up_to 1000000) values.steps
 unfoldable pub inputs_set : OptionValues → Option (List ℤ)
 inputs_set values = meant [] inputs_of values.inputs
 
+-- what these five set
+abbrev pub chosen_by : Option Domain → Option ℕ → Option ℕ → Option Mode → Option ℕ → Option Chosen
+chosen_by domain_meant delay_meant narrow_meant overflow_meant steps_meant = do
+  domain ← domain_meant
+  delay ← delay_meant
+  narrow ← narrow_meant
+  overflow ← overflow_meant
+  steps ← steps_meant
+  Some (record { domain = domain; delay = delay; narrow = narrow; overflow = overflow; steps = steps })
+
+-- what the five options other than `--inputs` set, or nothing where the text of one means nothing
+unfoldable pub chosen_of : OptionValues → Option Chosen
+chosen_of values = chosen_by (domain_of values) (delay_of values) (narrow_of values) (overflow_of values) (steps_of values)
+
+abbrev pub settings_from : Option Chosen → Option (List ℤ) → Option Settings
+settings_from chosen_meant inputs_meant = do
+  chosen ← chosen_meant
+  inputs ← inputs_meant
+  Some (record { chosen = chosen; inputs = inputs })
+
 -- what all options set, or nothing where the text of one means nothing
 unfoldable pub settings_of : OptionValues → Option Settings
-settings_of values = do
-  domain ← domain_of values
-  delay ← delay_of values
-  narrow ← narrow_of values
-  overflow ← overflow_of values
-  steps ← steps_of values
-  inputs ← inputs_set values
-  Some (record { domain = domain; delay = delay; narrow = narrow; overflow = overflow; steps = steps; inputs = inputs })
+settings_of values = settings_from (chosen_of values) (inputs_set values)
 
 -- which options are given
 abbrev pub given_of : OptionValues → Given
@@ -91,9 +105,9 @@ Reads expected (Err refusal.NoMemory) = ⊤
 
 -- what is set is in the ranges of the options
 pub record AreInRange (settings : Settings) : Type 0 where
-  pub delay : settings.delay ≤ 16
-  pub narrow : settings.narrow ≤ 8
-  pub steps : settings.steps ≤ 1000000
+  pub delay : settings.chosen.delay ≤ 16
+  pub narrow : settings.chosen.narrow ≤ 8
+  pub steps : settings.chosen.steps ≤ 1000000
   pub inputs : All (λ z. (negsuc 2147483647 ≤ℤ z) × (z ≤ℤ pos 2147483647)) settings.inputs
 
 -- ---- words with no option
@@ -104,7 +118,10 @@ nothing_given = record { domain = false; delay = false; narrow = false; overflow
 
 -- what is set where no option is given
 abbrev pub defaults : Settings
-defaults = record { domain = Interval; delay = 0; narrow = 1; overflow = Stop; steps = 1000; inputs = [] }
+defaults = record {
+  chosen = record { domain = Interval; delay = 0; narrow = 1; overflow = Stop; steps = 1000 };
+  inputs = [];
+}
 
 -- all words are positional
 abbrev pub all_positional : List (List ℕ) → Arguments

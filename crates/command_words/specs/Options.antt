@@ -6,11 +6,6 @@ use Rattle.clap.specs.Simple.{on_top}
 use Rattle.clap.specs.declared.builder.value_parser.ValueParser.{ValueParser}
 use Rattle.clap.specs.declared.builder.value_parser.ValueParser.TheVariants as vp
 use Rattle.command_words.specs.declared.named.OptionValues.{OptionValues}
-use Rattle.command_words.specs.declared.command.Chosen.{Chosen}
-use Rattle.command_words.specs.declared.settings.Domain.{Domain}
-use Rattle.command_words.specs.declared.settings.Overflow.{Overflow}
-use Rattle.command_words.specs.declared.settings.Settings.{Settings}
-use Rattle.command_words.specs.Arguments.{◌>>=◌, domain_of, delay_of, narrow_of, overflow_of, steps_of}
 use Rattle.command_words.specs.Spelling.{domain_by, overflow_by, is_number}
 
 -- an option with a parser and a default
@@ -62,34 +57,7 @@ are_spelled values =
     passes (λ text. is_some (domain_by text)) values.domain && (passes is_number values.delay && (passes is_number values.narrow
     && (passes (λ text. is_some (overflow_by text)) values.overflow && passes is_number values.steps)))
 
--- ---- what is chosen
-
-abbrev pub chosen_by : Option Domain → Option ℕ → Option ℕ → Option Overflow → Option ℕ → Option Chosen
-chosen_by domain_meant delay_meant narrow_meant overflow_meant steps_meant = do
-  domain ← domain_meant
-  delay ← delay_meant
-  narrow ← narrow_meant
-  overflow ← overflow_meant
-  steps ← steps_meant
-  Some (record { domain = domain; delay = delay; narrow = narrow; overflow = overflow; steps = steps })
-
--- what the five options set
-unfoldable pub chosen_of : OptionValues → Option Chosen
-chosen_of values = chosen_by (domain_of values) (delay_of values) (narrow_of values) (overflow_of values) (steps_of values)
-
--- what all options set, by the five and the inputs
-abbrev pub settings_from : Option Chosen → Option (List ℤ) → Option Settings
-settings_from chosen_meant inputs_meant = do
-  chosen ← chosen_meant
-  inputs ← inputs_meant
-  Some (record {
-    domain = chosen.domain;
-    delay = chosen.delay;
-    narrow = chosen.narrow;
-    overflow = chosen.overflow;
-    steps = chosen.steps;
-    inputs = inputs;
-  })
+-- ---- what is read
 
 -- the rows of the command have these texts
 pub record HasTexts (rows : List Row) (domain delay narrow overflow steps : Text) : Type 0 where

@@ -6,8 +6,8 @@ use Rattle.std.specs.Str.{bytes_eq}
 use Rattle.std.specs.Str.Parse.{digits_value, signed_digits_value}
 use Rattle.command_words.specs.declared.settings.Domain.{Domain}
 use Rattle.command_words.specs.declared.settings.Domain.TheVariants.{Interval, Octagon, Stride}
-use Rattle.command_words.specs.declared.settings.Overflow.{Overflow}
-use Rattle.command_words.specs.declared.settings.Overflow.TheVariants.{Stop, Wrap}
+use Rattle.c_tree.specs.declared.tree.Mode.{Mode}
+use Rattle.c_tree.specs.declared.tree.Mode.TheVariants.{Stop, Wrap}
 
 -- the domain with the name
 abbrev pub domain_by : List ℕ → Option Domain
@@ -17,7 +17,7 @@ domain_by name =
     else (if bytes_eq name (codes "stride") then Some Stride else None))
 
 -- the overflow with the name
-abbrev pub overflow_by : List ℕ → Option Overflow
+abbrev pub overflow_by : List ℕ → Option Mode
 overflow_by name =
     if bytes_eq name (codes "stop") then Some Stop
     else (if bytes_eq name (codes "wrap") then Some Wrap else None)

@@ -5,27 +5,18 @@ ghost use Rattle.std.specs.Prelude.{◌≡◌, ◌^◌, IfOk, codes, Some, List,
 ghost use Rattle.std.specs.Str.Parse.{digits_value};
 ghost use Rattle.clap.specs.Words.{FailsBy, fault_of, found_of, matches_of, rows_of, rule_of, app_of, with_rule, is_broken, one_of, first_of};
 ghost use Rattle.clap.specs.declared.builder.value_parser.ValueParser.TheVariants as vp;
-ghost use Rattle.command_words.specs.Arguments.{texts_of, Reads};
-ghost use Rattle.command_words.specs.Options.{bare_app, five_app, option_rule, words_of, are_spelled, chosen_of, chosen_by, HasTexts, IsNumberBelow};
+ghost use Rattle.command_words.specs.Arguments.{texts_of, Reads, chosen_of, chosen_by};
+ghost use Rattle.command_words.specs.Options.{bare_app, five_app, option_rule, words_of, are_spelled, HasTexts, IsNumberBelow};
 ghost use Rattle.command_words.specs.Spelling.{domain_by, overflow_by};
 ghost use Rattle.command_words.specs.declared.named.OptionValues.{OptionValues};
 
 use crate::refusal::{Usage, WordsRefusal};
-use crate::settings::{Domain, Overflow};
+use crate::settings::{Chosen, Domain, mode_of};
+use c_tree::Mode;
 use clap::builder::ValueParser;
 use clap::error::ErrorKind;
 use clap::{Arg, ArgMatches, Command, Error};
 use std::alloc::{AllocError, Global};
-
-/// What the five options set.
-#[derive(Clone, Copy, Debug, PartialEq, Eq)]
-pub struct Chosen {
-    pub domain: Domain,
-    pub delay: u32,
-    pub narrow: u32,
-    pub overflow: Overflow,
-    pub steps: u64,
-}
 
 /// An option with a parser and a default.
 fn option<'a>(alloc: Global, name: &'a str, default: &'a str, parser: ValueParser<'a>) -> Arg<'a>
@@ -147,11 +138,11 @@ fn domain_in(matches: &ArgMatches<'_>) -> Option<Domain>
 }
 
 /// What comes of an overflow.
-fn overflow_in(matches: &ArgMatches<'_>) -> Option<Overflow>
+fn overflow_in(matches: &ArgMatches<'_>) -> Option<Mode>
     ensures { (text : List ℕ) → first_of (codes "overflow") (rows_of (found_of matches.now)) ≡ Some text
         → result ≡ overflow_by text }
 {
-    Overflow::of(text_in(matches, "overflow")?)
+    mode_of(text_in(matches, "overflow")?)
 }
 
 /// What the five options set, whose texts are known.

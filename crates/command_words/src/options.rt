@@ -2,14 +2,14 @@
 #![tactic(auto)]
 
 ghost use Rattle.std.specs.Prelude.{◌≡◌, ◌++◌, IfOk, OnOk, codes, is_some, string_bytes};
-ghost use Rattle.command_words.specs.Arguments.{texts_of, Reads};
-ghost use Rattle.command_words.specs.Options.{option_word, words_of, passes, are_spelled as spelled, chosen_of};
+ghost use Rattle.command_words.specs.Arguments.{texts_of, Reads, chosen_of};
+ghost use Rattle.command_words.specs.Options.{option_word, words_of, passes, are_spelled as spelled};
 ghost use Rattle.command_words.specs.Spelling.{is_number as number_spelled, domain_by, overflow_by};
 
-use crate::command::{Chosen, read_spelled};
+use crate::command::read_spelled;
 use crate::named::OptionValues;
 use crate::refusal::{Usage, WordsRefusal};
-use crate::settings::{Domain, Overflow};
+use crate::settings::{Chosen, Domain, mode_of};
 use crate::spelling::is_number;
 use crate::word::Word;
 use fam_outer::NoMemory;
@@ -40,7 +40,7 @@ fn is_overflow_or_none(value: &Option<Word>) -> bool
     ensures { result ≡ passes (λ text. is_some (overflow_by text)) value.now }
 {
     match value {
-        Some(text) => Overflow::of(text.as_str()).is_some(),
+        Some(text) => mode_of(text.as_str()).is_some(),
         None => true,
     }
 }

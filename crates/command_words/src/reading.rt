@@ -2,8 +2,7 @@
 #![tactic(auto)]
 
 ghost use Rattle.std.specs.Prelude.{◌≡◌, IfOk};
-ghost use Rattle.command_words.specs.Arguments.{arguments_of, inputs_set, settings_of, texts_of, AreInRange, Reads};
-ghost use Rattle.command_words.specs.Options.{chosen_of, settings_from};
+ghost use Rattle.command_words.specs.Arguments.{arguments_of, settings_of, texts_of, AreInRange, Reads};
 
 use crate::inputs::inputs_given;
 use crate::named::OptionValues;
@@ -22,28 +21,15 @@ pub struct Arguments {
     pub settings: Settings,
 }
 
-/// What all options set, by the five and the inputs.
-fn read_parts(alloc: Global, values: &OptionValues) -> Result<Settings, WordsRefusal>
-    ensures { Reads (settings_from (chosen_of values.now) (inputs_set values.now)) result }
-{
-    let chosen = read_options(alloc, values)?;
-    let inputs = inputs_given(alloc, values)?;
-    Ok(Settings {
-        domain: chosen.domain,
-        delay: chosen.delay,
-        narrow: chosen.narrow,
-        overflow: chosen.overflow,
-        steps: chosen.steps,
-        inputs,
-    })
-}
-
 /// What all options set.
+#[tactic(auto, unfolding(crate::specs::Arguments::settings_of))]
 fn read_settings(alloc: Global, values: &OptionValues) -> Result<Settings, WordsRefusal>
     ensures answer { Reads (settings_of values.now) result }
     ensures ranges { IfOk result (λ settings. AreInRange settings) }
 {
-    read_parts(alloc, values)
+    let chosen = read_options(alloc, values)?;
+    let inputs = inputs_given(alloc, values)?;
+    Ok(Settings { chosen, inputs })
 }
 
 /// What the words say. They are refused where one is no option of these six, an option is given twice

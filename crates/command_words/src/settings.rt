@@ -4,6 +4,7 @@
 ghost use Rattle.std.specs.Prelude.{◌≡◌};
 ghost use Rattle.command_words.specs.Spelling.{domain_by, overflow_by};
 
+use c_tree::Mode;
 use fam_outer::Values;
 
 /// The domain of an analysis.
@@ -28,34 +29,31 @@ impl Domain {
     }
 }
 
-/// What comes of an operation whose value is not in `int`.
-#[derive(Clone, Copy, Debug, PartialEq, Eq)]
-pub enum Overflow {
-    Stop,
-    Wrap,
+/// What comes of an operation whose value is not in `int`, by the name.
+pub fn mode_of(name: &str) -> Option<Mode>
+    ensures { result ≡ overflow_by name.now }
+{
+    match name {
+        "stop" => Some(Mode::Stop),
+        "wrap" => Some(Mode::Wrap),
+        _ => None,
+    }
 }
 
-impl Overflow {
-    /// The choice with the name.
-    pub fn of(name: &str) -> Option<Overflow>
-        ensures { result ≡ overflow_by name.now }
-    {
-        match name {
-            "stop" => Some(Overflow::Stop),
-            "wrap" => Some(Overflow::Wrap),
-            _ => None,
-        }
-    }
+/// What the options other than `--inputs` set.
+#[derive(Clone, Copy, Debug, PartialEq, Eq)]
+pub struct Chosen {
+    pub domain: Domain,
+    pub delay: u32,
+    pub narrow: u32,
+    pub overflow: Mode,
+    pub steps: u64,
 }
 
 /// What each option sets, and its default where it is not given.
 #[derive(Debug, Drop)]
 pub struct Settings {
-    pub domain: Domain,
-    pub delay: u32,
-    pub narrow: u32,
-    pub overflow: Overflow,
-    pub steps: u64,
+    pub chosen: Chosen,
     pub inputs: Values,
 }
 

@@ -39,16 +39,15 @@ fn line_of(alloc: Global, found: &Arguments) -> Result<String, NoMemory> {
         let word = word.as_str();
         write!(text, "{word} ")?;
     }
-    let Settings {
+    let Chosen {
         domain,
         delay,
         narrow,
         overflow,
         steps,
-        inputs,
-    } = &found.settings;
+    } = found.settings.chosen;
     write!(text, "| {domain:?} {delay} {narrow} {overflow:?} {steps} |")?;
-    for input in inputs.items() {
+    for input in found.settings.inputs.items() {
         write!(text, " {input}")?;
     }
     text.push_str(" |")?;

@@ -1,13 +1,15 @@
 -- What the work came to ends the program with an answer to the request.
 use Rattle.std.proofs.Common.{◌≡◌, ◌≢◌, ◌≤◌, ◌⊎◌, ℕ, true, false, List, refl, subst, sym, ◌∙◌, arith, inl, inr, nat_eq, length}
 use Rattle.std.proofs.lemmas.Bool.{eqb-true, eqb-false}
-use Rattle.std.specs.Prelude.{Option, Some, Result, Ok, Err, IfOk, if◌then◌else◌, nat_lt}
+use Rattle.std.specs.Prelude.{Option, Some, None, Result, Ok, Err, IfOk, if◌then◌else◌, nat_lt}
 use Rattle.std.specs.Io.KnownBytes.{append_known}
 use Rattle.c_tree.specs.Tree.{Whole}
 use Rattle.leaf_domain.specs.Leaves.{LeafMeaning}
 use Rattle.plain_analysis.specs.declared.alarm.Alarm.{Alarm}
 use Rattle.plain_analysis.specs.declared.options.Options.{Options}
 use Rattle.alarm_report.specs.declared.alarms.FamilyAlarm.{FamilyAlarm}
+use Rattle.configuration_advice.specs.declared.comparing.Advice.{Advice}
+use Rattle.famlint_core.specs.Advised.{advice_status}
 use Rattle.famlint_core.specs.declared.request.Analysis.{Analysis}
 use Rattle.famlint_core.specs.declared.fault.Done.{Done}
 use Rattle.famlint_core.specs.declared.fault.Fault.{Fault}
@@ -68,7 +70,7 @@ report_status_low : (alarms : List Alarm) → report_status alarms ≤ 1
 report_status_low alarms = elim (some_alarm alarms) as (λ b. (if b then 1 else 0) ≤ 1) [ true ↦ omega arith | false ↦ omega arith ]
 
 plain_low : (analysis : Analysis) (p : Whole) (done : Done) → done ≡ plain_done analysis p → done.status ≤ 1
-plain_low analysis p done e = rw e (report_status_low (start_alarms (meaning_of analysis.leaf) analysis.options p))
+plain_low analysis p done e = rw e (report_status_low (start_alarms (meaning_of analysis.domain) analysis.options p))
 
 done_low : (t : VariantTask) (s : Selected) (done : Done) → IsDone t s done → done.status ≤ 1
 done_low task.Text s done h = omega (arith, h.1)
@@ -82,10 +84,16 @@ family_low : (M : LeafMeaning) (o : Options) (t : FamilyTask) (l : ProductLine) 
 family_low M o families.Alarms l done (alarms, are, e) = rw e (family_status_low alarms)
 family_low M o families.Invariants l done (invariants, alarms, are, have, e) = rw e (family_status_low alarms)
 
+advice_low : (found : Option Advice) (done : Done) → done.status ≡ advice_status found → done.status ≤ 1
+advice_low None done e = omega (arith, e)
+advice_low (Some advice) done e = omega (arith, e)
+
 answered_low : (r : Request) (told : Contents) (done : Done) → Answers r told (Ok done) → done.status ≤ 1
 answered_low (request.Plain file analysis) told done (p, reads, e) = plain_low analysis p done e
 answered_low (request.Variant model file settings t) told done (s, selected, is) = done_low t s done is
-answered_low (request.Family model file analysis t) told done (l, line, is) = family_low (meaning_of analysis.leaf) analysis.options t l done is
+answered_low (request.Family model file analysis t) told done (l, line, is) = family_low (meaning_of analysis.domain) analysis.options t l done is
+answered_low (request.Advice model file settings analysis) told done (s, selected, is) = advice_low is.found done is.status
+answered_low (request.Features model) told done (m, is, uses) = let e : done.status ≡ 0 = uses.status in omega (arith, e)
 
 by_exact : (status low : ℕ) → low ≤ 1 → (status ≡ 6 → ⊥) → (status ≡ 7 → ⊥) → (status ≢ 6 → status ≢ 7 → status ≢ 8 → status ≡ low) → (status ≤ 1) ⊎ (status ≡ 8)
 by_exact status low small six seven exact = elim (nat_eq status 8) as (λ b. nat_eq status 8 ≡ b → (status ≤ 1) ⊎ (status ≡ 8)) [

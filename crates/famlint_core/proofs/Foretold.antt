@@ -1,10 +1,10 @@
 -- What is promised of the alarms and the invariants of all variants holds of those of the trees that were found.
-use Rattle.std.proofs.Common.{◌≡◌, ◌⊎◌, ℕ, zero, suc, ℤ, Bool, true, false, List, [], ◌∷◌, ◌++◌, map, length, if◌then◌else◌, refl, ap, sym, subst, ◌∙◌, inl, inr, arith}
+use Rattle.std.proofs.Common.{◌≡◌, ◌⊎◌, ◌≤◌, ◌<◌, ℕ, zero, suc, not, ◌&&◌, ℤ, Bool, true, false, List, [], ◌∷◌, ◌++◌, map, length, if◌then◌else◌, refl, ap, sym, subst, ◌∙◌, inl, inr, arith}
 use Rattle.std.proofs.lemmas.Bool.{lt-ltb}
 use Rattle.std.proofs.lemmas.List.{length-map}
 use Rattle.std.proofs.lemmas.List.Elements.{Contains-append_cases}
 use Rattle.std.proofs.lemmas.Option.{none-some}
-use Rattle.std.specs.Prelude.{slice_get, Some}
+use Rattle.std.specs.Prelude.{slice_get, Option, Some, None}
 use Rattle.std.specs.List.{All, Contains}
 use Rattle.fam_outer.specs.declared.faults.Place.{Place}
 use Rattle.c_tree.specs.declared.tree.Kind.{Kind}
@@ -19,7 +19,7 @@ use Rattle.linear_atoms.specs.declared.atoms.Atom.{Atom}
 use Rattle.cpp_conditions.specs.declared.models.Model.{Model}
 use Rattle.cpp_conditions.specs.Numbering.{vector_at}
 use Rattle.cpp_conditions.specs.Validity.{plain, IsValid}
-use Rattle.decision_tree.specs.Plain.{leaf_of}
+use Rattle.decision_tree.specs.Plain.{Plain, leaf_of}
 use Rattle.leaf_domain.specs.Leaves.{LeafValue, LeafMeaning, LeafLaws, nothing_of}
 use Rattle.lifted_analysis.specs.declared.findings.AlarmTree.{AlarmTree}
 use Rattle.lifted_analysis.specs.declared.findings.FamilyFindings.{FamilyFindings}
@@ -34,7 +34,11 @@ use Rattle.c_parser.specs.Variants.{VariantsAreRead, projection, truths_in}
 use Rattle.alarm_report.specs.declared.alarms.FamilyAlarm.{FamilyAlarm}
 use Rattle.alarm_report.specs.Alarms.{StopTree, stop_tree, AreAlarms, AreKeyed, CoversStops, Tells, TellsOnce}
 use Rattle.alarm_report.specs.Invariants.{LeafTree, leaf_tree, Invariant, AreInvariants, ArePlaced, CoversPlaces, HasOnce}
+use Rattle.configuration_advice.specs.declared.comparing.Advice.{Advice}
+use Rattle.configuration_advice.specs.Nearest.{differing, are_false, is_quiet, Advises}
 use Rattle.famlint_core.specs.declared.product_line.ProductLine.{ProductLine}
+use Rattle.famlint_core.specs.Advised.{HasAlarmAt, IsAdvice, IsGood, trees_of}
+use Rattle.famlint_core.specs.Report.{NeverStops}
 use Rattle.famlint_core.specs.declared.request.FamilyTask.{FamilyTask}
 use Rattle.famlint_core.specs.declared.request.FamilyTask.TheVariants as tasks
 use Rattle.famlint_core.specs.FamilyReports.{IsStopTree, IsLeafTree, IsFamilyDone, family_status}
@@ -80,6 +84,40 @@ listed_is f (p ∷ ps) x h = listed_by f p ps x (listed_is f ps x) (Contains-app
 
 some_status : (a : FamilyAlarm) (others : List FamilyAlarm) → family_status (a ∷ others) ≡ 1
 some_status a others = ap (λ (b : Bool). let n : ℕ = if b then 1 else 0 in n) (lt-ltb 0 (length (a ∷ others)) (omega arith))
+
+-- ---- truths
+
+both_first : (a b : Bool) → (a && b) ≡ true → a ≡ true
+both_first true b h = refl
+both_first false b h = h
+
+both_second : (a b : Bool) → (a && b) ≡ true → b ≡ true
+both_second true b h = h
+both_second false b h = cc
+
+not_true : (a : Bool) → not a ≡ true → a ≡ false
+not_true true h = sym h
+not_true false h = refl
+
+never_both : (a : Bool) → a ≡ true → a ≡ false → ⊥
+never_both a h k = cc
+
+never_false : true ≡ false → ⊥
+never_false h = cc
+
+not_so_false : (a : Bool) → (a ≡ true → ⊥) → a ≡ false
+not_so_false true h = absurd (h refl)
+not_so_false false h = refl
+
+not_fewer : (n m : ℕ) → n < m → m ≤ n → ⊥
+not_fewer n m h k = omega arith
+
+-- a tree of the list that is true at the vector
+record IsTrueAt (trees : List StopTree) (v : List Bool) : Type 0 where
+  index : ℕ
+  one : StopTree
+  there : slice_get trees index ≡ Some one
+  truth : leaf_of one.tree v ≡ true
 
 -- ---- one variant
 
@@ -179,6 +217,61 @@ module _ {L : Type 0} (value : L → LeafValue) (M : LeafMeaning) (laws : LeafLa
       };
     }
 
+  -- ---- advice
+
+  false_at : (trees : List StopTree) (v : List Bool) → are_false (trees_of trees) v ≡ true → (n : ℕ) (t : StopTree) → slice_get trees n ≡ Some t → leaf_of t.tree v ≡ false
+  false_at [] v h n t e = absurd (none-some t e)
+  false_at (x ∷ trees) v h zero t e = let f : x ≡ t = cc in subst (λ (y : StopTree). leaf_of y.tree v ≡ false) f (not_true (leaf_of x.tree v) (both_first _ _ h))
+  false_at (x ∷ trees) v h (suc n) t e = false_at trees v (both_second (not (leaf_of x.tree v)) _ h) n t e
+
+  some_by : (x : StopTree) (trees : List StopTree) (v : List Bool) (b : Bool) → leaf_of x.tree v ≡ b → (not b && are_false (trees_of trees) v) ≡ false → (are_false (trees_of trees) v ≡ false → IsTrueAt trees v) → IsTrueAt (x ∷ trees) v
+  some_by x trees v true e h k = record { index = 0; one = x; there = refl; truth = e }
+  some_by x trees v false e h k = let r = k h in record { index = suc r.index; one = r.one; there = r.there; truth = r.truth }
+
+  some_true : (trees : List StopTree) (v : List Bool) → are_false (trees_of trees) v ≡ false → IsTrueAt trees v
+  some_true [] v h = absurd (never_false h)
+  some_true (x ∷ trees) v h = some_by x trees v (leaf_of x.tree v) refl h (some_true trees v)
+
+  never_stops : (values : List ℤ) → IsValid (plain l.model) values → is_quiet l.family.atoms (trees_of stops) values ≡ true → NeverStops o.mode (program values)
+  never_stops values valid quiet = λ inputs n place kind ints stopped.
+      let at = at_of M o (program values) (start values) in
+      let listed : Contains (alarms_of M o (program values) (start values)) (record { place = place; kind = kind }) =
+      subst (IsForeseen M at (program values).end (alarms_of M o (program values) (start values))) stopped (foreseen values valid inputs n ints) in
+      let alarm = listed_is (alarm_of M o (program values) (start values)) (program_places (program values)) (record { place = place; kind = kind }) listed in
+      let there = stop_tree_there stops (program_places (whole l.family.code)) found.kinds place kind
+      (alarm_there M o (whole l.family.code) (truths_in l.family values) (start values) place kind alarm) in
+      let t = there.one in
+      let at_tree : alarm_of M o (program values) (start values) t.place t.kind ≡ true =
+      ap (λ p. alarm_of M o (program values) (start values) p t.kind) there.place_is ∙ (ap (λ k. alarm_of M o (program values) (start values) place k) there.kind_is ∙ alarm) in
+      never_both (leaf_of t.tree (vector values)) (stop_says values valid there.index t there.there ∙ at_tree) (false_at stops (vector values) quiet there.index t there.there)
+
+  has_alarm : (values : List ℤ) → IsValid (plain l.model) values → is_quiet l.family.atoms (trees_of stops) values ≡ false → HasAlarmAt M o l values
+  has_alarm values valid loud =
+      let one = some_true stops (vector values) loud in
+      record {
+        program = program values;
+        is = is_program_at law l values (program values) spelled valid refl;
+        place = one.one.place;
+        kind = one.one.kind;
+        alarm = sym (stop_says values valid one.index one.one one.there) ∙ one.truth;
+      }
+
+  loud_by : (values : List ℤ) → (is_quiet l.family.atoms (trees_of stops) values ≡ true → ⊥) → is_quiet l.family.atoms (trees_of stops) values ≡ false
+  loud_by values h = not_so_false (is_quiet l.family.atoms (trees_of stops) values) h
+
+  pub good_advice : (given : List ℤ) (advice : Option Advice) → Advises l.model l.family.atoms (trees_of stops) given advice → IsGood M o l given advice
+  good_advice given None h = λ values valid. has_alarm values valid (h values valid)
+  good_advice given (Some advice) h = record {
+    valid = h.valid;
+    safe = record { program = program advice.config.values; is = is_program_at law l advice.config.values (program advice.config.values) spelled h.valid refl; safe = never_stops advice.config.values h.valid h.quiet };
+    changed = h.changed;
+    fewer = λ others valid less. has_alarm others valid (loud_by others (λ quiet. not_fewer (differing given others) advice.changed less (h.fewest others valid quiet)));
+    before = λ others valid same earlier. has_alarm others valid (loud_by others (λ quiet. h.first others valid quiet same earlier));
+  }
+
+  pub is_advice : (given : List ℤ) (advice : Option Advice) → Advises l.model l.family.atoms (trees_of stops) given advice → IsAdvice M o l given advice
+  is_advice given advice h = record { plausible = found.plausible; plausible_is = found.plausible_is; trees = stops; keys = found.kinds; are = found.stops; advises = h }
+
   -- ---- invariants
 
   module _ (invariants : List Invariant) (cover : CoversPlaces l.model l.family.atoms leaves invariants) where
@@ -248,6 +341,24 @@ module _ {L : Type 0} (value : L → LeafValue) (M : LeafMeaning) (laws : LeafLa
       subst (λ m. AreInvariantsFrom value m l.family.atoms f.places.items invariants) same_model
       (subst (λ xs. AreInvariantsFrom value model xs f.places.items invariants) same_atoms (subst (λ ts. AreInvariantsFrom value model atoms ts invariants) same from)) in
       good_invariants value M laws o l f found u.family.program.rising law u.spelled invariants (here.cover (leaves_placed value M laws o l f found u.family.program.rising law u.spelled)) here.regions
+
+-- ---- advice
+
+pub record IsAdvised (M : LeafMeaning) (o : Options) (l : ProductLine) (given : List ℤ) (advice : Option Advice) : Type 0 where
+  pub answer : IsAdvice M o l given advice
+  pub good : IsGood M o l given advice
+
+pub advised : {L : Type 0} (value : L → LeafValue) (M : LeafMeaning) (laws : LeafLaws M) (o : Options) (l : ProductLine) (f : FamilyFindings L) → IsFound value M o l f → IsUsableLine l → VariantsAreRead
+    → (model : Model) (atoms : List Atom) (trees : List (Plain Bool)) (given : List ℤ) (advice : Option Advice) → model ≡ l.model → atoms ≡ l.family.atoms → trees ≡ trees_of (map stop_tree f.alarms.items)
+    → Advises model atoms trees given advice → IsAdvised M o l given advice
+advised value M laws o l f found u law model atoms trees given advice same_model same_atoms same_trees h =
+    let here : Advises l.model l.family.atoms (trees_of (map stop_tree f.alarms.items)) given advice =
+    subst (λ m. Advises m l.family.atoms (trees_of (map stop_tree f.alarms.items)) given advice) same_model
+    (subst (λ xs. Advises model xs (trees_of (map stop_tree f.alarms.items)) given advice) same_atoms (subst (λ ts. Advises model atoms ts given advice) same_trees h)) in
+    record {
+      answer = is_advice value M laws o l f found u.family.program.rising law u.spelled given advice here;
+      good = good_advice value M laws o l f found u.family.program.rising law u.spelled given advice here;
+    }
 
 -- ---- the whole report
 

@@ -1,3 +1,4 @@
+pub mod Advising
 pub mod Analysed
 pub mod Answering
 pub mod Ended
@@ -7,3 +8,4 @@ pub mod Loading
 pub mod Reached
 pub mod Reporting
 pub mod Selecting
+pub mod VariantOnce

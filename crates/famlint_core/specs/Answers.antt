@@ -3,6 +3,7 @@ use Rattle.std.specs.Prelude.{ℕ, ℤ, ◌≡◌, List, Option, Some, Result, O
 use Rattle.c_tree.specs.Run.{run_of}
 use Rattle.c_tree.specs.Tree.{Whole}
 use Rattle.c_tree.specs.declared.tree.Mode.{Mode}
+use Rattle.cpp_conditions.specs.declared.models.Model.{Model}
 use Rattle.cpp_conditions.specs.Validity.{plain}
 use Rattle.c_parser.specs.Reading.{Reads}
 use Rattle.variant_projector.specs.Variant.{IsVariant}
@@ -11,26 +12,29 @@ use Rattle.leaf_domain.specs.Leaves.{LeafMeaning}
 use Rattle.octagon_leaf.specs.Octagons.{octagons}
 use Rattle.product_leaf.specs.StrideLeaves.{strides}
 use Rattle.famlint_core.specs.declared.request.Analysis.{Analysis}
-use Rattle.famlint_core.specs.declared.request.LeafKind.{LeafKind}
-use Rattle.famlint_core.specs.declared.request.LeafKind.TheVariants as leaves
+use Rattle.command_words.specs.declared.settings.Domain.{Domain}
+use Rattle.command_words.specs.declared.settings.Domain.TheVariants as domains
 use Rattle.famlint_core.specs.declared.fault.Done.{Done}
 use Rattle.famlint_core.specs.declared.fault.Fault.{Fault}
 use Rattle.famlint_core.specs.declared.fault.Fault.TheVariants as fault
 use Rattle.famlint_core.specs.declared.product_line.ProductLine.{ProductLine}
 use Rattle.famlint_core.specs.declared.request.FamilyTask.{FamilyTask}
 use Rattle.famlint_core.specs.declared.request.Request.{Request}
-use Rattle.famlint_core.specs.declared.request.Request.TheVariants.{Plain, Variant, Family}
+use Rattle.famlint_core.specs.declared.request.Request.TheVariants.{Plain, Variant, Family, Advice, Features}
 use Rattle.famlint_core.specs.declared.request.VariantTask.{VariantTask}
 use Rattle.famlint_core.specs.declared.request.VariantTask.TheVariants.{Text, Report, Run}
 use Rattle.famlint_core.specs.declared.selected.Selected.{Selected}
+use Rattle.famlint_core.specs.Advised.{IsAdviceDone, IsAdviceText}
 use Rattle.famlint_core.specs.FamilyReports.{IsFamilyDone}
+use Rattle.famlint_core.specs.FeatureUses.{AreUsesDone}
 use Rattle.famlint_core.specs.Headline.{PromisedOfAll}
+use Rattle.famlint_core.specs.Loads.{IsModel}
 use Rattle.famlint_core.specs.ProductLines.{IsProductLine, IsLineRefused, IsLoadedFor}
 use Rattle.famlint_core.specs.Report.{report_done, IsReport}
 use Rattle.famlint_core.specs.RunText.{run_text}
 use Rattle.famlint_core.specs.Selected.{AreSelected, IsRefused, IsProgramOf}
 
--- the bytes that are told for the paths of a request: of MODEL, if it has one, and of FILE
+-- the bytes that are told for the paths of a request: of MODEL and of FILE, if it has one
 pub record Contents : Type 0 where
   pub model : List ℕ
   pub file : List ℕ
@@ -40,18 +44,20 @@ abbrev pub IsTold : Request → (List ℕ → Option (List ℕ)) → Contents �
 IsTold (Plain file analysis) content told = content file ≡ Some told.file
 IsTold (Variant model file settings task) content told = (content model ≡ Some told.model) × (content file ≡ Some told.file)
 IsTold (Family model file analysis task) content told = (content model ≡ Some told.model) × (content file ≡ Some told.file)
+IsTold (Advice model file settings analysis) content told = (content model ≡ Some told.model) × (content file ≡ Some told.file)
+IsTold (Features model) content told = content model ≡ Some told.model
 
 -- ---- `plain FILE`
 
--- what the leaves of a kind mean
-abbrev pub meaning_of : LeafKind → LeafMeaning
-meaning_of leaves.Interval = intervals
-meaning_of leaves.Octagon = octagons
-meaning_of leaves.Stride = strides
+-- what the leaves of a domain mean
+abbrev pub meaning_of : Domain → LeafMeaning
+meaning_of domains.Interval = intervals
+meaning_of domains.Octagon = octagons
+meaning_of domains.Stride = strides
 
--- the report on a program, over leaves of this kind
+-- the report on a program, over leaves of this domain
 abbrev pub plain_done : Analysis → Whole → Done
-plain_done analysis p = report_done (meaning_of analysis.leaf) analysis.options p
+plain_done analysis p = report_done (meaning_of analysis.domain) analysis.options p
 
 -- the report on the program that the bytes spell, or their refusal
 abbrev pub AnswersPlain : Analysis → List ℕ → Result Done Fault → Type 0
@@ -81,8 +87,23 @@ AnswersVariant task settings told (Err fault) = IsRefused told.model told.file s
 -- what is asked of all variants at once, or the refusal of the model or the file
 abbrev pub AnswersFamily : Analysis → FamilyTask → Contents → Result Done Fault → Type 0
 AnswersFamily analysis task told (Ok done) =
-    (l : ProductLine) × IsProductLine told.model told.file l × IsFamilyDone (meaning_of analysis.leaf) analysis.options task l done
+    (l : ProductLine) × IsProductLine told.model told.file l × IsFamilyDone (meaning_of analysis.domain) analysis.options task l done
 AnswersFamily analysis task told (Err fault) = IsLineRefused told.model told.file fault
+
+-- ---- `advise`
+
+-- the advice for the configuration that settings give, or the refusal of the model, the file or the settings
+abbrev pub AnswersAdvice : Analysis → List (List ℕ) → Contents → Result Done Fault → Type 0
+AnswersAdvice analysis settings told (Ok done) =
+    (s : Selected) × AreSelected told.model told.file settings s × IsAdviceDone (meaning_of analysis.domain) analysis.options s.line s.config.values done
+AnswersAdvice analysis settings told (Err fault) = IsRefused told.model told.file settings fault
+
+-- ---- `features`
+
+-- what the model leaves open, or its refusal
+abbrev pub AnswersFeatures : List ℕ → Result Done Fault → Type 0
+AnswersFeatures bytes (Ok done) = (model : Model) × IsModel bytes (Ok model) × AreUsesDone model done
+AnswersFeatures bytes (Err fault) = IsModel bytes (Err fault)
 
 -- ---- all commands
 
@@ -91,6 +112,8 @@ abbrev pub Answers : Request → Contents → Result Done Fault → Type 0
 Answers (Plain file analysis) told answer = AnswersPlain analysis told.file answer
 Answers (Variant model file settings task) told answer = AnswersVariant task settings told answer
 Answers (Family model file analysis task) told answer = AnswersFamily analysis task told answer
+Answers (Advice model file settings analysis) told answer = AnswersAdvice analysis settings told answer
+Answers (Features model) told answer = AnswersFeatures told.model answer
 
 -- what a request names is accepted: no fault answers it
 abbrev pub IsAccepted : Request → Contents → Type 0
@@ -101,6 +124,8 @@ abbrev pub IsLoaded : Request → Contents → Option (List ℕ) → Type 0
 IsLoaded (Plain file analysis) told failed = failed ≡ Some file
 IsLoaded (Variant model file settings task) told failed = IsLoadedFor model file told.model failed
 IsLoaded (Family model file analysis task) told failed = IsLoadedFor model file told.model failed
+IsLoaded (Advice model file settings analysis) told failed = IsLoadedFor model file told.model failed
+IsLoaded (Features model) told failed = failed ≡ Some model
 
 -- ---- what is promised of the output, beside its text
 
@@ -120,10 +145,17 @@ PromisedVariant task settings told status text = (s : Selected) × AreSelected t
 -- what is promised of the report on all variants: see `Headline`
 abbrev pub PromisedFamily : Analysis → FamilyTask → Contents → ℕ → List ℕ → Type 0
 PromisedFamily analysis task told status text =
-    (l : ProductLine) × IsProductLine told.model told.file l × PromisedOfAll (meaning_of analysis.leaf) analysis.options task l status text
+    (l : ProductLine) × IsProductLine told.model told.file l × PromisedOfAll (meaning_of analysis.domain) analysis.options task l status text
 
--- what is promised of the output to a request
+-- what is promised of advice: see `Advised`
+abbrev pub PromisedAdvice : Analysis → List (List ℕ) → Contents → ℕ → List ℕ → Type 0
+PromisedAdvice analysis settings told status text =
+    (s : Selected) × AreSelected told.model told.file settings s × IsAdviceText (meaning_of analysis.domain) analysis.options s.line s.config.values status text
+
+-- what is promised of the output to a request; of what a model leaves open no more than its answer
 abbrev pub Promised : Request → Contents → ℕ → List ℕ → Type 0
 Promised (Plain file analysis) told status text = PromisedPlain analysis told.file status text
 Promised (Variant model file settings task) told status text = PromisedVariant task settings told status text
 Promised (Family model file analysis task) told status text = PromisedFamily analysis task told status text
+Promised (Advice model file settings analysis) told status text = PromisedAdvice analysis settings told status text
+Promised (Features model) told status text = status ≡ 0

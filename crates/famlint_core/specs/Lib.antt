@@ -1,7 +1,9 @@
+pub mod Advised
 pub mod Answers
 pub mod Endings
 pub mod FamilyReports
 pub mod Faults
+pub mod FeatureUses
 pub mod Found
 pub mod Headline
 pub mod Loads

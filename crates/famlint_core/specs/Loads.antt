@@ -1,5 +1,5 @@
 -- Loads and readings, and how what a stage of the work came to is tied to what it should answer.
-use Rattle.std.specs.Prelude.{ℕ, ◌≡◌, ◌≤◌, ◌<◌, ◌⊎◌, ⊤, List, [], ◌∷◌, length, Option, Some, None, Result, Ok, Err}
+use Rattle.std.specs.Prelude.{ℕ, ℤ, ◌≡◌, ◌≤◌, ◌<◌, ◌⊎◌, ⊤, List, [], ◌∷◌, length, Option, Some, None, Result, Ok, Err}
 use Rattle.std.specs.List.{All}
 use Rattle.fam_outer.specs.Causes.{Rose}
 use Rattle.fam_outer.specs.Limits.{file_bytes}
@@ -9,7 +9,7 @@ use Rattle.cpp_conditions.specs.declared.models.Model.{Model}
 use Rattle.cpp_conditions.specs.Distinct.{HaveFewAtoms}
 use Rattle.cpp_conditions.specs.Naming.{AreFeatures}
 use Rattle.cpp_conditions.specs.Propositions.{IsBelow}
-use Rattle.cpp_conditions.specs.Validity.{plain, AreFit}
+use Rattle.cpp_conditions.specs.Validity.{plain, IsValid, AreFit}
 use Rattle.cpp_conditions.specs.View.{formula}
 use Rattle.feature_model.specs.Models.{IsReadAs}
 use Rattle.c_tree.specs.Project.{IsConditioned}
@@ -77,6 +77,7 @@ pub record IsUsable (model : Model) : Type 0 where
   pub features : AreFeatures model.features
   pub fit : AreFit (length model.features) model.constraints
   pub few : HaveFewAtoms 64 (plain model).constraints
+  pub valid : (values : List ℤ) × IsValid (plain model) values
 
 -- ---- families
 

@@ -1,22 +1,15 @@
 -- What the words ask for.
-use Rattle.std.specs.Prelude.{ℕ, Bool, ⊤, true, false, not, ◌&&◌, ◌||◌, List, [], ◌∷◌, codes, if◌then◌else◌, Option, Some, None, option_map}
+use Rattle.std.specs.Prelude.{ℕ, Bool, ⊤, true, false, not, ◌&&◌, ◌||◌, List, [], ◌∷◌, codes, if◌then◌else◌, Option, Some, None}
 use Rattle.std.specs.Option.{option_and_then}
 use Rattle.std.specs.Str.{bytes_eq}
 use Rattle.std.specs.List.{All}
 use Rattle.c_tree.specs.Value.{IsInt}
-use Rattle.c_tree.specs.declared.tree.Mode.{Mode}
-use Rattle.c_tree.specs.declared.tree.Mode.TheVariants as modes
 use Rattle.command_words.specs.Arguments.{arguments_of, nothing_given}
 use Rattle.command_words.specs.declared.reading.Arguments.{Arguments}
-use Rattle.command_words.specs.declared.settings.Domain.{Domain}
-use Rattle.command_words.specs.declared.settings.Domain.TheVariants as domains
+use Rattle.command_words.specs.declared.settings.Chosen.{Chosen}
 use Rattle.command_words.specs.declared.settings.Given.{Given}
-use Rattle.command_words.specs.declared.settings.Overflow.{Overflow}
-use Rattle.command_words.specs.declared.settings.Overflow.TheVariants as overflows
 use Rattle.command_words.specs.declared.settings.Settings.{Settings}
 use Rattle.famlint_core.specs.declared.request.Analysis.{Analysis}
-use Rattle.famlint_core.specs.declared.request.LeafKind.{LeafKind}
-use Rattle.famlint_core.specs.declared.request.LeafKind.TheVariants as leaves
 use Rattle.famlint_core.specs.declared.request.options.Command.{Command}
 use Rattle.famlint_core.specs.declared.request.options.Command.TheVariants as command
 use Rattle.famlint_core.specs.declared.request.FamilyTask.{FamilyTask}
@@ -46,6 +39,8 @@ taken_by command.Variant = analysis_options
 taken_by command.Run = run_options
 taken_by command.Analyse = analysis_options
 taken_by command.Invariants = analysis_options
+taken_by command.Advise = analysis_options
+taken_by command.Features = nothing_given
 
 -- each option that is given is taken
 abbrev pub are_taken : Given → Given → Bool
@@ -57,21 +52,12 @@ are_taken given taken =
 abbrev pub suits : Command → Arguments → Bool
 suits command arguments = are_taken arguments.given (taken_by command)
 
--- the kind of leaf of a domain
-abbrev pub leaf_kind : Domain → Option LeafKind
-leaf_kind domains.Interval = Some leaves.Interval
-leaf_kind domains.Octagon = Some leaves.Octagon
-leaf_kind domains.Stride = Some leaves.Stride
-
-abbrev pub mode_of : Overflow → Mode
-mode_of overflows.Stop = modes.Stop
-mode_of overflows.Wrap = modes.Wrap
-
 -- how programs are analysed
-abbrev pub analysis_of : Settings → Option Analysis
-analysis_of settings = option_map
-    (λ leaf. record { leaf = leaf; options = record { delay = settings.delay; narrow = settings.narrow; mode = mode_of settings.overflow } })
-    (leaf_kind settings.domain)
+abbrev pub analysis_of : Chosen → Analysis
+analysis_of chosen = record {
+  domain = chosen.domain;
+  options = record { delay = chosen.delay; narrow = chosen.narrow; mode = chosen.overflow };
+}
 
 -- ---- commands
 
@@ -83,7 +69,9 @@ command_of word =
     else (if bytes_eq word (codes "variant") then Some command.Variant
     else (if bytes_eq word (codes "run") then Some command.Run
     else (if bytes_eq word (codes "analyse") then Some command.Analyse
-    else (if bytes_eq word (codes "invariants") then Some command.Invariants else None)))))
+    else (if bytes_eq word (codes "invariants") then Some command.Invariants
+    else (if bytes_eq word (codes "advise") then Some command.Advise
+    else (if bytes_eq word (codes "features") then Some command.Features else None)))))))
 
 -- what `plain` asks for with these words; nothing, where they are refused
 abbrev pub plain_request : Analysis → List (List ℕ) → Option Request
@@ -104,18 +92,32 @@ family_request analysis task (model ∷ []) = None
 family_request analysis task (model ∷ file ∷ []) = Some (request.Family model file analysis task)
 family_request analysis task (model ∷ file ∷ more ∷ words) = None
 
+-- what `advise` asks for with these words
+abbrev pub advice_request : Analysis → List (List ℕ) → Option Request
+advice_request analysis [] = None
+advice_request analysis (model ∷ []) = None
+advice_request analysis (model ∷ file ∷ words) = Some (request.Advice model file words analysis)
+
+-- what `features` asks for with these words
+abbrev pub features_request : List (List ℕ) → Option Request
+features_request [] = None
+features_request (model ∷ []) = Some (request.Features model)
+features_request (model ∷ more ∷ words) = None
+
 -- the run that the options ask for
-abbrev pub run_task : Settings → Option VariantTask
-run_task settings = Some (task.Run settings.steps settings.inputs (mode_of settings.overflow))
+abbrev pub run_task : Settings → VariantTask
+run_task settings = task.Run settings.chosen.steps settings.inputs settings.chosen.overflow
 
 -- what a command asks for with these words
 abbrev pub request_for : Command → Settings → List (List ℕ) → Option Request
-request_for command.Plain settings words = option_and_then (λ analysis. plain_request analysis words) (analysis_of settings)
+request_for command.Plain settings words = plain_request (analysis_of settings.chosen) words
 request_for command.Project settings words = variant_request task.Text words
-request_for command.Variant settings words = option_and_then (λ analysis. variant_request (task.Report analysis) words) (analysis_of settings)
-request_for command.Run settings words = option_and_then (λ t. variant_request t words) (run_task settings)
-request_for command.Analyse settings words = option_and_then (λ analysis. family_request analysis family.Alarms words) (analysis_of settings)
-request_for command.Invariants settings words = option_and_then (λ analysis. family_request analysis family.Invariants words) (analysis_of settings)
+request_for command.Variant settings words = variant_request (task.Report (analysis_of settings.chosen)) words
+request_for command.Run settings words = variant_request (run_task settings) words
+request_for command.Analyse settings words = family_request (analysis_of settings.chosen) family.Alarms words
+request_for command.Invariants settings words = family_request (analysis_of settings.chosen) family.Invariants words
+request_for command.Advise settings words = advice_request (analysis_of settings.chosen) words
+request_for command.Features settings words = features_request words
 
 -- what a command asks for, where the options suit it
 abbrev pub suited : Command → Arguments → List (List ℕ) → Option Request
@@ -145,6 +147,8 @@ abbrev pub paths_of : Request → List (List ℕ)
 paths_of (request.Plain file analysis) = file ∷ []
 paths_of (request.Variant model file settings task) = model ∷ file ∷ []
 paths_of (request.Family model file analysis task) = model ∷ file ∷ []
+paths_of (request.Advice model file settings analysis) = model ∷ file ∷ []
+paths_of (request.Features model) = model ∷ []
 
 -- the failed path is this one
 abbrev pub is_path : Option (List ℕ) → List ℕ → Bool
@@ -160,6 +164,8 @@ abbrev pub role_of : Request → Option (List ℕ) → Role
 role_of (request.Plain file analysis) failed = role.File
 role_of (request.Variant model file settings task) failed = role_beside failed model
 role_of (request.Family model file analysis task) failed = role_beside failed model
+role_of (request.Advice model file settings analysis) failed = role_beside failed model
+role_of (request.Features model) failed = role.Model
 
 -- ---- inputs
 
@@ -173,3 +179,5 @@ abbrev pub HasInts : Request → Type 0
 HasInts (request.Plain file analysis) = ⊤
 HasInts (request.Variant model file settings task) = HaveInts task
 HasInts (request.Family model file analysis task) = ⊤
+HasInts (request.Advice model file settings analysis) = ⊤
+HasInts (request.Features model) = ⊤

@@ -17,7 +17,8 @@ const USAGE: &str =
 
 /// Writes a line, as far as the sink takes it.
 fn tell<E: Sink>(err: &mut E, line: &[u8])
-    ensures line { Reports (E.written err.old) (E.written err.new) line.now (E.faults err.old) (E.faults err.new) }
+    ensures line { Reports (E.written err.old) (E.written err.new) line.now (E.faults err.old)
+        (E.faults err.new) }
     ensures later { E.faults err.old ≤ E.faults err.new }
 {
     let _whole = write_all(err, line);
@@ -36,7 +37,8 @@ fn role_line(role: Role) -> &'static [u8]
 /// Ends the program where its words are refused.
 pub fn refuse<E: Sink>(err: &mut E) -> u8
     ensures status { result ≡ 2 }
-    ensures line { Reports (E.written err.old) (E.written err.new) usage_line (E.faults err.old) (E.faults err.new) }
+    ensures line { Reports (E.written err.old) (E.written err.new) usage_line (E.faults err.old)
+        (E.faults err.new) }
     ensures later { E.faults err.old ≤ E.faults err.new }
 {
     tell(err, USAGE.as_bytes());
@@ -46,7 +48,8 @@ pub fn refuse<E: Sink>(err: &mut E) -> u8
 /// Ends the program for want of memory.
 pub fn give_up<E: Sink>(err: &mut E) -> u8
     ensures status { result ≡ 8 }
-    ensures line { Reports (E.written err.old) (E.written err.new) memory_line (E.faults err.old) (E.faults err.new) }
+    ensures line { Reports (E.written err.old) (E.written err.new) memory_line (E.faults err.old)
+        (E.faults err.new) }
     ensures later { E.faults err.old ≤ E.faults err.new }
 {
     tell(err, b"want of memory\n");
@@ -62,7 +65,8 @@ pub fn end<S: Sink, E: Sink>(
     err: &mut E,
 ) -> u8
     requires { IfOk came.now (λ done. done.status ≤ 1) }
-    ensures { IsEnded came.now failed result (S.written out.old) (S.written out.new) (E.written err.old) (E.written err.new)
+    ensures { IsEnded came.now failed result (S.written out.old) (S.written out.new) (E.written err.old)
+        (E.written err.new)
         (S.faults out.old) (S.faults out.new) (E.faults err.old) (E.faults err.new) }
 {
     match came {

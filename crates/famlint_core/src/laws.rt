@@ -3,17 +3,35 @@
 
 ghost use Rattle.std.specs.Prelude.{◌≡◌, ℕ, List, Result};
 ghost use Rattle.famlint_core.specs.declared.request.Analysis.{Analysis};
+ghost use Rattle.famlint_core.specs.declared.request.VariantTask.{VariantTask};
 ghost use Rattle.famlint_core.specs.declared.fault.Done.{Done};
 ghost use Rattle.famlint_core.specs.declared.fault.Fault.{Fault};
-ghost use Rattle.famlint_core.specs.Answers.{AnswersPlain};
+ghost use Rattle.famlint_core.specs.Answers.{AnswersPlain, AnswersVariant, Contents};
 
 use c_parser::laws::{reads_at_most_once, reads_something};
+use c_parser::variants::families_are_read_once;
+use cpp_lines::laws::variants_have_one_text;
+use feature_model::laws::bytes_say_one_model;
 
 /// `plain` has one answer, whatever its path holds.
 pub fn plain_has_one_answer()
-    ensures some { (analysis : Analysis) (bytes : List ℕ) → (answer : Result Done Fault) × AnswersPlain analysis bytes answer }
-    ensures alone { (analysis : Analysis) (bytes : List ℕ) (a b : Result Done Fault) → AnswersPlain analysis bytes a → AnswersPlain analysis bytes b → a ≡ b }
+    ensures some { (analysis : Analysis) (bytes : List ℕ)
+        → (answer : Result Done Fault) × AnswersPlain analysis bytes answer }
+    ensures alone { (analysis : Analysis) (bytes : List ℕ) (a b : Result Done Fault)
+        → AnswersPlain analysis bytes a → AnswersPlain analysis bytes b → a ≡ b }
 {
     reads_at_most_once();
     reads_something();
+}
+
+/// `project`, `variant` and `run` have at most one answer, whatever MODEL and FILE hold: a text, a report or a run, or one
+/// refusal of the model, the file or the settings.
+pub fn variants_have_one_answer()
+    ensures { (task : VariantTask) (settings : List (List ℕ)) (told : Contents) (a b : Result Done Fault)
+        → AnswersVariant task settings told a → AnswersVariant task settings told b → a ≡ b }
+{
+    bytes_say_one_model();
+    families_are_read_once();
+    variants_have_one_text();
+    reads_at_most_once();
 }

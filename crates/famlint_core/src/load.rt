@@ -34,9 +34,11 @@ fn load_text<F: Files>(
     long: Fault,
     files: &mut F,
 ) -> Result<Text, Stop>
-    ensures text { (bytes : List ℕ) → F.content files.old path.now ≡ Some bytes → Comes (IsText limit long bytes) result }
+    ensures text { (bytes : List ℕ) → F.content files.old path.now ≡ Some bytes
+        → Comes (IsText limit long bytes) result }
     ensures kept { F.content files.new ≡ F.content files.old }
-    ensures read { IsReadOf (path.now ∷ []) (F.faults files.old) (F.faults files.new) (F.failed files.new) result }
+    ensures read { IsReadOf (path.now ∷ []) (F.faults files.old) (F.faults files.new)
+        (F.failed files.new) result }
 {
     match files.load(alloc, path, limit) {
         Loaded::NoMemory => Err(Stop::NoMemory),
@@ -48,9 +50,11 @@ fn load_text<F: Files>(
 
 /// The text of FILE, of at most 1,048,576 bytes; a longer one is refused as a whole, at 1:1.
 pub fn load_file<F: Files>(alloc: Global, path: &str, files: &mut F) -> Result<Text, Stop>
-    ensures text { (bytes : List ℕ) → F.content files.old path.now ≡ Some bytes → Comes (IsFileText bytes) result }
+    ensures text { (bytes : List ℕ) → F.content files.old path.now ≡ Some bytes
+        → Comes (IsFileText bytes) result }
     ensures kept { F.content files.new ≡ F.content files.old }
-    ensures read { IsReadOf (path.now ∷ []) (F.faults files.old) (F.faults files.new) (F.failed files.new) result }
+    ensures read { IsReadOf (path.now ∷ []) (F.faults files.old) (F.faults files.new)
+        (F.failed files.new) result }
 {
     load_text(alloc, path, FILE_BYTES as u32, long_file(), files)
 }
@@ -70,10 +74,12 @@ fn model_of(alloc: Global, bytes: &[u8]) -> Result<Model, Stop>
 
 /// The model of MODEL, of at most 65,536 bytes.
 pub fn load_model<F: Files>(alloc: Global, path: &str, files: &mut F) -> Result<Model, Stop>
-    ensures model { (bytes : List ℕ) → F.content files.old path.now ≡ Some bytes → Comes (IsModel bytes) result }
+    ensures model { (bytes : List ℕ) → F.content files.old path.now ≡ Some bytes
+        → Comes (IsModel bytes) result }
     ensures usable { IfOk result (λ model. IsUsable model) }
     ensures kept { F.content files.new ≡ F.content files.old }
-    ensures read { IsReadOf (path.now ∷ []) (F.faults files.old) (F.faults files.new) (F.failed files.new) result }
+    ensures read { IsReadOf (path.now ∷ []) (F.faults files.old) (F.faults files.new)
+        (F.failed files.new) result }
 {
     let text = load_text(
         alloc,
@@ -120,11 +126,13 @@ pub fn load_family<F: Files>(
     files: &mut F,
 ) -> Result<FamilyFile, Stop>
     requires { IsUsable model.now }
-    ensures family { (bytes : List ℕ) → F.content files.old path.now ≡ Some bytes → Comes (IsFamilyFile model.now bytes) result }
+    ensures family { (bytes : List ℕ) → F.content files.old path.now ≡ Some bytes
+        → Comes (IsFamilyFile model.now bytes) result }
     ensures spelled { IfOk result (λ made. IsFamilyOf model.now made.text made.family) }
     ensures usable { IfOk result (λ made. IsUsableFamily (length model.now.features) made.family) }
     ensures kept { F.content files.new ≡ F.content files.old }
-    ensures read { IsReadOf (path.now ∷ []) (F.faults files.old) (F.faults files.new) (F.failed files.new) result }
+    ensures read { IsReadOf (path.now ∷ []) (F.faults files.old) (F.faults files.new)
+        (F.failed files.new) result }
 {
     let text = load_text(alloc, path, FILE_BYTES as u32, long_file(), files)?;
     family_of(alloc, model, text)

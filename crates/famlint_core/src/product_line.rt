@@ -27,11 +27,13 @@ pub fn load_product_line<F: Files>(
     file_path: &str,
     files: &mut F,
 ) -> Result<ProductLine, Stop>
-    ensures line { (m f : List ℕ) → F.content files.old model_path.now ≡ Some m → F.content files.old file_path.now ≡ Some f
+    ensures line { (m f : List ℕ) → F.content files.old model_path.now ≡ Some m
+        → F.content files.old file_path.now ≡ Some f
         → Comes (ReadsProductLine m f) result }
     ensures usable { IfOk result (λ made. IsUsableLine made) }
     ensures kept { F.content files.new ≡ F.content files.old }
-    ensures read { IsReadOf (model_path.now ∷ file_path.now ∷ []) (F.faults files.old) (F.faults files.new) (F.failed files.new) result }
+    ensures read { IsReadOf (model_path.now ∷ file_path.now ∷ []) (F.faults files.old) (F.faults files.new)
+        (F.failed files.new) result }
     ensures order { (m : List ℕ) → F.content files.old model_path.now ≡ Some m → IsReadFault result
         → IsLoadedFor model_path.now file_path.now m (F.failed files.new) }
 {

@@ -56,8 +56,10 @@ pub fn famlint<F: Files, S: Sink, E: Sink>(
     // The line of a failed load, a failed write and want of memory, whatever is told.
     ensures lines { (request : Request) → reading (texts_of words.now) ≡ Some request
         → HasLines (role_of request (F.failed files.new)) result (E.written err.old) (E.written err.new) (E.faults err.old) (E.faults err.new) }
-    ensures usage_told { result ≡ 2 → Reports (E.written err.old) (E.written err.new) usage_line (E.faults err.old) (E.faults err.new) }
-    ensures memory_told { result ≡ 8 → Reports (E.written err.old) (E.written err.new) memory_line (E.faults err.old) (E.faults err.new) }
+    ensures usage_told { result ≡ 2
+        → Reports (E.written err.old) (E.written err.new) usage_line (E.faults err.old) (E.faults err.new) }
+    ensures memory_told { result ≡ 8
+        → Reports (E.written err.old) (E.written err.new) memory_line (E.faults err.old) (E.faults err.new) }
     ensures known { result ≤ 9 }
     ensures usage { result ≡ 2 → reading (texts_of words.now) ≡ None }
     ensures refused { reading (texts_of words.now) ≡ None → (result ≡ 2) ⊎ (result ≡ 8) }

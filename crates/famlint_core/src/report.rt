@@ -8,9 +8,10 @@ ghost use Rattle.famlint_core.specs.Answers.{plain_done};
 ghost use Rattle.famlint_core.specs.Report.{report_status as status_of, report_done, IsReport};
 
 use crate::fault::Done;
-use crate::request::{Analysis, LeafKind};
+use crate::request::Analysis;
 use alarm_report::variant_report;
 use c_tree::Program;
+use command_words::Domain;
 use fam_outer::NoMemory;
 use interval_leaf::IntervalLeaf;
 use leaf_domain::Leaf;
@@ -31,7 +32,8 @@ fn report_on<L: Leaf>(alloc: Global, program: &Program, options: &Options) -> Re
     requires program { IsProgram (whole program.now) }
     requires plain { IsPlainProgram (whole program.now) }
     ensures answer { IfOk result (λ done. done ≡ report_done L.meaning options.now (whole program.now)) }
-    ensures report { IfOk result (λ done. IsReport options.now.mode (whole program.now) done.status done.text) }
+    ensures report { IfOk result (λ done. IsReport options.now.mode
+        (whole program.now) done.status done.text) }
     ensures status { IfOk result (λ done. done.status ≤ 1) }
 {
     let start = L::start(alloc, program.start.items())?;
@@ -48,12 +50,13 @@ pub fn report_by(alloc: Global, program: &Program, analysis: &Analysis) -> Resul
     requires program { IsProgram (whole program.now) }
     requires plain { IsPlainProgram (whole program.now) }
     ensures answer { IfOk result (λ done. done ≡ plain_done analysis.now (whole program.now)) }
-    ensures report { IfOk result (λ done. IsReport analysis.now.options.mode (whole program.now) done.status done.text) }
+    ensures report { IfOk result (λ done. IsReport analysis.now.options.mode
+        (whole program.now) done.status done.text) }
     ensures status { IfOk result (λ done. done.status ≤ 1) }
 {
-    match analysis.leaf {
-        LeafKind::Interval => report_on::<IntervalLeaf>(alloc, program, &analysis.options),
-        LeafKind::Octagon => report_on::<OctagonLeaf>(alloc, program, &analysis.options),
-        LeafKind::Stride => report_on::<StrideLeaf>(alloc, program, &analysis.options),
+    match analysis.domain {
+        Domain::Interval => report_on::<IntervalLeaf>(alloc, program, &analysis.options),
+        Domain::Octagon => report_on::<OctagonLeaf>(alloc, program, &analysis.options),
+        Domain::Stride => report_on::<StrideLeaf>(alloc, program, &analysis.options),
     }
 }

@@ -9,7 +9,7 @@ ghost use Rattle.std.specs.Prelude.{◌≡◌, ◌++◌, ◌∷◌, [], IfOk, On
 ghost use Rattle.famlint_core.specs.Requests.{role_of, role_beside, is_path};
 
 use c_tree::Mode;
-use command_words::Word;
+use command_words::{Domain, Word};
 use fam_outer::{NoMemory, Text, Values};
 use plain_analysis::Options;
 pub use reading::read_request;
@@ -38,20 +38,23 @@ pub enum Request {
         analysis: Analysis,
         task: FamilyTask,
     },
-}
-
-/// The kinds of leaf over which programs are analysed.
-#[derive(Clone, Copy, Debug, PartialEq, Eq)]
-pub enum LeafKind {
-    Interval,
-    Octagon,
-    Stride,
+    /// The nearest configuration of MODEL to the one that the settings give at which FILE has no alarms.
+    Advice {
+        model: Word,
+        file: Word,
+        settings: SettingWords,
+        analysis: Analysis,
+    },
+    /// What MODEL leaves open of each feature.
+    Features {
+        model: Word,
+    },
 }
 
 /// How programs are analysed.
 #[derive(Clone, Copy, Debug, PartialEq, Eq)]
 pub struct Analysis {
-    pub leaf: LeafKind,
+    pub domain: Domain,
     pub options: Options,
 }
 
@@ -163,6 +166,13 @@ impl Request {
                 analysis: _,
                 task: _,
             } => role_beside(failed, model),
+            Request::Advice {
+                model,
+                file: _,
+                settings: _,
+                analysis: _,
+            } => role_beside(failed, model),
+            Request::Features { model: _ } => Role::Model,
         }
     }
 }

@@ -49,13 +49,15 @@ pub fn select<F: Files>(
     settings: &[String],
     files: &mut F,
 ) -> Result<Selected, Stop>
-    ensures selected { (m f : List ℕ) → F.content files.old model_path.now ≡ Some m → F.content files.old file_path.now ≡ Some f
+    ensures selected { (m f : List ℕ) → F.content files.old model_path.now ≡ Some m
+        → F.content files.old file_path.now ≡ Some f
         → Comes (IsSelected m f (map string_bytes settings.now)) result }
     ensures line { IfOk result (λ made. IsUsableLine made.line) }
     ensures valid { IfOk result (λ made. IsValid (plain made.line.model) made.config.values) }
     ensures config { IfOk result (λ made. IsConfig made.line.model.features made.config.values) }
     ensures kept { F.content files.new ≡ F.content files.old }
-    ensures read { IsReadOf (model_path.now ∷ file_path.now ∷ []) (F.faults files.old) (F.faults files.new) (F.failed files.new) result }
+    ensures read { IsReadOf (model_path.now ∷ file_path.now ∷ []) (F.faults files.old) (F.faults files.new)
+        (F.failed files.new) result }
     ensures order { (m : List ℕ) → F.content files.old model_path.now ≡ Some m → IsReadFault result
         → IsLoadedFor model_path.now file_path.now m (F.failed files.new) }
 {

@@ -1,7 +1,9 @@
 //! What is done for a request: its loads, and then its work.
 #![tactic(auto)]
 
+mod advice;
 mod family;
+mod features;
 mod plain;
 mod variant;
 
@@ -12,7 +14,9 @@ ghost use Rattle.famlint_core.specs.Requests.{paths_of, HasInts};
 
 use crate::fault::{Done, Stop};
 use crate::request::Request;
+use crate::work::advice::advice;
 use crate::work::family::family;
+use crate::work::features::features;
 use crate::work::plain::plain;
 use crate::work::variant::variant;
 use fam_outer::Files;
@@ -21,14 +25,16 @@ use std::alloc::Global;
 /// Does what a request asks for: first the loads, then the work.
 pub fn work<F: Files>(alloc: Global, request: &Request, files: &mut F) -> Result<Done, Stop>
     requires { HasInts request.now }
-    ensures answer { (told : Contents) → IsTold request.now (F.content files.old) told → Comes (Answers request.now told) result }
+    ensures answer { (told : Contents) → IsTold request.now (F.content files.old) told
+        → Comes (Answers request.now told) result }
     ensures promise { (told : Contents) → IsTold request.now (F.content files.old) told
         → IfOk result (λ done. Promised request.now told done.status done.text) }
     ensures status { IfOk result (λ done. done.status ≤ 1) }
     ensures order { (told : Contents) → IsTold request.now (F.content files.old) told
         → IsReadFault result → IsLoaded request.now told (F.failed files.new) }
     ensures kept { F.content files.new ≡ F.content files.old }
-    ensures read { IsReadOf (paths_of request.now) (F.faults files.old) (F.faults files.new) (F.failed files.new) result }
+    ensures read { IsReadOf (paths_of request.now) (F.faults files.old) (F.faults files.new)
+        (F.failed files.new) result }
 {
     match request {
         Request::Plain { file, analysis } => plain(alloc, file, analysis, files),
@@ -44,5 +50,12 @@ pub fn work<F: Files>(alloc: Global, request: &Request, files: &mut F) -> Result
             analysis,
             task,
         } => family(alloc, model, file, analysis, *task, files),
+        Request::Advice {
+            model,
+            file,
+            settings,
+            analysis,
+        } => advice(alloc, model, file, settings, analysis, files),
+        Request::Features { model } => features(alloc, model, files),
     }
 }

@@ -7,12 +7,16 @@ use std::process::Abort;
 use std::test::Fail;
 
 /// The models and files of the tests, each under its path.
-pub(crate) const FILES: [(&str, &str); 36] = [
+pub(crate) const FILES: [(&str, &str); 38] = [
     ("m0", "{\"features\":[]}\n"),
     ("ma", "{\"features\":[{\"name\":\"A\"}]}\n"),
     (
         "mc",
         "{\"features\":[{\"name\":\"A\"},{\"name\":\"N\",\"min\":0,\"max\":7}],\"constraints\":[\"A || N >= 3\"]}\n",
+    ),
+    (
+        "mand",
+        "{\"features\":[{\"name\":\"A\"},{\"name\":\"N\",\"min\":0,\"max\":7}],\"constraints\":[\"A && N <= 2\"]}\n",
     ),
     ("void", "{\"features\":[],\"constraints\":[\"0\"]}\n"),
     ("m1", "{\n"),
@@ -22,6 +26,7 @@ pub(crate) const FILES: [(&str, &str); 36] = [
     ),
     ("m7", "{\"features\":[],\"constraints\":[\"1\",\"1 +\"]}\n"),
     ("f1", "int main(void) { }\n"),
+    ("f41", "int main(void) { assert(0); }\n"),
     ("f2", "int x;\nint main(void) {\nx = 1 / x;\n}\n"),
     (
         "f6",

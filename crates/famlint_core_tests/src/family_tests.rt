@@ -3,7 +3,8 @@
 ghost use Rattle.std.specs.Prelude.{◌≤◌};
 
 use crate::cases::{FILES, gives, words_of};
-use fam_outer::{CallNumbers, Entries, MemoryFiles, MemorySink, NoMemory, Text};
+use crate::two_files::{compares, run_over, two_files};
+use fam_outer::{MemorySink, NoMemory};
 use famlint_core::famlint;
 use std::alloc::Global;
 use std::process::Abort;
@@ -198,25 +199,6 @@ fn other_words_are_refused(rt: HostRuntime) -> Result<(), Fail> {
     Ok(())
 }
 
-/// Two files in memory, under the paths `m` and `f`.
-fn two_files(alloc: Global, model: &[u8], file: &[u8]) -> Result<MemoryFiles, NoMemory> {
-    let model = (
-        Text::from_bytes(alloc, b"m")?,
-        Text::from_bytes(alloc, model)?,
-    );
-    let file = (
-        Text::from_bytes(alloc, b"f")?,
-        Text::from_bytes(alloc, file)?,
-    );
-    Ok(MemoryFiles {
-        entries: Entries::from_vec(vec![in alloc; model, file]?),
-        failing: CallNumbers::from_vec(Vec::new(alloc)),
-        calls: 0,
-        faults: 0,
-        failed: None,
-    })
-}
-
 /// The content of a path.
 fn content_of(path: &str) -> &'static [u8] {
     for (known, content) in FILES {
@@ -225,45 +207,6 @@ fn content_of(path: &str) -> &'static [u8] {
         }
     }
     b""
-}
-
-/// What the words of a line came to over two files: the status, and the bytes of both sinks.
-#[derive(Drop)]
-struct Ran {
-    status: u8,
-    out: Vec<u8>,
-    err: Vec<u8>,
-}
-
-/// Runs the words of a line over these two files.
-fn run_over(alloc: Global, line: &str, model: &[u8], file: &[u8]) -> Result<Ran, NoMemory> {
-    let words = words_of(alloc, line)?;
-    let mut files = two_files(alloc, model, file)?;
-    let mut out = MemorySink::new(alloc, 60000, 60000, Vec::new(alloc))?;
-    let mut err = MemorySink::new(alloc, 1000, 1000, Vec::new(alloc))?;
-    let status = famlint(alloc, &words, &mut files, &mut out, &mut err);
-    Ok(Ran {
-        status,
-        out: Vec::from_slice(alloc, out.taken.as_slice())?,
-        err: Vec::from_slice(alloc, err.taken.as_slice())?,
-    })
-}
-
-/// Compares what the words of a line come to over these two files.
-fn compares(
-    rt: &impl Abort,
-    alloc: Global,
-    line: &str,
-    contents: (&[u8], &[u8]),
-    wanted: (u8, &[u8], &[u8]),
-) -> Result<(), Fail> {
-    let (model, file) = contents;
-    let ran = run_over(alloc, line, model, file).map_err(|_| "memory")?;
-    let (status, output, told) = wanted;
-    assert_eq!(rt; ran.status, status, "at {line}");
-    assert_eq!(rt; ran.out.as_slice(), output, "at {line}");
-    assert_eq!(rt; ran.err.as_slice(), told, "at {line}");
-    Ok(())
 }
 
 #[test]

@@ -2,12 +2,22 @@
 #![tactic(auto)]
 
 #[cfg(test)]
+mod advice_tests;
+#[cfg(test)]
 mod analysis_tests;
 #[cfg(test)]
 mod cases;
 #[cfg(test)]
+mod code_tests;
+#[cfg(test)]
+mod example_files;
+#[cfg(test)]
+mod example_tests;
+#[cfg(test)]
 mod family_tests;
 #[cfg(test)]
 mod plain_tests;
+#[cfg(test)]
+mod two_files;
 #[cfg(test)]
 mod variant_tests;

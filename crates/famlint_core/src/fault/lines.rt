@@ -94,7 +94,8 @@ fn file_code(code: &FileCode) -> &'static str
 
 /// Adds what stands behind a file's code: the code of a condition's fault, or nothing.
 fn push_condition(text: &mut String, code: &FileCode) -> Result<(), NoMemory>
-    ensures { IfOk result (λ _. string_bytes text.new ≡ string_bytes text.old ++ specs.condition_part code.now) }
+    ensures { IfOk result (λ _. string_bytes text.new
+        ≡ string_bytes text.old ++ specs.condition_part code.now) }
 {
     match code {
         FileCode::Condition(fault) => {

@@ -4,9 +4,8 @@
 ghost use Rattle.std.specs.Prelude.{◌≡◌};
 ghost use Rattle.famlint_core.specs.Requests as specs;
 
-use crate::request::{Analysis, LeafKind};
-use c_tree::Mode;
-use command_words::{Arguments, Domain, Given, Overflow, Settings};
+use crate::request::Analysis;
+use command_words::{Arguments, Chosen, Given};
 use plain_analysis::Options;
 
 /// The commands.
@@ -18,6 +17,8 @@ pub enum Command {
     Run,
     Analyse,
     Invariants,
+    Advise,
+    Features,
 }
 
 impl Command {
@@ -32,6 +33,8 @@ impl Command {
             "run" => Some(Command::Run),
             "analyse" => Some(Command::Analyse),
             "invariants" => Some(Command::Invariants),
+            "advise" => Some(Command::Advise),
+            "features" => Some(Command::Features),
             _ => None,
         }
     }
@@ -41,7 +44,11 @@ impl Command {
         ensures { result ≡ specs.taken_by self }
     {
         match self {
-            Command::Plain | Command::Variant | Command::Analyse | Command::Invariants => Given {
+            Command::Plain
+            | Command::Variant
+            | Command::Analyse
+            | Command::Invariants
+            | Command::Advise => Given {
                 domain: true,
                 delay: true,
                 narrow: true,
@@ -49,7 +56,7 @@ impl Command {
                 steps: false,
                 inputs: false,
             },
-            Command::Project => Given {
+            Command::Project | Command::Features => Given {
                 domain: false,
                 delay: false,
                 narrow: false,
@@ -81,17 +88,6 @@ fn are_taken(given: Given, taken: Given) -> bool
         && (!given.inputs || taken.inputs)
 }
 
-/// The kind of leaf of a domain.
-fn leaf_kind(domain: Domain) -> Option<LeafKind>
-    ensures { result ≡ specs.leaf_kind domain }
-{
-    match domain {
-        Domain::Interval => Some(LeafKind::Interval),
-        Domain::Octagon => Some(LeafKind::Octagon),
-        Domain::Stride => Some(LeafKind::Stride),
-    }
-}
-
 /// Whether the options suit a command.
 pub fn suits(command: Command, arguments: &Arguments) -> bool
     ensures { result ≡ specs.suits command arguments.now }
@@ -99,27 +95,16 @@ pub fn suits(command: Command, arguments: &Arguments) -> bool
     are_taken(arguments.given, command.options())
 }
 
-/// What becomes of an overflow.
-pub fn mode_of(overflow: Overflow) -> Mode
-    ensures { result ≡ specs.mode_of overflow }
-{
-    match overflow {
-        Overflow::Stop => Mode::Stop,
-        Overflow::Wrap => Mode::Wrap,
-    }
-}
-
 /// How programs are analysed.
-pub fn analysis_of(settings: &Settings) -> Option<Analysis>
-    ensures { result ≡ specs.analysis_of settings.now }
+pub fn analysis_of(chosen: Chosen) -> Analysis
+    ensures { result ≡ specs.analysis_of chosen }
 {
-    let leaf = leaf_kind(settings.domain)?;
-    Some(Analysis {
-        leaf,
+    Analysis {
+        domain: chosen.domain,
         options: Options {
-            delay: settings.delay,
-            narrow: settings.narrow,
-            mode: mode_of(settings.overflow),
+            delay: chosen.delay,
+            narrow: chosen.narrow,
+            mode: chosen.overflow,
         },
-    })
+    }
 }

@@ -1,16 +1,17 @@
 //! What the words ask for.
 #![tactic(auto)]
 
-ghost use Rattle.std.specs.Prelude.{IfOk};
+ghost use Rattle.std.specs.Prelude.{◌≡◌, IfOk};
 ghost use Rattle.std.specs.List.{All};
 ghost use Rattle.c_tree.specs.Value.{IsInt};
 ghost use Rattle.command_words.specs.Arguments.{texts_of, Reads};
 ghost use Rattle.famlint_core.specs.Requests as specs;
 ghost use Rattle.famlint_core.specs.Requests.{reading, HasInts, HaveInts};
 
-use crate::request::options::{Command, analysis_of, mode_of, suits};
+use crate::request::options::{Command, analysis_of, suits};
 use crate::request::{Analysis, FamilyTask, Request, SettingWords, VariantTask};
 use command_words::{Arguments, Settings, Usage, Word, WordsRefusal, read_words};
+use fam_outer::NoMemory;
 use std::alloc::Global;
 
 /// What `plain` asks for with these words.
@@ -69,16 +70,49 @@ fn family_request(
     }
 }
 
+/// What `advise` asks for with these words.
+fn advice_request(
+    alloc: Global,
+    analysis: Analysis,
+    words: &[Word],
+) -> Result<Request, WordsRefusal>
+    ensures answer { Reads (specs.advice_request analysis words.now) result }
+    ensures ints { IfOk result (λ request. HasInts request) }
+{
+    match words {
+        [model, file, rest @ ..] => Ok(Request::Advice {
+            model: Word::from_str(alloc, model.as_str())?,
+            file: Word::from_str(alloc, file.as_str())?,
+            settings: SettingWords::from_words(alloc, rest)?,
+            analysis,
+        }),
+        _ => Err(WordsRefusal::Fault(Usage)),
+    }
+}
+
+/// What `features` asks for with these words.
+fn features_request(alloc: Global, words: &[Word]) -> Result<Request, WordsRefusal>
+    ensures answer { Reads (specs.features_request words.now) result }
+    ensures ints { IfOk result (λ request. HasInts request) }
+{
+    match words {
+        [model] => Ok(Request::Features {
+            model: Word::from_str(alloc, model.as_str())?,
+        }),
+        _ => Err(WordsRefusal::Fault(Usage)),
+    }
+}
+
 /// The run that the options ask for.
-fn run_task(alloc: Global, settings: &Settings) -> Result<VariantTask, WordsRefusal>
+fn run_task(alloc: Global, settings: &Settings) -> Result<VariantTask, NoMemory>
     requires { All IsInt settings.now.inputs }
-    ensures answer { Reads (specs.run_task settings.now) result }
+    ensures value { IfOk result (λ task. task ≡ specs.run_task settings.now) }
     ensures ints { IfOk result (λ task. HaveInts task) }
 {
     Ok(VariantTask::Run {
-        steps: settings.steps,
+        steps: settings.chosen.steps,
         inputs: settings.inputs.copy(alloc)?,
-        mode: mode_of(settings.overflow),
+        mode: settings.chosen.overflow,
     })
 }
 
@@ -93,25 +127,19 @@ fn request_for(
     ensures answer { Reads (specs.request_for command settings.now words.now) result }
     ensures ints { IfOk result (λ request. HasInts request) }
 {
-    match (command, analysis_of(settings)) {
-        (Command::Plain, Some(analysis)) => plain_request(alloc, analysis, words),
-        (Command::Variant, Some(analysis)) => {
-            variant_request(alloc, VariantTask::Report(analysis), words)
-        }
-        (Command::Analyse, Some(analysis)) => {
-            family_request(alloc, analysis, FamilyTask::Alarms, words)
-        }
-        (Command::Invariants, Some(analysis)) => {
-            family_request(alloc, analysis, FamilyTask::Invariants, words)
-        }
-        (Command::Plain | Command::Variant | Command::Analyse | Command::Invariants, None) => {
-            Err(WordsRefusal::Fault(Usage))
-        }
-        (Command::Project, _) => variant_request(alloc, VariantTask::Text, words),
-        (Command::Run, _) => {
+    let analysis = analysis_of(settings.chosen);
+    match command {
+        Command::Plain => plain_request(alloc, analysis, words),
+        Command::Project => variant_request(alloc, VariantTask::Text, words),
+        Command::Variant => variant_request(alloc, VariantTask::Report(analysis), words),
+        Command::Run => {
             let task = run_task(alloc, settings)?;
             variant_request(alloc, task, words)
         }
+        Command::Analyse => family_request(alloc, analysis, FamilyTask::Alarms, words),
+        Command::Invariants => family_request(alloc, analysis, FamilyTask::Invariants, words),
+        Command::Advise => advice_request(alloc, analysis, words),
+        Command::Features => features_request(alloc, words),
     }
 }
 

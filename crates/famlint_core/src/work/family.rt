@@ -17,14 +17,14 @@ ghost use Rattle.famlint_core.specs.ProductLines.{IsLoadedFor, IsUsableLine};
 
 use crate::fault::{Done, Stop};
 use crate::product_line::{ProductLine, load_product_line};
-use crate::request::{Analysis, FamilyTask, LeafKind};
+use crate::request::{Analysis, FamilyTask};
 use alarm_report::{
     FamilyAlarm, FamilyAlarms, FamilyInvariant, alarm_text, alarms_of, invariant_text,
     invariants_of,
 };
 use atom_solver::{Prepared, plausible};
 use c_parser::variants::variants_are_projections;
-use command_words::Word;
+use command_words::{Domain, Word};
 use fam_outer::{Files, NoMemory, Text};
 use interval_leaf::IntervalLeaf;
 use leaf_domain::Leaf;
@@ -35,7 +35,7 @@ use product_leaf::StrideLeaf;
 use std::alloc::Global;
 
 /// What the analysis of all variants finds, over a kind of leaf.
-fn found_in<L: Leaf>(
+pub(super) fn found_in<L: Leaf>(
     alloc: Global,
     line: &ProductLine,
     options: &Options,
@@ -61,8 +61,10 @@ fn alarms_in<L: Leaf>(
     requires line { IsUsableLine line.now }
     requires prepared { prepared.now ≡ line.now.model }
     requires tested { AreTested line.now findings.now }
-    ensures good { (o : Options) → IsFound L.value L.meaning o line.now findings.now → IfOk result (λ alarms. AreGoodAlarms L.meaning o line.now alarms) }
-    ensures fit { IfOk result (λ alarms. All (λ (a : FamilyAlarm). AreLiterals (length line.now.model.features) a.region.literals) alarms) }
+    ensures good { (o : Options) → IsFound L.value L.meaning o line.now findings.now
+        → IfOk result (λ alarms. AreGoodAlarms L.meaning o line.now alarms) }
+    ensures fit { IfOk result (λ alarms. All
+        (λ (a : FamilyAlarm). AreLiterals (length line.now.model.features) a.region.literals) alarms) }
 {
     variants_are_projections();
     let atoms = line.family.atoms.items();
@@ -82,7 +84,9 @@ fn invariants_in<L: Leaf>(
     requires tested { AreTested line.now findings.now }
     ensures good { (o : Options) → IsFound L.value L.meaning o line.now findings.now
         → IfOk result (λ made. AreGoodInvariants L.meaning o line.now (map (invariant L.value) made.items)) }
-    ensures fit { IfOk result (λ made. All (λ (i : FamilyInvariant L). AreLiterals (length line.now.model.features) i.region.literals) made.items) }
+    ensures fit { IfOk result (λ made. All
+        (λ (i : FamilyInvariant L). AreLiterals
+        (length line.now.model.features) i.region.literals) made.items) }
 {
     variants_are_projections();
     let atoms = line.family.atoms.items();
@@ -108,7 +112,8 @@ fn invariants_before<L: Leaf>(
     requires line { IsUsableLine line.now }
     requires prepared { prepared.now ≡ line.now.model }
     requires tested { AreTested line.now findings.now }
-    ensures { (o : Options) → IsFound L.value L.meaning o line.now findings.now → IfOk result (λ text. AreInvariantsBefore L.meaning o line.now alarms.now text) }
+    ensures { (o : Options) → IsFound L.value L.meaning o line.now findings.now
+        → IfOk result (λ text. AreInvariantsBefore L.meaning o line.now alarms.now text) }
 {
     let invariants = invariants_in(alloc, line, prepared, findings)?;
     let features = line.model.features.items();
@@ -131,8 +136,10 @@ fn text_for<L: Leaf>(
     requires line { IsUsableLine line.now }
     requires prepared { prepared.now ≡ line.now.model }
     requires tested { AreTested line.now findings.now }
-    requires fit { All (λ (a : FamilyAlarm). AreLiterals (length line.now.model.features) a.region.literals) alarms.now }
-    ensures { (o : Options) → IsFound L.value L.meaning o line.now findings.now → IfOk result (λ text. IsGoodText L.meaning o task line.now alarms.now text) }
+    requires fit { All (λ (a : FamilyAlarm). AreLiterals
+        (length line.now.model.features) a.region.literals) alarms.now }
+    ensures { (o : Options) → IsFound L.value L.meaning o line.now findings.now
+        → IfOk result (λ text. IsGoodText L.meaning o task line.now alarms.now text) }
 {
     let told = alarm_text(alloc, line.model.features.items(), alarms)?;
     match task {
@@ -172,14 +179,16 @@ fn report_by(
     task: FamilyTask,
 ) -> Result<Done, NoMemory>
     requires { IsUsableLine line.now }
-    ensures answer { IfOk result (λ done. IsFamilyDone (meaning_of analysis.now.leaf) analysis.now.options task line.now done) }
-    ensures promise { IfOk result (λ done. PromisedOfAll (meaning_of analysis.now.leaf) analysis.now.options task line.now done.status done.text) }
+    ensures answer { IfOk result (λ done. IsFamilyDone
+        (meaning_of analysis.now.domain) analysis.now.options task line.now done) }
+    ensures promise { IfOk result (λ done. PromisedOfAll
+        (meaning_of analysis.now.domain) analysis.now.options task line.now done.status done.text) }
     ensures status { IfOk result (λ done. done.status ≤ 1) }
 {
-    match analysis.leaf {
-        LeafKind::Interval => report_on::<IntervalLeaf>(alloc, line, &analysis.options, task),
-        LeafKind::Octagon => report_on::<OctagonLeaf>(alloc, line, &analysis.options, task),
-        LeafKind::Stride => report_on::<StrideLeaf>(alloc, line, &analysis.options, task),
+    match analysis.domain {
+        Domain::Interval => report_on::<IntervalLeaf>(alloc, line, &analysis.options, task),
+        Domain::Octagon => report_on::<OctagonLeaf>(alloc, line, &analysis.options, task),
+        Domain::Stride => report_on::<StrideLeaf>(alloc, line, &analysis.options, task),
     }
 }
 
@@ -192,15 +201,18 @@ pub fn family<F: Files>(
     task: FamilyTask,
     files: &mut F,
 ) -> Result<Done, Stop>
-    ensures answer { (told : Contents) → F.content files.old model.now ≡ Some told.model → F.content files.old file.now ≡ Some told.file
+    ensures answer { (told : Contents) → F.content files.old model.now ≡ Some told.model
+        → F.content files.old file.now ≡ Some told.file
         → Comes (AnswersFamily analysis.now task told) result }
-    ensures promise { (told : Contents) → F.content files.old model.now ≡ Some told.model → F.content files.old file.now ≡ Some told.file
+    ensures promise { (told : Contents) → F.content files.old model.now ≡ Some told.model
+        → F.content files.old file.now ≡ Some told.file
         → IfOk result (λ done. PromisedFamily analysis.now task told done.status done.text) }
     ensures status { IfOk result (λ done. done.status ≤ 1) }
     ensures order { (m : List ℕ) → F.content files.old model.now ≡ Some m → IsReadFault result
         → IsLoadedFor model.now file.now m (F.failed files.new) }
     ensures kept { F.content files.new ≡ F.content files.old }
-    ensures read { IsReadOf (model.now ∷ file.now ∷ []) (F.faults files.old) (F.faults files.new) (F.failed files.new) result }
+    ensures read { IsReadOf (model.now ∷ file.now ∷ []) (F.faults files.old) (F.faults files.new)
+        (F.failed files.new) result }
 {
     let line = load_product_line(alloc, model.as_str(), file.as_str(), files)?;
     Ok(report_by(alloc, &line, analysis, task)?)

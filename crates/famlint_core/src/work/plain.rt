@@ -41,12 +41,14 @@ pub fn plain<F: Files>(
     analysis: &Analysis,
     files: &mut F,
 ) -> Result<Done, Stop>
-    ensures answer { (bytes : List ℕ) → F.content files.old file.now ≡ Some bytes → Comes (AnswersPlain analysis.now bytes) result }
+    ensures answer { (bytes : List ℕ) → F.content files.old file.now ≡ Some bytes
+        → Comes (AnswersPlain analysis.now bytes) result }
     ensures promise { (bytes : List ℕ) → F.content files.old file.now ≡ Some bytes
         → IfOk result (λ done. PromisedPlain analysis.now bytes done.status done.text) }
     ensures status { IfOk result (λ done. done.status ≤ 1) }
     ensures kept { F.content files.new ≡ F.content files.old }
-    ensures read { IsReadOf (file.now ∷ []) (F.faults files.old) (F.faults files.new) (F.failed files.new) result }
+    ensures read { IsReadOf (file.now ∷ []) (F.faults files.old) (F.faults files.new)
+        (F.failed files.new) result }
 {
     let text = load_file(alloc, file.as_str(), files)?;
     report_on_bytes(alloc, text.bytes(), analysis)

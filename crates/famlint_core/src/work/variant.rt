@@ -162,15 +162,18 @@ pub fn variant<F: Files>(
     files: &mut F,
 ) -> Result<Done, Stop>
     requires { HaveInts task.now }
-    ensures answer { (told : Contents) → F.content files.old model.now ≡ Some told.model → F.content files.old file.now ≡ Some told.file
+    ensures answer { (told : Contents) → F.content files.old model.now ≡ Some told.model
+        → F.content files.old file.now ≡ Some told.file
         → Comes (AnswersVariant task.now settings.now told) result }
-    ensures promise { (told : Contents) → F.content files.old model.now ≡ Some told.model → F.content files.old file.now ≡ Some told.file
+    ensures promise { (told : Contents) → F.content files.old model.now ≡ Some told.model
+        → F.content files.old file.now ≡ Some told.file
         → IfOk result (λ done. PromisedVariant task.now settings.now told done.status done.text) }
     ensures status { IfOk result (λ done. done.status ≤ 1) }
     ensures order { (m : List ℕ) → F.content files.old model.now ≡ Some m → IsReadFault result
         → IsLoadedFor model.now file.now m (F.failed files.new) }
     ensures kept { F.content files.new ≡ F.content files.old }
-    ensures read { IsReadOf (model.now ∷ file.now ∷ []) (F.faults files.old) (F.faults files.new) (F.failed files.new) result }
+    ensures read { IsReadOf (model.now ∷ file.now ∷ []) (F.faults files.old) (F.faults files.new)
+        (F.failed files.new) result }
 {
     let selected = select(
         alloc,

@@ -1,6 +1,6 @@
 use Rattle.std.proofs.Common.{rules, map, string_bytes, Global}
 use Rattle.clap.specs.Words.{found_of, rows_of}
-use Rattle.command_words.specs.Options.{chosen_of}
+use Rattle.command_words.specs.Arguments.{chosen_of}
 use Rattle.command_words.proofs.Choosing.{chosen-read, chosen-refused, Reads-ok_or}
 use Rattle.command_words.proofs.command.read_spelled.Goals as goal
 

@@ -1,8 +1,5 @@
-use Rattle.command_words.proofs.Choosing.{settings-parts}
-use Rattle.command_words.proofs.Ranges.{answer_ranged}
+use Rattle.command_words.proofs.Ranges.{parts_ranged}
 use Rattle.command_words.proofs.reading.read_settings.Goals as goal
 
-pub returns : goal.returns
-returns c =
-    let answer = rw (settings-parts c.args.values.now) at c.read_parts.ensures in
-    record { answer = answer; ranges = answer_ranged c.args.values.now c.read_parts.result answer }
+pub returns-clause-ranges : goal.returns-clause-ranges
+returns-clause-ranges c = parts_ranged c.args.values.now c.in_ok-chosen.chosen c.in_ok-inputs.inputs c.in_ok-chosen.ensures c.in_ok-inputs.ensures

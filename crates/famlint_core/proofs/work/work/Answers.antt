@@ -28,3 +28,18 @@ pub returns-in-Family-clause-promise : goal.returns-in-Family-clause-promise
 returns-in-Family-clause-promise g c = λ told is_told.
     let content = g.F.Files.content c.args.files.now in
     subst (λ r. IsTold r content told → IfOk c.family.result (λ done. Promised r told done.status done.text)) (sym c.in-Family.is) (λ t. c.family.ensures.promise told t.0 t.1) is_told
+
+pub returns-in-Features-clause-answer : goal.returns-in-Features-clause-answer
+returns-in-Features-clause-answer g c = λ told is_told.
+    let content = g.F.Files.content c.args.files.now in
+    subst (λ r. IsTold r content told → Comes (Answers r told) c.features.result) (sym c.in-Features.is) (λ t. c.features.ensures.answer told.model t) is_told
+
+pub returns-in-Advice-clause-answer : goal.returns-in-Advice-clause-answer
+returns-in-Advice-clause-answer g c = λ told is_told.
+    let content = g.F.Files.content c.args.files.now in
+    subst (λ r. IsTold r content told → Comes (Answers r told) c.advice.result) (sym c.in-Advice.is) (λ t. c.advice.ensures.answer told t.0 t.1) is_told
+
+pub returns-in-Advice-clause-promise : goal.returns-in-Advice-clause-promise
+returns-in-Advice-clause-promise g c = λ told is_told.
+    let content = g.F.Files.content c.args.files.now in
+    subst (λ r. IsTold r content told → IfOk c.advice.result (λ done. Promised r told done.status done.text)) (sym c.in-Advice.is) (λ t. c.advice.ensures.promise told t.0 t.1) is_told
