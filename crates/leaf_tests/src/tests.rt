@@ -1,0 +1,135 @@
+//! All operations of a kind of leaf over all small leaves.
+
+use crate::operations::{
+    Small, bounds_are_reached, form_range_holds, is_same_by_best, meet_form_holds,
+    meet_range_is_exact, set_form_holds, set_range_holds,
+};
+use crate::pairs::{both_are_held, common_are_kept, order_is_seen};
+use crate::small::{Sum, small_leaves};
+use crate::stores::held_by;
+use fam_outer::NoMemory;
+use interval_leaf::IntervalLeaf;
+use leaf_domain::{Compare, Leaf};
+use octagon_leaf::OctagonLeaf;
+use product_leaf::StrideLeaf;
+use std::alloc::Global;
+use std::test::Fail;
+
+/// Sums, and whether an octagon has the best range of each.
+const SUMS: [(i8, i8, i8, bool); 9] = [
+    (0, 0, 3, true),
+    (1, 0, 0, true),
+    (0, -1, 2, true),
+    (1, -1, 0, true),
+    (1, 1, -1, true),
+    (-1, -1, 3, true),
+    (-1, 1, -2, true),
+    (2, 1, 0, false),
+    (3, -2, 1, false),
+];
+
+const COMPARES: [Compare; 6] = [
+    Compare::Lt,
+    Compare::Le,
+    Compare::Gt,
+    Compare::Ge,
+    Compare::Eq,
+    Compare::Ne,
+];
+
+const RANGES: [(i64, i64); 4] = [(-4, 4), (0, 2), (-1, -1), (3, 2)];
+
+/// The operations that take a sum.
+fn sums_pass<L: Leaf>(alloc: Global, small: &Small<L>, is_octagon: bool) -> Result<bool, NoMemory> {
+    for (x, y, constant, is_best) in SUMS {
+        let sum = Sum { x, y, constant };
+        if !(form_range_holds(alloc, small, sum, is_octagon && is_best)?
+            && set_form_holds(alloc, small, 0, sum)?
+            && set_form_holds(alloc, small, 1, sum)?)
+        {
+            return Ok(false);
+        }
+        for op in COMPARES {
+            if !meet_form_holds(alloc, small, sum, op)? {
+                return Ok(false);
+            }
+        }
+    }
+    Ok(true)
+}
+
+/// The operations that take a range.
+fn ranges_pass<L: Leaf>(alloc: Global, small: &Small<L>) -> Result<bool, NoMemory> {
+    for (low, high) in RANGES {
+        for x in [0, 1] {
+            if !(meet_range_is_exact(alloc, small, x, low, high)?
+                && set_range_holds(alloc, small, x, low, high)?)
+            {
+                return Ok(false);
+            }
+        }
+    }
+    Ok(true)
+}
+
+/// The operations on one leaf.
+fn single_passes<L: Leaf>(alloc: Global, leaf: &L, is_octagon: bool) -> Result<bool, NoMemory> {
+    let held = held_by(alloc, leaf)?;
+    let small = Small { leaf, held: &held };
+    Ok(
+        is_same_by_best(alloc, &small)?
+            && bounds_are_reached(alloc, &small, 0)?
+            && bounds_are_reached(alloc, &small, 1)?
+            && ranges_pass(alloc, &small)?
+            && sums_pass(alloc, &small, is_octagon)?,
+    )
+}
+
+/// The operations on two leaves.
+fn pair_passes<L: Leaf>(alloc: Global, a: &L, b: &L) -> Result<bool, NoMemory> {
+    let held = held_by(alloc, a)?;
+    let other = held_by(alloc, b)?;
+    let a = Small {
+        leaf: a,
+        held: &held,
+    };
+    let b = Small {
+        leaf: b,
+        held: &other,
+    };
+    Ok(order_is_seen(&a, &b) && both_are_held(alloc, &a, &b)? && common_are_kept(alloc, &a, &b)?)
+}
+
+/// Everything, over all small leaves of a kind.
+fn all_pass<L: Leaf>(alloc: Global, is_octagon: bool) -> Result<bool, NoMemory> {
+    let leaves: Vec<L> = small_leaves(alloc)?;
+    for a in &leaves {
+        if !single_passes(alloc, a, is_octagon)? {
+            return Ok(false);
+        }
+        for b in &leaves {
+            if !pair_passes(alloc, a, b)? {
+                return Ok(false);
+            }
+        }
+    }
+    Ok(leaves.len() == 35)
+}
+
+#[test]
+fn intervals_hold_what_they_must(rt: HostRuntime) -> Result<(), Fail> {
+    assert!(rt; all_pass::<IntervalLeaf>(rt.alloc(), false)?);
+    Ok(())
+}
+
+#[test]
+fn strides_hold_what_they_must(rt: HostRuntime) -> Result<(), Fail> {
+    assert!(rt; all_pass::<StrideLeaf>(rt.alloc(), false)?);
+    Ok(())
+}
+
+#[test]
+fn octagons_hold_what_they_must(rt: HostRuntime) -> Result<(), Fail> {
+    assert!(rt; all_pass::<OctagonLeaf>(rt.alloc(), true)?);
+    Ok(())
+}
