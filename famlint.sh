@@ -12,8 +12,8 @@ echo "famlint.sh: an unproved quick run; to prove and build the program: cd $top
 # How many paths a command has, behind its name.
 paths_of() {
     case $1 in
-    plain) echo 1 ;;
-    analyse | invariants | project | variant | run) echo 2 ;;
+    plain | features) echo 1 ;;
+    analyse | invariants | project | variant | run | advise) echo 2 ;;
     *) echo 0 ;;
     esac
 }

@@ -8,11 +8,11 @@ top=$(dirname "$bench")
 work=$(mktemp -d)
 trap 'rm -rf "$work"' EXIT
 mkdir -p "$work/crates/solver_times/src"
-for crate in fam_outer linear_atoms cpp_conditions atom_solver c_words feature_model; do
+for crate in fam_outer linear_terms linear_atoms cpp_conditions atom_solver c_words feature_model; do
     mkdir "$work/crates/$crate"
     (cd "$top/crates/$crate" && tar cf - --exclude=./out .) | (cd "$work/crates/$crate" && tar xf -)
 done
-grep -E '^(fam_outer|linear_atoms|cpp_conditions|atom_solver|c_words|feature_model):' "$top/crates.txt" > "$work/crates.txt"
+grep -E '^(fam_outer|linear_terms|linear_atoms|cpp_conditions|atom_solver|c_words|feature_model):' "$top/crates.txt" > "$work/crates.txt"
 echo 'solver_times: feature_model atom_solver cpp_conditions linear_atoms fam_outer' >> "$work/crates.txt"
 cp "$bench/solver_times.txt" "$work/crates/solver_times/src/main.rt"
 cd "$work/crates/solver_times"

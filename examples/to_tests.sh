@@ -1,0 +1,44 @@
+#!/usr/bin/env bash
+# Writes the example files and what is expected of them as the source crates/famlint_core_tests/src/example_files.rt, so that a test of
+# the gate keeps them true. Run it behind each change here. No gate runs this.
+set -euo pipefail
+here=$(cd "$(dirname "$0")" && pwd)
+target=$here/../crates/famlint_core_tests/src/example_files.rt
+
+# a file as a string of Rust; its last line has an end too
+quoted() {
+    [ -z "$(tail -c 1 "$1")" ] || { echo "to_tests.sh: $1 ends within a line" >&2; exit 1; }
+    awk 'BEGIN { ORS = "" } { gsub(/\\/, "\\\\&"); gsub(/"/, "\\\""); gsub(/\t/, "\\t"); gsub(/\r/, "\\r"); print $0 "\\n" }' "$1"
+}
+
+# a pair of strings, of which the first is a text and the second a file
+pair() {
+    printf '    (\n        "%s",\n        "%s",\n    ),\n' "$1" "$(quoted "$2")"
+}
+
+cd "$here"
+files=(*.c refused/*.c families/*.c families/*.json)
+outputs=(*.expected refused/*.expected families/*.expected)
+{
+    echo '//! The example files, and the words of commands on them with what is expected, as `examples/to_tests.sh` writes them.'
+    echo
+    echo '/// Each file under its path.'
+    echo "pub(crate) const FILES: [(&str, &str); ${#files[@]}] = ["
+    for file in "${files[@]}"; do
+        pair "$(basename "$file")" "$file"
+    done
+    echo '];'
+    echo
+    echo '/// The words of each command, with its output and then its line on the error stream.'
+    echo "pub(crate) const COMMANDS: [(&str, &str); ${#outputs[@]}] = ["
+    for output in "${outputs[@]}"; do
+        words=${output%.expected}.words
+        if [ -e "$words" ]; then
+            pair "$(tr -d '\n' < "$words")" "$output"
+        else
+            pair "plain $(basename "${output%.expected}").c" "$output"
+        fi
+    done
+    echo '];'
+} > "$target"
+cd "$here/../crates/famlint_core_tests" && rt fmt > /dev/null
