@@ -1,7 +1,7 @@
 #!/usr/bin/env bash
 # Times the kinds of leaf on one program of 16 variables: three loops in one another with assignments `x = y + 1` and `x = x + y`
 # and tests `x < y`. It runs the proved program, crates/famlint/out/famlint, and prints the times, their ratios, and, where gdb
-# is there, how often octagons are closed in full and after one meet, beside the widenings and narrowings. No gate runs this.
+# is there, how many octagons are closed in full and how many sweeps over a matrix there are. No gate runs this.
 set -euo pipefail
 bench=$(cd "$(dirname "$0")" && pwd)
 program=${FAMLINT:-$bench/../crates/famlint/out/famlint}
@@ -46,3 +46,17 @@ for domain in interval stride octagon; do
 done
 echo "stride to interval: $((100 * took[stride] / took[interval])) in a hundred"
 echo "octagon to interval: $((100 * took[octagon] / took[interval])) in a hundred"
+
+# A widening or a narrowing closes its matrix once, by `standing_as`; a meet by `close_after_one`. A pass is one sweep over the entries.
+if command -v gdb > /dev/null; then
+    cat > "$work/count.gdb" <<'END'
+set pagination off
+break 'octagon_leaf::leaf::OctagonLeaf::standing_as'
+ignore 1 1000000000
+break 'octagon_closure::pass'
+ignore 2 1000000000
+END
+    gdb -batch -x "$work/count.gdb" -ex "run plain --overflow=wrap --delay=2 --narrow=2 --domain=octagon $work/nest.c" \
+        -ex 'info breakpoints' "$program" 2>&1 |
+        awk '/already hit/ { n++; print (n == 1 ? "octagons closed in full: " : "sweeps in all: ") $4 }'
+fi
