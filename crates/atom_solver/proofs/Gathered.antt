@@ -8,17 +8,16 @@ use Rattle.atom_solver.specs.Facts.{AreMet, AreRising, IsFact, Adds, AddsAll}
 use Rattle.cpp_conditions.specs.declared.conditions.Condition.{Condition}
 use Rattle.cpp_conditions.specs.View.{proposition}
 use Rattle.cpp_conditions.specs.Validity.{all_true}
-use Rattle.atom_solver.specs.Spans.{meets}
 use Rattle.atom_solver.specs.Truths.{AddsKnown}
 
 pub adds_none : (p : Proposition Atom) (truth : Bool) (fs : List Linear) → Adds p truth fs fs
 adds_none p truth fs = record { rising = λ h. h; met = λ vs h e. h }
 
-rising_more : (fs : List Linear) (f : Linear) → AreRising fs → IsRising f.terms → AreRising (fs ++ f ∷ [])
+pub rising_more : (fs : List Linear) (f : Linear) → AreRising fs → IsRising f.terms → AreRising (fs ++ f ∷ [])
 rising_more [] f h k = (k, tt)
 rising_more (g ∷ gs) f h k = (h.0, rising_more gs f h.1 k)
 
-met_more : (fs : List Linear) (f : Linear) (vs : List ℤ) → AreMet vs fs → pos 0 ≤ℤ form_at f vs → AreMet vs (fs ++ f ∷ [])
+pub met_more : (fs : List Linear) (f : Linear) (vs : List ℤ) → AreMet vs fs → pos 0 ≤ℤ form_at f vs → AreMet vs (fs ++ f ∷ [])
 met_more [] f vs h k = (k, tt)
 met_more (g ∷ gs) f vs h k = (h.0, met_more gs f vs h.1 k)
 
@@ -85,13 +84,6 @@ all_more cs behind c p fs gs hs e h k = subst (λ x. AddsAll x p fs hs) (sym e) 
   rising = λ r. k.rising (h.rising r);
   met = λ vs m t. k.met vs (h.met vs m (front (true_at vs (proposition c)) (all_true vs (map proposition behind)) (true_at vs p) t)) (back (true_at vs (proposition c)) (all_true vs (map proposition behind)) (true_at vs p) t);
 })
-
-by_truth : (b : Bool) → (b ≡ true → ⊥) → b ≡ false
-by_truth true h = absurd (h refl)
-by_truth false h = refl
-
-pub opposed : (cs : List Condition) (p : Proposition Atom) (old new : List Linear) → old ≡ [] → AddsAll cs p old new → ((vs : List ℤ) → AreMet vs new → AreMet vs new → ⊥) → (vs : List ℤ) → meets cs p vs ≡ false
-opposed cs p old new e h k vs = by_truth (meets cs p vs) (λ t. let m : AreMet vs new = h.met vs (subst (λ x. AreMet vs x) (sym e) tt) t in k vs m m)
 
 -- ---- truths that are known
 

@@ -2,12 +2,14 @@
 use Rattle.std.proofs.Common.{◌≡◌, ℕ, zero, suc, ◌<◌, ℤ, Bool, true, false, not, ◌&&◌, ◌||◌, List, [], ◌∷◌, length, get_or, set, Option, Some, None, sym, ap, subst, refl, ◌∙◌, arith}
 use Rattle.linear_atoms.specs.declared.atoms.Atom.{Atom}
 use Rattle.linear_atoms.specs.declared.atoms.Feature.{Feature}
+use Rattle.linear_atoms.specs.declared.forms.Linear.{Linear}
 use Rattle.linear_atoms.specs.Atoms.{holds, IsAtom, AreAtoms, IsDecided, IsWithin}
 use Rattle.cpp_conditions.specs.Numbering.{vector_at}
 use Rattle.atom_solver.specs.Spans.{Agrees, meets}
 use Rattle.std.proofs.lemmas.Bool.{false≢true}
 use Rattle.cpp_conditions.specs.declared.conditions.Condition.{Condition}
-use Rattle.cpp_conditions.specs.Propositions.{Proposition, Const, true_on}
+use Rattle.cpp_conditions.specs.Propositions.{Proposition, true_on}
+use Rattle.atom_solver.specs.Facts.{AreMet, AreMetWithin}
 use Rattle.atom_solver.specs.Truths.{Knows, Keeps, IsVoid, StandsFor}
 
 at_set : (ks : List (Option Bool)) (n m : ℕ) (b q : Bool) → ((n ≡ m) → q ≡ b) → Agrees (get_or ks m None) q → Agrees (get_or (set ks n (Some b)) m None) q
@@ -100,23 +102,35 @@ decided_at fs atoms values n a said b h e s d w = truth_at atoms values n a h e 
 
 -- ---- what no truths make true
 
-pub void_false : (atoms : List Atom) (old new : List (Option Bool)) (p q : Proposition ℕ) → Keeps atoms old p new q → q ≡ Const false → IsVoid atoms old p
-void_false atoms old new p q h e vs k t = false≢true (sym (ap (true_on (vector_at atoms vs)) e) ∙ h.true_still vs k t)
+pub void_false : (ends : List Linear) (atoms : List Atom) (old new : List (Option Bool)) (p : Proposition ℕ) → Keeps atoms old p new p → ((v : List Bool) → Knows new v → true_on v p ≡ false) → IsVoid ends atoms old p
+void_false ends atoms old new p h f vs m k t = false≢true (sym (f (vector_at atoms vs) (h.knows vs k t)) ∙ t)
 
-pub void_clash : (atoms : List Atom) (old new : List (Option Bool)) (p q : Proposition ℕ) → Keeps atoms old p new q → ((vs : List ℤ) → Knows new (vector_at atoms vs) → ⊥) → IsVoid atoms old p
-void_clash atoms old new p q h c vs k t = c vs (h.knows vs k t)
+pub void_clash : (ends : List Linear) (atoms : List Atom) (old new : List (Option Bool)) (p : Proposition ℕ) → Keeps atoms old p new p → ((vs : List ℤ) → AreMet vs ends → Knows new (vector_at atoms vs) → ⊥) → IsVoid ends atoms old p
+void_clash ends atoms old new p h c vs m k t = c vs m (h.knows vs k t)
 
 by_truth : (b : Bool) → (b ≡ true → ⊥) → (b ≡ false → ⊥) → ⊥
 by_truth true f g = f refl
 by_truth false f g = g refl
 
-pub void_both : (atoms : List Atom) (old new on off : List (Option Bool)) (p q : Proposition ℕ) (n : ℕ) → Keeps atoms old p new q
+pub void_both : (ends : List Linear) (atoms : List Atom) (old new on off : List (Option Bool)) (p : Proposition ℕ) (n : ℕ) → Keeps atoms old p new p
     → ((v : List Bool) → Knows new v → get_or v n false ≡ true → Knows on v) → ((v : List Bool) → Knows new v → get_or v n false ≡ false → Knows off v)
-    → IsVoid atoms on q → IsVoid atoms off q → IsVoid atoms old p
-void_both atoms old new on off p q n h f g a b vs k t =
+    → IsVoid ends atoms on p → IsVoid ends atoms off p → IsVoid ends atoms old p
+void_both ends atoms old new on off p n h f g a b vs m k t =
     let v = vector_at atoms vs in
     let w : Knows new v = h.knows vs k t in
-    by_truth (get_or v n false) (λ e. a vs (f v w e) (h.true_still vs k t)) (λ e. b vs (g v w e) (h.true_still vs k t))
+    by_truth (get_or v n false) (λ e. a vs m (f v w e) t) (λ e. b vs m (g v w e) t)
+
+-- ---- what nothing in a box makes true
+
+pub untrue_by : (fs : List Feature) (atoms : List Atom) (old new : List (Option Bool)) (p : Proposition ℕ) → Keeps atoms old p new p
+    → ((v : List Bool) → Knows new v → true_on v p ≡ false) → (vs : List ℤ) → IsWithin fs vs → Knows old (vector_at atoms vs) → true_on (vector_at atoms vs) p ≡ true → ⊥
+untrue_by fs atoms old new p h f vs w k t = false≢true (sym (f (vector_at atoms vs) (h.knows vs k t)) ∙ t)
+
+pub untrue_left : (fs : List Feature) (ends : List Linear) (atoms : List Atom) (old new : List (Option Bool)) (p q : Proposition ℕ) → Keeps atoms old p new p
+    → ((v : List Bool) → Knows new v → true_on v q ≡ true_on v p) → AreMetWithin fs ends → IsVoid ends atoms new q → (vs : List ℤ) → IsWithin fs vs → Knows old (vector_at atoms vs) → true_on (vector_at atoms vs) p ≡ true → ⊥
+untrue_left fs ends atoms old new p q h r e d vs w k t =
+    let n : Knows new (vector_at atoms vs) = h.knows vs k t in
+    d vs (e.met vs w) n (r (vector_at atoms vs) n ∙ t)
 
 false_by : (b : Bool) → (b ≡ true → ⊥) → b ≡ false
 false_by true h = absurd (h refl)

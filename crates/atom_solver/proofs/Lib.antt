@@ -2,6 +2,7 @@ pub mod Apart
 pub mod Below
 pub mod Boxed
 pub mod Cutting
+pub mod Ended
 pub mod EqualTerms
 pub mod Freed
 pub mod Gathered

@@ -15,9 +15,9 @@ use Rattle.atom_solver.specs.Spans.{Agrees, meets}
 abbrev pub Knows : List (Option Bool) → List Bool → Type 0
 Knows known vector = (n : ℕ) → Agrees (slice_index_or known n None) (slice_index_or vector n false)
 
--- no values give the atoms such truths and make the formula true
-abbrev pub IsVoid : List Atom → List (Option Bool) → Proposition ℕ → Type 0
-IsVoid atoms known p = (values : List ℤ) → Knows known (vector_at atoms values) → true_on (vector_at atoms values) p ≡ true → ⊥
+-- no values at which these forms are at least 0 give the atoms such truths and make the formula true
+abbrev pub IsVoid : List Linear → List Atom → List (Option Bool) → Proposition ℕ → Type 0
+IsVoid ends atoms known p = (values : List ℤ) → AreMet values ends → Knows known (vector_at atoms values) → true_on (vector_at atoms values) p ≡ true → ⊥
 
 -- the values that give the atoms such truths and make the formula true do so for the new ones
 pub record Keeps (atoms : List Atom) (known : List (Option Bool)) (p : Proposition ℕ) (more : List (Option Bool)) (q : Proposition ℕ) : Type 0 where

@@ -2,11 +2,12 @@
 #![tactic(auto)]
 
 ghost use Rattle.std.specs.Prelude.{◌≡◌, ℤ, List, Bool, true, false, not, ◌&&◌, ◌||◌, length};
+ghost use Rattle.linear_atoms.specs.declared.atoms.Atom.{Atom};
 ghost use Rattle.linear_atoms.specs.Atoms.{AreRanges, IsWithin};
-ghost use Rattle.cpp_conditions.specs.Propositions.{IsFit, true_at};
+ghost use Rattle.cpp_conditions.specs.Propositions.{Proposition, IsFit, true_at};
 ghost use Rattle.cpp_conditions.specs.Validity.{AreFit};
 ghost use Rattle.cpp_conditions.specs.View.{proposition};
-ghost use Rattle.atom_solver.specs.Spans.{ranges, Agrees, IsKnown, meets};
+ghost use Rattle.atom_solver.specs.Spans.{ranges, Agrees, meets};
 
 use cpp_conditions::Condition;
 use linear_atoms::Span;
@@ -46,22 +47,8 @@ pub(crate) fn either(left: Option<bool>, right: Option<bool>) -> Option<bool>
     }
 }
 
-/// What is known of a condition: a truth that it has at every configuration of the box, or None.
-pub(crate) fn decided(condition: &Condition, spans: &[Span]) -> Option<bool>
-    requires fit { IsFit (length spans.now) (proposition condition.now) }
-    requires ranges { AreRanges (ranges spans.now) }
-    ensures { IsKnown (ranges spans.now) (proposition condition.now) result }
-{
-    match condition {
-        Condition::Const(truth) => Some(*truth),
-        Condition::Test(atom) => atom.decided_within(spans),
-        Condition::Not(inner) => negation(decided(inner, spans)),
-        Condition::And(left, right) => both(decided(left, spans), decided(right, spans)),
-        Condition::Or(left, right) => either(decided(left, spans), decided(right, spans)),
-    }
-}
-
-/// Whether a condition is known to have this truth on the whole box. It looks no further than it must.
+/// Whether a condition is known to have this truth on the whole box. It looks no further than it must, and first at the
+/// second part: a chain of `||` has its single tests there.
 #[tactic(auto, using(crate::proofs::Known::right_false, crate::proofs::Known::right_true))]
 fn has_truth(condition: &Condition, truth: bool, spans: &[Span]) -> bool
     requires fit { IsFit (length spans.now) (proposition condition.now) }
@@ -78,7 +65,7 @@ fn has_truth(condition: &Condition, truth: bool, spans: &[Span]) -> bool
         Condition::Not(inner) => has_truth(inner, !truth, spans),
         Condition::And(left, right) => {
             if truth {
-                has_truth(left, true, spans) && has_truth(right, true, spans)
+                has_truth(right, true, spans) && has_truth(left, true, spans)
             } else {
                 has_truth(left, false, spans) || has_truth(right, false, spans)
             }
@@ -87,7 +74,7 @@ fn has_truth(condition: &Condition, truth: bool, spans: &[Span]) -> bool
             if truth {
                 has_truth(left, true, spans) || has_truth(right, true, spans)
             } else {
-                has_truth(left, false, spans) && has_truth(right, false, spans)
+                has_truth(right, false, spans) && has_truth(left, false, spans)
             }
         }
     }
@@ -108,6 +95,46 @@ pub(crate) fn is_ruled_out(spans: &[Span], constraints: &[Condition], wanted: &C
                 true
             } else {
                 is_ruled_out(spans, behind, wanted)
+            }
+        }
+    }
+}
+
+/// Whether the constraint at a place is known to be false on the whole box.
+#[tactic(auto, using(crate::proofs::Known::fit_at, crate::proofs::Known::false_at))]
+fn is_false_at(spans: &[Span], constraints: &[Condition], place: usize) -> bool
+    requires constraints { AreFit (length spans.now) constraints.now }
+    requires ranges { AreRanges (ranges spans.now) }
+    ensures { result ≡ true → (wanted : Proposition Atom) (values : List ℤ) → IsWithin (ranges spans.now) values
+        → meets constraints.now wanted values ≡ false }
+{
+    if place >= constraints.len() {
+        return false;
+    }
+    has_truth(&constraints[place], false, spans)
+}
+
+/// Whether a constraint at one of some places, or what is wanted, is known to be false on the whole box.
+#[tactic(auto, using(crate::proofs::Known::wanted_false))]
+pub(crate) fn is_ruled_out_by(
+    spans: &[Span],
+    constraints: &[Condition],
+    places: &[usize],
+    wanted: &Condition,
+) -> bool
+    requires constraints { AreFit (length spans.now) constraints.now }
+    requires wanted { IsFit (length spans.now) (proposition wanted.now) }
+    requires ranges { AreRanges (ranges spans.now) }
+    ensures { result ≡ true → (values : List ℤ) → IsWithin (ranges spans.now) values
+        → meets constraints.now (proposition wanted.now) values ≡ false }
+{
+    match cut(places) {
+        None => has_truth(wanted, false, spans),
+        Some((place, behind)) => {
+            if is_false_at(spans, constraints, *place) {
+                true
+            } else {
+                is_ruled_out_by(spans, constraints, behind, wanted)
             }
         }
     }

@@ -54,7 +54,7 @@ pub(crate) fn number(alloc: Global, n: i64) -> Result<Option<Linear>, NoMemory>
 
 /// A feature times a number.
 #[tactic(auto, using(crate::proofs::Stated::term_is))]
-fn term(alloc: Global, number: u32, by: i64) -> Result<Option<Linear>, NoMemory>
+pub(crate) fn term(alloc: Global, number: u32, by: i64) -> Result<Option<Linear>, NoMemory>
     ensures { IfOk result (λ made. MatchOption made (Unit {0}) (λ f. IsTerm number by f)) }
 {
     let form = Linear::feature(alloc, number)?;

@@ -7,9 +7,9 @@ ghost use Rattle.cpp_conditions.specs.Propositions.{IsFit, true_at};
 ghost use Rattle.cpp_conditions.specs.Validity.{AreFit};
 ghost use Rattle.cpp_conditions.specs.View.{proposition};
 ghost use Rattle.atom_solver.specs.Free.{put, IsUnread, IsSame, Serves};
-ghost use Rattle.atom_solver.specs.Spans.{ranges, meets};
+ghost use Rattle.atom_solver.specs.Spans.{ranges, meets, IsKnown};
 
-use crate::deciding::decided;
+use crate::deciding::{both, either, negation};
 use crate::ends::range_at;
 use crate::narrowing::narrowed;
 use cpp_conditions::Condition;
@@ -50,44 +50,85 @@ fn is_unnamed(condition: &Condition, place: usize) -> bool
     }
 }
 
-/// Whether a condition is decided on the box.
-fn is_decided(condition: &Condition, spans: &[Span], place: usize) -> bool
+/// What a box says of a condition: a truth that it has at each configuration, if there is one, and whether it has the same
+/// truth at each whatever the value of a feature.
+#[derive(Clone, Copy)]
+struct Seen {
+    truth: Option<bool>,
+    is_free: bool,
+}
+
+/// What a box says of a condition, each part of it looked at once. What is decided hangs on no feature.
+#[tactic(auto, using(crate::proofs::Freed::known_same))]
+fn look(condition: &Condition, spans: &[Span], place: usize) -> Seen
     requires fit { IsFit (length spans.now) (proposition condition.now) }
     requires ranges { AreRanges (ranges spans.now) }
-    ensures { result ≡ true → IsSame (ranges spans.now) place
+    ensures known { IsKnown (ranges spans.now) (proposition condition.now) result.truth }
+    ensures free { result.is_free ≡ true → IsSame (ranges spans.now) place
         (λ (values : List ℤ). true_at values (proposition condition.now)) }
 {
-    match decided(condition, spans) {
-        None => false,
-        Some(_truth) => true,
+    match condition {
+        Condition::Const(truth) => Seen {
+            truth: Some(*truth),
+            is_free: true,
+        },
+        Condition::Test(atom) => match atom.decided_within(spans) {
+            Some(truth) => Seen {
+                truth: Some(truth),
+                is_free: true,
+            },
+            None => Seen {
+                truth: None,
+                is_free: is_unread(atom.terms.items(), place),
+            },
+        },
+        Condition::Not(inner) => {
+            let inner = look(inner, spans, place);
+            Seen {
+                truth: negation(inner.truth),
+                is_free: inner.is_free,
+            }
+        }
+        Condition::And(left, right) => {
+            let left = look(left, spans, place);
+            let right = look(right, spans, place);
+            match both(left.truth, right.truth) {
+                Some(truth) => Seen {
+                    truth: Some(truth),
+                    is_free: true,
+                },
+                None => Seen {
+                    truth: None,
+                    is_free: left.is_free && right.is_free,
+                },
+            }
+        }
+        Condition::Or(left, right) => {
+            let left = look(left, spans, place);
+            let right = look(right, spans, place);
+            match either(left.truth, right.truth) {
+                Some(truth) => Seen {
+                    truth: Some(truth),
+                    is_free: true,
+                },
+                None => Seen {
+                    truth: None,
+                    is_free: left.is_free && right.is_free,
+                },
+            }
+        }
     }
 }
 
-/// Whether a condition has the same truth at each configuration of the box, whatever the value of a feature: it is
-/// decided, or what is undecided of it does not name the feature.
+/// Whether a condition has the same truth at each configuration of the box, whatever the value of a feature: it does not
+/// name the feature, or each part of it that does is decided.
 fn is_free(condition: &Condition, spans: &[Span], place: usize) -> bool
     requires fit { IsFit (length spans.now) (proposition condition.now) }
     requires ranges { AreRanges (ranges spans.now) }
     ensures { result ≡ true → IsSame (ranges spans.now) place
         (λ (values : List ℤ). true_at values (proposition condition.now)) }
 {
-    if is_unnamed(condition, place) {
-        return true;
-    }
-    if is_decided(condition, spans, place) {
-        return true;
-    }
-    match condition {
-        Condition::Const(_truth) => true,
-        Condition::Test(_atom) => false,
-        Condition::Not(inner) => is_free(inner, spans, place),
-        Condition::And(left, right) => {
-            is_free(left, spans, place) && is_free(right, spans, place)
-        }
-        Condition::Or(left, right) => {
-            is_free(left, spans, place) && is_free(right, spans, place)
-        }
-    }
+    is_unnamed(condition, place) || look(condition, spans, place).is_free
 }
 
 /// Whether all conditions are so.

@@ -1,4 +1,4 @@
-//! Which features the constraints link. It is advice alone: who asks looks at each constraint again.
+//! Which features conditions name and link. It is advice alone: who asks looks at each condition again.
 #![tactic(auto)]
 
 use cpp_conditions::Condition;
@@ -107,6 +107,38 @@ pub(crate) fn labels_of(
         labels = joined(alloc, &labels, &marked)?;
     }
     Ok(labels)
+}
+
+/// Puts a number behind those of each feature that is marked.
+fn add_number(marks: &[bool], number: usize, naming: &mut [Vec<usize>]) -> Result<(), NoMemory> {
+    let mut place: usize = 0;
+    for mark in marks {
+        if *mark && place < naming.len() {
+            naming[place].push(number)?;
+        }
+        place = place.saturating_add(1);
+    }
+    Ok(())
+}
+
+/// For each of so many features the places of the conditions that name it.
+pub(crate) fn naming_of(
+    alloc: Global,
+    count: usize,
+    conditions: &[Condition],
+) -> Result<Vec<Vec<usize>>, NoMemory> {
+    let mut naming = Vec::new(alloc);
+    for _feature in 0..count {
+        naming.push(Vec::new(alloc))?;
+    }
+    let mut place: usize = 0;
+    for condition in conditions {
+        let mut marks = vec![in alloc; false; count]?;
+        mark_named(condition, &mut marks);
+        add_number(&marks, place, &mut naming)?;
+        place = place.saturating_add(1);
+    }
+    Ok(naming)
 }
 
 /// The features with a label.

@@ -5,6 +5,7 @@ mod branching;
 mod clashing;
 mod cycles;
 mod deciding;
+mod end_forms;
 mod ends;
 mod facts;
 mod freeing;

@@ -34,7 +34,7 @@ fn first_of(
     ensures { IfOk result (λ found. FindsIn (ranges spans.now) (meets conditions.now (Const true)) found) }
 {
     let every = Condition::Const(true);
-    if are_opposed(alloc, conditions, &every)? {
+    if are_opposed(alloc, spans, conditions, &every)? {
         return Ok(None);
     }
     search(

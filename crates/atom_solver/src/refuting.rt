@@ -2,19 +2,21 @@
 #![tactic(auto)]
 
 ghost use Rattle.std.specs.Prelude.{◌≡◌, ℤ, pos, ◌≤ℤ◌, ◌<ℤ◌, List, [], ◌∷◌, true, false, IfOk, MatchOption};
+ghost use Rattle.linear_atoms.specs.Atoms.{AreRanges, IsWithin};
 ghost use Rattle.linear_atoms.specs.Forms.{IsRising, form_at};
 ghost use Rattle.cpp_conditions.specs.View.{proposition};
-ghost use Rattle.atom_solver.specs.Spans.{meets};
+ghost use Rattle.atom_solver.specs.Spans.{meets, ranges};
 ghost use Rattle.cpp_conditions.specs.Numbering.{vector_at};
 ghost use Rattle.atom_solver.specs.Facts.{AreMet, AreRising, IsMixed, IsSum};
 ghost use Rattle.atom_solver.specs.Truths.{Knows};
 
 use crate::cycles::cycle;
+use crate::end_forms::{add_ends, copies};
 use crate::facts::{gather_all, gather_known, number, times};
 use cpp_conditions::Condition;
 use fam_outer::NoMemory;
 use linear_atoms::slices::cut;
-use linear_atoms::{Atom, Linear, LinearFault};
+use linear_atoms::{Atom, Linear, LinearFault, Span};
 use std::alloc::Global;
 
 /// The sum of two forms; None where a number becomes too large.
@@ -236,31 +238,37 @@ fn any_clashes(
     }
 }
 
-/// Whether forms clash, by sums that are found in one way or the other.
-fn clash(alloc: Global, forms: &[Linear]) -> Result<bool, NoMemory>
-    requires { AreRising forms.now }
-    ensures { IfOk result (λ answer. answer ≡ true → (values : List ℤ) → AreMet values forms.now
+/// Whether one of some forms clashes with those of a list, by sums that are found in one way or the other.
+fn clash(alloc: Global, starts: &[Linear], forms: &[Linear]) -> Result<bool, NoMemory>
+    requires starts { AreRising starts.now }
+    requires rising { AreRising forms.now }
+    ensures { IfOk result (λ answer. answer ≡ true → (values : List ℤ) → AreMet values starts.now
         → AreMet values forms.now → ⊥) }
 {
-    if any_clashes(alloc, forms, forms, Choice::Opposite)? {
+    if any_clashes(alloc, starts, forms, Choice::Opposite)? {
         Ok(true)
     } else {
-        any_clashes(alloc, forms, forms, Choice::Leading)
+        any_clashes(alloc, starts, forms, Choice::Leading)
     }
 }
 
-/// Whether a sum of tests that must hold or fail shows that the constraints and what is wanted are never true together.
+/// Whether a sum of tests that must hold or fail, and of ends of ranges, shows that the constraints and what is wanted
+/// are never true together in a box.
 pub(crate) fn are_opposed(
     alloc: Global,
+    spans: &[Span],
     constraints: &[Condition],
     wanted: &Condition,
 ) -> Result<bool, NoMemory>
-    ensures { IfOk result (λ answer. answer ≡ true → (values : List ℤ)
+    requires { AreRanges (ranges spans.now) }
+    ensures { IfOk result (λ answer. answer ≡ true → (values : List ℤ) → IsWithin (ranges spans.now) values
         → meets constraints.now (proposition wanted.now) values ≡ false) }
 {
     let mut facts = Vec::new(alloc);
     gather_all(alloc, constraints, wanted, &mut facts)?;
-    clash(alloc, &facts)
+    let mut forms = copies(alloc, &facts)?;
+    add_ends(alloc, spans, 0, &mut forms)?;
+    clash(alloc, &facts, &forms)
 }
 
 /// The form at a place.
@@ -321,7 +329,7 @@ fn is_cyclic(alloc: Global, forms: &[Linear]) -> Result<bool, NoMemory>
 }
 
 /// Whether the truth of an atom of more than one feature is known: with less there is no cycle but of equal terms, whose
-/// order says it already.
+/// order says it already, or of a range, which the box decides.
 fn are_linked(atoms: &[Atom], known: &[Option<bool>]) -> bool {
     let mut place: usize = 0;
     for atom in atoms {
@@ -335,19 +343,21 @@ fn are_linked(atoms: &[Atom], known: &[Option<bool>]) -> bool {
     false
 }
 
-/// Whether no values give the atoms the truths that are known, by the sum of a cycle of them.
+/// Whether no values give the atoms the truths that are known where further forms are at least 0, by the sum of a cycle.
 pub(crate) fn is_clash(
     alloc: Global,
+    ends: &[Linear],
     atoms: &[Atom],
     known: &[Option<bool>],
 ) -> Result<bool, NoMemory>
-    ensures { IfOk result (λ answer. answer ≡ true → (values : List ℤ)
+    requires { AreRising ends.now }
+    ensures { IfOk result (λ answer. answer ≡ true → (values : List ℤ) → AreMet values ends.now
         → Knows known.now (vector_at atoms.now values) → ⊥) }
 {
     if !are_linked(atoms, known) {
         return Ok(false);
     }
-    let mut facts = Vec::new(alloc);
+    let mut facts = copies(alloc, ends)?;
     gather_known(alloc, atoms, known, &mut facts)?;
     is_cyclic(alloc, &facts)
 }

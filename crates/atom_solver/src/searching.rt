@@ -98,7 +98,7 @@ pub(crate) fn first_valid(
         (λ config. IsConfig model.now.features config.values)) }
 {
     let constraints = model.constraints.items();
-    if are_opposed(alloc, constraints, wanted)? {
+    if are_opposed(alloc, spans, constraints, wanted)? {
         return Ok(None);
     }
     let whole = asked_too(alloc, question, wanted)?;

@@ -143,9 +143,10 @@ pub(crate) fn residual(
     }
 }
 
-/// Whether a formula is known to have a truth. It looks no further than it must.
+/// Whether a formula is known to have a truth. It looks no further than it must, and first at the second part: a chain of
+/// `||` has its single tests there.
 #[tactic(auto, using(crate::proofs::Known::right_false, crate::proofs::Known::right_true))]
-fn has_truth(part: &Formula, truth: bool, known: &[Option<bool>]) -> bool
+pub(crate) fn has_truth(part: &Formula, truth: bool, known: &[Option<bool>]) -> bool
     ensures { result ≡ true → (v : List Bool) → Knows known.now v → true_on v (formula part.now) ≡ truth }
 {
     match part {
@@ -157,7 +158,7 @@ fn has_truth(part: &Formula, truth: bool, known: &[Option<bool>]) -> bool
         Formula::Not(inner) => has_truth(inner, !truth, known),
         Formula::And(left, right) => {
             if truth {
-                has_truth(left, true, known) && has_truth(right, true, known)
+                has_truth(right, true, known) && has_truth(left, true, known)
             } else {
                 has_truth(left, false, known) || has_truth(right, false, known)
             }
@@ -166,14 +167,14 @@ fn has_truth(part: &Formula, truth: bool, known: &[Option<bool>]) -> bool
             if truth {
                 has_truth(left, true, known) || has_truth(right, true, known)
             } else {
-                has_truth(left, false, known) && has_truth(right, false, known)
+                has_truth(right, false, known) && has_truth(left, false, known)
             }
         }
     }
 }
 
 /// Adds the truths that tests must have where the formula has one: of two formulas of which one must be true, where the
-/// other is known to be false. The second comes first: a chain of `||` has its single tests there.
+/// other is known to be false. The second comes first here too.
 #[tactic(auto, using(crate::proofs::Learned::and_first, crate::proofs::Learned::and_second, crate::proofs::Learned::or_first, crate::proofs::Learned::or_second))]
 fn force(part: &Formula, truth: bool, known: &mut [Option<bool>])
     ensures { (v : List Bool) → Knows known.old v → true_on v (formula part.now) ≡ truth → Knows known.new v }
@@ -295,35 +296,21 @@ fn round(atoms: &[Atom], order: &[u32], part: &Formula, known: &mut [Option<bool
     follow_all(atoms, order, known);
 }
 
-/// What is left of a formula, and that it is true where the formula is.
-#[tactic(auto, using(crate::proofs::Learned::kept_left))]
-fn left_of(
-    alloc: Global,
-    atoms: &[Atom],
-    part: &Formula,
-    known: &[Option<bool>],
-) -> Result<Formula, NoMemory>
-    ensures { IfOk result (λ made. Keeps atoms.now known.now (formula part.now) known.now (formula made)) }
-{
-    let left = residual(alloc, part, known)?;
-    Ok(left)
-}
-
-/// What is left of a formula after as many rounds as add truths, or as are allowed: unit propagation.
-pub(crate) fn propagated(
-    alloc: Global,
+/// Adds the truths that follow where a formula is true, in as many rounds as add any, or as are allowed: unit propagation.
+#[tactic(auto, using(crate::proofs::Learned::kept_more))]
+pub(crate) fn propagate(
     atoms: &[Atom],
     order: &[u32],
     part: &Formula,
     known: &mut [Option<bool>],
     rounds: usize,
-) -> Result<Formula, NoMemory>
-    ensures { IfOk result (λ made. Keeps atoms.now known.old (formula part.now) known.new (formula made)) }
+)
+    ensures { Keeps atoms.now known.old (formula part.now) known.new (formula part.now) }
 {
     let before = count_of(known);
     round(atoms, order, part, known);
     if rounds == 0 || count_of(known) == before {
-        return left_of(alloc, atoms, part, known);
+        return;
     }
-    propagated(alloc, atoms, order, part, known, rounds - 1)
+    propagate(atoms, order, part, known, rounds - 1);
 }

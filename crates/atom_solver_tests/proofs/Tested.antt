@@ -27,3 +27,10 @@ unfolding common_divisor
 gap count m n ts b k e g h =
     subst (λ x. IsAtom count (record { terms = x; bound = b })) (sym e)
     (record { rising = (omega arith, one_nonzero, (g, less_nonzero, tt)); coprime = refl; small = refl; positive = omega (arith, ints); below = (omega arith, (h, tt)); bounded = k })
+
+-- the first feature less the two behind it
+pub spare : (ts : List (ℕ × ℤ)) → ts ≡ (0, pos 1) ∷ (1, negsuc 0) ∷ (2, negsuc 0) ∷ [] → IsAtom 5 (record { terms = ts; bound = pos 0 })
+unfolding common_divisor
+spare ts e =
+    subst (λ x. IsAtom 5 (record { terms = x; bound = pos 0 })) (sym e)
+    (record { rising = (omega arith, one_nonzero, (omega arith, less_nonzero, (omega arith, less_nonzero, tt))); coprime = refl; small = refl; positive = omega (arith, ints); below = (omega arith, (omega arith, (omega arith, tt))); bounded = small_zero })

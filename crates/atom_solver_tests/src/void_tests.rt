@@ -141,6 +141,55 @@ fn reaches(alloc: Global, left: u32, right: u32) -> Result<Condition, Fail>
     Ok(Condition::Test(Atom { terms, bound: 0 }))
 }
 
+/// The test that a feature is at least so much more than another that is behind it.
+fn exceeds_by(alloc: Global, left: u32, right: u32, least: i64) -> Result<Condition, Fail>
+    requires order { left < right }
+    requires right { right < 5 }
+    requires least { unsigned_abs least ≤ 1048576 }
+    ensures { IfOk result (λ made. IsFit 5 (proposition made)) }
+{
+    let form = difference(alloc, left, right)?;
+    let terms = form.terms.copy(alloc)?;
+    Ok(Condition::Test(Atom {
+        terms,
+        bound: least,
+    }))
+}
+
+/// Of a feature and another that is behind it one is at least so much more than the other.
+fn apart(alloc: Global, left: u32, right: u32, least: i64) -> Result<Condition, Fail>
+    requires order { left < right }
+    requires right { right < 5 }
+    requires some { pos 0 ≤ℤ least }
+    requires least { unsigned_abs least ≤ 1048575 }
+    ensures { IfOk result (λ made. IsFit 5 (proposition made)) }
+{
+    let over = exceeds_by(alloc, left, right, least)?;
+    let near = exceeds_by(alloc, left, right, 1 - least)?;
+    Ok(either(alloc, over, negation(alloc, near)?)?)
+}
+
+/// The first feature less the two behind it.
+fn spare(alloc: Global) -> Result<Linear, Fail>
+    ensures { IfOk result (λ made. made.terms
+        ≡ (0, pos 1) ∷ (1, negsuc 0) ∷ (2, negsuc 0) ∷ []) }
+{
+    let third = turned(alloc, 2)?;
+    match difference(alloc, 0, 1)?.add(alloc, &third) {
+        Ok(made) => Ok(made),
+        Err(_) => Err("too large")?,
+    }
+}
+
+/// The first feature is at least the sum of the two behind it.
+fn covers(alloc: Global) -> Result<Condition, Fail>
+    ensures { IfOk result (λ made. IsFit 5 (proposition made)) }
+{
+    let form = spare(alloc)?;
+    let terms = form.terms.copy(alloc)?;
+    Ok(Condition::Test(Atom { terms, bound: 0 }))
+}
+
 /// A feature is not equal to another that is behind it.
 fn unequal(alloc: Global, left: u32, right: u32) -> Result<Condition, Fail>
     requires order { left < right }
@@ -228,6 +277,36 @@ fn rings_are_refuted_in_the_search(rt: HostRuntime) -> Result<(), Fail> {
     Ok(())
 }
 
+/// Three values of 0 to 2^20 that are pairwise at least 2^19 apart are the ends and the middle, and no three are further
+/// apart: a cycle of differences shows it with the ends of the ranges.
+#[test]
+fn values_too_far_apart_are_refuted(rt: HostRuntime) -> Result<(), Fail> {
+    let alloc = rt.alloc();
+    let cases = [
+        (524_288, Some((0, 524_288, 1_048_576, 0, 0))),
+        (524_289, None),
+    ];
+    for (least_gap, values) in cases {
+        let first = apart(alloc, 0, 1, least_gap)?;
+        let second = apart(alloc, 1, 2, least_gap)?;
+        let third = apart(alloc, 0, 2, least_gap)?;
+        let model = wide(alloc, vec![in alloc; first, second, third]?)?;
+        assert!(rt; five(least(alloc, &model, &[])?) == values);
+    }
+    Ok(())
+}
+
+/// The first feature is at least the sum of the two behind it, and the second exceeds it: bounds would push one another on
+/// by one, and the sum needs that the third is not below 0.
+#[test]
+fn sums_with_ends_of_ranges_are_refuted(rt: HostRuntime) -> Result<(), Fail> {
+    let alloc = rt.alloc();
+    let above = negation(alloc, reaches(alloc, 0, 1)?)?;
+    let model = wide(alloc, vec![in alloc; covers(alloc)?, above]?)?;
+    assert!(rt; least(alloc, &model, &[])?.is_none());
+    Ok(())
+}
+
 /// Two features of 0 to 2^20 that differ, and three of 0 to a number that differ pairwise.
 fn two_parts(alloc: Global, high: i64) -> Result<Model, Fail>
     requires some { pos 0 ≤ℤ high }
@@ -248,7 +327,7 @@ fn two_parts(alloc: Global, high: i64) -> Result<Model, Fail>
     })
 }
 
-/// Three values of 0 to 1 can't differ pairwise, which shows only when they are tried: not with each solution of the rest.
+/// Three values of 0 to 1 can't differ pairwise: that is not asked again with each solution of the rest.
 #[test]
 fn parts_without_a_solution_are_refuted_alone(rt: HostRuntime) -> Result<(), Fail> {
     let alloc = rt.alloc();

@@ -1,6 +1,6 @@
 use Rattle.std.specs.Prelude.{IfSome}
 use Rattle.std.proofs.lemmas.Result.{IfOk-weaker}
-use Rattle.std.proofs.Common.{ℤ, List, Option, sym, subst}
+use Rattle.std.proofs.Common.{ℤ, List, Option, None, sym, subst}
 use Rattle.linear_atoms.specs.declared.atoms.Config.{Config}
 use Rattle.cpp_conditions.specs.Propositions.{true_at}
 use Rattle.cpp_conditions.specs.Validity.{IsConfig}
@@ -11,7 +11,6 @@ use Rattle.atom_solver.specs.Truths.{StandsFor}
 use Rattle.atom_solver.proofs.Listed.{stands_too}
 use Rattle.atom_solver.proofs.Boxed.{fit_box, wanted_box, found_box}
 use Rattle.atom_solver.proofs.Pointing.{found_config}
-use Rattle.atom_solver.proofs.EqualTerms.{none_meets}
 use Rattle.atom_solver.proofs.searching.first_valid.Goals as goal
 
 pub search-requires-clause-constraints : goal.search-requires-clause-constraints
@@ -48,4 +47,4 @@ returns-clause-config c =
     c.search.ensures
 
 pub returns-then-branch-clause-first : goal.returns-then-branch-clause-first
-returns-then-branch-clause-first c = none_meets c.args.model.now (proposition c.args.wanted.now) c.items-constraints.result.now c.items-constraints.ensures (c.in_ok-are_opposed.ensures c.if-branch.true)
+returns-then-branch-clause-first c = found_box c.args.model.now (proposition c.args.wanted.now) c.args.spans.now c.items-constraints.result.now None c.requires.spans c.items-constraints.ensures (c.in_ok-are_opposed.ensures c.if-branch.true)
