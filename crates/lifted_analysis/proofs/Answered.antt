@@ -28,7 +28,7 @@ use Rattle.plain_analysis.specs.Entered.{leaves_in}
 use Rattle.plain_analysis.specs.Places.{at_of, alarm_of}
 use Rattle.plain_analysis.specs.Promises.{RunsForeseen}
 use Rattle.plain_analysis.specs.Statements.{after_of}
-use Rattle.plain_analysis.proofs.Promised.{runs}
+use Rattle.plain_analysis.proofs.Held.{analysis_foresees}
 use Rattle.tree_unify.specs.Formulas as formulas
 use Rattle.lifted_analysis.specs.declared.entries.Found.{Found}
 use Rattle.lifted_analysis.specs.declared.family.Family.{Family}
@@ -229,7 +229,7 @@ pub variant_runs : (M : LeafMeaning) → LeafLaws M → (o : Options) → Transf
     → RunsForeseen M o (variant_at p cs v) (begin_at M p cs pl v)
 variant_runs M laws o A T p program cs pl v =
     let ts = truths_of cs v in
-    runs M o (variant_at p cs v) (begin_at M p cs pl v) (IsProgram-projected ts p program) (record { body = IsPlain-projected ts p.body; declared = refl }) laws A T
+    analysis_foresees M laws o A T (variant_at p cs v) (begin_at M p cs pl v) (IsProgram-projected ts p program) (record { body = IsPlain-projected ts p.body; declared = refl })
     (valid (true_on v (formula pl))) (count (true_on v (formula pl)))
   where
     valid : (b : Bool) → M.valid (if b then M.start (variant_at p cs v).start else nothing_of (length p.names))

@@ -17,7 +17,8 @@ use Rattle.plain_analysis.specs.Statements.{Entry, after_of, entries_of}
 use Rattle.plain_analysis.specs.Places.{is_same_place, entry_in}
 use Rattle.plain_analysis.proofs.Listed.{entries_of-followed}
 use Rattle.leaf_domain.proofs.Answered.{answers_then}
-use Rattle.plain_analysis.proofs.Recursion.{suits, join_answer, after_answers, final_of_code}
+use Rattle.plain_analysis.proofs.JoinLemmas.{join_answer}
+use Rattle.plain_analysis.proofs.Recursion.{suits, after_answers, final_of_code}
 use Rattle.plain_analysis.proofs.Located.{place_of, same_place_self}
 use Rattle.plain_analysis.proofs.Nothing.{after_nothing, loop_nothing}
 use Rattle.lifted_analysis.specs.Steps.{kept_by}
@@ -183,7 +184,7 @@ module _ (M : LeafMeaning) (o : Options) (n : ℕ) where
           let u = A.assumed_answers e false x (fits e x h k f.0) in
           let a = answers_then x _ _ t (keeps_on (projected ts p) (assumed M o.mode e true x) t.valid (t.same ∙ k) f.1) in
           let b = answers_then x _ _ u (keeps_on (projected ts q) (assumed M o.mode e false x) u.valid (u.same ∙ k) f.2) in
-          let j = join_answer M laws o A x (after_of M o (projected ts p) (assumed M o.mode e true x)) (after_of M o (projected ts q) (assumed M o.mode e false x)) a b in
+          let j = join_answer M laws x (after_of M o (projected ts p) (assumed M o.mode e true x)) (after_of M o (projected ts q) (assumed M o.mode e false x)) a b in
           kept (same place (If place e (projected ts p) (projected ts q) Done) (If place e p q Done) x (λ kind. refl))
           (drawn-append (entries_of M o (projected ts q) (assumed M o.mode e false x) ++ entries_of M o (projected ts rest) (M.join (after_of M o (projected ts p) (assumed M o.mode e true x)) (after_of M o (projected ts q) (assumed M o.mode e false x)))) _
           (drawn p (assumed M o.mode e true x) t.valid (t.same ∙ k) f.1)

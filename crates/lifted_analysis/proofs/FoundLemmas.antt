@@ -19,7 +19,7 @@ use Rattle.plain_analysis.specs.declared.options.Options.{Options}
 use Rattle.plain_analysis.specs.Entered.{leaves_in}
 use Rattle.plain_analysis.specs.Loops.{final_leaf}
 use Rattle.plain_analysis.specs.Places.{is_same_place, entry_in, leaf_or, at_of, may_stop, alarm_of}
-use Rattle.plain_analysis.specs.Statements.{Entry, after_of, entries_of}
+use Rattle.plain_analysis.specs.Statements.{Entry, after_of, entries_of, final_heads}
 use Rattle.plain_analysis.proofs.Located.{place_of, none_at_end, same_places, at_end}
 use Rattle.lifted_analysis.specs.Entries.{entries_at, stops_in}
 use Rattle.lifted_analysis.specs.Promises.{by_kind}
@@ -138,7 +138,7 @@ module _ (M : LeafMeaning) (laws : LeafLaws M) (o : Options) (A : TransferAnswer
       ∙ (leaves_over (map place_of E) rising ∙ ap (map f) (places_at M o ts p.body d)))
       in
       ap (λ l. l ++ (p.end, after_of M o (projected ts p.body) d) ∷ []) found
-      ∙ (ap (λ x. map f (places_of p.body) ++ (p.end, x) ∷ []) (sym (at_end M o (projected_program ts p) d plain_body well.rising))
+      ∙ (ap (λ x. map f (places_of p.body) ++ (p.end, x) ∷ []) (sym (at_end M o.mode (final_heads M o) (projected_program ts p) d plain_body well.rising))
       ∙ sym (map-append f (places_of p.body) (p.end ∷ [])))
 
   -- ---- stops
@@ -149,7 +149,7 @@ module _ (M : LeafMeaning) (laws : LeafLaws M) (o : Options) (A : TransferAnswer
       ∷ (((f.place, ZeroDivisor), may_at M o.mode ZeroDivisor f.statement f.leaf) ∷ (((f.place, Assertion), may_at M o.mode Assertion f.statement f.leaf) ∷ []))
 
   abbrev stop_there_is : Place → Option Entry → List ((Place × Kind) × Bool)
-  stop_there_is q e = ((q, Overflow), may_stop M o e Overflow) ∷ (((q, ZeroDivisor), may_stop M o e ZeroDivisor) ∷ (((q, Assertion), may_stop M o e Assertion) ∷ []))
+  stop_there_is q e = ((q, Overflow), may_stop M o.mode e Overflow) ∷ (((q, ZeroDivisor), may_stop M o.mode e ZeroDivisor) ∷ (((q, Assertion), may_stop M o.mode e Assertion) ∷ []))
 
   stops_from : (fs : List Entry) → stops_in M o fs ≡ from stop_said fs
   stops_from [] = refl
@@ -178,7 +178,7 @@ module _ (M : LeafMeaning) (laws : LeafLaws M) (o : Options) (A : TransferAnswer
   stops_over (q ∷ ps) = ap (λ l. stop_there_is q (entry_in R q) ++ l) (stops_over ps)
 
   none_last : entry_in R p.end ≡ None
-  none_last = none_at_end R p.end (subst IsRising (sym (same_places M o (projected_program ts p) d plain_body well.rising)) well.rising)
+  none_last = none_at_end R p.end (subst IsRising (sym (same_places M o.mode (final_heads M o) (projected_program ts p) d plain_body well.rising)) well.rising)
 
   pub stops_are : stops_in M o E ++ (((p.end, Overflow), false) ∷ (((p.end, ZeroDivisor), false) ∷ (((p.end, Assertion), false) ∷ []))) ≡ map (λ (q : Place × Kind). stop_at_place q) (by_kind (program_places p))
   stops_are =

@@ -22,7 +22,7 @@ pub leaves_in-append : (xs ys : List Entry) → leaves_in (xs ++ ys) ≡ leaves_
 leaves_in-append [] ys = refl
 leaves_in-append (x ∷ xs) ys = ap (λ l. (x.place, x.leaf) ∷ l) (leaves_in-append xs ys)
 
-pub alarms_in-append : (M : LeafMeaning) (o : Options) (xs ys : List Entry) → alarms_in M o (xs ++ ys) ≡ alarms_in M o xs ++ alarms_in M o ys
+pub alarms_in-append : (M : LeafMeaning) (o : Options) (xs ys : List Entry) → alarms_in M o.mode (xs ++ ys) ≡ alarms_in M o.mode xs ++ alarms_in M o.mode ys
 alarms_in-append M o [] ys = refl
 alarms_in-append M o (x ∷ xs) ys = simp (alarms_in-append M o xs ys, append_assoc)
 
@@ -45,7 +45,7 @@ module _ {L : Type 0} (value : L → LeafValue) (M : LeafMeaning) (o : Options) 
   pub entered_then : (a b c : Found L) (xs ys : List Entry) → HasEntered value M o a b xs → HasEntered value M o b c ys → HasEntered value M o a c (xs ++ ys)
   entered_then a b c xs ys h k = record {
     leaves = onward (map (place_and_leaf value) a.places.items) (map (place_and_leaf value) b.places.items) (map (place_and_leaf value) c.places.items) (leaves_in xs) (leaves_in ys) (leaves_in (xs ++ ys)) h.leaves k.leaves (leaves_in-append xs ys);
-    alarms = onward a.alarms.items b.alarms.items c.alarms.items (alarms_in M o xs) (alarms_in M o ys) (alarms_in M o (xs ++ ys)) h.alarms k.alarms (alarms_in-append M o xs ys);
+    alarms = onward a.alarms.items b.alarms.items c.alarms.items (alarms_in M o.mode xs) (alarms_in M o.mode ys) (alarms_in M o.mode (xs ++ ys)) h.alarms k.alarms (alarms_in-append M o xs ys);
   }
 
   pub entered_as : (a b : Found L) (xs ys : List Entry) → xs ≡ ys → HasEntered value M o a b xs → HasEntered value M o a b ys

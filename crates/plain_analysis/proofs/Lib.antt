@@ -3,10 +3,12 @@ pub mod Rounds
 pub mod Sizes
 pub mod EnteredLemmas
 pub mod Settles
+pub mod JoinLemmas
 pub mod Recursion
 pub mod Located
 pub mod Foreseen
 pub mod Promised
+pub mod Held
 pub mod Nothing
 pub mod StatedLemmas
 pub mod TableLemmas

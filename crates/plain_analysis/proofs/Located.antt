@@ -5,6 +5,7 @@ use Rattle.std.specs.List.{AllByRecursion}
 use Rattle.std.proofs.lemmas.List.{map-append}
 use Rattle.fam_outer.specs.declared.faults.Place.{Place}
 use Rattle.c_tree.specs.declared.tree.Kind.{Kind}
+use Rattle.c_tree.specs.declared.tree.Mode.{Mode}
 use Rattle.c_tree.specs.Tree.{Code, Done, Assign, Input, Assert, If, While, Block, Skip, Cond, Whole}
 use Rattle.c_tree.specs.Fit.{IsPlain}
 use Rattle.c_tree.specs.Places.{places_of, program_places}
@@ -12,10 +13,8 @@ use Rattle.c_tree.specs.Whole.{is_before, IsBeforeAll, IsRising}
 use Rattle.leaf_domain.specs.Leaves.{LeafValue, LeafMeaning, nothing_of}
 use Rattle.leaf_domain.specs.Transfer.{assumed, assigned, forgotten}
 use Rattle.leaf_domain.specs.Stops.{may_at}
-use Rattle.plain_analysis.specs.declared.options.Options.{Options}
-use Rattle.plain_analysis.specs.Loops.{final_leaf}
-use Rattle.plain_analysis.specs.Statements.{Entry, after_of, entries_of}
-use Rattle.plain_analysis.specs.Places.{is_same_place, entry_in, leaf_or, at_of, may_stop, alarm_of, alarms_at, alarms_over, alarms_of}
+use Rattle.plain_analysis.specs.Statements.{Heads, Entry, passed, entries_by}
+use Rattle.plain_analysis.specs.Places.{is_same_place, entry_in, leaf_or, at_by, may_stop, alarm_by, alarms_at, alarms_over, alarms_by}
 use Rattle.plain_analysis.specs.Entered.{alarms_in}
 
 unfoldable pub place_of : Entry → Place
@@ -62,29 +61,29 @@ none_at_end (e ∷ es) end h = ap (λ b. if b then Some e else entry_in es end) 
 two : (place : Place) (xs ys zs us : List Place) → xs ≡ ys → zs ≡ us → place ∷ (xs ++ zs) ≡ place ∷ (ys ++ us)
 two place xs ys zs us e f = ap (λ l. place ∷ (l ++ zs)) e ∙ ap (λ l. place ∷ (ys ++ l)) f
 
-module _ (M : LeafMeaning) (o : Options) where
-  pub places_of_entries : (c : Code) (v : LeafValue) → IsPlain c → map place_of (entries_of M o c v) ≡ places_of c
+module _ (M : LeafMeaning) (mode : Mode) (H : Heads) where
+  pub places_of_entries : (c : Code) (v : LeafValue) → IsPlain c → map place_of (entries_by M mode H c v) ≡ places_of c
   unfolding place_of
   places_of_entries Done v h = refl
-  places_of_entries (Assign place x e rest) v h = ap (λ l. place ∷ l) (places_of_entries rest (assigned M o.mode x e v) h)
+  places_of_entries (Assign place x e rest) v h = ap (λ l. place ∷ l) (places_of_entries rest (assigned M mode x e v) h)
   places_of_entries (Input place x rest) v h = ap (λ l. place ∷ l) (places_of_entries rest (forgotten M x v) h)
-  places_of_entries (Assert place e rest) v h = ap (λ l. place ∷ l) (places_of_entries rest (assumed M o.mode e true v) h)
+  places_of_entries (Assert place e rest) v h = ap (λ l. place ∷ l) (places_of_entries rest (assumed M mode e true v) h)
   places_of_entries (If place e p q rest) v h =
-      let t = assumed M o.mode e true v in
-      let f = assumed M o.mode e false v in
-      let j = M.join (after_of M o p t) (after_of M o q f) in
-      ap (λ l. place ∷ l) (map-append place_of (entries_of M o p t) (entries_of M o q f ++ entries_of M o rest j))
-      ∙ (ap (λ l. place ∷ (map place_of (entries_of M o p t) ++ l)) (map-append place_of (entries_of M o q f) (entries_of M o rest j))
-      ∙ (ap (λ l. place ∷ (l ++ (map place_of (entries_of M o q f) ++ map place_of (entries_of M o rest j)))) (places_of_entries p t h.0)
-      ∙ (ap (λ l. place ∷ (places_of p ++ (l ++ map place_of (entries_of M o rest j)))) (places_of_entries q f h.1)
+      let t = assumed M mode e true v in
+      let f = assumed M mode e false v in
+      let j = M.join (passed M mode H p t) (passed M mode H q f) in
+      ap (λ l. place ∷ l) (map-append place_of (entries_by M mode H p t) (entries_by M mode H q f ++ entries_by M mode H rest j))
+      ∙ (ap (λ l. place ∷ (map place_of (entries_by M mode H p t) ++ l)) (map-append place_of (entries_by M mode H q f) (entries_by M mode H rest j))
+      ∙ (ap (λ l. place ∷ (l ++ (map place_of (entries_by M mode H q f) ++ map place_of (entries_by M mode H rest j)))) (places_of_entries p t h.0)
+      ∙ (ap (λ l. place ∷ (places_of p ++ (l ++ map place_of (entries_by M mode H rest j)))) (places_of_entries q f h.1)
       ∙ ap (λ l. place ∷ (places_of p ++ (places_of q ++ l))) (places_of_entries rest j h.2))))
   places_of_entries (While place e body rest) v h =
-      let x = final_leaf M o e (after_of M o body) v in
-      ap (λ l. place ∷ l) (map-append place_of (entries_of M o body (assumed M o.mode e true x)) (entries_of M o rest (assumed M o.mode e false x)))
-      ∙ two place _ _ _ _ (places_of_entries body (assumed M o.mode e true x) h.0) (places_of_entries rest (assumed M o.mode e false x) h.1)
+      let x = H place e (passed M mode H body) v in
+      ap (λ l. place ∷ l) (map-append place_of (entries_by M mode H body (assumed M mode e true x)) (entries_by M mode H rest (assumed M mode e false x)))
+      ∙ two place _ _ _ _ (places_of_entries body (assumed M mode e true x) h.0) (places_of_entries rest (assumed M mode e false x) h.1)
   places_of_entries (Block place body rest) v h =
-      ap (λ l. place ∷ l) (map-append place_of (entries_of M o body v) (entries_of M o rest (after_of M o body v)))
-      ∙ two place _ _ _ _ (places_of_entries body v h.0) (places_of_entries rest (after_of M o body v) h.1)
+      ap (λ l. place ∷ l) (map-append place_of (entries_by M mode H body v) (entries_by M mode H rest (passed M mode H body v)))
+      ∙ two place _ _ _ _ (places_of_entries body v h.0) (places_of_entries rest (passed M mode H body v) h.1)
   places_of_entries (Skip place rest) v h = ap (λ l. place ∷ l) (places_of_entries rest v h)
   places_of_entries (Cond number p q rest) v h = absurd h
 
@@ -100,24 +99,24 @@ module _ (M : LeafMeaning) (o : Options) where
       ap (λ (x : Option Entry). leaf_or (other e.place) x ∷ map (λ (p : Place). leaf_or (other p) (entry_in all p)) (map place_of es)) h.0
       ∙ ap (λ l. e.leaf ∷ l) (leaves_found all es other h.1)
 
-  pub alarms_found : (all es : List Entry) (ps : List Place) → IsListed all es → alarms_over (λ (p : Place) (kind : Kind). may_stop M o (entry_in all p) kind) (map place_of es ++ ps) ≡ alarms_in M o es ++ alarms_over (λ (p : Place) (kind : Kind). may_stop M o (entry_in all p) kind) ps
+  pub alarms_found : (all es : List Entry) (ps : List Place) → IsListed all es → alarms_over (λ (p : Place) (kind : Kind). may_stop M mode (entry_in all p) kind) (map place_of es ++ ps) ≡ alarms_in M mode es ++ alarms_over (λ (p : Place) (kind : Kind). may_stop M mode (entry_in all p) kind) ps
   unfolding IsListed place_of
   alarms_found all [] ps h = refl
   alarms_found all (e ∷ es) ps h =
-      let A = λ (p : Place) (kind : Kind). may_stop M o (entry_in all p) kind in
-      ap (λ (x : Option Entry). alarms_at (λ kind. may_stop M o x kind) e.place ++ alarms_over A (map place_of es ++ ps)) h.0
-      ∙ (ap (λ l. alarms_at (λ kind. may_at M o.mode kind e.statement e.leaf) e.place ++ l) (alarms_found all es ps h.1)
-      ∙ sym (append_assoc (alarms_at (λ kind. may_at M o.mode kind e.statement e.leaf) e.place) (alarms_in M o es) (alarms_over A ps)))
+      let A = λ (p : Place) (kind : Kind). may_stop M mode (entry_in all p) kind in
+      ap (λ (x : Option Entry). alarms_at (λ kind. may_stop M mode x kind) e.place ++ alarms_over A (map place_of es ++ ps)) h.0
+      ∙ (ap (λ l. alarms_at (λ kind. may_at M mode kind e.statement e.leaf) e.place ++ l) (alarms_found all es ps h.1)
+      ∙ sym (append_assoc (alarms_at (λ kind. may_at M mode kind e.statement e.leaf) e.place) (alarms_in M mode es) (alarms_over A ps)))
 
   -- a place without an entry has no alarm
-  no_alarms : (all : List Entry) (end : Place) → entry_in all end ≡ None → alarms_over (λ (p : Place) (kind : Kind). may_stop M o (entry_in all p) kind) (end ∷ []) ≡ []
-  no_alarms all end e = ap (λ (x : Option Entry). alarms_at (λ kind. may_stop M o x kind) end ++ []) e
+  no_alarms : (all : List Entry) (end : Place) → entry_in all end ≡ None → alarms_over (λ (p : Place) (kind : Kind). may_stop M mode (entry_in all p) kind) (end ∷ []) ≡ []
+  no_alarms all end e = ap (λ (x : Option Entry). alarms_at (λ kind. may_stop M mode x kind) end ++ []) e
 
   -- ---- a plain program whose places rise
 
   module _ (p : Whole) (d : LeafValue) (plain : IsPlain p.body) (rising : IsRising (program_places p)) where
     abbrev pub es : List Entry
-    es = entries_of M o p.body d
+    es = entries_by M mode H p.body d
 
     pub same_places : map place_of es ++ p.end ∷ [] ≡ program_places p
     same_places = ap (λ l. l ++ p.end ∷ []) (places_of_entries p.body d plain)
@@ -128,18 +127,18 @@ module _ (M : LeafMeaning) (o : Options) where
     pub listed : IsListed es es
     listed = all_listed es (p.end ∷ []) rising_here
 
-    pub at_end : at_of M o p d p.end ≡ after_of M o p.body d
-    at_end = ap (λ (x : Option Entry). leaf_or (if is_same_place p.end p.end then after_of M o p.body d else nothing_of d.variables) x) (none_at_end es p.end rising_here)
-        ∙ ap (λ b. if b then after_of M o p.body d else nothing_of d.variables) (same_place_self p.end)
+    pub at_end : at_by M mode H p d p.end ≡ passed M mode H p.body d
+    at_end = ap (λ (x : Option Entry). leaf_or (if is_same_place p.end p.end then passed M mode H p.body d else nothing_of d.variables) x) (none_at_end es p.end rising_here)
+        ∙ ap (λ b. if b then passed M mode H p.body d else nothing_of d.variables) (same_place_self p.end)
 
-    pub leaves_are : map leaf_of es ++ after_of M o p.body d ∷ [] ≡ map (at_of M o p d) (program_places p)
+    pub leaves_are : map leaf_of es ++ passed M mode H p.body d ∷ [] ≡ map (at_by M mode H p d) (program_places p)
     leaves_are =
-        ap (λ l. l ++ after_of M o p.body d ∷ []) (sym (leaves_found es es (λ q. if is_same_place p.end q then after_of M o p.body d else nothing_of d.variables) listed))
-        ∙ (ap (λ x. map (at_of M o p d) (map place_of es) ++ x ∷ []) (sym at_end)
-        ∙ (sym (map-append (at_of M o p d) (map place_of es) (p.end ∷ [])) ∙ ap (map (at_of M o p d)) same_places))
+        ap (λ l. l ++ passed M mode H p.body d ∷ []) (sym (leaves_found es es (λ q. if is_same_place p.end q then passed M mode H p.body d else nothing_of d.variables) listed))
+        ∙ (ap (λ x. map (at_by M mode H p d) (map place_of es) ++ x ∷ []) (sym at_end)
+        ∙ (sym (map-append (at_by M mode H p d) (map place_of es) (p.end ∷ [])) ∙ ap (map (at_by M mode H p d)) same_places))
 
-    pub alarms_are : alarms_in M o es ≡ alarms_of M o p d
+    pub alarms_are : alarms_in M mode es ≡ alarms_by M mode H p d
     alarms_are =
-        sym (append-nil (alarms_in M o es))
-        ∙ (ap (λ l. alarms_in M o es ++ l) (sym (no_alarms es p.end (none_at_end es p.end rising_here)))
-        ∙ (sym (alarms_found es es (p.end ∷ []) listed) ∙ ap (alarms_over (alarm_of M o p d)) same_places))
+        sym (append-nil (alarms_in M mode es))
+        ∙ (ap (λ l. alarms_in M mode es ++ l) (sym (no_alarms es p.end (none_at_end es p.end rising_here)))
+        ∙ (sym (alarms_found es es (p.end ∷ []) listed) ∙ ap (alarms_over (alarm_by M mode H p d)) same_places))

@@ -6,6 +6,7 @@ use Rattle.std.proofs.lemmas.List.Elements.{Contains-append_left, Contains-appen
 use Rattle.fam_outer.specs.declared.faults.Place.{Place}
 use Rattle.c_tree.specs.declared.tree.Kind.{Kind}
 use Rattle.c_tree.specs.declared.tree.Kind.TheVariants.{Overflow, ZeroDivisor, Assertion}
+use Rattle.c_tree.specs.declared.tree.Mode.{Mode}
 use Rattle.c_tree.specs.Tree.{Whole}
 use Rattle.c_tree.specs.Value.{IsInt}
 use Rattle.c_tree.specs.Places.{program_places}
@@ -16,11 +17,10 @@ use Rattle.leaf_domain.specs.Stops.{may_at}
 use Rattle.leaf_domain.specs.Soundness.{TransferAnswers, TransferHolds}
 use Rattle.plain_analysis.specs.declared.alarm.Alarm.{Alarm}
 use Rattle.plain_analysis.specs.declared.findings.PlaceLeaf.{PlaceLeaf}
-use Rattle.plain_analysis.specs.declared.options.Options.{Options}
-use Rattle.plain_analysis.specs.Statements.{Entry, after_of, entries_of}
-use Rattle.plain_analysis.specs.Places.{is_same_place, leaf_or, at_of, alarm_where, alarms_at, alarms_of}
+use Rattle.plain_analysis.specs.Statements.{Heads, Entry, passed, entries_by}
+use Rattle.plain_analysis.specs.Places.{is_same_place, leaf_or, at_by, alarm_where, alarms_at, alarms_by}
 use Rattle.plain_analysis.specs.Entered.{place_and_leaf, leaves_in, alarms_in}
-use Rattle.plain_analysis.specs.Promises.{RunsForeseen}
+use Rattle.plain_analysis.specs.Promises.{RunsForeseenBy, AreHeld}
 use Rattle.plain_analysis.proofs.Located.{IsListed, place_of, leaf_of, listed, at_end, same_places, leaves_are, alarms_are}
 use Rattle.plain_analysis.proofs.Foreseen.{Known, runs_foreseen}
 
@@ -40,37 +40,37 @@ at_kind f place Assertion e =
     Contains-append_right (alarm_where (f Overflow) place Overflow) (alarm_where (f ZeroDivisor) place ZeroDivisor ++ alarm_where (f Assertion) place Assertion) _
     (Contains-append_right (alarm_where (f ZeroDivisor) place ZeroDivisor) (alarm_where (f Assertion) place Assertion) _ (one_where (f Assertion) place Assertion e))
 
-module _ (M : LeafMeaning) (o : Options) (p : Whole) (d : LeafValue) (program : IsProgram p) (plain : IsPlainProgram p) where
+module _ (M : LeafMeaning) (mode : Mode) (H : Heads) (p : Whole) (d : LeafValue) (program : IsProgram p) (plain : IsPlainProgram p) where
   abbrev entries : List Entry
-  entries = entries_of M o p.body d
+  entries = entries_by M mode H p.body d
 
   -- ---- runs
 
-  module _ (laws : LeafLaws M) (A : TransferAnswers M o.mode) (T : TransferHolds M o.mode) (inputs : List ℤ) (ints : All IsInt inputs) where
-    known_from : (es : List Entry) → IsListed entries es → ((x : Alarm) → Contains (alarms_in M o es) x → Contains (alarms_of M o p d) x)
-        → AllByRecursion (Known M laws o A T inputs ints (at_of M o p d) p.end (alarms_of M o p d)) es
+  module _ (laws : LeafLaws M) (A : TransferAnswers M mode) (T : TransferHolds M mode) (inputs : List ℤ) (ints : All IsInt inputs) where
+    known_from : (es : List Entry) → IsListed entries es → ((x : Alarm) → Contains (alarms_in M mode es) x → Contains (alarms_by M mode H p d) x)
+        → AllByRecursion (Known M laws mode H A T inputs ints (at_by M mode H p d) p.end (alarms_by M mode H p d)) es
     unfolding IsListed
     known_from [] h k = tt
     known_from (e ∷ es) h k = (
       record {
-        leaf = ap (leaf_or (if is_same_place p.end e.place then after_of M o p.body d else nothing_of d.variables)) h.0;
+        leaf = ap (leaf_or (if is_same_place p.end e.place then passed M mode H p.body d else nothing_of d.variables)) h.0;
         stops = λ kind t. k (record { place = e.place; kind = kind })
-            (Contains-append_left (alarms_at (λ i. may_at M o.mode i e.statement e.leaf) e.place) (alarms_in M o es) _ (at_kind (λ i. may_at M o.mode i e.statement e.leaf) e.place kind t));
+            (Contains-append_left (alarms_at (λ i. may_at M mode i e.statement e.leaf) e.place) (alarms_in M mode es) _ (at_kind (λ i. may_at M mode i e.statement e.leaf) e.place kind t));
       },
-      known_from es h.1 (λ x c. k x (Contains-append_right (alarms_at (λ i. may_at M o.mode i e.statement e.leaf) e.place) (alarms_in M o es) x c)),
+      known_from es h.1 (λ x c. k x (Contains-append_right (alarms_at (λ i. may_at M mode i e.statement e.leaf) e.place) (alarms_in M mode es) x c)),
     )
 
-    known_all : AllByRecursion (Known M laws o A T inputs ints (at_of M o p d) p.end (alarms_of M o p d)) entries
-    known_all = known_from entries (listed M o p d plain.body program.rising) (λ x c. subst (λ l. Contains l x) (alarms_are M o p d plain.body program.rising) c)
+    known_all : AllByRecursion (Known M laws mode H A T inputs ints (at_by M mode H p d) p.end (alarms_by M mode H p d)) entries
+    known_all = known_from entries (listed M mode H p d plain.body program.rising) (λ x c. subst (λ l. Contains l x) (alarms_are M mode H p d plain.body program.rising) c)
 
-  pub runs : LeafLaws M → TransferAnswers M o.mode → TransferHolds M o.mode → M.valid d → d.variables ≡ length p.names → RunsForeseen M o p d
-  runs laws A T valid count store inputs n h ints =
-      runs_foreseen M laws o A T inputs ints (at_of M o p d) p.end (alarms_of M o p d) p.body d valid (subst (λ m. IsCodeOf m p.body) (sym count) program.names) plain.body
-      (known_all laws A T inputs ints) (at_end M o p d plain.body program.rising) store n h
+  pub runs : LeafLaws M → TransferAnswers M mode → TransferHolds M mode → M.valid d → d.variables ≡ length p.names → AreHeld M mode H p.body d → RunsForeseenBy M mode H p d
+  runs laws A T valid count held store inputs n h ints =
+      runs_foreseen M laws mode H A T inputs ints (at_by M mode H p d) p.end (alarms_by M mode H p d) p.body d valid (subst (λ m. IsCodeOf m p.body) (sym count) program.names) plain.body
+      (known_all laws A T inputs ints) held (at_end M mode H p d plain.body program.rising) store n h
 
   -- ---- the findings
 
-  seconds : (es : List Entry) → map (λ (x : Place × LeafValue). x.1) (leaves_in es) ≡ map (leaf_of M o) es
+  seconds : (es : List Entry) → map (λ (x : Place × LeafValue). x.1) (leaves_in es) ≡ map (leaf_of M mode H) es
   unfolding leaf_of
   seconds [] = refl
   seconds (e ∷ es) = ap (λ l. e.leaf ∷ l) (seconds es)
@@ -80,7 +80,7 @@ module _ (M : LeafMeaning) (o : Options) (p : Whole) (d : LeafValue) (program : 
   firsts [] = refl
   firsts (e ∷ es) = ap (λ l. e.place ∷ l) (firsts es)
 
-  module _ {L : Type 0} (value : L → LeafValue) (found : List (PlaceLeaf L)) (last : PlaceLeaf L) (entered : map (place_and_leaf value) found ≡ leaves_in entries) (ends : last.place ≡ p.end) (after : value last.leaf ≡ after_of M o p.body d) where
+  module _ {L : Type 0} (value : L → LeafValue) (found : List (PlaceLeaf L)) (last : PlaceLeaf L) (entered : map (place_and_leaf value) found ≡ leaves_in entries) (ends : last.place ≡ p.end) (after : value last.leaf ≡ passed M mode H p.body d) where
     places_found : (ps : List (PlaceLeaf L)) → map (λ (x : PlaceLeaf L). x.place) ps ≡ map (λ (x : Place × LeafValue). x.0) (map (place_and_leaf value) ps)
     places_found [] = refl
     places_found (x ∷ ps) = ap (λ l. x.place ∷ l) (places_found ps)
@@ -93,13 +93,13 @@ module _ (M : LeafMeaning) (o : Options) (p : Whole) (d : LeafValue) (program : 
     places =
         map-append (λ (x : PlaceLeaf L). x.place) found (last ∷ [])
         ∙ (ap (λ l. l ++ last.place ∷ []) (places_found found ∙ (ap (map (λ (x : Place × LeafValue). x.0)) entered ∙ firsts entries))
-        ∙ (ap (λ x. map place_of entries ++ x ∷ []) ends ∙ same_places M o p d plain.body program.rising))
+        ∙ (ap (λ x. map place_of entries ++ x ∷ []) ends ∙ same_places M mode H p d plain.body program.rising))
 
-    pub leaves : map (λ (x : PlaceLeaf L). value x.leaf) (found ++ last ∷ []) ≡ map (at_of M o p d) (program_places p)
+    pub leaves : map (λ (x : PlaceLeaf L). value x.leaf) (found ++ last ∷ []) ≡ map (at_by M mode H p d) (program_places p)
     leaves =
         map-append (λ (x : PlaceLeaf L). value x.leaf) found (last ∷ [])
         ∙ (ap (λ l. l ++ value last.leaf ∷ []) (leaves_found found ∙ (ap (map (λ (x : Place × LeafValue). x.1)) entered ∙ seconds entries))
-        ∙ (ap (λ x. map (leaf_of M o) entries ++ x ∷ []) after ∙ leaves_are M o p d plain.body program.rising))
+        ∙ (ap (λ x. map (leaf_of M mode H) entries ++ x ∷ []) after ∙ leaves_are M mode H p d plain.body program.rising))
 
-  pub alarms : alarms_in M o entries ≡ alarms_of M o p d
-  alarms = alarms_are M o p d plain.body program.rising
+  pub alarms : alarms_in M mode entries ≡ alarms_by M mode H p d
+  alarms = alarms_are M mode H p d plain.body program.rising

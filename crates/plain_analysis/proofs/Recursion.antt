@@ -11,6 +11,7 @@ use Rattle.plain_analysis.specs.Statements.{after_of}
 use Rattle.plain_analysis.specs.Promises.{LoopsSettle}
 use Rattle.leaf_domain.proofs.Answered.{answers_self, answers_then}
 use Rattle.leaf_domain.proofs.AtNothing.{nothing_is}
+use Rattle.plain_analysis.proofs.JoinLemmas.{join_answer}
 use Rattle.plain_analysis.proofs.Rounds.{rounds_stay}
 use Rattle.plain_analysis.proofs.Settles.{first_phase_settles, leq_content}
 
@@ -95,10 +96,6 @@ module _ (M : LeafMeaning) (laws : LeafLaws M) (o : Options) (A : TransferAnswer
       let i = final_answers test f x h t k in
       answers_then x _ _ i (A.assumed_answers test false (final_leaf M o test f x) (suits test (final_leaf M o test f x) x.variables i.valid i.same t))
 
-  -- the join of two leaves that answer one
-  pub join_answer : (x a b : LeafValue) → Answers M x a → Answers M x b → Answers M x (M.join a b)
-  join_answer x a b h k = answers_then x a _ h (laws.join_answers a b (record { first = h.valid; second = k.valid; same = h.same ∙ sym k.same }))
-
   pub after_keeps : (code : Code) (n : ℕ) → IsCodeOf n code → Keeps n (after_of M o code)
   unfolding Keeps
   after_keeps Done n over x h c = answers_self x h
@@ -116,7 +113,7 @@ module _ (M : LeafMeaning) (laws : LeafLaws M) (o : Options) (A : TransferAnswer
       let f = A.assumed_answers e false x (suits e x n h c over.0) in
       let a = answers_then x _ _ t (after_keeps p n over.1 (assumed M o.mode e true x) t.valid (t.same ∙ c)) in
       let b = answers_then x _ _ f (after_keeps q n over.2 (assumed M o.mode e false x) f.valid (f.same ∙ c)) in
-      let j = join_answer x (after_of M o p (assumed M o.mode e true x)) (after_of M o q (assumed M o.mode e false x)) a b in
+      let j = join_answer M laws x (after_of M o p (assumed M o.mode e true x)) (after_of M o q (assumed M o.mode e false x)) a b in
       answers_then x _ _ j (after_keeps rest n over.3 (M.join (after_of M o p (assumed M o.mode e true x)) (after_of M o q (assumed M o.mode e false x))) j.valid (j.same ∙ c))
   after_keeps (While place e body rest) n over x h c =
       let k : Keeps x.variables (after_of M o body) = subst (λ m. Keeps m (after_of M o body)) (sym c) (after_keeps body n over.1) in
@@ -163,7 +160,7 @@ module _ (M : LeafMeaning) (laws : LeafLaws M) (o : Options) (A : TransferAnswer
       let f = A.assumed_answers e false x (suits e x n h c over.0) in
       let a = answers_then x _ _ t (after_keeps p n over.1 (assumed M o.mode e true x) t.valid (t.same ∙ c)) in
       let b = answers_then x _ _ f (after_keeps q n over.2 (assumed M o.mode e false x) f.valid (f.same ∙ c)) in
-      let j = join_answer x (after_of M o p (assumed M o.mode e true x)) (after_of M o q (assumed M o.mode e false x)) a b in
+      let j = join_answer M laws x (after_of M o p (assumed M o.mode e true x)) (after_of M o q (assumed M o.mode e false x)) a b in
       after_nothing rest n over.3 (M.join (after_of M o p (assumed M o.mode e true x)) (after_of M o q (assumed M o.mode e false x))) j.valid (j.same ∙ c)
       (join_nothings (after_of M o p (assumed M o.mode e true x)) (after_of M o q (assumed M o.mode e false x)) (a.same ∙ sym b.same)
       (after_nothing p n over.1 (assumed M o.mode e true x) t.valid (t.same ∙ c) (assumed_nothing e true x z))

@@ -1,5 +1,6 @@
 -- What an analysis adds to what it has found, as it enters statements.
 use Rattle.std.specs.Prelude.{◌≡◌, List, [], ◌∷◌, ◌++◌, map}
+use Rattle.c_tree.specs.declared.tree.Mode.{Mode}
 use Rattle.fam_outer.specs.declared.faults.Place.{Place}
 use Rattle.leaf_domain.specs.Leaves.{LeafValue, LeafMeaning}
 use Rattle.leaf_domain.specs.Stops.{may_at}
@@ -18,11 +19,11 @@ abbrev pub leaves_in : List Entry → List (Place × LeafValue)
 leaves_in [] = []
 leaves_in (e ∷ es) = (e.place, e.leaf) ∷ leaves_in es
 
-abbrev pub alarms_in : LeafMeaning → Options → List Entry → List Alarm
-alarms_in M o [] = []
-alarms_in M o (e ∷ es) = alarms_at (λ kind. may_at M o.mode kind e.statement e.leaf) e.place ++ alarms_in M o es
+abbrev pub alarms_in : LeafMeaning → Mode → List Entry → List Alarm
+alarms_in M mode [] = []
+alarms_in M mode (e ∷ es) = alarms_at (λ kind. may_at M mode kind e.statement e.leaf) e.place ++ alarms_in M mode es
 
 -- these statements, each with its leaf and its alarms
 pub record HasEntered {L : Type 0} (value : L → LeafValue) (M : LeafMeaning) (o : Options) (before now : Found L) (es : List Entry) : Type 0 where
   pub leaves : map (place_and_leaf value) now.places.items ≡ map (place_and_leaf value) before.places.items ++ leaves_in es
-  pub alarms : now.alarms.items ≡ before.alarms.items ++ alarms_in M o es
+  pub alarms : now.alarms.items ≡ before.alarms.items ++ alarms_in M o.mode es

@@ -1,13 +1,14 @@
 use Rattle.c_tree.specs.View.{whole}
+use Rattle.plain_analysis.proofs.Held.{analysis_foresees}
 use Rattle.plain_analysis.proofs.Recursion.{loops_settle}
-use Rattle.plain_analysis.proofs.Promised.{runs}
 use Rattle.plain_analysis.proofs.analysis.runs_are_foreseen.Goals as goal
 
 pub returns-clause-runs : goal.returns-clause-runs
 returns-clause-runs g c =
     let o = c.args.options.now in
     let sound = c.transfer_is_sound.ensures in
-    runs g.L.Leaf.meaning o (whole c.args.program.now) (g.L.Leaf.value c.args.start.now) c.requires.program c.requires.plain g.met.L.Leaf.laws (sound.answers o.mode) (sound.holds o.mode) c.leaf_is_valid.ensures.valid c.requires.variables
+    analysis_foresees g.L.Leaf.meaning g.met.L.Leaf.laws o (sound.answers o.mode) (sound.holds o.mode) (whole c.args.program.now) (g.L.Leaf.value c.args.start.now)
+    c.requires.program c.requires.plain c.leaf_is_valid.ensures.valid c.requires.variables
 
 pub returns-clause-settled : goal.returns-clause-settled
 returns-clause-settled g c =
