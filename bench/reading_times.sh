@@ -7,7 +7,7 @@ top=$(dirname "$bench")
 work=$(mktemp -d)
 trap 'rm -rf "$work"' EXIT
 mkdir -p "$work/crates/reading_times/src"
-crates="fam_outer c_words c_tokens cpp_groups c_tree c_grammar linear_atoms cpp_conditions cpp_lines atom_solver family_names item_reader c_parser variant_projector feature_model"
+crates="fam_outer c_words c_tokens cpp_groups c_tree c_grammar linear_terms linear_atoms cpp_conditions cpp_lines atom_solver family_names item_reader c_parser variant_projector feature_model"
 for crate in $crates; do
     cp -a "$top/crates/$crate" "$work/crates/"
     grep -E "^$crate:" "$top/crates.txt" >> "$work/crates.txt"

@@ -12,13 +12,16 @@ use Rattle.cpp_lines.specs.Sections.{Told, TextIsRead, AreConditionsOf, truths_a
 use Rattle.cpp_lines.specs.Whole.{blanked_file}
 use Rattle.c_tree.specs.Tree.{Whole}
 use Rattle.c_tree.specs.View.{whole}
+use Rattle.c_grammar.specs.Within.{SpellsWithin}
 use Rattle.family_names.specs.Laws.{NamesAreJudgedOnce}
 use Rattle.family_names.specs.Names.{IsFirstNameFault}
+use Rattle.c_parser.specs.declared.families.Conditions.{Conditions}
 use Rattle.c_parser.specs.declared.family.Family.{Family}
 use Rattle.c_parser.specs.Families.{HasItems, HasEarlyFault, family_listed}
-use Rattle.c_parser.specs.FamilyReading.{HasNameFault, IsFamilyOf, IsFamilyRefused, IsJudged, setting_of}
+use Rattle.c_parser.specs.FamilyReading.{IsFamilyOf, IsFamilyRefused, IsListedFamily, conditions_of, families_over, setting_of}
 use Rattle.c_parser.specs.Items.{Listed}
-use Rattle.c_parser.specs.Reading.{HasWrong, HasDeep, wrong_code, items_of_code}
+use Rattle.c_parser.specs.Phases.{HasDeep, HasNameFault, HasWrong, wrong_code}
+use Rattle.c_parser.specs.Reading.{items_of_code}
 use Rattle.c_parser.specs.Variants.{FamiliesAreReadOnce, FamiliesAreNotRefused, FamiliesAreRefusedOnce}
 use Rattle.c_parser.proofs.KeptTexts.{TextsAreReadOnce}
 use Rattle.c_parser.proofs.Readings.{Answer, GrammarLaws, deep_spelled, program_spelled, spelled_by, with_names, wrong_spelled}
@@ -92,16 +95,16 @@ ends_once : NamesAreJudgedOnce → (a b : Model) → plain a ≡ plain b → (to
 ends_once judged a b e told l (Ok p) r s (f, h, i) (g, k, j) = i ∙ ap (λ (o : Option (FileCode × Place)). with_names o p) (named_once judged a b e told l f g h k) ∙ sym j
 ends_once judged a b e told l (Err fault) r s h k = h ∙ sym k
 
-judged_ends : GrammarLaws → (model : Model) (bytes : List ℕ) (told : Told) (l : Listed) (end : Place) (p : Whole) (atoms : List Atom) (conditions : List Formula) (fault : Option (FileCode × Place))
-    → IsJudged model bytes told l p atoms conditions fault → Ends model told l (spelled l end) (with_names fault p)
-judged_ends laws model bytes told l end p atoms conditions fault j =
-    subst (λ (x : Answer). Ends model told l x (with_names fault p)) (sym (program_spelled laws (wrong_code l.items) l end p j.spelled)) (fault, record { atoms = atoms; conditions = conditions; are = j.conditions_are; is = j.names }, refl)
+judged_ends : GrammarLaws → (model : Model) (bytes : List ℕ) (l : Listed) (known : Conditions) (end : Place) (p : Whole) (fault : Option (FileCode × Place)) → (are : IsListedFamily (plain model) bytes l known)
+    → SpellsWithin l.names p l.items → (families_over model).named l known fault → Ends model are.told l (spelled l end) (with_names fault p)
+judged_ends laws model bytes l known end p fault are s n =
+    subst (λ (x : Answer). Ends model are.told l x (with_names fault p)) (sym (program_spelled laws (wrong_code l.items) l end p s)) (fault, record { atoms = known.atoms; conditions = known.formulas; are = are.conditions; is = n }, refl)
 
-fault_ends : GrammarLaws → (model : Model) (bytes : List ℕ) (told : Told) (l : Listed) (end : Place) (fault : FileCode × Place)
-    → HasWrong l end fault ⊎ (HasDeep l end fault ⊎ HasNameFault model bytes told l fault) → Ends model told l (spelled l end) (Err fault)
-fault_ends laws model bytes told l end fault (inl w) = subst (λ (x : Answer). Ends model told l x (Err fault)) (sym (wrong_spelled laws (wrong_code l.items) l end w.position w.wrong)) (ap (λ (f : FileCode × Place). Err f) w.is)
-fault_ends laws model bytes told l end fault (inr (inl w)) = subst (λ (x : Answer). Ends model told l x (Err fault)) (sym (deep_spelled laws (wrong_code l.items) l end w.position w.deep)) (ap (λ (f : FileCode × Place). Err f) w.is)
-fault_ends laws model bytes told l end fault (inr (inr n)) = judged_ends laws model bytes told l end n.program n.atoms n.conditions (Some fault) n.judged
+fault_ends : GrammarLaws → (model : Model) (bytes : List ℕ) (l : Listed) (known : Conditions) (end : Place) (fault : FileCode × Place) → (are : IsListedFamily (plain model) bytes l known)
+    → HasWrong l end fault ⊎ (HasDeep l end fault ⊎ HasNameFault (families_over model) l known fault) → Ends model are.told l (spelled l end) (Err fault)
+fault_ends laws model bytes l known end fault are (inl w) = subst (λ (x : Answer). Ends model are.told l x (Err fault)) (sym (wrong_spelled laws (wrong_code l.items) l end w.position w.wrong)) (ap (λ (f : FileCode × Place). Err f) w.is)
+fault_ends laws model bytes l known end fault are (inr (inl w)) = subst (λ (x : Answer). Ends model are.told l x (Err fault)) (sym (deep_spelled laws (wrong_code l.items) l end w.position w.deep)) (ap (λ (f : FileCode × Place). Err f) w.is)
+fault_ends laws model bytes l known end fault are (inr (inr n)) = judged_ends laws model bytes l known end n.program (Some fault) are n.spelled n.names
 
 -- ---- all phases
 
@@ -117,17 +120,17 @@ record IsReached (model : Model) (bytes : List ℕ) (r : Answer) : Type 0 where
 
 family_reached : GrammarLaws → (model : Model) (bytes : List ℕ) (f : Family) → IsFamilyOf model bytes f → IsReached model bytes (Ok (whole f.code))
 family_reached laws model bytes f o = record {
-  lines = Ok (o.told, o.listed);
-  come = items_come (plain model) bytes o.told o.listed o.items;
-  ends = judged_ends laws model bytes o.told o.listed (end_place bytes) (whole f.code) f.atoms f.conditions None o.judged;
+  lines = Ok (o.are.told, o.listed);
+  come = items_come (plain model) bytes o.are.told o.listed o.are.items;
+  ends = judged_ends laws model bytes o.listed (conditions_of f) (end_place bytes) (whole f.code) None o.are o.spelled o.names;
 }
 
 refusal_reached : GrammarLaws → (model : Model) (bytes : List ℕ) (fault : FileCode × Place) → IsFamilyRefused model bytes fault → IsReached model bytes (Err fault)
 refusal_reached laws model bytes fault (inl h) = record { lines = Err fault; come = early_comes (plain model) bytes fault h; ends = refl }
 refusal_reached laws model bytes fault (inr h) = record {
-  lines = Ok (h.told, h.listed);
-  come = items_come (plain model) bytes h.told h.listed h.items;
-  ends = fault_ends laws model bytes h.told h.listed (end_place bytes) fault h.is;
+  lines = Ok (h.are.told, h.listed);
+  come = items_come (plain model) bytes h.are.told h.listed h.are.items;
+  ends = fault_ends laws model bytes h.listed h.known (end_place bytes) fault h.are h.is;
 }
 
 same_lines : TextsAreReadOnce → (a b : Model) → plain a ≡ plain b → (bytes : List ℕ) (x y : Lined) → Comes (plain a) (blanked_file bytes) x → Comes (plain b) (blanked_file bytes) y → x ≡ y
@@ -167,12 +170,12 @@ same_told x y e = let k : told_ok x ≡ told_ok y = e in let i : x ≡ y = cc in
 
 pub families_once : OnceLaws → FamiliesAreReadOnce
 families_once laws a b bytes f g e o p =
-    let told : o.told ≡ p.told =
-    same_told (o.told, o.listed) (p.told, p.listed)
-    (same_lines laws.texts a b e bytes (Ok (o.told, o.listed)) (Ok (p.told, p.listed)) (items_come (plain a) bytes o.told o.listed o.items) (items_come (plain b) bytes p.told p.listed p.items)) in
+    let told : o.are.told ≡ p.are.told =
+    same_told (o.are.told, o.listed) (p.are.told, p.listed)
+    (same_lines laws.texts a b e bytes (Ok (o.are.told, o.listed)) (Ok (p.are.told, p.listed)) (items_come (plain a) bytes o.are.told o.listed o.are.items) (items_come (plain b) bytes p.are.told p.listed p.are.items)) in
     record {
       code = same_program (whole f.code) (whole g.code) (reached_once laws a b e bytes (Ok (whole f.code)) (Ok (whole g.code)) (family_reached laws.grammar a bytes f o) (family_reached laws.grammar b bytes g p));
-      truths = λ values. o.judged.conditions_are.truths values ∙ ap (λ (t : Told). truths_at values t.conditions) told ∙ sym (p.judged.conditions_are.truths values);
+      truths = λ values. o.are.conditions.truths values ∙ ap (λ (t : Told). truths_at values t.conditions) told ∙ sym (p.are.conditions.truths values);
     }
 
 pub not_refused : OnceLaws → FamiliesAreNotRefused

@@ -1,11 +1,9 @@
 -- What reading a file over given names answers, by what its phases answered.
-use Rattle.std.proofs.Common.{◌≡◌, ℕ, ◌≤◌, List, [], length, Some, None, Result, Ok, Err, refl, sym, ap, subst, ◌∙◌, arith, inl, inr}
-use Rattle.std.specs.Prelude.{IfOk}
+use Rattle.std.proofs.Common.{◌≡◌, ℕ, ◌≤◌, false, List, [], length, None, Result, Ok, Err, refl, sym, ap, subst, ◌∙◌, arith}
+use Rattle.std.specs.Prelude.{⊤, IfOk}
 use Rattle.fam_outer.specs.declared.faults.Place.{Place}
 use Rattle.fam_outer.specs.declared.faults.FileCode.{FileCode}
 use Rattle.fam_outer.specs.declared.faults.FileRefusal.{FileRefusal}
-use Rattle.fam_outer.specs.declared.faults.FileRefusal.TheVariants as refusals
-use Rattle.fam_outer.specs.Places.{end_place}
 use Rattle.fam_outer.specs.Results.{and_then}
 use Rattle.std.specs.List.{range_with_len}
 use Rattle.c_tokens.specs.declared.token.Token.{Token}
@@ -14,33 +12,22 @@ use Rattle.c_tree.specs.Tree.{Whole}
 use Rattle.c_tree.specs.View.{whole}
 use Rattle.c_tree.specs.declared.tree.Program.{Program}
 use Rattle.c_grammar.specs.declared.items.Item.{Item}
-use Rattle.c_grammar.specs.Within.{SpellsWithin}
 use Rattle.c_parser.specs.declared.numbering.Numbered.{Numbered}
-use Rattle.c_tree.specs.Whole.{IsProgram}
+use Rattle.c_tree.specs.Whole.{IsProgram, IsPlainProgram}
+use Rattle.c_grammar.specs.Facts.{PlainWithoutGroups}
+use Rattle.c_grammar.specs.Grammar.{has_groups}
+use Rattle.c_grammar.specs.Within.{WithinIsFile}
 use Rattle.c_parser.specs.Items.{Listed, listed, names_from}
 use Rattle.c_parser.specs.Names.{declared_by, first_name_fault, name_fault_from}
 use Rattle.c_parser.specs.Signing.{IsListed}
-use Rattle.c_parser.specs.Stages.{Lists, IsSpelledAs}
-use Rattle.c_parser.specs.Reading.{IsAccepted, HasWrong, HasDeep, IsReadOver, DeclaresAmong, AreAmong, items_of, items_of_code, code_of_file}
+use Rattle.c_parser.specs.Stages.{IsSpelledBy, list, listed_in}
+use Rattle.c_parser.specs.Reading.{ReadsOver, IsReadOver, DeclaresAmong, AreAmong, items_of, items_of_code, code_of_file}
 use Rattle.c_parser.proofs.Stepwise.{all_over}
 use Rattle.c_parser.proofs.Declared.{names_from_declared, names_from_given}
 
-abbrev list : List (List ℕ) → List Item → Listed
-list names items = record { names = names; items = items }
-
-same_list : (l : Listed) (made : Numbered) → IsListed l made → list made.names made.items.items ≡ l
+-- what was numbered is this list
+pub same_list : (l : Listed) (made : Numbered) → IsListed l made → listed_in made ≡ l
 same_list l made h = ap (λ (ns : List (List ℕ)). list ns made.items.items) h.names_are ∙ ap (λ (xs : List Item). list l.names xs) h.items_are
-
--- no program is spelled
-pub not_spelled : (given : List (List ℕ)) (bytes : List ℕ) (made : Numbered) (e : FileRefusal) → Lists (Ok made) (items_of given bytes) → IsSpelledAs made.names made.items.items (end_place bytes) (Err e) → IsReadOver given bytes (Err e)
-not_spelled given bytes made refusals.NoMemory ls h = tt
-not_spelled given bytes made (refusals.Fault code place) (l, is, m) (inl w) = inr (l, is, inl (subst (λ (x : Listed). HasWrong x (end_place bytes) (code, place)) (same_list l made m) w))
-not_spelled given bytes made (refusals.Fault code place) (l, is, m) (inr w) = inr (l, is, inr (inl (subst (λ (x : Listed). HasDeep x (end_place bytes) (code, place)) (same_list l made m) w)))
-
--- a name has a fault
-pub wrong_name : (given : List (List ℕ)) (bytes : List ℕ) (made : Numbered) (p : Program) (code : FileCode) (place : Place) → Lists (Ok made) (items_of given bytes) → IsSpelledAs made.names made.items.items (end_place bytes) (Ok p)
-    → first_name_fault made.items.items ≡ Some (code, place) → IsReadOver given bytes (Err (refusals.Fault code place))
-wrong_name given bytes made p code place (l, is, m) s f = inr (l, is, inr (inr (record { program = whole p; spelled = subst (λ (x : Listed). SpellsWithin x.names (whole p) x.items) (same_list l made m) s; is = ap first_name_fault (sym m.items_are) ∙ f })))
 
 -- ---- the items of a file are those of some tokens
 
@@ -85,9 +72,9 @@ all_declared code ts none =
     (ap declared_by (sym (all_over code [] ts)) ∙ n.all, n.at_most)
 
 -- over no given names, a program has those that its file declares
-pub names_declared : (bytes : List ℕ) (l : Listed) (p : Whole) → items_of [] bytes ≡ Ok l → IsAccepted l p → AreAll l
-names_declared bytes l p is a =
-    let s = stands_for [] bytes l is in
+pub names_declared : (bytes : List ℕ) (p : Whole) → (a : ReadsOver [] bytes (Ok p)) → AreAll a.listed
+names_declared bytes p a =
+    let s = stands_for [] bytes a.listed a.are in
     subst AreAll (sym s.is) (all_declared s.code s.tokens (subst (λ (m : Listed). first_name_fault m.items ≡ None) s.is a.names))
 
 given_stay : (code : List ℕ) (names : List (List ℕ)) (ts : List Token) → first_name_fault (listed names code ts).items ≡ None → AreAmong names (listed names code ts).items → names_from code names ts ≡ names
@@ -97,24 +84,34 @@ given_stay code names ts none among =
     (subst (AreAmong names) (sym (all_over code names ts)) among)
 
 -- over given names, among which are all that its file declares, a program has these
-pub names_given : (given : List (List ℕ)) (bytes : List ℕ) (l : Listed) (p : Whole) → DeclaresAmong given bytes → items_of given bytes ≡ Ok l → IsAccepted l p → l.names ≡ given
-names_given given bytes l p among is a =
-    let s = stands_for given bytes l is in
-    subst (λ (m : Listed). m.names ≡ given) (sym s.is) (given_stay s.code given s.tokens (subst (λ (m : Listed). first_name_fault m.items ≡ None) s.is a.names) (subst (λ (m : Listed). AreAmong given m.items) s.is (among l is)))
+pub names_given : (given : List (List ℕ)) (bytes : List ℕ) (p : Whole) → DeclaresAmong given bytes → (a : ReadsOver given bytes (Ok p)) → a.listed.names ≡ given
+names_given given bytes p among a =
+    let s = stands_for given bytes a.listed a.are in
+    subst (λ (m : Listed). m.names ≡ given) (sym s.is) (given_stay s.code given s.tokens (subst (λ (m : Listed). first_name_fault m.items ≡ None) s.is a.names) (subst (λ (m : Listed). AreAmong given m.items) s.is (among a.listed a.are)))
 
 -- ---- a program with at most 16 names is well formed
+
+pub few_declared : (bytes : List ℕ) (p : Whole) → ReadsOver [] bytes (Ok p) → length p.names ≤ 16
+few_declared bytes p a = subst (λ (ns : List (List ℕ)). length ns ≤ 16) (sym (ap (λ (w : Whole). w.names) a.spelled.is)) (names_declared bytes p a).1
 
 abbrev FormedIfFew : Program → Type 0
 FormedIfFew p = length (whole p).names ≤ 16 → IsProgram (whole p)
 
 pub own_names : (bytes : List ℕ) (r : Result Program FileRefusal) → IsReadOver [] bytes r → IfOk r FormedIfFew → IfOk r (λ p. IsProgram (whole p))
-own_names bytes (Ok p) (l, is, a) formed = formed (subst (λ (ns : List (List ℕ)). length ns ≤ 16) (sym (ap (λ (w : Whole). w.names) a.spelled.is)) (names_declared bytes l (whole p) is a).1)
+own_names bytes (Ok p) a formed = formed (few_declared bytes (whole p) a)
 own_names bytes (Err e) h formed = tt
 
 pub has_given : (given : List (List ℕ)) (bytes : List ℕ) (r : Result Program FileRefusal) → DeclaresAmong given bytes → IsReadOver given bytes r → IfOk r (λ p. (whole p).names ≡ given)
-has_given given bytes (Ok p) among (l, is, a) = ap (λ (w : Whole). w.names) a.spelled.is ∙ names_given given bytes l (whole p) among is a
+has_given given bytes (Ok p) among a = ap (λ (w : Whole). w.names) a.spelled.is ∙ names_given given bytes (whole p) among a
 has_given given bytes (Err e) among h = tt
 
 pub given_names : (given : List (List ℕ)) (bytes : List ℕ) (r : Result Program FileRefusal) → length given ≤ 16 → IfOk r (λ p. (whole p).names ≡ given) → IfOk r FormedIfFew → IfOk r (λ p. IsProgram (whole p))
 given_names given bytes (Ok p) few same formed = formed (subst (λ (ns : List (List ℕ)). length ns ≤ 16) (sym same) few)
 given_names given bytes (Err e) few same formed = tt
+
+-- ---- a program of items without groups is plain
+
+pub plain_program : PlainWithoutGroups → WithinIsFile → (p : Whole) (known : ⊤) → IsSpelledBy (λ l known. has_groups l.items ≡ false) p known → IsPlainProgram p
+plain_program law is_file p known h =
+    let s = is_file h.listed.names h.listed.items p h.spelled in
+    subst IsPlainProgram (sym s.is) (law h.listed.names h.listed.items s.file h.has s.forms)

@@ -18,7 +18,7 @@ use Rattle.std.specs.Prelude.{Option, Some, None}
 use Rattle.c_parser.specs.Signs.{keyword_of}
 use Rattle.c_parser.specs.Items.{Listed, with_name, names_with_word, names_with, names_from, lexeme_in, AreNewBehind, AreDistinct}
 use Rattle.c_parser.specs.Names.{targets, names_at, each_once}
-use Rattle.c_parser.specs.Reading.{items_of, IsAccepted, IsReadOver, AreDeclaredNames}
+use Rattle.c_parser.specs.Reading.{ReadsOver, IsReadOver, AreDeclaredNames}
 use Rattle.c_parser.proofs.Declarations.{declared_forms}
 use Rattle.c_parser.proofs.Overs.{names_declared, stands_for}
 
@@ -67,16 +67,17 @@ all_at front (n ∷ ns) k e =
 abbrev IsDistinct : Listed → Type 0
 IsDistinct l = AreDistinct l.names
 
-pub own_declared : WithinIsFile → (bytes : List ℕ) (l : Listed) (p : Whole) → items_of [] bytes ≡ Ok l → IsAccepted l p → AreDeclaredNames [] bytes p.names
-own_declared is_file bytes l p is a =
-    let s = stands_for [] bytes l is in
-    let distinct : AreDistinct l.names = subst IsDistinct (sym s.is) (distinct_from s.code [] s.tokens tt) in
+pub own_declared : WithinIsFile → (bytes : List ℕ) (p : Whole) → ReadsOver [] bytes (Ok p) → AreDeclaredNames [] bytes p.names
+own_declared is_file bytes p a =
+    let l = a.listed in
+    let s = stands_for [] bytes a.listed a.are in
+    let distinct : AreDistinct a.listed.names = subst IsDistinct (sym s.is) (distinct_from s.code [] s.tokens tt) in
     let spelled = is_file l.names l.items p a.spelled in
     let file = spelled.file in
-    let numbers : targets file.declared ≡ range_with_len 0 (length l.names) = sym (declared_forms spelled.forms) ∙ (names_declared bytes l p is a).0 in
+    let numbers : targets spelled.file.declared ≡ range_with_len 0 (length a.listed.names) = sym (declared_forms spelled.forms) ∙ (names_declared bytes p a).0 in
     record {
       listed = l;
-      items = is;
+      items = a.are;
       file = file;
       forms = spelled.forms;
       are =
@@ -85,5 +86,5 @@ own_declared is_file bytes l p is a =
     }
 
 pub read_declared : WithinIsFile → (bytes : List ℕ) (r : Result Program FileRefusal) → IsReadOver [] bytes r → IfOk r (λ p. AreDeclaredNames [] bytes (whole p).names)
-read_declared is_file bytes (Ok p) (l, is, a) = own_declared is_file bytes l (whole p) is a
+read_declared is_file bytes (Ok p) a = own_declared is_file bytes (whole p) a
 read_declared is_file bytes (Err e) h = tt

@@ -7,7 +7,8 @@ use Rattle.c_tokens.specs.declared.token.Token.{Token}
 use Rattle.c_grammar.specs.declared.items.Item.{Item}
 use Rattle.c_grammar.specs.Grammar.{is_group, has_groups}
 use Rattle.c_parser.specs.Items.{Listed, items_over, lexeme_in}
-use Rattle.c_parser.specs.Reading.{items_of, is_else_item, is_group_item, item_before, wrong_code}
+use Rattle.c_parser.specs.Phases.{is_else_item, is_group_item, item_before, wrong_code}
+use Rattle.c_parser.specs.Reading.{items_of}
 use Rattle.c_parser.proofs.KeptItems.{sign_plain}
 use Rattle.c_parser.proofs.Overs.{stands_for}
 

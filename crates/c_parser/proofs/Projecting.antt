@@ -38,7 +38,7 @@ abbrev pub VariantsArePlain : Type 0
 VariantsArePlain = (model : Plain) (truths : List (Proposition Atom) → List Bool) (bytes text : List ℕ) → IsPreprocessed model truths bytes text → IsPlainText text
 
 pub names_are : (model : Model) (bytes : List ℕ) (f : Family) → (o : IsFamilyOf model bytes f) → names_in f ≡ o.listed.names
-names_are model bytes f o = ap (λ (w : Whole). w.names) o.judged.spelled.is
+names_are model bytes f o = ap (λ (w : Whole). w.names) o.spelled.is
 
 pub spelled : TextLaws → KeepsWithin → VariantsArePlain → TextsSpellProjections
 spelled laws keeps are_plain model bytes text f truths o q =
@@ -47,14 +47,14 @@ spelled laws keeps are_plain model bytes text f truths o q =
     record {
       items = kept truths l.items;
       are = subst (λ (ns : List (List ℕ)). items_of ns text ≡ Ok (record { names = ns; items = kept truths l.items })) (sym same)
-          (variant_items laws (plain model) bytes text o.told l truths o.items q (are_plain (plain model) (λ conditions. truths) bytes text q));
-      spelled = subst (λ (ns : List (List ℕ)). SpellsWithin ns (projection f truths) (kept truths l.items)) (sym same) (keeps l.names l.items (whole f.code) truths o.judged.spelled);
+          (variant_items laws (plain model) bytes text o.are.told l truths o.are.items q (are_plain (plain model) (λ conditions. truths) bytes text q));
+      spelled = subst (λ (ns : List (List ℕ)). SpellsWithin ns (projection f truths) (kept truths l.items)) (sym same) (keeps l.names l.items (whole f.code) truths o.spelled);
     }
 
 pub texts : TextLaws → VariantsAreTexts
 texts laws model bytes text f values o q =
-    let same = same_told laws (plain model) bytes q.blanked o.items.blanked q.told o.told q.without_comments o.items.without_comments q.read o.items.read in
-    let now : truths_at values q.told.conditions ≡ truths_in f values = ap (λ (t : Told). truths_at values t.conditions) same.told ∙ sym (o.judged.conditions_are.truths values) in
+    let same = same_told laws (plain model) bytes q.blanked o.are.items.blanked q.told o.are.told q.without_comments o.are.items.without_comments q.read o.are.items.read in
+    let now : truths_at values q.told.conditions ≡ truths_in f values = ap (λ (t : Told). truths_at values t.conditions) same.told ∙ sym (o.are.conditions.truths values) in
     record {
       blanked = q.blanked;
       told = q.told;
@@ -69,10 +69,10 @@ pub few : TextLaws → NamesOccur → FamilyNamesAreFew
 few laws occur model bytes f o =
     let l = o.listed in
     let same = names_are model bytes f o in
-    let s = (by_line_of laws.tokens laws.apart (plain model) bytes o.told l o.items).stands in
-    let distinct : AreDistinct o.items.tokens.names = subst AreDistinct (sym s.names) (distinct_from _ [] s.tokens tt) in (
-      subst (λ (ns : List (List ℕ)). length ns ≤ 16) (sym same) (few_names _ l.items (length l.names) o.judged.names (λ x lt. occur (plain model) bytes o.told l x o.items lt)),
-      subst AreDistinct (sym (same ∙ ap (λ (k : Listed). k.names) o.items.is)) distinct,
+    let s = (by_line_of laws.tokens laws.apart (plain model) bytes o.are.told l o.are.items).stands in
+    let distinct : AreDistinct o.are.items.tokens.names = subst AreDistinct (sym s.names) (distinct_from _ [] s.tokens tt) in (
+      subst (λ (ns : List (List ℕ)). length ns ≤ 16) (sym same) (few_names _ l.items (length l.names) o.names (λ x lt. occur (plain model) bytes o.are.told l x o.are.items lt)),
+      subst AreDistinct (sym (same ∙ ap (λ (k : Listed). k.names) o.are.items.is)) distinct,
     )
 
 name_below : (count : ℕ) (s : Sign) (x : ℕ) (ns : List ℕ) → IsFit count s → (list_any (nat_eq x) ns ≡ true → x < count) → list_any (nat_eq x) (name_of s ++ ns) ≡ true → x < count
@@ -102,7 +102,7 @@ declared laws keeps are_plain model bytes text f truths o q l is =
     let same = names_are model bytes f o in
     let e : l ≡ record { names = names_in f; items = kept truths o.listed.items } = same_listed (items_of (names_in f) text) l (record { names = names_in f; items = kept truths o.listed.items }) is t.are in
     let fit : AreFit (length (names_in f)) (kept truths o.listed.items) =
-    subst (λ (ns : List (List ℕ)). AreFit (length ns) (kept truths o.listed.items)) (sym same) (fit_kept (length o.listed.names) truths [] o.listed.items (family_fit laws (plain model) bytes o.told o.listed o.items)) in
+    subst (λ (ns : List (List ℕ)). AreFit (length ns) (kept truths o.listed.items)) (sym same) (fit_kept (length o.listed.names) truths [] o.listed.items (family_fit laws (plain model) bytes o.are.told o.listed o.are.items)) in
     subst (λ (k : Listed). AreAmong (names_in f) k.items) (sym e) (λ x h. declared_below (length (names_in f)) (kept truths o.listed.items) x fit h)
 
 -- ---- reading a variant
@@ -112,14 +112,13 @@ unfolding spelled
 read laws keeps are_plain is_file model bytes text f values o v q =
     let l = o.listed in
     let t = spelled laws keeps are_plain model bytes text f (truths_in f values) o (texts laws model bytes text f values o q) in
-    let forms = (is_file l.names l.items (whole f.code) o.judged.spelled).forms in (
-      record { names = names_in f; items = kept (truths_in f values) l.items },
-      t.are,
-      record {
-        spelled = t.spelled;
-        names = kept_fine (setting_of model f.atoms f.conditions l.names) l.items values o.judged.names v (main_stays (truths_in f values) forms);
-      },
-    )
+    let forms = (is_file l.names l.items (whole f.code) o.spelled).forms in
+    record {
+      listed = record { names = names_in f; items = kept (truths_in f values) l.items };
+      are = t.are;
+      spelled = t.spelled;
+      names = kept_fine (setting_of model f.atoms f.conditions l.names) l.items values o.names v (main_stays (truths_in f values) forms);
+    }
 
 -- ---- an accepted family is not refused by its lines
 
@@ -142,7 +141,7 @@ not_told : (t : Told) (f : FileCode × Place) → told_ok t ≡ told_err f → �
 not_told t f e = let k : told_ok t ≡ told_err f = e in cc
 
 pub accepted : TextsAreReadOnce → FamiliesHaveTexts
-accepted once model bytes f fault o (inl e) = not_both (blanked_file bytes) o.items.blanked fault o.items.without_comments e
+accepted once model bytes f fault o (inl e) = not_both (blanked_file bytes) o.are.items.blanked fault o.are.items.without_comments e
 accepted once model bytes f fault o (inr h) =
-    let same = same_blanked bytes h.blanked o.items.blanked h.without_comments o.items.without_comments in
-    not_told o.told fault (once (plain model) o.items.blanked (Ok o.told) (Err fault) o.items.read (subst (λ (b : List ℕ). TextIsRead (plain model) b (Err fault)) same h.read))
+    let same = same_blanked bytes h.blanked o.are.items.blanked h.without_comments o.are.items.without_comments in
+    not_told o.are.told fault (once (plain model) o.are.items.blanked (Ok o.are.told) (Err fault) o.are.items.read (subst (λ (b : List ℕ). TextIsRead (plain model) b (Err fault)) same h.read))

@@ -1,5 +1,5 @@
 -- A file has one reading: that which the machine decides.
-use Rattle.std.proofs.Common.{◌≡◌, ℕ, ◌+◌, ◌-◌, ◌<◌, List, ◌∷◌, length, Option, Some, None, Result, Ok, Err, refl, sym, ap, ◌∙◌, arith, inl, inr}
+use Rattle.std.proofs.Common.{◌≡◌, ℕ, ◌+◌, ◌-◌, ◌<◌, List, ◌∷◌, length, Option, Some, None, Result, Ok, Err, refl, sym, ap, ◌∙◌, arith, inl, inr, ◌⊎◌}
 use Rattle.std.proofs.lemmas.Bool.{lt-ltb}
 use Rattle.std.proofs.lemmas.List.{length-append}
 use Rattle.fam_outer.specs.declared.faults.Place.{Place}
@@ -20,7 +20,8 @@ use Rattle.item_reader.specs.Reading.{IsWrongAt, IsDeepAt}
 use Rattle.c_parser.specs.Items.{Listed}
 use Rattle.c_parser.specs.Names.{first_name_fault}
 use Rattle.cpp_lines.specs.Whole.{file_place}
-use Rattle.c_parser.specs.Reading.{IsAccepted, Refuses, ReadsOver, code_of_file, items_of, place_with, wrong_code}
+use Rattle.c_parser.specs.Phases.{HasDeep, HasNameFault, HasWrong, place_with, wrong_code}
+use Rattle.c_parser.specs.Reading.{plain_files, ReadsOver, code_of_file, items_of}
 
 -- the laws of the grammar that are used here
 pub record GrammarLaws : Type 0 where
@@ -101,17 +102,23 @@ named : GrammarLaws → (l : Listed) (end : Place) (p : Whole) (fault : Option (
 named laws l end p fault s e =
     ap (λ (x : Answer). and_then x (with_names (first_name_fault l.items))) (program_spelled laws (wrong_code l.items) l end p s) ∙ ap (λ (o : Option (FileCode × Place)). with_names o p) e
 
-refused_answer : GrammarLaws → (l : Listed) (end : Place) (fault : FileCode × Place) → Refuses l end fault → answer_over l end ≡ Err fault
-refused_answer laws l end fault (inl w) =
+-- an item is wrong or too deep, or a name has a fault
+abbrev Refuses : List (List ℕ) → Listed → Place → FileCode × Place → Type 0
+Refuses given l end fault = HasWrong l end fault ⊎ (HasDeep l end fault ⊎ HasNameFault (plain_files given) l tt fault)
+
+refused_answer : GrammarLaws → (given : List (List ℕ)) (l : Listed) (end : Place) (fault : FileCode × Place) → Refuses given l end fault → answer_over l end ≡ Err fault
+refused_answer laws given l end fault (inl w) =
     ap (λ (x : Answer). and_then x (with_names (first_name_fault l.items))) (wrong_spelled laws (wrong_code l.items) l end w.position w.wrong) ∙ ap (λ (f : FileCode × Place). Err f) (sym w.is)
-refused_answer laws l end fault (inr (inl w)) =
+refused_answer laws given l end fault (inr (inl w)) =
     ap (λ (x : Answer). and_then x (with_names (first_name_fault l.items))) (deep_spelled laws (wrong_code l.items) l end w.position w.deep) ∙ ap (λ (f : FileCode × Place). Err f) (sym w.is)
-refused_answer laws l end fault (inr (inr w)) = named laws l end w.program (Some fault) w.spelled w.is
+refused_answer laws given l end fault (inr (inr w)) = named laws l end w.program (Some fault) w.spelled w.names
 
 is_answer : GrammarLaws → (given : List (List ℕ)) (bytes : List ℕ) (r : Answer) → ReadsOver given bytes r → answer given bytes ≡ r
-is_answer laws given bytes (Ok p) (l, is, a) = ap (λ (x : Result Listed (FileCode × Place)). and_then x (λ l. answer_over l (end_place bytes))) is ∙ named laws l (end_place bytes) p None a.spelled a.names
+is_answer laws given bytes (Ok p) a =
+    ap (λ (x : Result Listed (FileCode × Place)). and_then x (λ l. answer_over l (end_place bytes))) a.are ∙ named laws a.listed (end_place bytes) p None a.spelled a.names
 is_answer laws given bytes (Err fault) (inl is) = ap (λ (x : Result Listed (FileCode × Place)). and_then x (λ l. answer_over l (end_place bytes))) is
-is_answer laws given bytes (Err fault) (inr (l, is, w)) = ap (λ (x : Result Listed (FileCode × Place)). and_then x (λ l. answer_over l (end_place bytes))) is ∙ refused_answer laws l (end_place bytes) fault w
+is_answer laws given bytes (Err fault) (inr h) =
+    ap (λ (x : Result Listed (FileCode × Place)). and_then x (λ l. answer_over l (end_place bytes))) h.are ∙ refused_answer laws given h.listed (end_place bytes) fault h.is
 
 -- a file is read in one way
 pub reads_once : GrammarLaws → (given : List (List ℕ)) (bytes : List ℕ) (r s : Answer) → ReadsOver given bytes r → ReadsOver given bytes s → r ≡ s
@@ -119,17 +126,18 @@ reads_once laws given bytes r s h k = sym (is_answer laws given bytes r h) ∙ i
 
 -- ---- each file is read
 
-abbrev IsJudged : Listed → Place → Answer → Type 0
-IsJudged l end (Ok p) = IsAccepted l p
-IsJudged l end (Err fault) = Refuses l end fault
+-- what stands in an answer behind the items
+abbrev IsJudged : List (List ℕ) → Listed → Place → Answer → Type 0
+IsJudged given l end (Ok p) = SpellsWithin l.names p l.items × (first_name_fault l.items ≡ None)
+IsJudged given l end (Err fault) = Refuses given l end fault
 
-with_fault : (l : Listed) (end : Place) (p : Whole) → SpellsWithin l.names p l.items → (o : Option (FileCode × Place)) → first_name_fault l.items ≡ o → (r : Answer) × IsJudged l end r
-with_fault l end p s None e = (Ok p, record { spelled = s; names = e })
-with_fault l end p s (Some fault) e = (Err fault, inr (inr (record { program = p; spelled = s; is = e })))
+with_fault : (given : List (List ℕ)) (l : Listed) (end : Place) (p : Whole) → SpellsWithin l.names p l.items → (o : Option (FileCode × Place)) → first_name_fault l.items ≡ o → (r : Answer) × IsJudged given l end r
+with_fault given l end p s None e = (Ok p, (s, e))
+with_fault given l end p s (Some fault) e = (Err fault, inr (inr (record { program = p; spelled = s; names = e })))
 
-by_machine : GrammarLaws → (l : Listed) (end : Place) (g : Came) → guarded start 0 l.items ≡ g → (r : Answer) × IsJudged l end r
-by_machine laws l end (Ok f) e = with_fault l end (whole_of l.names l.items f) (record { file = f; forms = (laws.reads l.items f).0 e; is = refl }) (first_name_fault l.items) refl
-by_machine laws l end (Err (limits.Wrong k)) e =
+by_machine : GrammarLaws → (given : List (List ℕ)) (l : Listed) (end : Place) (g : Came) → guarded start 0 l.items ≡ g → (r : Answer) × IsJudged given l end r
+by_machine laws given l end (Ok f) e = with_fault given l end (whole_of l.names l.items f) (record { file = f; forms = (laws.reads l.items f).0 e; is = refl }) (first_name_fault l.items) refl
+by_machine laws given l end (Err (limits.Wrong k)) e =
     let b = (laws.stops_wrong l.items k).0 e in
     let w = b.0 in (
       Err (wrong_code l.items (length w.before), place_with l.items (length w.before) end),
@@ -139,7 +147,7 @@ by_machine laws l end (Err (limits.Wrong k)) e =
         is = refl;
       }),
     )
-by_machine laws l end (Err (limits.Deep k)) e =
+by_machine laws given l end (Err (limits.Deep k)) e =
     let a = (laws.stops_deep l.items k).0 e in (
       Err (TooDeep, place_with l.items (length a.before) end),
       inr (inl (record {
@@ -149,12 +157,12 @@ by_machine laws l end (Err (limits.Deep k)) e =
       })),
     )
 
-judged_reads : (given : List (List ℕ)) (bytes : List ℕ) (l : Listed) → items_of given bytes ≡ Ok l → (r : Answer) → IsJudged l (end_place bytes) r → ReadsOver given bytes r
-judged_reads given bytes l is (Ok p) j = (l, is, j)
-judged_reads given bytes l is (Err fault) j = inr (l, is, j)
+judged_reads : (given : List (List ℕ)) (bytes : List ℕ) (l : Listed) → items_of given bytes ≡ Ok l → (r : Answer) → IsJudged given l (end_place bytes) r → ReadsOver given bytes r
+judged_reads given bytes l is (Ok p) j = record { listed = l; are = is; spelled = j.0; names = j.1 }
+judged_reads given bytes l is (Err fault) j = inr (record { listed = l; known = tt; are = is; is = j })
 
 by_items : GrammarLaws → (given : List (List ℕ)) (bytes : List ℕ) (x : Result Listed (FileCode × Place)) → items_of given bytes ≡ x → (r : Answer) × ReadsOver given bytes r
-by_items laws given bytes (Ok l) is = let j = by_machine laws l (end_place bytes) (guarded start 0 l.items) refl in (j.0, judged_reads given bytes l is j.0 j.1)
+by_items laws given bytes (Ok l) is = let j = by_machine laws given l (end_place bytes) (guarded start 0 l.items) refl in (j.0, judged_reads given bytes l is j.0 j.1)
 by_items laws given bytes (Err fault) is = (Err fault, inl is)
 
 -- each file is read

@@ -2,6 +2,7 @@ pub mod Signs
 pub mod Items
 pub mod Signing
 pub mod Names
+pub mod Phases
 pub mod Reading
 pub mod Judging
 pub mod Stages

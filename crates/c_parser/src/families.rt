@@ -6,15 +6,16 @@ ghost use Rattle.std.specs.List.{prefix_len};
 ghost use Rattle.cpp_conditions.specs.Distinct.{HaveFewAtoms};
 ghost use Rattle.cpp_conditions.specs.Naming.{AreFeatures};
 ghost use Rattle.cpp_conditions.specs.Validity as validity;
-ghost use Rattle.c_grammar.specs.Facts.{AreRising};
+ghost use Rattle.c_grammar.specs.Facts.{AreFit, AreRising};
 ghost use Rattle.cpp_lines.specs.Lines.{AreCounted};
 ghost use Rattle.c_parser.specs.Families as specs;
-ghost use Rattle.c_parser.specs.FamilyStages as stages;
+ghost use Rattle.c_parser.specs.FamilyReading.{families_over};
+ghost use Rattle.c_parser.specs.FamilyStages.{AreProperConditions};
+ghost use Rattle.c_parser.specs.Stages.{IsListedAs, listed_in};
 
 use crate::numbering::Numbered;
 use crate::plain::number_code;
 use c_grammar::{Item, Sign};
-use c_tree::Names;
 use cpp_conditions::Model;
 use cpp_lines::laws::places_stay;
 use cpp_lines::{Atoms, Formulas, Line, LineKind, blanked_file, code_text, read_sections};
@@ -85,26 +86,27 @@ pub(crate) fn by_line(alloc: Global, lines: &[Line], tokens: &[Item]) -> Result<
     Ok(items)
 }
 
-/// The names, items, conditions and atoms of a file with groups.
+/// The conditions of a file with groups, in their order, and the atoms of the model and of these conditions.
 #[derive(Drop)]
-pub(crate) struct FamilyItems {
-    pub names: Names,
-    pub items: Vec<Item>,
-    pub conditions: Formulas,
+pub(crate) struct Conditions {
+    pub formulas: Formulas,
     pub atoms: Atoms,
 }
 
-/// The items of a file with groups, and its conditions.
+/// The names and items of a file with groups, and its conditions.
 pub(crate) fn list_family(
     alloc: Global,
     model: &Model,
     bytes: &[u8],
-) -> Result<FamilyItems, FileRefusal>
+) -> Result<(Numbered, Conditions), FileRefusal>
     requires features { AreFeatures model.now.features }
     requires fit { validity.AreFit (length model.now.features) model.now.constraints }
     requires few { HaveFewAtoms 64 (validity.plain model.now).constraints }
-    ensures listed { stages.ListsFamily (validity.plain model.now) bytes.now result }
-    ensures proper { IfOk result (λ made. stages.IsProperFamily (length model.now.features) made) }
+    ensures listed { IsListedAs (families_over model.now) bytes.now result }
+    ensures fit { IfOk result (λ made. AreFit (length made.0.names) made.0.items.items) }
+    ensures rising { IfOk result (λ made. AreRising made.0.items.items) }
+    ensures proper { IfOk result (λ made.
+        AreProperConditions (length model.now.features) (listed_in made.0) made.1) }
     ensures limited { IfOk result (λ _. length bytes.now ≤ FILE_BYTES) }
 {
     places_stay();
@@ -113,10 +115,9 @@ pub(crate) fn list_family(
     let code = code_text(alloc, blanked.bytes(), sections.lines.items())?;
     let Numbered { names, items } = number_code(alloc, &[], code.bytes())?;
     let items = by_line(alloc, sections.lines.items(), items.as_slice())?;
-    Ok(FamilyItems {
-        names,
-        items,
-        conditions: sections.conditions,
+    let conditions = Conditions {
+        formulas: sections.conditions,
         atoms: sections.atoms,
-    })
+    };
+    Ok((Numbered { names, items }, conditions))
 }

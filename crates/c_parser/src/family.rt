@@ -13,12 +13,12 @@ ghost use Rattle.c_tree.specs.Project.{IsConditioned};
 ghost use Rattle.c_tree.specs.View.{whole};
 ghost use Rattle.c_tree.specs.Whole.{IsProgram};
 ghost use Rattle.c_grammar.specs.Laws.{AtMostOne};
-ghost use Rattle.c_parser.specs.FamilyReading.{IsFamilyRead, setting_of};
-ghost use Rattle.family_names.specs.Names.{IsFirstNameFault};
+ghost use Rattle.c_parser.specs.FamilyReading.{IsFamilyRead};
 
-use crate::families::{FamilyItems, list_family};
+use crate::families::{Conditions, list_family};
 use crate::laws::family_names_occur;
-use crate::spelled::{refused, spelled};
+use crate::numbering::Numbered;
+use crate::phases::{FileKind, read_file};
 use atom_solver::Prepared;
 use c_grammar::Item;
 use c_grammar::laws::{files_are_programs, spells_at_most_one, within_the_limits_is_a_file};
@@ -38,30 +38,50 @@ pub struct Family {
     pub atoms: Atoms,
 }
 
-/// The first fault of a name among the items of a family, whose conditions are over these atoms.
-fn name_fault(
-    alloc: Global,
-    model: &Model,
-    names: &Names,
-    items: &[Item],
-    conditions: &Formulas,
-    atoms: &Atoms,
-) -> Result<Option<(FileCode, Place)>, NoMemory>
-    requires features { AreFeatures model.now.features }
-    requires fit { AreFit (length model.now.features) model.now.constraints }
-    requires atoms { AreAtoms (length model.now.features) atoms.now }
-    requires below { All (λ c. IsBelow (length atoms.now) (formula c)) conditions.now }
-    ensures { IfOk result (λ fault. IsFirstNameFault
-        (setting_of model.now atoms.now conditions.now names.now) items.now fault) }
-{
-    let prepared = Prepared::new(alloc, model)?;
-    let setting = Setting {
-        model: &prepared,
-        atoms: atoms.items(),
-        conditions: conditions.items(),
-        names: names.items(),
-    };
-    first_name_fault(alloc, &setting, items)
+/// Files with groups over a model.
+#[derive(Drop)]
+struct FamilyFiles<'a> {
+    model: &'a Model,
+}
+
+impl FileKind for FamilyFiles<'_> {
+    ghost use Rattle.std.specs.Prelude.{◌≤◌, length};
+    ghost use Rattle.cpp_conditions.specs.Distinct.{HaveFewAtoms};
+    ghost use Rattle.cpp_conditions.specs.Naming.{AreFeatures};
+    ghost use Rattle.cpp_conditions.specs.Validity.{plain, AreFit};
+    ghost use Rattle.c_parser.specs.FamilyReading.{families_over};
+    ghost use Rattle.c_parser.specs.FamilyStages.{AreProperConditions};
+
+    type Known = Conditions;
+
+    ghost meaning = { λ files. families_over files.model.now };
+
+    ghost is_ready = { λ files. AreFeatures files.model.now.features
+        × AreFit (length files.model.now.features) files.model.now.constraints
+        × HaveFewAtoms 64 (plain files.model.now).constraints };
+
+    ghost has = { λ files l known. AreProperConditions (length files.model.now.features) l known };
+
+    fn list(&self, alloc: Global, bytes: &[u8]) -> Result<(Numbered, Conditions), FileRefusal> {
+        list_family(alloc, self.model, bytes)
+    }
+
+    fn name_fault(
+        &self,
+        alloc: Global,
+        names: &Names,
+        items: &[Item],
+        known: &Conditions,
+    ) -> Result<Option<(FileCode, Place)>, NoMemory> {
+        let prepared = Prepared::new(alloc, self.model)?;
+        let setting = Setting {
+            model: &prepared,
+            atoms: known.atoms.items(),
+            conditions: known.formulas.items(),
+            names: names.items(),
+        };
+        first_name_fault(alloc, &setting, items)
+    }
 }
 
 /// The family that a file spells over a model. Over one list of names, a list of items spells at most one program.
@@ -96,19 +116,10 @@ pub fn read_family(alloc: Global, model: &Model, bytes: &[u8]) -> Result<Family,
     within_the_limits_is_a_file();
     files_are_programs();
     family_names_occur();
-    let FamilyItems {
-        names,
-        items,
-        conditions,
+    let (code, Conditions { formulas, atoms }) = read_file(alloc, &FamilyFiles { model }, bytes)?;
+    Ok(Family {
+        code,
+        conditions: formulas,
         atoms,
-    } = list_family(alloc, model, bytes)?;
-    let code = spelled(alloc, names, &items, bytes)?;
-    match name_fault(alloc, model, &code.names, &items, &conditions, &atoms)? {
-        Some((code, place)) => Err(refused(code, place)),
-        None => Ok(Family {
-            code,
-            conditions,
-            atoms,
-        }),
-    }
+    })
 }

@@ -13,7 +13,8 @@ ghost use Rattle.cpp_conditions.specs.Validity.{Plain};
 ghost use Rattle.cpp_lines.specs.Sections.{Told};
 ghost use Rattle.c_parser.specs.Families.{HasItems, has};
 ghost use Rattle.c_parser.specs.Names.{declared_by, targets};
-ghost use Rattle.c_parser.specs.Reading.{ReadsOver, items_of, wrong_code, IsAccepted, AreDeclaredNames};
+ghost use Rattle.c_parser.specs.Phases.{wrong_code};
+ghost use Rattle.c_parser.specs.Reading.{Reads, ReadsOver, items_of, AreDeclaredNames};
 
 use c_grammar::laws::{reads_within_the_limits, within_the_limits_is_a_file};
 use c_tokens::laws::{lines_are_apart, literals_are_decimal, one_reading, reads_longest_lexemes};
@@ -38,10 +39,8 @@ pub fn reads_something()
 /// The names of a program that is read over no given names are those that its file declares, in the order of their
 /// declarations; there are at most 16.
 pub fn names_are_declared()
-    ensures names { (bytes : List ℕ) (l : Listed) (p : Whole) → items_of [] bytes ≡ Ok l → IsAccepted l p
-        → AreDeclaredNames [] bytes p.names }
-    ensures few { (bytes : List ℕ) (l : Listed) (p : Whole) → items_of [] bytes ≡ Ok l → IsAccepted l p
-        → length l.names ≤ 16 }
+    ensures names { (bytes : List ℕ) (p : Whole) → Reads bytes (Ok p) → AreDeclaredNames [] bytes p.names }
+    ensures few { (bytes : List ℕ) (p : Whole) → Reads bytes (Ok p) → length p.names ≤ 16 }
 {
     within_the_limits_is_a_file();
 }

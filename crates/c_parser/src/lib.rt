@@ -6,6 +6,7 @@ pub mod family;
 pub mod laws;
 mod names;
 mod numbering;
+mod phases;
 pub mod plain;
 mod signs;
 mod spelled;

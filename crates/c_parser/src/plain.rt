@@ -12,14 +12,15 @@ ghost use Rattle.c_parser.specs.Stages.{Lists, ProperIn};
 
 use crate::names::first_name_fault;
 use crate::numbering::{Numbered, number};
-use crate::spelled::{refused, spelled};
-use c_grammar::laws::{spells_at_most_one, within_the_limits_is_a_file};
+use crate::phases::{FileKind, read_file};
+use c_grammar::Item;
+use c_grammar::laws::{files_are_programs, spells_at_most_one, within_the_limits_is_a_file};
 use c_tokens::laws::{literals_are_decimal, reads_longest_lexemes};
 use c_tokens::tokens;
-use c_tree::Program;
+use c_tree::{Names, Program};
 use cpp_lines::laws::places_stay;
 use cpp_lines::{blanked_file, code_text, plain_lines};
-use fam_outer::{FILE_BYTES, FileRefusal, Text, places_rise};
+use fam_outer::{FILE_BYTES, FileCode, FileRefusal, NoMemory, Place, Text, places_rise};
 use std::alloc::Global;
 
 /// The code of a file: its bytes without comments and directive lines, so that all places stay.
@@ -67,6 +68,41 @@ fn list_items(alloc: Global, given: &[Text], bytes: &[u8]) -> Result<Numbered, F
     number_code(alloc, given, code.bytes())
 }
 
+/// Files without groups, where names are given before a file's own.
+#[derive(Drop)]
+struct PlainFiles<'a> {
+    given: &'a [Text],
+}
+
+impl FileKind for PlainFiles<'_> {
+    ghost use Rattle.std.specs.Prelude.{◌≡◌, ◌≤◌, false, length};
+    ghost use Rattle.c_grammar.specs.Grammar.{has_groups};
+    ghost use Rattle.c_parser.specs.Items.{AreDistinct};
+    ghost use Rattle.c_parser.specs.Reading.{plain_files};
+
+    type Known = ();
+
+    ghost meaning = { λ files. plain_files files.given.now };
+
+    ghost is_ready = { λ files. (length files.given.now ≤ 16) × AreDistinct files.given.now };
+
+    ghost has = { λ _ l _. has_groups l.items ≡ false };
+
+    fn list(&self, alloc: Global, bytes: &[u8]) -> Result<(Numbered, ()), FileRefusal> {
+        Ok((list_items(alloc, self.given, bytes)?, ()))
+    }
+
+    fn name_fault(
+        &self,
+        alloc: Global,
+        _names: &Names,
+        items: &[Item],
+        _known: &(),
+    ) -> Result<Option<(FileCode, Place)>, NoMemory> {
+        first_name_fault(alloc, items)
+    }
+}
+
 /// The program of a file, where names are given before its own.
 fn read_over(alloc: Global, given: &[Text], bytes: &[u8]) -> Result<Program, FileRefusal>
     requires few { length given.now ≤ 16 }
@@ -75,12 +111,10 @@ fn read_over(alloc: Global, given: &[Text], bytes: &[u8]) -> Result<Program, Fil
     ensures program { IfOk result (λ p. length (whole p).names ≤ 16 → IsProgram (whole p)) }
     ensures plain { IfOk result (λ p. IsPlainProgram (whole p)) }
 {
-    let Numbered { names, items } = list_items(alloc, given, bytes)?;
-    let program = spelled(alloc, names, items.as_slice(), bytes)?;
-    match first_name_fault(alloc, items.as_slice())? {
-        Some((code, place)) => Err(refused(code, place)),
-        None => Ok(program),
-    }
+    files_are_programs();
+    within_the_limits_is_a_file();
+    let (program, ()) = read_file(alloc, &PlainFiles { given }, bytes)?;
+    Ok(program)
 }
 
 /// The program that a file spells. Over one list of names, a list of items spells at most one.

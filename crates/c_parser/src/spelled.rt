@@ -1,14 +1,13 @@
 //! The program that the items of a file spell, with or without groups.
 #![tactic(auto)]
 
-ghost use Rattle.std.specs.Prelude.{◌≡◌, ◌≤◌, false, length, slice_get, IfOk};
+ghost use Rattle.std.specs.Prelude.{◌≡◌, ◌≤◌, length, slice_get, IfOk};
 ghost use Rattle.fam_outer.specs.Places as outer;
 ghost use Rattle.fam_outer.specs.declared.faults.FileRefusal.TheVariants as refusals;
 ghost use Rattle.c_tree.specs.View.{whole};
-ghost use Rattle.c_tree.specs.Whole.{IsProgram, IsPlainProgram};
+ghost use Rattle.c_tree.specs.Whole.{IsProgram};
 ghost use Rattle.c_grammar.specs.Facts.{AreFit, AreRising};
-ghost use Rattle.c_grammar.specs.Grammar.{has_groups};
-ghost use Rattle.c_parser.specs.Reading as reading;
+ghost use Rattle.c_parser.specs.Phases as phases;
 ghost use Rattle.c_parser.specs.Stages.{IsSpelledAs};
 
 use c_grammar::{Item, Sign};
@@ -28,7 +27,7 @@ pub(crate) fn refused(code: FileCode, place: Place) -> FileRefusal
 /// The place of the item at a position, or the end of the text.
 fn place_with(items: &[Item], position: usize, bytes: &[u8]) -> Place
     requires { length bytes.now ≤ FILE_BYTES }
-    ensures { result ≡ reading.place_with items.now position (outer.end_place bytes.now) }
+    ensures { result ≡ phases.place_with items.now position (outer.end_place bytes.now) }
 {
     match items.get(position) {
         Some(item) => item.place,
@@ -38,7 +37,7 @@ fn place_with(items: &[Item], position: usize, bytes: &[u8]) -> Place
 
 /// Whether the item at a position is a group directive.
 fn is_group_at(items: &[Item], position: usize) -> bool
-    ensures { result ≡ reading.is_group_item (slice_get items.now position) }
+    ensures { result ≡ phases.is_group_item (slice_get items.now position) }
 {
     match items.get(position) {
         None => false,
@@ -51,7 +50,7 @@ fn is_group_at(items: &[Item], position: usize) -> bool
 
 /// Whether the item at a position is `else`.
 fn is_else_at(items: &[Item], position: usize) -> bool
-    ensures { result ≡ reading.is_else_item (slice_get items.now position) }
+    ensures { result ≡ phases.is_else_item (slice_get items.now position) }
 {
     match items.get(position) {
         None => false,
@@ -61,7 +60,7 @@ fn is_else_at(items: &[Item], position: usize) -> bool
 
 /// The code of the first wrong item.
 fn wrong_code(items: &[Item], position: usize) -> FileCode
-    ensures { result ≡ reading.wrong_code items.now position }
+    ensures { result ≡ phases.wrong_code items.now position }
 {
     let is_behind_group = position > 0 && is_group_at(items, position - 1);
     if is_group_at(items, position) || is_else_at(items, position) && is_behind_group {
@@ -83,7 +82,6 @@ pub(crate) fn spelled(
     requires rising { AreRising items.now }
     ensures spelled { IsSpelledAs names items.now (outer.end_place bytes.now) result }
     ensures program { length names ≤ 16 → IfOk result (λ p. IsProgram (whole p)) }
-    ensures plain { has_groups items.now ≡ false → IfOk result (λ p. IsPlainProgram (whole p)) }
 {
     match read_items(alloc, names, items) {
         Ok(program) => Ok(program),

@@ -59,14 +59,20 @@ fn depth_counts_elifs_and_statements(rt: HostRuntime) -> Result<(), Fail> {
     refuses(&rt, alloc, SWITCH, file.as_bytes(), "TooDeep", 3, 64)?;
     let file = repeated(alloc, "int main(void) {\n", "#if 0\n", 65, "")?;
     let file = repeated(alloc, file.as_str(), "#endif\n", 65, "}\n")?;
-    refuses(&rt, alloc, SWITCH, file.as_bytes(), "TooDeep", 66, 1)
+    refuses(&rt, alloc, SWITCH, file.as_bytes(), "TooDeep", 66, 1)?;
+    // beside a wrong item, in both orders
+    let file = repeated(alloc, "int main(void) {\n", "{", 65, " = }")?;
+    refuses(&rt, alloc, SWITCH, file.as_bytes(), "TooDeep", 2, 65)?;
+    let file = repeated(alloc, "int main(void) { =\n", "{", 65, "}")?;
+    refuses(&rt, alloc, SWITCH, file.as_bytes(), "Syntax", 1, 18)
 }
 
 /// A program with groups that test whether `N` is at least 1, 2 and so on.
 fn tested(alloc: Global, count: u32) -> Result<String, Fail> {
     let mut file = String::from_str(alloc, "int main(void) {\n")?;
-    for bound in 0..count {
-        file.push_str(format!(in alloc; "#if N > {bound}\n#endif\n")?.as_str())?;
+    for below in 0..count {
+        let bound = below + 1;
+        file.push_str(format!(in alloc; "#if N >= {bound}\n#endif\n")?.as_str())?;
     }
     file.push_str("}\n")?;
     Ok(file)
@@ -82,6 +88,11 @@ fn sixty_four_tests_are_read(rt: HostRuntime) -> Result<(), Fail> {
     }
     let file = tested(alloc, 65)?;
     refuses(&rt, alloc, MIXED, file.as_bytes(), "TooManyTests", 130, 1)?;
+    // beside another fault of a line, in both orders
+    let behind = repeated(alloc, file.as_str(), "#foo\n", 1, "")?;
+    refuses(&rt, alloc, MIXED, behind.as_bytes(), "TooManyTests", 130, 1)?;
+    let before = repeated(alloc, "#foo\n", file.as_str(), 1, "")?;
+    refuses(&rt, alloc, MIXED, before.as_bytes(), "Directive", 1, 1)?;
     // atoms of the model count as well
     let model =
         "{\"features\":[{\"name\":\"A\"},{\"name\":\"N\",\"min\":0,\"max\":100}],\"constraints\":[\"A\"]}";

@@ -243,14 +243,17 @@ fn names_are_refused(rt: HostRuntime) -> Result<(), Fail> {
 
 #[test]
 fn the_first_fault_decides(rt: HostRuntime) -> Result<(), Fail> {
-    let cases: [(&[u8], &str, u32, u32); 18] = [
-        // of two phases the earlier one, wherever it stands
+    let cases: [(&[u8], &str, u32, u32); 35] = [
+        // of two phases the earlier one, in both orders
         (b"#if A\n/* x", "OpenComment", 2, 1),
         (b"#foo\n\\\n", "Splice", 2, 1),
+        (b"\\\n#foo", "Splice", 1, 1),
         (b"@\n#endif", "NoIf", 2, 1),
         (b"@\n#if N * N\n#endif", "Condition(NonLinear)", 2, 1),
+        (b"#endif\n@", "NoIf", 1, 1),
         (b"int = 1;\n08", "Literal", 2, 1),
         (b"int = 1;\n#if A\n@\n#endif", "StrayByte", 3, 1),
+        (b"08\nint = 1;", "Literal", 1, 1),
         (b"int x, x;\nint main(void) { x = }", "Syntax", 2, 22),
         (
             b"int main(void) {\ny = 1;\n#if A\n{\n#endif\n}",
@@ -258,13 +261,37 @@ fn the_first_fault_decides(rt: HostRuntime) -> Result<(), Fail> {
             5,
             1,
         ),
+        (b"int = 1;\nint main(void) { y = 1; }", "Syntax", 1, 5),
         // of one phase the first place, in both orders
         (b"/*\n*/#if A\n\\\n#endif", "CommentAtDirective", 1, 1),
         (b"\\\n/*\n*/#if A\n#endif", "Splice", 1, 1),
+        (b"\\\n/* x", "Splice", 1, 1),
+        (b"/* \\\n", "OpenComment", 1, 1),
         (b"#else\n#foo", "NoIf", 1, 1),
         (b"#foo\n#else", "Directive", 1, 1),
+        (b"#if A\n#foo", "NoEndif", 1, 1),
+        (b"#foo\n#if A", "Directive", 1, 1),
+        (
+            b"#if N * N\n#else\n#else\n#endif",
+            "Condition(NonLinear)",
+            1,
+            1,
+        ),
+        (
+            b"#if A\n#else\n#else\n#endif\n#if N * N\n#endif",
+            "SecondElse",
+            3,
+            1,
+        ),
         (b"@ 08", "StrayByte", 1, 1),
         (b"08 @", "Literal", 1, 1),
+        (
+            b"int x,\n#if A\ny;\n#endif\nint = 1;",
+            "GroupInsideStatement",
+            2,
+            1,
+        ),
+        (b"int = 1;\nint x,\n#if A\ny;\n#endif", "Syntax", 1, 5),
         (
             b"int x, x, A;\nint main(void) { }",
             "Twice(Some(Values { list: [0, 0, 0] }))",
@@ -274,6 +301,27 @@ fn the_first_fault_decides(rt: HostRuntime) -> Result<(), Fail> {
         (b"int A, x, x;\nint main(void) { }", "FeatureInCode", 1, 5),
         (b"int main(void) { y = A; }", "Undeclared(None)", 1, 18),
         (b"int main(void) { A = y; }", "FeatureInCode", 1, 18),
+        (
+            b"int a,a,b,c,d,e,f,g,h,i,j,k,l,m,n,o,p,q;\nint main(void) { }",
+            "Twice(Some(Values { list: [0, 0, 0] }))",
+            1,
+            7,
+        ),
+        (
+            b"int a,b,c,d,e,f,g,h,i,j,k,l,m,n,o,p,q,a;\nint main(void) { }",
+            "TooManyVariables",
+            1,
+            37,
+        ),
+        // at one place the lower code
+        (b"#if A /*\n", "OpenComment", 1, 7),
+        (b"#if N * N", "NoEndif", 1, 1),
+        (
+            b"int a,b,c,d,e,f,g,h,i,j,k,l,m,n,o,p,A;\nint main(void) { }",
+            "FeatureInCode",
+            1,
+            37,
+        ),
     ];
     for (file, wanted, line, column) in cases {
         refuses(&rt, rt.alloc(), MIXED, file, wanted, line, column)?;

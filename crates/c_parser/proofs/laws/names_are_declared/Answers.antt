@@ -1,4 +1,4 @@
-use Rattle.c_parser.proofs.Overs.{names_declared}
+use Rattle.c_parser.proofs.Overs.{few_declared}
 use Rattle.c_parser.proofs.OwnNames.{own_declared}
 use Rattle.c_parser.proofs.laws.names_are_declared.Goals as goal
 
@@ -6,4 +6,4 @@ pub returns-clause-names : goal.returns-clause-names
 returns-clause-names c = own_declared c.within_the_limits_is_a_file.ensures
 
 pub returns-clause-few : goal.returns-clause-few
-returns-clause-few c = λ bytes l p is a. (names_declared bytes l p is a).1
+returns-clause-few c = few_declared

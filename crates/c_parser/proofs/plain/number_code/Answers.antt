@@ -1,4 +1,9 @@
-use Rattle.std.proofs.Common.{List, Ok, sym, ap, ◌∙◌, arith}
+use Rattle.std.proofs.Common.{List, Result, Ok, sym, ap, ◌∙◌, arith}
+use Rattle.fam_outer.specs.declared.faults.FileCode.{FileCode}
+use Rattle.fam_outer.specs.declared.faults.Place.{Place}
+use Rattle.fam_outer.specs.Results.{and_then}
+use Rattle.c_parser.specs.Items.{Listed, listed}
+use Rattle.c_parser.proofs.Overs.{same_list}
 use Rattle.c_tokens.specs.declared.token.Token.{Token}
 use Rattle.c_parser.proofs.Lexical.{tokens_within, tokens_few}
 use Rattle.c_parser.proofs.Stepwise.{proper_items}
@@ -14,6 +19,11 @@ number-requires-clause-few c =
     let few = tokens_few (record { read = c.reads_longest_lexemes.ensures; literal = c.literals_are_decimal.ensures.written; rise = c.places_rise.ensures }) c.args.code.now c.items.result.now
     (c.in_ok-tokens.ensures ∙ ap (λ (ts : List Token). Ok ts) (sym c.items.ensures)) in
     omega (arith, few, c.requires.few, c.requires.short)
+
+pub returns-clause-listed : goal.returns-clause-listed
+returns-clause-listed c =
+    ap (λ (r : Result (List Token) (FileCode × Place)). and_then r (λ ts. Ok (listed c.args.given.now c.args.code.now ts))) (c.in_ok-tokens.ensures ∙ ap (λ (ts : List Token). Ok ts) (sym c.items.ensures))
+    ∙ ap (λ (l : Listed). Ok l) (sym (same_list (listed c.args.given.now c.args.code.now c.items.result.now) c.in_ok-number.field-0 c.in_ok-number.ensures))
 
 pub returns-clause-proper : goal.returns-clause-proper
 returns-clause-proper c =
