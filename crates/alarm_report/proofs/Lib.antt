@@ -7,3 +7,4 @@ pub mod Pairing
 pub mod Placed
 pub mod Stops
 pub mod Wellformed
+pub mod ReadBack

@@ -1,5 +1,6 @@
 -- The texts of reports: of one program, and of a family.
-use Rattle.std.specs.Prelude.{ℕ, List, [], ◌∷◌, ◌++◌, codes, map, flat_map, length}
+use Rattle.std.specs.Prelude.{ℕ, ◌<◌, ◌^◌, List, [], ◌∷◌, ◌++◌, codes, map, flat_map, length}
+use Rattle.std.specs.List.{All}
 use Rattle.std.specs.Fmt.{decimal}
 use Rattle.fam_outer.specs.declared.faults.Place.{Place}
 use Rattle.c_tree.specs.declared.tree.Kind.{Kind}
@@ -40,6 +41,13 @@ count_line count = codes "alarms: " ++ decimal count ++ codes "\n"
 -- the lines of the alarms, and how many they are
 abbrev pub variant_text : List Alarm → List ℕ
 variant_text alarms = flat_map alarm_line alarms ++ count_line (length alarms)
+
+-- a place's numbers are words of 32 binary digits, as those of each place of a file are
+abbrev pub IsWordPlace : Place → Type 0
+IsWordPlace place = (place.line < 2 ^ 32) × (place.column < 2 ^ 32)
+
+abbrev pub HaveWordPlaces : List Alarm → Type 0
+HaveWordPlaces alarms = All (λ (a : Alarm). IsWordPlace a.place) alarms
 
 -- ---- the alarms of a family
 

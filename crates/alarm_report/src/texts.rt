@@ -5,7 +5,7 @@ ghost use Rattle.std.specs.Prelude.{◌≡◌, ◌++◌, length, IfOk};
 ghost use Rattle.std.specs.List.{All};
 ghost use Rattle.linear_atoms.specs.Atoms.{AreLiterals};
 ghost use Rattle.alarm_report.specs.declared.alarms.FamilyAlarm.{FamilyAlarm};
-ghost use Rattle.alarm_report.specs.Texts.{place_text, kind_text as text_of_kind, alarm_line, count_line, variant_text, region_text, family_line, alarm_text};
+ghost use Rattle.alarm_report.specs.Texts.{place_text, kind_text as text_of_kind, alarm_line, count_line, variant_text, IsWordPlace, HaveWordPlaces, region_text, family_line, alarm_text};
 
 use crate::alarms::FamilyAlarm;
 use crate::joining::{joined, literal_texts};
@@ -30,7 +30,8 @@ pub fn kind_text(kind: Kind) -> &'static str
 
 /// Adds `LINE:COLUMN`.
 pub fn push_place(alloc: Global, text: &mut Vec<u8>, place: Place) -> Result<(), NoMemory>
-    ensures { IfOk result (λ _. text.new.items ≡ text.old.items ++ place_text place) }
+    ensures text { IfOk result (λ _. text.new.items ≡ text.old.items ++ place_text place) }
+    ensures word { IsWordPlace place }
 {
     let Place { line, column } = place;
     let place = format!(in alloc; "{line}:{column}")?;
@@ -49,7 +50,8 @@ fn push_count(alloc: Global, text: &mut Vec<u8>, count: usize) -> Result<(), NoM
 
 /// Adds the line of an alarm of one program.
 fn push_alarm(alloc: Global, text: &mut Vec<u8>, alarm: &Alarm) -> Result<(), NoMemory>
-    ensures { IfOk result (λ _. text.new.items ≡ text.old.items ++ alarm_line alarm.now) }
+    ensures text { IfOk result (λ _. text.new.items ≡ text.old.items ++ alarm_line alarm.now) }
+    ensures word { IsWordPlace alarm.now.place }
 {
     push_place(alloc, text, alarm.place)?;
     let kind = kind_text(alarm.kind);
@@ -61,7 +63,8 @@ fn push_alarm(alloc: Global, text: &mut Vec<u8>, alarm: &Alarm) -> Result<(), No
 /// The report on one program: for each alarm a line `LINE:COLUMN: KIND`, then `alarms: N` with their number. The only refusal is
 /// want of memory.
 pub fn variant_report(alloc: Global, alarms: &[Alarm]) -> Result<Text, NoMemory>
-    ensures { IfOk result (λ text. text ≡ variant_text alarms.now) }
+    ensures text { IfOk result (λ text. text ≡ variant_text alarms.now) }
+    ensures words { IfOk result (λ _. HaveWordPlaces alarms.now) }
 {
     let mut text = Vec::new(alloc);
     for alarm in alarms {

@@ -20,7 +20,7 @@ use Rattle.clap.proofs.ValueTestLemmas.{accepts-Accepts, Accepts-accepts}
 use Rattle.clap.specs.declared.builder.value_parser.ValueParser.TheVariants as vp
 use Rattle.command_words.specs.Arguments.{texts_of}
 use Rattle.command_words.specs.Options.{IsNumberBelow}
-use Rattle.command_words.specs.Spelling.{is_digit, is_positive, is_number, is_input, is_in_int, input_of, without_minus}
+use Rattle.command_words.specs.Spelling.{is_digit, is_positive, is_number, is_input, is_in_int, number_up_to, input_of, without_minus}
 
 pub texts_after : {Z : Type 0} (words : List (String Z)) (word : String Z) → texts_of (words ++ word ∷ []) ≡ texts_of words ++ string_bytes word ∷ []
 texts_after words word = map-append string_bytes words (word ∷ [])
@@ -82,6 +82,18 @@ number_read G text (Some n) read only below =
 number_read G text None read only below =
     let d : IsDigits text = number_digits text below.0 in
     absurd (only (Err read.0) read.1 (rw (no_plus text d) (numeral_of text d, below.1)))
+
+-- a text that is read as no word spells no number up to a word
+pub number_unread : {E : Type 0} (most : ℕ) (text : List ℕ) (error : E) → ParsesUnsigned 32 10 text (Err error) → is_number text ≡ true → most < 2 ^ 32
+    → None ≡ number_up_to most text
+number_unread most text error h e small = go (nat_le (digits_value 10 text) most) refl
+  where
+    d : IsDigits text
+    d = number_digits text e
+
+    go : (b : Bool) → nat_le (digits_value 10 text) most ≡ b → None ≡ number_up_to most text
+    go true f = absurd (h (rw (no_plus text d) (numeral_of text d, omega (arith, leb-true (digits_value 10 text) most f))))
+    go false f = rw (e, f) refl
 
 -- ---- inputs
 

@@ -3,7 +3,7 @@
 
 ghost use Rattle.std.specs.Prelude.{◌≡◌};
 ghost use Rattle.std.specs.List.{list_all};
-ghost use Rattle.command_words.specs.Spelling.{is_digit as digit, is_positive as positive, is_number as number, is_input as input, without_minus};
+ghost use Rattle.command_words.specs.Spelling.{is_digit as digit, is_positive as positive, is_number as number, number_up_to as read_number, is_input as input, without_minus};
 
 /// The byte is a digit.
 fn is_digit(byte: u8) -> bool
@@ -34,6 +34,19 @@ pub fn is_number(text: &str) -> bool
     ensures { result ≡ number text.now }
 {
     text == "0" || is_positive(text.as_bytes())
+}
+
+/// The number from 0 to `most` that the text spells.
+pub fn number_up_to(most: u32, text: &str) -> Option<u32>
+    ensures { result ≡ read_number most text.now }
+{
+    if !is_number(text) {
+        return None;
+    }
+    match text.parse::<u32>() {
+        Ok(number) => if number <= most { Some(number) } else { None },
+        Err(_) => None,
+    }
 }
 
 /// The bytes after a `-` at their front, or all bytes.

@@ -37,7 +37,7 @@ front_among atoms (p ∷ ps) qs h = (h.0, front_among atoms ps qs h.1)
 
 -- the atoms of the constraints stand among those of the family
 pub among_of : (l : ProductLine) → IsUsableLine l → AreAllAmong l.family.atoms (plain l.model).constraints
-among_of l u = front_among l.family.atoms (plain l.model).constraints u.spelled.told.conditions u.spelled.judged.conditions_are.atoms_are.all
+among_of l u = front_among l.family.atoms (plain l.model).constraints u.spelled.are.told.conditions u.spelled.are.conditions.atoms_are.all
 
 more_tests : (m n : ℕ) → m ≤ n → (p : Proposition ℕ) → IsBelow m p → IsBelow n p
 more_tests m n le (Const b) h = tt

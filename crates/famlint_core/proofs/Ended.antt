@@ -83,6 +83,7 @@ family_status_low alarms = elim (nat_lt 0 (length alarms)) as (λ b. (if b then 
 family_low : (M : LeafMeaning) (o : Options) (t : FamilyTask) (l : ProductLine) (done : Done) → IsFamilyDone M o t l done → done.status ≤ 1
 family_low M o families.Alarms l done (alarms, are, e) = rw e (family_status_low alarms)
 family_low M o families.Invariants l done (invariants, alarms, are, have, e) = rw e (family_status_low alarms)
+family_low M o families.Sizes l done (alarms, are, e) = rw e (family_status_low alarms)
 
 advice_low : (found : Option Advice) (done : Done) → done.status ≡ advice_status found → done.status ≤ 1
 advice_low None done e = omega (arith, e)
@@ -92,6 +93,7 @@ answered_low : (r : Request) (told : Contents) (done : Done) → Answers r told 
 answered_low (request.Plain file analysis) told done (p, reads, e) = plain_low analysis p done e
 answered_low (request.Variant model file settings t) told done (s, selected, is) = done_low t s done is
 answered_low (request.Family model file analysis t) told done (l, line, is) = family_low (meaning_of analysis.domain) analysis.options t l done is
+answered_low (request.Generate number analysis) told done (l, line, is) = family_low (meaning_of analysis.domain) analysis.options families.Sizes l done is
 answered_low (request.Advice model file settings analysis) told done (s, selected, is) = advice_low is.found done is.status
 answered_low (request.Features model) told done (m, is, uses) = let e : done.status ≡ 0 = uses.status in omega (arith, e)
 

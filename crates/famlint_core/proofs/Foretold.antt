@@ -366,9 +366,11 @@ pub done_as : (M : LeafMeaning) (o : Options) (task : FamilyTask) (l : ProductLi
     → AreGoodAlarms M o l alarms → IsGoodText M o task l alarms text → status ≡ family_status alarms → IsFamilyDone M o task l (record { text = text; status = status })
 done_as M o tasks.Alarms l alarms text status good is e = (alarms, good.are, rw (is, e) refl)
 done_as M o tasks.Invariants l alarms text status good is e = (is.invariants, alarms, is.good.are, good.are, rw (is.is, e) refl)
+done_as M o tasks.Sizes l alarms text status good is e = (alarms, good.are, rw (is, e) refl)
 
 pub promised_as : (M : LeafMeaning) (o : Options) (task : FamilyTask) (l : ProductLine) (alarms : List FamilyAlarm) (text : List ℕ) (status : ℕ)
     → AreGoodAlarms M o l alarms → IsGoodText M o task l alarms text → status ≡ family_status alarms → PromisedOfAll M o task l status text
 promised_as M o tasks.Alarms l alarms text status good is e = (alarms, is, subst (λ n. AreAlarmsOfAll M o l alarms n) (sym e) good.all)
 promised_as M o tasks.Invariants l alarms text status good is e =
     (is.invariants, alarms, is.is, is.good.all, subst (λ n. AreAlarmsOfAll M o l alarms n) (sym e) good.all)
+promised_as M o tasks.Sizes l alarms text status good is e = (alarms, is, subst (λ n. AreAlarmsOfAll M o l alarms n) (sym e) good.all)

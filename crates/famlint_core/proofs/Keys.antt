@@ -30,7 +30,7 @@ module _ {X : Type 0} where
   never_behind k (m ∷ ms) zero h e = h.0 (same_Some m k e)
   never_behind k (m ∷ ms) (suc j) h e = never_behind k ms j h.1 e
 
-  one_place : (ks : List X) (i j : ℕ) (k : X) → AreApart ks → slice_get ks i ≡ Some k → slice_get ks j ≡ Some k → i ≡ j
+  pub one_place : (ks : List X) (i j : ℕ) (k : X) → AreApart ks → slice_get ks i ≡ Some k → slice_get ks j ≡ Some k → i ≡ j
   one_place [] i j k h e f = absurd (none-some k e)
   one_place (m ∷ ms) zero zero k h e f = refl
   one_place (m ∷ ms) zero (suc j) k h e f = absurd (never_behind k ms j (subst (λ x. IsAway x ms) (same_Some m k e) h.0) f)
@@ -59,7 +59,7 @@ before_other a b h = grind arith
 never_before : (p : Place) → IsTrue (is_before p p) → ⊥
 never_before p h = let e : true ≡ false = sym (same_place_self p) ∙ before_other p p h in cc
 
-other_place : (p q : Place) → IsTrue (is_before p q) → q ≡ p → ⊥
+pub other_place : (p q : Place) → IsTrue (is_before p q) → q ≡ p → ⊥
 other_place p q h e = never_before p (subst (λ x. IsTrue (is_before p x)) e h)
 
 away_places : (p : Place) (ps : List Place) → IsBeforeAll p ps → IsAway p ps
@@ -78,12 +78,12 @@ away_kinds p kind [] h = tt
 away_kinds p kind (q ∷ qs) h =
     (other_key p q kind Overflow h.0, (other_key p q kind ZeroDivisor h.0, (other_key p q kind Assertion h.0, away_kinds p kind qs h.1)))
 
-abbrev is_overflow : Kind → ℕ
+abbrev pub is_overflow : Kind → ℕ
 is_overflow Overflow = 1
 is_overflow ZeroDivisor = 0
 is_overflow Assertion = 0
 
-abbrev is_assertion : Kind → ℕ
+abbrev pub is_assertion : Kind → ℕ
 is_assertion Overflow = 0
 is_assertion ZeroDivisor = 0
 is_assertion Assertion = 1
@@ -91,10 +91,10 @@ is_assertion Assertion = 1
 unlike : (p : Place) (a b : Kind) (f : Kind → ℕ) → (f a ≡ f b → ⊥) → (let x : Place × Kind = (p, a) in x) ≡ (p, b) → ⊥
 unlike p a b f apart e = apart (ap (λ (x : Place × Kind). f x.1) e)
 
-zero_one : (let n : ℕ = 0 in n) ≡ 1 → ⊥
+pub zero_one : (let n : ℕ = 0 in n) ≡ 1 → ⊥
 zero_one e = absurd (omega (arith, e))
 
-one_zero : (let n : ℕ = 1 in n) ≡ 0 → ⊥
+pub one_zero : (let n : ℕ = 1 in n) ≡ 0 → ⊥
 one_zero e = absurd (omega (arith, e))
 
 apart_kinds : (ps : List Place) → IsRising ps → AreApart (by_kind ps)

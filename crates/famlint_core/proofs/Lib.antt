@@ -3,8 +3,10 @@ pub mod Analysed
 pub mod Answering
 pub mod Ended
 pub mod Foretold
+pub mod Generated
 pub mod Keys
 pub mod Loading
+pub mod Once
 pub mod Reached
 pub mod Reporting
 pub mod Selecting

@@ -12,8 +12,8 @@ use Rattle.c_tree.proofs.Listed.{places_of-followed}
 use Rattle.c_tree.proofs.Wholes.{IsPlain-projected}
 use Rattle.leaf_domain.specs.Leaves.{LeafValue, LeafMeaning, LeafLaws, nothing_of}
 use Rattle.plain_analysis.specs.declared.options.Options.{Options}
-use Rattle.plain_analysis.specs.Statements.{Entry, after_of, entries_of}
-use Rattle.plain_analysis.specs.Places.{is_same_place, entry_in, entry_of, leaf_or, at_of, may_stop, alarm_of}
+use Rattle.plain_analysis.specs.Statements.{Entry, after_of, entries_of, final_heads}
+use Rattle.plain_analysis.specs.Places.{is_same_place, entry_in, entry_by, leaf_or, at_of, may_stop, alarm_of}
 use Rattle.plain_analysis.proofs.Located.{place_of, places_of_entries}
 
 never : false ≡ true → ⊥
@@ -102,28 +102,28 @@ module _ (M : LeafMeaning) (o : Options) (p : Whole) (truths : List Bool) (d : L
   abbrev q : Whole
   q = projected_program truths p
 
-  entry_there : (x : Place) (e : Entry) → entry_of M o q d x ≡ Some e → IsIn x (program_places p)
+  entry_there : (x : Place) (e : Entry) → entry_by M o.mode (final_heads M o) q d x ≡ Some e → IsIn x (program_places p)
   entry_there x e h =
       variant_in truths x p (in_left x (places_of q.body) (q.end ∷ [])
-      (subst (IsIn x) (places_of_entries M o q.body d (IsPlain-projected truths p.body)) (found_in (entries_of M o q.body d) x e h)))
+      (subst (IsIn x) (places_of_entries M o.mode (final_heads M o) q.body d (IsPlain-projected truths p.body)) (found_in (entries_of M o q.body d) x e h)))
 
   -- where there is an alarm, the place is the family's
-  alarm_by : (x : Place) (kind : Kind) (found : Option Entry) → entry_of M o q d x ≡ found → may_stop M o found kind ≡ true → IsIn x (program_places p)
+  alarm_by : (x : Place) (kind : Kind) (found : Option Entry) → entry_by M o.mode (final_heads M o) q d x ≡ found → may_stop M o.mode found kind ≡ true → IsIn x (program_places p)
   alarm_by x kind None h k = absurd (never k)
   alarm_by x kind (Some e) h k = entry_there x e h
 
   pub alarm_there : (x : Place) (kind : Kind) → alarm_of M o q d x kind ≡ true → IsIn x (program_places p)
-  alarm_there x kind h = alarm_by x kind (entry_of M o q d x) refl h
+  alarm_there x kind h = alarm_by x kind (entry_by M o.mode (final_heads M o) q d x) refl h
 
   -- where the leaf holds a store, the place is the family's
   ends_by : LeafLaws M → (x : Place) (store : List ℤ) (b : Bool) → is_same_place q.end x ≡ b → M.holds (if b then after_of M o q.body d else nothing_of d.variables) store → IsIn x (program_places p)
   ends_by laws x store true e h = variant_in truths x p (in_right x (places_of q.body) (q.end ∷ []) (inl (same_place q.end x e)))
   ends_by laws x store false e h = absurd (laws.nothing_holds d.variables store h)
 
-  leaf_by : LeafLaws M → (x : Place) (store : List ℤ) (found : Option Entry) → entry_of M o q d x ≡ found
+  leaf_by : LeafLaws M → (x : Place) (store : List ℤ) (found : Option Entry) → entry_by M o.mode (final_heads M o) q d x ≡ found
       → M.holds (leaf_or (if is_same_place q.end x then after_of M o q.body d else nothing_of d.variables) found) store → IsIn x (program_places p)
   leaf_by laws x store None e h = ends_by laws x store (is_same_place q.end x) refl h
   leaf_by laws x store (Some f) e h = entry_there x f e
 
   pub leaf_there : LeafLaws M → (x : Place) (store : List ℤ) → M.holds (at_of M o q d x) store → IsIn x (program_places p)
-  leaf_there laws x store h = leaf_by laws x store (entry_of M o q d x) refl h
+  leaf_there laws x store h = leaf_by laws x store (entry_by M o.mode (final_heads M o) q d x) refl h

@@ -15,9 +15,9 @@ use Rattle.famlint_core.specs.ProductLines.{IsProgramAt}
 pub is_program_at : VariantsAreRead → (l : ProductLine) (values : List ℤ) (p : Whole) → IsFamilyOf l.model l.text l.family → IsValid (plain l.model) values
     → p ≡ projection l.family (truths_in l.family values) → IsProgramAt l values p
 is_program_at law l values p spelled valid e =
-    let told = spelled.told in
-    let blanked = spelled.items.blanked in
+    let told = spelled.are.told in
+    let blanked = spelled.are.items.blanked in
     let text = preprocessed (truths_at values told.conditions) told.lines blanked in
     let made : IsPreprocessed (plain l.model) (truths_at values) l.text text =
-    record { blanked = blanked; told = told; without_comments = spelled.items.without_comments; read = spelled.items.read; is = refl } in
+    record { blanked = blanked; told = told; without_comments = spelled.are.items.without_comments; read = spelled.are.items.read; is = refl } in
     record { text = text; preprocessed = made; read = subst (λ q. ReadsOver (names_in l.family) text (Ok q)) (sym e) (law l.model l.text text l.family values spelled valid made) }

@@ -1,5 +1,5 @@
 -- What a request is answered, for what is told of the paths that it names.
-use Rattle.std.specs.Prelude.{ℕ, ℤ, ◌≡◌, List, Option, Some, Result, Ok, Err}
+use Rattle.std.specs.Prelude.{ℕ, ℤ, ◌≡◌, ⊤, List, Option, Some, Result, Ok, Err}
 use Rattle.c_tree.specs.Run.{run_of}
 use Rattle.c_tree.specs.Tree.{Whole}
 use Rattle.c_tree.specs.declared.tree.Mode.{Mode}
@@ -19,14 +19,16 @@ use Rattle.famlint_core.specs.declared.fault.Fault.{Fault}
 use Rattle.famlint_core.specs.declared.fault.Fault.TheVariants as fault
 use Rattle.famlint_core.specs.declared.product_line.ProductLine.{ProductLine}
 use Rattle.famlint_core.specs.declared.request.FamilyTask.{FamilyTask}
+use Rattle.famlint_core.specs.declared.request.FamilyTask.TheVariants.{Sizes}
 use Rattle.famlint_core.specs.declared.request.Request.{Request}
-use Rattle.famlint_core.specs.declared.request.Request.TheVariants.{Plain, Variant, Family, Advice, Features}
+use Rattle.famlint_core.specs.declared.request.Request.TheVariants.{Plain, Variant, Family, Generate, Advice, Features}
 use Rattle.famlint_core.specs.declared.request.VariantTask.{VariantTask}
 use Rattle.famlint_core.specs.declared.request.VariantTask.TheVariants.{Text, Report, Run}
 use Rattle.famlint_core.specs.declared.selected.Selected.{Selected}
 use Rattle.famlint_core.specs.Advised.{IsAdviceDone, IsAdviceText}
 use Rattle.famlint_core.specs.FamilyReports.{IsFamilyDone}
 use Rattle.famlint_core.specs.FeatureUses.{AreUsesDone}
+use Rattle.famlint_core.specs.Generated.{IsGeneratedLine}
 use Rattle.famlint_core.specs.Headline.{PromisedOfAll}
 use Rattle.famlint_core.specs.Loads.{IsModel}
 use Rattle.famlint_core.specs.ProductLines.{IsProductLine, IsLineRefused, IsLoadedFor}
@@ -44,6 +46,7 @@ abbrev pub IsTold : Request → (List ℕ → Option (List ℕ)) → Contents �
 IsTold (Plain file analysis) content told = content file ≡ Some told.file
 IsTold (Variant model file settings task) content told = (content model ≡ Some told.model) × (content file ≡ Some told.file)
 IsTold (Family model file analysis task) content told = (content model ≡ Some told.model) × (content file ≡ Some told.file)
+IsTold (Generate number analysis) content told = ⊤
 IsTold (Advice model file settings analysis) content told = (content model ≡ Some told.model) × (content file ≡ Some told.file)
 IsTold (Features model) content told = content model ≡ Some told.model
 
@@ -90,6 +93,18 @@ AnswersFamily analysis task told (Ok done) =
     (l : ProductLine) × IsProductLine told.model told.file l × IsFamilyDone (meaning_of analysis.domain) analysis.options task l done
 AnswersFamily analysis task told (Err fault) = IsLineRefused told.model told.file fault
 
+-- ---- `generate`
+
+-- the sizes and the alarms of the family that is generated for a number
+abbrev pub IsGenerateDone : Analysis → ℕ → Done → Type 0
+IsGenerateDone analysis number done =
+    (l : ProductLine) × IsGeneratedLine number l × IsFamilyDone (meaning_of analysis.domain) analysis.options Sizes l done
+
+-- no fault answers it: each generated family is accepted
+abbrev pub AnswersGenerate : Analysis → ℕ → Result Done Fault → Type 0
+AnswersGenerate analysis number (Ok done) = IsGenerateDone analysis number done
+AnswersGenerate analysis number (Err fault) = ⊥
+
 -- ---- `advise`
 
 -- the advice for the configuration that settings give, or the refusal of the model, the file or the settings
@@ -112,6 +127,7 @@ abbrev pub Answers : Request → Contents → Result Done Fault → Type 0
 Answers (Plain file analysis) told answer = AnswersPlain analysis told.file answer
 Answers (Variant model file settings task) told answer = AnswersVariant task settings told answer
 Answers (Family model file analysis task) told answer = AnswersFamily analysis task told answer
+Answers (Generate number analysis) told answer = AnswersGenerate analysis number answer
 Answers (Advice model file settings analysis) told answer = AnswersAdvice analysis settings told answer
 Answers (Features model) told answer = AnswersFeatures told.model answer
 
@@ -124,6 +140,7 @@ abbrev pub IsLoaded : Request → Contents → Option (List ℕ) → Type 0
 IsLoaded (Plain file analysis) told failed = failed ≡ Some file
 IsLoaded (Variant model file settings task) told failed = IsLoadedFor model file told.model failed
 IsLoaded (Family model file analysis task) told failed = IsLoadedFor model file told.model failed
+IsLoaded (Generate number analysis) told failed = ⊥
 IsLoaded (Advice model file settings analysis) told failed = IsLoadedFor model file told.model failed
 IsLoaded (Features model) told failed = failed ≡ Some model
 
@@ -131,12 +148,12 @@ IsLoaded (Features model) told failed = failed ≡ Some model
 
 -- the report is one on the program that the bytes spell
 abbrev pub PromisedPlain : Analysis → List ℕ → ℕ → List ℕ → Type 0
-PromisedPlain analysis bytes status text = (p : Whole) × Reads bytes (Ok p) × IsReport analysis.options.mode p status text
+PromisedPlain analysis bytes status text = (p : Whole) × Reads bytes (Ok p) × IsReport (meaning_of analysis.domain) analysis.options p status text
 
 -- a report is one on the program of the variant; a text or a run is exactly its answer, and no more is promised of it
 abbrev pub PromisedOf : VariantTask → Selected → ℕ → List ℕ → Type 0
 PromisedOf Text s status text = status ≡ 0
-PromisedOf (Report analysis) s status text = (p : Whole) × IsProgramOf s p × IsReport analysis.options.mode p status text
+PromisedOf (Report analysis) s status text = (p : Whole) × IsProgramOf s p × IsReport (meaning_of analysis.domain) analysis.options p status text
 PromisedOf (Run steps inputs mode) s status text = status ≡ 0
 
 abbrev pub PromisedVariant : VariantTask → List (List ℕ) → Contents → ℕ → List ℕ → Type 0
@@ -146,6 +163,11 @@ PromisedVariant task settings told status text = (s : Selected) × AreSelected t
 abbrev pub PromisedFamily : Analysis → FamilyTask → Contents → ℕ → List ℕ → Type 0
 PromisedFamily analysis task told status text =
     (l : ProductLine) × IsProductLine told.model told.file l × PromisedOfAll (meaning_of analysis.domain) analysis.options task l status text
+
+-- what is promised of the report on a generated family: as of each family
+abbrev pub PromisedGenerate : Analysis → ℕ → ℕ → List ℕ → Type 0
+PromisedGenerate analysis number status text =
+    (l : ProductLine) × IsGeneratedLine number l × PromisedOfAll (meaning_of analysis.domain) analysis.options Sizes l status text
 
 -- what is promised of advice: see `Advised`
 abbrev pub PromisedAdvice : Analysis → List (List ℕ) → Contents → ℕ → List ℕ → Type 0
@@ -157,5 +179,6 @@ abbrev pub Promised : Request → Contents → ℕ → List ℕ → Type 0
 Promised (Plain file analysis) told status text = PromisedPlain analysis told.file status text
 Promised (Variant model file settings task) told status text = PromisedVariant task settings told status text
 Promised (Family model file analysis task) told status text = PromisedFamily analysis task told status text
+Promised (Generate number analysis) told status text = PromisedGenerate analysis number status text
 Promised (Advice model file settings analysis) told status text = PromisedAdvice analysis settings told status text
 Promised (Features model) told status text = status ≡ 0

@@ -1,6 +1,7 @@
 -- What a product line is answered under `analyse` and `invariants`.
-use Rattle.std.specs.Prelude.{ℕ, ◌≡◌, ◌++◌, List, map, length, nat_lt, if◌then◌else◌}
+use Rattle.std.specs.Prelude.{ℕ, ◌≡◌, ◌++◌, List, codes, map, length, nat_lt, if◌then◌else◌}
 use Rattle.std.specs.List.{All}
+use Rattle.std.specs.Fmt.{decimal}
 use Rattle.c_tree.specs.Places.{program_places}
 use Rattle.c_tree.specs.View.{whole}
 use Rattle.cpp_conditions.specs.declared.formulas.Formula.{Formula}
@@ -18,7 +19,7 @@ use Rattle.alarm_report.specs.Texts.{alarm_text}
 use Rattle.famlint_core.specs.declared.fault.Done.{Done}
 use Rattle.famlint_core.specs.declared.product_line.ProductLine.{ProductLine}
 use Rattle.famlint_core.specs.declared.request.FamilyTask.{FamilyTask}
-use Rattle.famlint_core.specs.declared.request.FamilyTask.TheVariants.{Alarms, Invariants}
+use Rattle.famlint_core.specs.declared.request.FamilyTask.TheVariants.{Alarms, Invariants, Sizes}
 
 -- the formula is true at exactly the vectors that the constraints and the order of the atoms allow
 abbrev pub IsPlausibleFor : ProductLine → Formula → Type 0
@@ -54,6 +55,10 @@ pub record AreInvariantsOf (M : LeafMeaning) (o : Options) (l : ProductLine) (in
 abbrev pub family_status : List FamilyAlarm → ℕ
 family_status alarms = if nat_lt 0 (length alarms) then 1 else 0
 
+-- how many bytes and places there are
+abbrev pub sizes_text : ProductLine → List ℕ
+sizes_text l = codes "bytes: " ++ decimal (length l.text) ++ codes "\nplaces: " ++ decimal (length (program_places (whole l.family.code))) ++ codes "\n"
+
 -- what is asked of a product line is this
 abbrev pub IsFamilyDone : LeafMeaning → Options → FamilyTask → ProductLine → Done → Type 0
 IsFamilyDone M o Alarms l done =
@@ -65,3 +70,6 @@ IsFamilyDone M o Invariants l done =
       text = invariant_text M l.model.features (whole l.family.code).names invariants ++ alarm_text l.model.features alarms;
       status = family_status alarms;
     })
+IsFamilyDone M o Sizes l done =
+    (alarms : List FamilyAlarm) × AreAlarmsOf M o l alarms
+    × (done ≡ record { text = sizes_text l ++ alarm_text l.model.features alarms; status = family_status alarms })

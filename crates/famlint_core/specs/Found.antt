@@ -24,8 +24,8 @@ use Rattle.alarm_report.specs.LeafTexts.{invariant_text}
 use Rattle.alarm_report.specs.Texts.{alarm_text}
 use Rattle.famlint_core.specs.declared.product_line.ProductLine.{ProductLine}
 use Rattle.famlint_core.specs.declared.request.FamilyTask.{FamilyTask}
-use Rattle.famlint_core.specs.declared.request.FamilyTask.TheVariants.{Alarms, Invariants}
-use Rattle.famlint_core.specs.FamilyReports.{IsPlausibleFor, IsStopTree, IsLeafTree, AreAlarmsOf, AreInvariantsOf, family_status}
+use Rattle.famlint_core.specs.declared.request.FamilyTask.TheVariants.{Alarms, Invariants, Sizes}
+use Rattle.famlint_core.specs.FamilyReports.{IsPlausibleFor, IsStopTree, IsLeafTree, AreAlarmsOf, AreInvariantsOf, sizes_text, family_status}
 use Rattle.famlint_core.specs.Headline.{AreAlarmsOfAll, AreInvariantsOfAll}
 
 -- the trees of stops and of leaves, of one analysis
@@ -65,3 +65,4 @@ pub record AreInvariantsBefore (M : LeafMeaning) (o : Options) (l : ProductLine)
 abbrev pub IsGoodText : LeafMeaning → Options → FamilyTask → ProductLine → List FamilyAlarm → List ℕ → Type 0
 IsGoodText M o Alarms l alarms text = text ≡ alarm_text l.model.features alarms
 IsGoodText M o Invariants l alarms text = AreInvariantsBefore M o l (alarm_text l.model.features alarms) text
+IsGoodText M o Sizes l alarms text = text ≡ sizes_text l ++ alarm_text l.model.features alarms

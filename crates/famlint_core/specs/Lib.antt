@@ -5,6 +5,7 @@ pub mod FamilyReports
 pub mod Faults
 pub mod FeatureUses
 pub mod Found
+pub mod Generated
 pub mod Headline
 pub mod Loads
 pub mod ProductLines

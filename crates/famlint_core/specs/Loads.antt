@@ -16,8 +16,7 @@ use Rattle.c_tree.specs.Project.{IsConditioned}
 use Rattle.c_tree.specs.View.{whole}
 use Rattle.c_tree.specs.Whole.{IsProgram}
 use Rattle.c_parser.specs.declared.family.Family.{Family}
-use Rattle.c_parser.specs.Families.{HasEarlyFault}
-use Rattle.c_parser.specs.FamilyReading.{IsFamilyOf, HasItemFault}
+use Rattle.c_parser.specs.FamilyReading.{IsFamilyOf, IsFamilyRefused}
 use Rattle.famlint_core.specs.declared.fault.Fault.{Fault}
 use Rattle.famlint_core.specs.declared.fault.Fault.TheVariants as fault
 use Rattle.famlint_core.specs.declared.fault.Stop.{Stop}
@@ -85,7 +84,7 @@ pub record IsUsable (model : Model) : Type 0 where
 abbrev pub IsFamily : Model → List ℕ → Result Family Fault → Type 0
 IsFamily model bytes (Ok family) = IsFamilyOf model bytes family
 IsFamily model bytes (Err (fault.File code place example)) =
-    (example ≡ example_of model.features code) × (HasEarlyFault (plain model) bytes (code, place) ⊎ HasItemFault model bytes (code, place))
+    (example ≡ example_of model.features code) × IsFamilyRefused model bytes (code, place)
 IsFamily model bytes (Err other) = ⊥
 
 -- the same, with the bytes

@@ -1,5 +1,5 @@
 -- The report on one program, and the stops of its runs.
-use Rattle.std.specs.Prelude.{ℕ, ℤ, Bool, ◌≡◌, List, length, nat_lt, Contains, if◌then◌else◌}
+use Rattle.std.specs.Prelude.{ℕ, ℤ, Bool, ◌≡◌, List, length, nat_lt, slice_get, Some, Contains, if◌then◌else◌}
 use Rattle.c_tree.specs.declared.tree.Kind.{Kind}
 use Rattle.c_tree.specs.declared.tree.Mode.{Mode}
 use Rattle.std.specs.List.{All}
@@ -11,7 +11,7 @@ use Rattle.plain_analysis.specs.declared.alarm.Alarm.{Alarm}
 use Rattle.leaf_domain.specs.Leaves.{LeafMeaning}
 use Rattle.plain_analysis.specs.declared.options.Options.{Options}
 use Rattle.plain_analysis.specs.Places.{alarms_of}
-use Rattle.alarm_report.specs.Texts.{variant_text}
+use Rattle.alarm_report.specs.Texts.{variant_text, HaveWordPlaces}
 use Rattle.famlint_core.specs.declared.fault.Done.{Done}
 
 -- there is an alarm
@@ -39,10 +39,16 @@ start_alarms M options p = alarms_of M options p (M.start p.start)
 abbrev pub report_done : LeafMeaning → Options → Whole → Done
 report_done M options p = record { text = variant_text (start_alarms M options p); status = report_status (start_alarms M options p) }
 
--- what is promised of a report: its text reports a list of alarms, in which each stop of each run of the program in this mode is
--- listed, and at status 0 no run stops
-pub record IsReport (mode : Mode) (p : Whole) (status : ℕ) (text : List ℕ) : Type 0 where
-  pub alarms : List Alarm
-  pub text_is : text ≡ variant_text alarms
-  pub stops : HasStops mode p alarms
-  pub safe : status ≡ 0 → NeverStops mode p
+-- no alarm stands twice
+abbrev pub HasNoneTwice : List Alarm → Type 0
+HasNoneTwice alarms = (i j : ℕ) (alarm : Alarm) → slice_get alarms i ≡ Some alarm → slice_get alarms j ≡ Some alarm → i ≡ j
+
+-- What is promised of a report on a program: its text has a line for each alarm of the analysis, and is the report on no other
+-- list of alarms; no alarm stands twice, each stop of each run of the program in this mode is among them, and at status 0 no run
+-- stops.
+pub record IsReport (M : LeafMeaning) (o : Options) (p : Whole) (status : ℕ) (text : List ℕ) : Type 0 where
+  pub text_is : text ≡ variant_text (start_alarms M o p)
+  pub alone : (others : List Alarm) → HaveWordPlaces others → text ≡ variant_text others → others ≡ start_alarms M o p
+  pub once : HasNoneTwice (start_alarms M o p)
+  pub stops : HasStops o.mode p (start_alarms M o p)
+  pub safe : status ≡ 0 → NeverStops o.mode p

@@ -1,6 +1,6 @@
 -- What the words ask for.
-use Rattle.std.specs.Prelude.{ℕ, Bool, ⊤, true, false, not, ◌&&◌, ◌||◌, List, [], ◌∷◌, codes, if◌then◌else◌, Option, Some, None}
-use Rattle.std.specs.Option.{option_and_then}
+use Rattle.std.specs.Prelude.{ℕ, ◌≤◌, Bool, ⊤, true, false, not, ◌&&◌, ◌||◌, List, [], ◌∷◌, codes, if◌then◌else◌, Option, Some, None}
+use Rattle.std.specs.Option.{option_and_then, option_map}
 use Rattle.std.specs.Str.{bytes_eq}
 use Rattle.std.specs.List.{All}
 use Rattle.c_tree.specs.Value.{IsInt}
@@ -9,6 +9,7 @@ use Rattle.command_words.specs.declared.reading.Arguments.{Arguments}
 use Rattle.command_words.specs.declared.settings.Chosen.{Chosen}
 use Rattle.command_words.specs.declared.settings.Given.{Given}
 use Rattle.command_words.specs.declared.settings.Settings.{Settings}
+use Rattle.command_words.specs.Spelling.{number_up_to}
 use Rattle.famlint_core.specs.declared.request.Analysis.{Analysis}
 use Rattle.famlint_core.specs.declared.request.options.Command.{Command}
 use Rattle.famlint_core.specs.declared.request.options.Command.TheVariants as command
@@ -39,6 +40,7 @@ taken_by command.Variant = analysis_options
 taken_by command.Run = run_options
 taken_by command.Analyse = analysis_options
 taken_by command.Invariants = analysis_options
+taken_by command.Generate = analysis_options
 taken_by command.Advise = analysis_options
 taken_by command.Features = nothing_given
 
@@ -70,8 +72,9 @@ command_of word =
     else (if bytes_eq word (codes "run") then Some command.Run
     else (if bytes_eq word (codes "analyse") then Some command.Analyse
     else (if bytes_eq word (codes "invariants") then Some command.Invariants
+    else (if bytes_eq word (codes "generate") then Some command.Generate
     else (if bytes_eq word (codes "advise") then Some command.Advise
-    else (if bytes_eq word (codes "features") then Some command.Features else None)))))))
+    else (if bytes_eq word (codes "features") then Some command.Features else None))))))))
 
 -- what `plain` asks for with these words; nothing, where they are refused
 abbrev pub plain_request : Analysis → List (List ℕ) → Option Request
@@ -91,6 +94,16 @@ family_request analysis task [] = None
 family_request analysis task (model ∷ []) = None
 family_request analysis task (model ∷ file ∷ []) = Some (request.Family model file analysis task)
 family_request analysis task (model ∷ file ∷ more ∷ words) = None
+
+-- the number of blocks that the text spells, from 1 to 2000
+abbrev pub blocks_of : List ℕ → Option ℕ
+blocks_of text = if bytes_eq text (codes "0") then None else number_up_to 2000 text
+
+-- what `generate` asks for with these words
+abbrev pub generate_request : Analysis → List (List ℕ) → Option Request
+generate_request analysis [] = None
+generate_request analysis (number ∷ []) = option_map (λ n. request.Generate n analysis) (blocks_of number)
+generate_request analysis (number ∷ more ∷ words) = None
 
 -- what `advise` asks for with these words
 abbrev pub advice_request : Analysis → List (List ℕ) → Option Request
@@ -116,6 +129,7 @@ request_for command.Variant settings words = variant_request (task.Report (analy
 request_for command.Run settings words = variant_request (run_task settings) words
 request_for command.Analyse settings words = family_request (analysis_of settings.chosen) family.Alarms words
 request_for command.Invariants settings words = family_request (analysis_of settings.chosen) family.Invariants words
+request_for command.Generate settings words = generate_request (analysis_of settings.chosen) words
 request_for command.Advise settings words = advice_request (analysis_of settings.chosen) words
 request_for command.Features settings words = features_request words
 
@@ -147,6 +161,7 @@ abbrev pub paths_of : Request → List (List ℕ)
 paths_of (request.Plain file analysis) = file ∷ []
 paths_of (request.Variant model file settings task) = model ∷ file ∷ []
 paths_of (request.Family model file analysis task) = model ∷ file ∷ []
+paths_of (request.Generate number analysis) = []
 paths_of (request.Advice model file settings analysis) = model ∷ file ∷ []
 paths_of (request.Features model) = model ∷ []
 
@@ -164,10 +179,11 @@ abbrev pub role_of : Request → Option (List ℕ) → Role
 role_of (request.Plain file analysis) failed = role.File
 role_of (request.Variant model file settings task) failed = role_beside failed model
 role_of (request.Family model file analysis task) failed = role_beside failed model
+role_of (request.Generate number analysis) failed = role.File
 role_of (request.Advice model file settings analysis) failed = role_beside failed model
 role_of (request.Features model) failed = role.Model
 
--- ---- inputs
+-- ---- numbers
 
 -- the inputs of a run are within `int`
 abbrev pub HaveInts : VariantTask → Type 0
@@ -175,9 +191,11 @@ HaveInts task.Text = ⊤
 HaveInts (task.Report analysis) = ⊤
 HaveInts (task.Run steps inputs mode) = All IsInt inputs
 
-abbrev pub HasInts : Request → Type 0
-HasInts (request.Plain file analysis) = ⊤
-HasInts (request.Variant model file settings task) = HaveInts task
-HasInts (request.Family model file analysis task) = ⊤
-HasInts (request.Advice model file settings analysis) = ⊤
-HasInts (request.Features model) = ⊤
+-- the numbers of a request are within their ranges
+abbrev pub IsWithinRanges : Request → Type 0
+IsWithinRanges (request.Plain file analysis) = ⊤
+IsWithinRanges (request.Variant model file settings task) = HaveInts task
+IsWithinRanges (request.Family model file analysis task) = ⊤
+IsWithinRanges (request.Generate number analysis) = number ≤ 2000
+IsWithinRanges (request.Advice model file settings analysis) = ⊤
+IsWithinRanges (request.Features model) = ⊤

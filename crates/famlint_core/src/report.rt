@@ -4,12 +4,12 @@
 ghost use Rattle.std.specs.Prelude.{◌≡◌, ◌≤◌, IfOk};
 ghost use Rattle.c_tree.specs.View.{whole};
 ghost use Rattle.c_tree.specs.Whole.{IsProgram, IsPlainProgram};
-ghost use Rattle.famlint_core.specs.Answers.{plain_done};
+ghost use Rattle.famlint_core.specs.Answers.{meaning_of, plain_done};
 ghost use Rattle.famlint_core.specs.Report.{report_status as status_of, report_done, IsReport};
 
 use crate::fault::Done;
 use crate::request::Analysis;
-use alarm_report::variant_report;
+use alarm_report::{reports_tell_their_alarms, variant_report};
 use c_tree::Program;
 use command_words::Domain;
 use fam_outer::NoMemory;
@@ -32,10 +32,11 @@ fn report_on<L: Leaf>(alloc: Global, program: &Program, options: &Options) -> Re
     requires program { IsProgram (whole program.now) }
     requires plain { IsPlainProgram (whole program.now) }
     ensures answer { IfOk result (λ done. done ≡ report_done L.meaning options.now (whole program.now)) }
-    ensures report { IfOk result (λ done. IsReport options.now.mode
+    ensures report { IfOk result (λ done. IsReport L.meaning options.now
         (whole program.now) done.status done.text) }
     ensures status { IfOk result (λ done. done.status ≤ 1) }
 {
+    reports_tell_their_alarms();
     let start = L::start(alloc, program.start.items())?;
     let findings = analyse_one(alloc, program, &start, options)?;
     let alarms = findings.alarms.items();
@@ -50,8 +51,8 @@ pub fn report_by(alloc: Global, program: &Program, analysis: &Analysis) -> Resul
     requires program { IsProgram (whole program.now) }
     requires plain { IsPlainProgram (whole program.now) }
     ensures answer { IfOk result (λ done. done ≡ plain_done analysis.now (whole program.now)) }
-    ensures report { IfOk result (λ done. IsReport analysis.now.options.mode
-        (whole program.now) done.status done.text) }
+    ensures report { IfOk result (λ done. IsReport
+        (meaning_of analysis.now.domain) analysis.now.options (whole program.now) done.status done.text) }
     ensures status { IfOk result (λ done. done.status ≤ 1) }
 {
     match analysis.domain {

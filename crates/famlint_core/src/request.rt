@@ -38,6 +38,11 @@ pub enum Request {
         analysis: Analysis,
         task: FamilyTask,
     },
+    /// The alarms of the family of so many blocks that is made for measures, and its size.
+    Generate {
+        number: u32,
+        analysis: Analysis,
+    },
     /// The nearest configuration of MODEL to the one that the settings give at which FILE has no alarms.
     Advice {
         model: Word,
@@ -80,6 +85,8 @@ pub enum FamilyTask {
     Alarms,
     /// The leaves at all places, with the configurations that have them, and then the alarms.
     Invariants,
+    /// How many bytes and places there are, and then the alarms.
+    Sizes,
 }
 
 /// The words of settings, each `NAME=VALUE` or `NAME`.
@@ -166,6 +173,10 @@ impl Request {
                 analysis: _,
                 task: _,
             } => role_beside(failed, model),
+            Request::Generate {
+                number: _,
+                analysis: _,
+            } => Role::File,
             Request::Advice {
                 model,
                 file: _,

@@ -4,19 +4,21 @@
 mod advice;
 mod family;
 mod features;
+mod generate;
 mod plain;
 mod variant;
 
 ghost use Rattle.std.specs.Prelude.{◌≡◌, ◌≤◌, IfOk};
 ghost use Rattle.famlint_core.specs.Answers.{Contents, IsTold, Answers, Promised, IsLoaded};
 ghost use Rattle.famlint_core.specs.Loads.{Comes, IsReadFault, IsReadOf};
-ghost use Rattle.famlint_core.specs.Requests.{paths_of, HasInts};
+ghost use Rattle.famlint_core.specs.Requests.{paths_of, IsWithinRanges};
 
 use crate::fault::{Done, Stop};
 use crate::request::Request;
 use crate::work::advice::advice;
 use crate::work::family::family;
 use crate::work::features::features;
+use crate::work::generate::generate;
 use crate::work::plain::plain;
 use crate::work::variant::variant;
 use fam_outer::Files;
@@ -24,7 +26,7 @@ use std::alloc::Global;
 
 /// Does what a request asks for: first the loads, then the work.
 pub fn work<F: Files>(alloc: Global, request: &Request, files: &mut F) -> Result<Done, Stop>
-    requires { HasInts request.now }
+    requires { IsWithinRanges request.now }
     ensures answer { (told : Contents) → IsTold request.now (F.content files.old) told
         → Comes (Answers request.now told) result }
     ensures promise { (told : Contents) → IsTold request.now (F.content files.old) told
@@ -50,6 +52,7 @@ pub fn work<F: Files>(alloc: Global, request: &Request, files: &mut F) -> Result
             analysis,
             task,
         } => family(alloc, model, file, analysis, *task, files),
+        Request::Generate { number, analysis } => Ok(generate(alloc, *number, analysis)?),
         Request::Advice {
             model,
             file,

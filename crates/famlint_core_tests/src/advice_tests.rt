@@ -1,14 +1,10 @@
 //! `advise` and `features` over files in memory.
 
-use crate::cases::{gives, words_of};
+use crate::cases::{USAGE, gives, words_of};
 use fam_outer::{CallNumbers, Entries, MemoryFiles, MemorySink, Text};
 use famlint_core::famlint;
 use std::alloc::Global;
 use std::test::Fail;
-
-/// The line where the words are refused.
-const USAGE: &str =
-    "usage: famlint plain FILE, project MODEL FILE SETTINGS, variant MODEL FILE SETTINGS, run MODEL FILE SETTINGS, analyse MODEL FILE, invariants MODEL FILE, generate NUMBER, certify MODEL FILE, check MODEL FILE CERTIFICATE, advise MODEL FILE SETTINGS, features MODEL\n";
 
 #[test]
 fn what_models_leave_open(rt: HostRuntime) -> Result<(), Fail> {

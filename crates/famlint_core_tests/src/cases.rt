@@ -6,6 +6,10 @@ use std::alloc::Global;
 use std::process::Abort;
 use std::test::Fail;
 
+/// The line where the words are refused.
+pub(crate) const USAGE: &str =
+    "usage: famlint plain FILE, project MODEL FILE SETTINGS, variant MODEL FILE SETTINGS, run MODEL FILE SETTINGS, analyse MODEL FILE, invariants MODEL FILE, generate NUMBER, certify MODEL FILE, check MODEL FILE CERTIFICATE, advise MODEL FILE SETTINGS, features MODEL\n";
+
 /// The models and files of the tests, each under its path.
 pub(crate) const FILES: [(&str, &str); 38] = [
     ("m0", "{\"features\":[]}\n"),

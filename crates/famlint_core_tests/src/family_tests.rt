@@ -2,7 +2,7 @@
 
 ghost use Rattle.std.specs.Prelude.{◌≤◌};
 
-use crate::cases::{FILES, gives, words_of};
+use crate::cases::{FILES, USAGE, gives, words_of};
 use crate::two_files::{compares, run_over, two_files};
 use fam_outer::{MemorySink, NoMemory};
 use famlint_core::famlint;
@@ -183,8 +183,7 @@ fn loads_of_both_commands_fail(rt: HostRuntime) -> Result<(), Fail> {
 #[test]
 fn other_words_are_refused(rt: HostRuntime) -> Result<(), Fail> {
     let alloc = rt.alloc();
-    let usage =
-        "usage: famlint plain FILE, project MODEL FILE SETTINGS, variant MODEL FILE SETTINGS, run MODEL FILE SETTINGS, analyse MODEL FILE, invariants MODEL FILE, generate NUMBER, certify MODEL FILE, check MODEL FILE CERTIFICATE, advise MODEL FILE SETTINGS, features MODEL\n";
+    let usage = USAGE;
     let lines = [
         "analyse",
         "analyse ma",

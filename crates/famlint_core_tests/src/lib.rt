@@ -16,6 +16,8 @@ mod example_tests;
 #[cfg(test)]
 mod family_tests;
 #[cfg(test)]
+mod generate_tests;
+#[cfg(test)]
 mod plain_tests;
 #[cfg(test)]
 mod two_files;

@@ -1,6 +1,6 @@
 //! `project`, `variant` and `run` over files in memory.
 
-use crate::cases::gives;
+use crate::cases::{USAGE, gives};
 use std::test::Fail;
 
 #[test]
@@ -128,8 +128,7 @@ fn loads_fail(rt: HostRuntime) -> Result<(), Fail> {
 #[test]
 fn other_options_are_refused(rt: HostRuntime) -> Result<(), Fail> {
     let alloc = rt.alloc();
-    let usage =
-        "usage: famlint plain FILE, project MODEL FILE SETTINGS, variant MODEL FILE SETTINGS, run MODEL FILE SETTINGS, analyse MODEL FILE, invariants MODEL FILE, generate NUMBER, certify MODEL FILE, check MODEL FILE CERTIFICATE, advise MODEL FILE SETTINGS, features MODEL\n";
+    let usage = USAGE;
     let lines = [
         "project ma",
         "variant",

@@ -17,6 +17,7 @@ pub enum Command {
     Run,
     Analyse,
     Invariants,
+    Generate,
     Advise,
     Features,
 }
@@ -33,6 +34,7 @@ impl Command {
             "run" => Some(Command::Run),
             "analyse" => Some(Command::Analyse),
             "invariants" => Some(Command::Invariants),
+            "generate" => Some(Command::Generate),
             "advise" => Some(Command::Advise),
             "features" => Some(Command::Features),
             _ => None,
@@ -48,6 +50,7 @@ impl Command {
             | Command::Variant
             | Command::Analyse
             | Command::Invariants
+            | Command::Generate
             | Command::Advise => Given {
                 domain: true,
                 delay: true,

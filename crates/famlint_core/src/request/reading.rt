@@ -1,23 +1,23 @@
 //! What the words ask for.
 #![tactic(auto)]
 
-ghost use Rattle.std.specs.Prelude.{◌≡◌, IfOk};
+ghost use Rattle.std.specs.Prelude.{◌≡◌, ◌≤◌, IfOk, IfSome};
 ghost use Rattle.std.specs.List.{All};
 ghost use Rattle.c_tree.specs.Value.{IsInt};
 ghost use Rattle.command_words.specs.Arguments.{texts_of, Reads};
 ghost use Rattle.famlint_core.specs.Requests as specs;
-ghost use Rattle.famlint_core.specs.Requests.{reading, HasInts, HaveInts};
+ghost use Rattle.famlint_core.specs.Requests.{reading, IsWithinRanges, HaveInts};
 
 use crate::request::options::{Command, analysis_of, suits};
 use crate::request::{Analysis, FamilyTask, Request, SettingWords, VariantTask};
-use command_words::{Arguments, Settings, Usage, Word, WordsRefusal, read_words};
+use command_words::{Arguments, Settings, Usage, Word, WordsRefusal, number_up_to, read_words};
 use fam_outer::NoMemory;
 use std::alloc::Global;
 
 /// What `plain` asks for with these words.
 fn plain_request(alloc: Global, analysis: Analysis, words: &[Word]) -> Result<Request, WordsRefusal>
     ensures answer { Reads (specs.plain_request analysis words.now) result }
-    ensures ints { IfOk result (λ request. HasInts request) }
+    ensures ranges { IfOk result (λ request. IsWithinRanges request) }
 {
     match words {
         [file] => Ok(Request::Plain {
@@ -36,7 +36,7 @@ fn variant_request(
 ) -> Result<Request, WordsRefusal>
     requires { HaveInts task }
     ensures answer { Reads (specs.variant_request task words.now) result }
-    ensures ints { IfOk result (λ request. HasInts request) }
+    ensures ranges { IfOk result (λ request. IsWithinRanges request) }
 {
     match words {
         [model, file, rest @ ..] => Ok(Request::Variant {
@@ -57,7 +57,7 @@ fn family_request(
     words: &[Word],
 ) -> Result<Request, WordsRefusal>
     ensures answer { Reads (specs.family_request analysis task words.now) result }
-    ensures ints { IfOk result (λ request. HasInts request) }
+    ensures ranges { IfOk result (λ request. IsWithinRanges request) }
 {
     match words {
         [model, file] => Ok(Request::Family {
@@ -70,6 +70,32 @@ fn family_request(
     }
 }
 
+/// The number of blocks that the text spells, from 1 to 2000.
+fn blocks_of(text: &str) -> Option<u32>
+    ensures value { result ≡ specs.blocks_of text.now }
+    ensures range { IfSome result (λ number. number ≤ 2000) }
+{
+    if text == "0" {
+        None
+    } else {
+        number_up_to(2000, text)
+    }
+}
+
+/// What `generate` asks for with these words.
+fn generate_request(analysis: Analysis, words: &[Word]) -> Result<Request, WordsRefusal>
+    ensures answer { Reads (specs.generate_request analysis words.now) result }
+    ensures ranges { IfOk result (λ request. IsWithinRanges request) }
+{
+    match words {
+        [word] => match blocks_of(word.as_str()) {
+            Some(number) => Ok(Request::Generate { number, analysis }),
+            None => Err(WordsRefusal::Fault(Usage)),
+        },
+        _ => Err(WordsRefusal::Fault(Usage)),
+    }
+}
+
 /// What `advise` asks for with these words.
 fn advice_request(
     alloc: Global,
@@ -77,7 +103,7 @@ fn advice_request(
     words: &[Word],
 ) -> Result<Request, WordsRefusal>
     ensures answer { Reads (specs.advice_request analysis words.now) result }
-    ensures ints { IfOk result (λ request. HasInts request) }
+    ensures ranges { IfOk result (λ request. IsWithinRanges request) }
 {
     match words {
         [model, file, rest @ ..] => Ok(Request::Advice {
@@ -93,7 +119,7 @@ fn advice_request(
 /// What `features` asks for with these words.
 fn features_request(alloc: Global, words: &[Word]) -> Result<Request, WordsRefusal>
     ensures answer { Reads (specs.features_request words.now) result }
-    ensures ints { IfOk result (λ request. HasInts request) }
+    ensures ranges { IfOk result (λ request. IsWithinRanges request) }
 {
     match words {
         [model] => Ok(Request::Features {
@@ -125,7 +151,7 @@ fn request_for(
 ) -> Result<Request, WordsRefusal>
     requires { All IsInt settings.now.inputs }
     ensures answer { Reads (specs.request_for command settings.now words.now) result }
-    ensures ints { IfOk result (λ request. HasInts request) }
+    ensures ranges { IfOk result (λ request. IsWithinRanges request) }
 {
     let analysis = analysis_of(settings.chosen);
     match command {
@@ -138,6 +164,7 @@ fn request_for(
         }
         Command::Analyse => family_request(alloc, analysis, FamilyTask::Alarms, words),
         Command::Invariants => family_request(alloc, analysis, FamilyTask::Invariants, words),
+        Command::Generate => generate_request(analysis, words),
         Command::Advise => advice_request(alloc, analysis, words),
         Command::Features => features_request(alloc, words),
     }
@@ -152,7 +179,7 @@ fn suited(
 ) -> Result<Request, WordsRefusal>
     requires { All IsInt arguments.now.settings.inputs }
     ensures answer { Reads (specs.suited command arguments.now words.now) result }
-    ensures ints { IfOk result (λ request. HasInts request) }
+    ensures ranges { IfOk result (λ request. IsWithinRanges request) }
 {
     if suits(command, arguments) {
         request_for(alloc, command, &arguments.settings, words)
@@ -165,7 +192,7 @@ fn suited(
 fn request_of(alloc: Global, arguments: &Arguments) -> Result<Request, WordsRefusal>
     requires { All IsInt arguments.now.settings.inputs }
     ensures answer { Reads (specs.request_of arguments.now) result }
-    ensures ints { IfOk result (λ request. HasInts request) }
+    ensures ranges { IfOk result (λ request. IsWithinRanges request) }
 {
     match arguments.positional.items() {
         [] => Err(WordsRefusal::Fault(Usage)),
@@ -179,7 +206,7 @@ fn request_of(alloc: Global, arguments: &Arguments) -> Result<Request, WordsRefu
 /// What the words ask for.
 pub fn read_request(alloc: Global, words: &[String]) -> Result<Request, WordsRefusal>
     ensures answer { Reads (reading (texts_of words.now)) result }
-    ensures ints { IfOk result (λ request. HasInts request) }
+    ensures ranges { IfOk result (λ request. IsWithinRanges request) }
 {
     let arguments = read_words(alloc, words)?;
     request_of(alloc, &arguments)

@@ -1,7 +1,7 @@
 //! What is asked of all variants of a family at once: `analyse` and `invariants`.
 #![tactic(auto)]
 
-ghost use Rattle.std.specs.Prelude.{◌≡◌, ◌≤◌, ℕ, List, [], ◌∷◌, Some, IfOk, length, map};
+ghost use Rattle.std.specs.Prelude.{◌≡◌, ◌≤◌, ◌++◌, ℕ, List, [], ◌∷◌, Some, IfOk, length, map};
 ghost use Rattle.std.specs.List.{All};
 ghost use Rattle.linear_atoms.specs.Atoms.{AreLiterals};
 ghost use Rattle.plain_analysis.specs.declared.options.Options.{Options};
@@ -9,7 +9,7 @@ ghost use Rattle.alarm_report.specs.declared.alarms.FamilyAlarm.{FamilyAlarm};
 ghost use Rattle.alarm_report.specs.declared.invariants.FamilyInvariant.{FamilyInvariant};
 ghost use Rattle.alarm_report.specs.Invariants.{invariant};
 ghost use Rattle.famlint_core.specs.Answers.{AnswersFamily, PromisedFamily, Contents, meaning_of};
-ghost use Rattle.famlint_core.specs.FamilyReports.{IsFamilyDone, family_status as status_of};
+ghost use Rattle.famlint_core.specs.FamilyReports.{IsFamilyDone, sizes_text, family_status as status_of};
 ghost use Rattle.famlint_core.specs.Found.{IsFound, AreTested, AreGoodAlarms, AreGoodInvariants, AreInvariantsBefore, IsGoodText};
 ghost use Rattle.famlint_core.specs.Headline.{PromisedOfAll};
 ghost use Rattle.famlint_core.specs.Loads.{Comes, IsReadFault, IsReadOf};
@@ -124,6 +124,24 @@ fn invariants_before<L: Leaf>(
     Ok(Text::from_vec(text))
 }
 
+/// How many bytes and places there are, and behind it the text of the alarms.
+fn sizes_before<L: Leaf>(
+    alloc: Global,
+    line: &ProductLine,
+    findings: &FamilyFindings<L>,
+    told: &Text,
+) -> Result<Text, NoMemory>
+    ensures { (o : Options) → IsFound L.value L.meaning o line.now findings.now
+        → IfOk result (λ text. text ≡ sizes_text line.now ++ told.now) }
+{
+    let bytes = line.text.bytes().len();
+    let places = findings.places.len();
+    let front = format!(in alloc; "bytes: {bytes}\nplaces: {places}\n")?;
+    let mut text = front.into_bytes();
+    text.extend_from_slice(told.bytes())?;
+    Ok(Text::from_vec(text))
+}
+
 /// The whole text that is asked for.
 fn text_for<L: Leaf>(
     alloc: Global,
@@ -145,6 +163,7 @@ fn text_for<L: Leaf>(
     match task {
         FamilyTask::Alarms => Ok(told),
         FamilyTask::Invariants => invariants_before(alloc, line, prepared, findings, &told),
+        FamilyTask::Sizes => sizes_before(alloc, line, findings, &told),
     }
 }
 
@@ -172,7 +191,7 @@ fn report_on<L: Leaf>(
 }
 
 /// The report on all variants, over the kind of leaf that is asked for.
-fn report_by(
+pub(super) fn report_by(
     alloc: Global,
     line: &ProductLine,
     analysis: &Analysis,

@@ -1,7 +1,7 @@
 use Rattle.std.proofs.Common.{◌≡◌, ◌∙◌, ap, rules, subst}
 use Rattle.c_tree.specs.View.{whole}
 use Rattle.plain_analysis.specs.Promises.{RunsForeseen}
-use Rattle.alarm_report.specs.Texts.{variant_text}
+use Rattle.alarm_report.specs.Texts.{variant_text, HaveWordPlaces}
 use Rattle.famlint_core.specs.Report.{report_status, start_alarms}
 use Rattle.famlint_core.proofs.Reporting.{is_report}
 use Rattle.famlint_core.proofs.report.report_on.Goals as goal
@@ -13,4 +13,6 @@ returns-clause-report g c =
     let e : c.in_ok-variant_report.field-0 ≡ variant_text (start_alarms M c.args.options.now p) = search rules in
     let f : c.report_status.result ≡ report_status (start_alarms M c.args.options.now p) = search rules in
     let begins = c.in_ok-start.ensures ∙ ap M.start c.items.ensures in
-    is_report M g.met.L.Leaf.laws c.args.options.now p c.report_status.result c.in_ok-variant_report.field-0 (subst (RunsForeseen M c.args.options.now p) begins c.in_ok-findings.ensures.runs) e f
+    let words : HaveWordPlaces (start_alarms M c.args.options.now p) = search rules in
+    is_report M g.met.L.Leaf.laws c.args.options.now p c.report_status.result c.in_ok-variant_report.field-0 c.requires.program
+    (subst (RunsForeseen M c.args.options.now p) begins c.in_ok-findings.ensures.runs) words c.reports_tell_their_alarms.ensures e f

@@ -1,5 +1,5 @@
 use Rattle.std.proofs.Common.{subst, sym}
-use Rattle.std.specs.Prelude.{IfOk}
+use Rattle.std.specs.Prelude.{IfOk, Ok}
 use Rattle.famlint_core.specs.Answers.{IsTold, Answers, Promised}
 use Rattle.famlint_core.specs.Loads.{Comes}
 use Rattle.famlint_core.proofs.work.work.Goals as goal
@@ -43,3 +43,13 @@ pub returns-in-Advice-clause-promise : goal.returns-in-Advice-clause-promise
 returns-in-Advice-clause-promise g c = λ told is_told.
     let content = g.F.Files.content c.args.files.now in
     subst (λ r. IsTold r content told → IfOk c.advice.result (λ done. Promised r told done.status done.text)) (sym c.in-Advice.is) (λ t. c.advice.ensures.promise told t.0 t.1) is_told
+
+pub returns-in_ok-generate-in-Generate-clause-answer : goal.returns-in_ok-generate-in-Generate-clause-answer
+returns-in_ok-generate-in-Generate-clause-answer g c = λ told is_told.
+    let done = c.in_ok-generate-in-Generate.field-0 in
+    subst (λ r. Answers r told (Ok done)) (sym c.in-Generate.is) c.in_ok-generate-in-Generate.ensures.answer
+
+pub returns-in_ok-generate-in-Generate-clause-promise : goal.returns-in_ok-generate-in-Generate-clause-promise
+returns-in_ok-generate-in-Generate-clause-promise g c = λ told is_told.
+    let done = c.in_ok-generate-in-Generate.field-0 in
+    subst (λ r. Promised r told done.status done.text) (sym c.in-Generate.is) c.in_ok-generate-in-Generate.ensures.promise

@@ -1,6 +1,7 @@
-use Rattle.std.proofs.Common.{◌≡◌, ◌∙◌, ap, subst, sym}
+use Rattle.std.proofs.Common.{◌≡◌, ◌++◌, ◌∙◌, ap, subst, sym}
 use Rattle.std.specs.Prelude.{IfOk}
 use Rattle.alarm_report.specs.Texts.{alarm_text}
+use Rattle.famlint_core.specs.FamilyReports.{sizes_text}
 use Rattle.famlint_core.specs.Found.{AreInvariantsBefore, IsGoodText}
 use Rattle.famlint_core.proofs.work.family.text_for.Goals as goal
 
@@ -12,3 +13,12 @@ returns-in-Invariants g c = λ o found.
     let told : c.in_ok-told.told ≡ alarm_text l.model.features alarms = c.in_ok-told.ensures ∙ ap (λ fs. alarm_text fs alarms) c.items.ensures in
     let before = subst (λ t. IfOk c.invariants_before.result (λ text. AreInvariantsBefore M o l t text)) told (c.invariants_before.ensures o found) in
     subst (λ task. IfOk c.invariants_before.result (λ text. IsGoodText M o task l alarms text)) (sym c.in-Invariants.is) before
+
+pub returns-in-Sizes : goal.returns-in-Sizes
+returns-in-Sizes g c = λ o found.
+    let M = g.L.Leaf.meaning in
+    let l = c.args.line.now in
+    let alarms = c.args.alarms.now in
+    let told : c.in_ok-told.told ≡ alarm_text l.model.features alarms = c.in_ok-told.ensures ∙ ap (λ fs. alarm_text fs alarms) c.items.ensures in
+    let behind = subst (λ t. IfOk c.sizes_before.result (λ text. text ≡ sizes_text l ++ t)) told (c.sizes_before.ensures o found) in
+    subst (λ task. IfOk c.sizes_before.result (λ text. IsGoodText M o task l alarms text)) (sym c.in-Sizes.is) behind
