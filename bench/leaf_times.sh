@@ -1,7 +1,7 @@
 #!/usr/bin/env bash
 # Times the kinds of leaf on one program of 16 variables: three loops in one another with assignments `x = y + 1` and `x = x + y`
 # and tests `x < y`. It runs the proved program, crates/famlint/out/famlint, and prints the times, their ratios, and, where gdb
-# is there, how many octagons are closed in full and how many sweeps over a matrix there are. No gate runs this.
+# is there, how many widenings, narrowings and closings of both kinds there are. No gate runs this.
 set -euo pipefail
 bench=$(cd "$(dirname "$0")" && pwd)
 program=${FAMLINT:-$bench/../crates/famlint/out/famlint}
@@ -47,16 +47,30 @@ done
 echo "stride to interval: $((100 * took[stride] / took[interval])) in a hundred"
 echo "octagon to interval: $((100 * took[octagon] / took[interval])) in a hundred"
 
-# A widening or a narrowing closes its matrix once, by `standing_as`; a meet by `close_after_one`. A pass is one sweep over the entries.
+# A matrix is closed in full by `standing_as`, which is called by a widening (in a step that moves a loop's head) and by a narrowing,
+# and a meet closes by `close_after_one`. A pass over the entries ends with one sweep, and each closing with one sweep more: so the
+# sweeps without those of the passes are the closings, but for such as found no store.
 if command -v gdb > /dev/null; then
     cat > "$work/count.gdb" <<'END'
 set pagination off
-break 'octagon_leaf::leaf::OctagonLeaf::standing_as'
-ignore 1 1000000000
-break 'octagon_closure::pass'
+break octagon_leaf::leaf::OctagonLeaf::standing_as
+commands
+silent
+backtrace 2
+continue
+end
+break octagon_closure::pass
 ignore 2 1000000000
+break octagon_closure::meet_sums
+ignore 3 1000000000
 END
-    gdb -batch -x "$work/count.gdb" -ex "run plain --overflow=wrap --delay=2 --narrow=2 --domain=octagon $work/nest.c" \
-        -ex 'info breakpoints' "$program" 2>&1 |
-        awk '/already hit/ { n++; print (n == 1 ? "octagons closed in full: " : "sweeps in all: ") $4 }'
+    gdb -batch -x "$work/count.gdb" \
+        -ex "run plain --overflow=wrap --delay=2 --narrow=2 --domain=octagon $work/nest.c" -ex 'info breakpoints' "$program" 2>&1 |
+        awk '/^#1 .*steps::moved/ { widenings++ }
+            /^#1 .*steps::narrowed_by/ { narrowings++ }
+            /already hit/ { hits[++n] = $4 }
+            END {
+                print "octagons closed in full: " hits[1] ", by " widenings + 0 " widenings and " narrowings + 0 " narrowings"
+                print "closed after one meet: " hits[3] - hits[2] - hits[1] ", sweeps over a matrix: " hits[3]
+            }'
 fi
