@@ -1,5 +1,5 @@
 -- Forms of conditions.
-use Rattle.std.proofs.Common.{◌≡◌, suc, Option, Some, ℤ, pos, ◌≤ℤ◌, Bool, true, false, not, ◌&&◌, ◌||◌, List, [], ◌∷◌, map, ◌++◌, sym, ap, subst, refl, ◌∙◌}
+use Rattle.std.proofs.Common.{◌≡◌, ℤ, pos, ◌≤ℤ◌, Bool, true, false, not, ◌&&◌, ◌||◌, List, [], ◌∷◌, map, ◌++◌, sym, subst, refl}
 use Rattle.linear_atoms.specs.declared.forms.Linear.{Linear}
 use Rattle.linear_atoms.specs.declared.atoms.Atom.{Atom}
 use Rattle.linear_atoms.specs.Forms.{IsRising, form_at}
@@ -8,7 +8,6 @@ use Rattle.atom_solver.specs.Facts.{AreMet, AreRising, IsFact, Adds, AddsAll}
 use Rattle.cpp_conditions.specs.declared.conditions.Condition.{Condition}
 use Rattle.cpp_conditions.specs.View.{proposition}
 use Rattle.cpp_conditions.specs.Validity.{all_true}
-use Rattle.atom_solver.specs.Truths.{AddsKnown}
 
 pub adds_none : (p : Proposition Atom) (truth : Bool) (fs : List Linear) → Adds p truth fs fs
 adds_none p truth fs = record { rising = λ h. h; met = λ vs h e. h }
@@ -84,20 +83,3 @@ all_more cs behind c p fs gs hs e h k = subst (λ x. AddsAll x p fs hs) (sym e) 
   rising = λ r. k.rising (h.rising r);
   met = λ vs m t. k.met vs (h.met vs m (front (true_at vs (proposition c)) (all_true vs (map proposition behind)) (true_at vs p) t)) (back (true_at vs (proposition c)) (all_true vs (map proposition behind)) (true_at vs p) t);
 })
-
--- ---- truths that are known
-
-pub known_none : (atoms : List Atom) (ks : List (Option Bool)) (fs : List Linear) → AddsKnown atoms ks fs fs
-known_none atoms ks fs = record { rising = λ h. h; met = λ vs h k. h }
-
-pub known_skip : (atoms others : List Atom) (ks behind : List (Option Bool)) (a : Atom) (k : Option Bool) (fs gs : List Linear) → atoms ≡ a ∷ others → ks ≡ k ∷ behind → AddsKnown others behind fs gs → AddsKnown atoms ks fs gs
-known_skip atoms others ks behind a k fs gs e f h = subst (λ x. AddsKnown x ks fs gs) (sym e) (subst (λ x. AddsKnown (a ∷ others) x fs gs) (sym f) (record {
-  rising = h.rising;
-  met = λ vs m w. h.met vs m (λ n. w (suc n));
-}))
-
-pub known_more : (atoms others : List Atom) (ks behind : List (Option Bool)) (a : Atom) (k : Option Bool) (b : Bool) (fs gs hs : List Linear) → atoms ≡ a ∷ others → ks ≡ k ∷ behind → k ≡ Some b → Adds (Test a) b fs gs → AddsKnown others behind gs hs → AddsKnown atoms ks fs hs
-known_more atoms others ks behind a k b fs gs hs e f g h j = subst (λ x. AddsKnown x ks fs hs) (sym e) (subst (λ x. AddsKnown (a ∷ others) x fs hs) (sym (f ∙ ap (λ x. x ∷ behind) g)) (record {
-  rising = λ r. j.rising (h.rising r);
-  met = λ vs m w. j.met vs (h.met vs m (w 0)) (λ n. w (suc n));
-}))

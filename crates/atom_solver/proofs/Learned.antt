@@ -9,8 +9,8 @@ use Rattle.atom_solver.specs.Spans.{Agrees, meets}
 use Rattle.std.proofs.lemmas.Bool.{false≢true}
 use Rattle.cpp_conditions.specs.declared.conditions.Condition.{Condition}
 use Rattle.cpp_conditions.specs.Propositions.{Proposition, true_on}
-use Rattle.atom_solver.specs.Facts.{AreMet, AreMetWithin}
-use Rattle.atom_solver.specs.Truths.{Knows, Keeps, IsVoid, StandsFor}
+use Rattle.atom_solver.specs.Facts.{IsFact}
+use Rattle.atom_solver.specs.Truths.{Knows, Keeps, IsKnownFact, StandsFor}
 
 at_set : (ks : List (Option Bool)) (n m : ℕ) (b q : Bool) → ((n ≡ m) → q ≡ b) → Agrees (get_or ks m None) q → Agrees (get_or (set ks n (Some b)) m None) q
 at_set [] n m b q e h = h
@@ -100,37 +100,19 @@ pub decided_at : (fs : List Feature) (atoms : List Atom) (values : List ℤ) (n 
     → get_or (vector_at atoms values) n false ≡ b
 decided_at fs atoms values n a said b h e s d w = truth_at atoms values n a h e ∙ (subst (λ x. IsDecided fs a x) s d) values w
 
--- ---- what no truths make true
+-- ---- the form of an atom whose truth is known
 
-pub void_false : (ends : List Linear) (atoms : List Atom) (old new : List (Option Bool)) (p : Proposition ℕ) → Keeps atoms old p new p → ((v : List Bool) → Knows new v → true_on v p ≡ false) → IsVoid ends atoms old p
-void_false ends atoms old new p h f vs m k t = false≢true (sym (f (vector_at atoms vs) (h.knows vs k t)) ∙ t)
-
-pub void_clash : (ends : List Linear) (atoms : List Atom) (old new : List (Option Bool)) (p : Proposition ℕ) → Keeps atoms old p new p → ((vs : List ℤ) → AreMet vs ends → Knows new (vector_at atoms vs) → ⊥) → IsVoid ends atoms old p
-void_clash ends atoms old new p h c vs m k t = c vs m (h.knows vs k t)
-
-by_truth : (b : Bool) → (b ≡ true → ⊥) → (b ≡ false → ⊥) → ⊥
-by_truth true f g = f refl
-by_truth false f g = g refl
-
-pub void_both : (ends : List Linear) (atoms : List Atom) (old new on off : List (Option Bool)) (p : Proposition ℕ) (n : ℕ) → Keeps atoms old p new p
-    → ((v : List Bool) → Knows new v → get_or v n false ≡ true → Knows on v) → ((v : List Bool) → Knows new v → get_or v n false ≡ false → Knows off v)
-    → IsVoid ends atoms on p → IsVoid ends atoms off p → IsVoid ends atoms old p
-void_both ends atoms old new on off p n h f g a b vs m k t =
-    let v = vector_at atoms vs in
-    let w : Knows new v = h.knows vs k t in
-    by_truth (get_or v n false) (λ e. a vs m (f v w e) t) (λ e. b vs m (g v w e) t)
+pub known_fact : (atoms : List Atom) (ks : List (Option Bool)) (n : ℕ) (a : Atom) (b : Bool) (f : Linear) → n < length atoms → a ≡ get_or atoms n a → get_or ks n None ≡ Some b → IsFact a b f → IsKnownFact atoms ks f
+known_fact atoms ks n a b f h e s k = record {
+  rising = k.rising;
+  met = λ vs w. k.met vs (sym (truth_at atoms vs n a h e) ∙ told_at (get_or ks n None) b (get_or (vector_at atoms vs) n false) s (w n));
+}
 
 -- ---- what nothing in a box makes true
 
 pub untrue_by : (fs : List Feature) (atoms : List Atom) (old new : List (Option Bool)) (p : Proposition ℕ) → Keeps atoms old p new p
     → ((v : List Bool) → Knows new v → true_on v p ≡ false) → (vs : List ℤ) → IsWithin fs vs → Knows old (vector_at atoms vs) → true_on (vector_at atoms vs) p ≡ true → ⊥
 untrue_by fs atoms old new p h f vs w k t = false≢true (sym (f (vector_at atoms vs) (h.knows vs k t)) ∙ t)
-
-pub untrue_left : (fs : List Feature) (ends : List Linear) (atoms : List Atom) (old new : List (Option Bool)) (p q : Proposition ℕ) → Keeps atoms old p new p
-    → ((v : List Bool) → Knows new v → true_on v q ≡ true_on v p) → AreMetWithin fs ends → IsVoid ends atoms new q → (vs : List ℤ) → IsWithin fs vs → Knows old (vector_at atoms vs) → true_on (vector_at atoms vs) p ≡ true → ⊥
-untrue_left fs ends atoms old new p q h r e d vs w k t =
-    let n : Knows new (vector_at atoms vs) = h.knows vs k t in
-    d vs (e.met vs w) n (r (vector_at atoms vs) n ∙ t)
 
 false_by : (b : Bool) → (b ≡ true → ⊥) → b ≡ false
 false_by true h = absurd (h refl)

@@ -1,9 +1,11 @@
 pub mod Apart
 pub mod Below
 pub mod Boxed
+pub mod Claused
 pub mod Cutting
 pub mod Ended
 pub mod EqualTerms
+pub mod Foremost
 pub mod Freed
 pub mod Gathered
 pub mod Known

@@ -1,3 +1,4 @@
+pub mod Clauses
 pub mod Facts
 pub mod Free
 pub mod Narrowing

@@ -8,18 +8,21 @@ ghost use Rattle.cpp_conditions.specs.Propositions.{true_on};
 ghost use Rattle.cpp_conditions.specs.View.{formula};
 ghost use Rattle.atom_solver.specs.Facts.{AreRising};
 ghost use Rattle.atom_solver.specs.Spans.{ranges};
-ghost use Rattle.atom_solver.specs.Truths.{Knows, IsVoid};
+ghost use Rattle.atom_solver.specs.Clauses.{IsVoid, KeepsAll};
+ghost use Rattle.atom_solver.specs.Truths.{Knows};
 
+use crate::clauses::{add_clauses, places_at, places_of, propagate_from};
+use crate::cycles::{Edge, edges_of, start_values};
 use crate::end_forms::ends_of;
 use crate::refuting::is_clash;
-use crate::truths::{has_truth, learn, propagate, residual};
+use crate::truths::{has_truth, learn, propagate};
 use cpp_conditions::Formula;
 use fam_outer::NoMemory;
 use linear_atoms::{Atom, Linear, Span};
 use std::alloc::Global;
 
-/// How many choices are made at most.
-const MOST_TURNS: u32 = 1_000;
+/// How many choices are made at most for a box.
+pub(crate) const MOST_TURNS: u32 = 1_000;
 
 /// What truths leave to decide of a formula: nothing, or so many tests, and one of these.
 #[derive(Clone, Copy)]
@@ -82,25 +85,22 @@ fn left_of(part: &Formula, known: &[Option<bool>]) -> Left {
     }
 }
 
-/// Of the formulas that must all be true and are not decided, a test of one with the fewest tests, and how many it has.
-fn narrowest(part: &Formula, known: &[Option<bool>]) -> Option<(u32, usize)> {
-    if let Formula::And(left, right) = part {
-        let Some(first) = narrowest(left, known) else {
-            return narrowest(right, known);
-        };
-        if first.1 <= 2 {
-            return Some(first);
-        }
-        match narrowest(right, known) {
-            Some(second) if second.1 < first.1 => Some(second),
-            _ => Some(first),
-        }
-    } else {
-        match left_of(part, known) {
-            Left::Decided(_truth) => None,
-            Left::Open { test, count } => Some((test, count)),
+/// Of formulas that are not decided, a test of one with the fewest tests.
+fn narrowest(clauses: &[Formula], known: &[Option<bool>]) -> Option<u32> {
+    let mut found = None;
+    let mut fewest = usize::MAX;
+    for clause in clauses {
+        if let Left::Open { test, count } = left_of(clause, known) {
+            if count < fewest {
+                found = Some(test);
+                fewest = count;
+            }
+            if count <= 2 {
+                return found;
+            }
         }
     }
+    found
 }
 
 /// The truths that are known, and one more.
@@ -118,50 +118,110 @@ fn with_truth(
     Ok(made)
 }
 
-/// Whether no truths, with those that are known, make the formula true where further forms are at least 0. A false answer
+/// What is advised of the choice of truths: the order of the atoms of equal terms, the places of the formulas that name each
+/// test, and the edges of the forms of atoms and of the ends of ranges.
+#[derive(Drop)]
+struct Advice {
+    order: Vec<u32>,
+    naming: Vec<Vec<usize>>,
+    edges: Vec<Edge>,
+}
+
+/// Where a choice begins: the places of the formulas that are looked at first, and values of the nodes of the edges, which may
+/// be those found with fewer truths.
+#[derive(Clone, Copy)]
+struct Start<'a> {
+    places: &'a [usize],
+    lowered: &'a [i64],
+}
+
+/// Whether the truths that are known, and those that follow, make a formula false or clash. Values of the nodes are lowered
+/// meanwhile.
+#[tactic(auto, using(crate::proofs::Claused::void_denied, crate::proofs::Claused::void_clash))]
+fn is_void(
+    alloc: Global,
+    ends: &[Linear],
+    atoms: &[Atom],
+    advice: &Advice,
+    clauses: &[Formula],
+    places: &[usize],
+    lowered: &mut [i64],
+    known: &mut [Option<bool>],
+) -> Result<bool, NoMemory>
+    requires { AreRising ends.now }
+    ensures knows { KeepsAll atoms.now known.old clauses.now known.new }
+    ensures out { IfOk result (λ answer. answer ≡ true
+        → IsVoid ends.now atoms.now known.old clauses.now) }
+{
+    let (order, naming) = (&advice.order, &advice.naming);
+    if propagate_from(
+        alloc,
+        atoms,
+        order,
+        clauses,
+        naming,
+        places,
+        known,
+        atoms.len(),
+    )? {
+        return Ok(true);
+    }
+    if is_clash(alloc, ends, atoms, &advice.edges, known, lowered)? {
+        return Ok(true);
+    }
+    Ok(false)
+}
+
+/// Whether no truths, with those that are known, make all formulas true where further forms are at least 0. A false answer
 /// says nothing. It answers too how many choices are left.
-#[tactic(auto, using(crate::proofs::Learned::void_false, crate::proofs::Learned::void_clash))]
 fn is_refuted(
     alloc: Global,
     ends: &[Linear],
     atoms: &[Atom],
-    order: &[u32],
-    part: &Formula,
+    advice: &Advice,
+    clauses: &[Formula],
+    from: &Start<'_>,
     known: &mut [Option<bool>],
     turns: u32,
 ) -> Result<(bool, u32), NoMemory>
     requires { AreRising ends.now }
     ensures { IfOk result (λ answer. answer.0 ≡ true
-        → IsVoid ends.now atoms.now known.old (formula part.now)) }
+        → IsVoid ends.now atoms.now known.old clauses.now) }
 {
-    propagate(atoms, order, part, known, atoms.len());
-    if has_truth(part, false, known) {
-        return Ok((true, turns));
-    }
-    if is_clash(alloc, ends, atoms, known)? {
+    let mut lowered = Vec::from_slice(alloc, from.lowered)?;
+    if is_void(
+        alloc,
+        ends,
+        atoms,
+        advice,
+        clauses,
+        from.places,
+        &mut lowered,
+        known,
+    )? {
         return Ok((true, turns));
     }
     if turns == 0 {
         return Ok((false, 0));
     }
-    match narrowest(part, known) {
+    match narrowest(clauses, known) {
         None => Ok((false, turns)),
-        Some((number, _count)) => {
+        Some(number) => {
+            let from = Start {
+                places: places_at(&advice.naming, number as usize),
+                lowered: &lowered,
+            };
             let mut on = with_truth(alloc, known, number, true)?;
-            let (is_out, rest) = is_refuted(alloc, ends, atoms, order, part, &mut on, turns - 1)?;
+            let next = turns - 1;
+            let (is_out, rest) = is_refuted(
+                alloc, ends, atoms, advice, clauses, &from, &mut on, next,
+            )?;
             if !is_out {
                 return Ok((false, rest));
             }
             let mut off = with_truth(alloc, known, number, false)?;
-            is_refuted(
-                alloc,
-                ends,
-                atoms,
-                order,
-                part,
-                &mut off,
-                rest.min(turns - 1),
-            )
+            let next = rest.min(turns - 1);
+            is_refuted(alloc, ends, atoms, advice, clauses, &from, &mut off, next)
         }
     }
 }
@@ -234,18 +294,9 @@ fn sharing(alloc: Global, atoms: &[Atom], order: &[u32]) -> Result<Vec<u32>, NoM
     Ok(made)
 }
 
-/// Whether a truth is known: else a residual is the whole.
-fn is_any_known(known: &[Option<bool>]) -> bool {
-    for truth in known {
-        if truth.is_some() {
-            return true;
-        }
-    }
-    false
-}
-
-/// Whether no configuration of the box that gives the atoms the truths that are known makes the formula true.
-#[tactic(auto, using(crate::proofs::Learned::untrue_by, crate::proofs::Learned::untrue_left))]
+/// Whether no configuration of the box that gives the atoms the truths that are known makes the formula true, and how many
+/// choices are left.
+#[tactic(auto, using(crate::proofs::Learned::untrue_by, crate::proofs::Claused::untrue_clauses))]
 fn is_untrue_where(
     alloc: Global,
     spans: &[Span],
@@ -253,41 +304,50 @@ fn is_untrue_where(
     order: &[u32],
     asked: &Formula,
     known: &mut [Option<bool>],
-) -> Result<bool, NoMemory>
+    turns: u32,
+) -> Result<(bool, u32), NoMemory>
     requires { AreRanges (ranges spans.now) }
-    ensures { IfOk result (λ answer. answer ≡ true → (values : List ℤ) → IsWithin (ranges spans.now) values
+    ensures { IfOk result (λ answer. answer.0 ≡ true → (values : List ℤ) → IsWithin (ranges spans.now) values
         → Knows known.old (vector_at atoms.now values)
         → true_on (vector_at atoms.now values) (formula asked.now) ≡ true → ⊥) }
 {
     propagate(atoms, order, asked, known, atoms.len());
     if has_truth(asked, false, known) {
-        return Ok(true);
+        return Ok((true, turns));
     }
     let ends = ends_of(alloc, spans, atoms)?;
-    let order = sharing(alloc, atoms, order)?;
-    if !is_any_known(known) {
-        let (is_out, _turns) = is_refuted(alloc, &ends, atoms, &order, asked, known, MOST_TURNS)?;
-        return Ok(is_out);
-    }
-    let left = residual(alloc, asked, known)?;
-    let (is_out, _turns) = is_refuted(alloc, &ends, atoms, &order, &left, known, MOST_TURNS)?;
-    Ok(is_out)
+    let mut clauses = Vec::new(alloc);
+    add_clauses(alloc, asked, known, &mut clauses)?;
+    let advice = Advice {
+        order: sharing(alloc, atoms, order)?,
+        naming: places_of(alloc, atoms.len(), &clauses)?,
+        edges: edges_of(alloc, &ends, atoms)?,
+    };
+    let lowered = start_values(alloc, &advice.edges)?;
+    let from = Start {
+        places: &[],
+        lowered: &lowered,
+    };
+    let answer = is_refuted(alloc, &ends, atoms, &advice, &clauses, &from, known, turns)?;
+    Ok(answer)
 }
 
-/// Whether no configuration of the box makes the formula true. A false answer says nothing.
+/// Whether no configuration of the box makes the formula true, with so many choices at most, and how many of them are left. A
+/// false answer says nothing.
 pub(crate) fn is_untrue(
     alloc: Global,
     spans: &[Span],
     atoms: &[Atom],
     order: &[u32],
     asked: &Formula,
-) -> Result<bool, NoMemory>
+    turns: u32,
+) -> Result<(bool, u32), NoMemory>
     requires atoms { AreAtoms (length spans.now) atoms.now }
     requires ranges { AreRanges (ranges spans.now) }
-    ensures { IfOk result (λ answer. answer ≡ true → (values : List ℤ) → IsWithin (ranges spans.now) values
+    ensures { IfOk result (λ answer. answer.0 ≡ true → (values : List ℤ) → IsWithin (ranges spans.now) values
         → true_on (vector_at atoms.now values) (formula asked.now) ≡ true → ⊥) }
 {
     let mut known = known_within(alloc, spans, atoms)?;
-    let is_out = is_untrue_where(alloc, spans, atoms, order, asked, &mut known)?;
-    Ok(is_out)
+    let answer = is_untrue_where(alloc, spans, atoms, order, asked, &mut known, turns)?;
+    Ok(answer)
 }

@@ -2,12 +2,12 @@
 #![tactic(auto)]
 
 ghost use Rattle.std.specs.Int.{w64};
-ghost use Rattle.std.specs.Prelude.{◌≡◌, FitsSigned, pos, neg_ℤ, ◌-ℤ◌, Bool, true, false, ◌++◌, [], ◌∷◌, IfOk, MatchOption};
+ghost use Rattle.std.specs.Prelude.{◌≡◌, FitsSigned, pos, neg_ℤ, ◌-ℤ◌, Bool, true, false, ◌++◌, [], ◌∷◌, IfOk, MatchOption, Option, None, slice_index_or};
 ghost use Rattle.linear_atoms.specs.Forms.{IsRising};
 ghost use Rattle.cpp_conditions.specs.Propositions.{Test};
 ghost use Rattle.cpp_conditions.specs.View.{proposition};
 ghost use Rattle.atom_solver.specs.Facts.{IsTimes, IsNumber, IsTerm, IsMore, IsFact, Adds, AddsAll};
-ghost use Rattle.atom_solver.specs.Truths.{AddsKnown};
+ghost use Rattle.atom_solver.specs.Truths.{IsKnownFact};
 
 use crate::refuting::sum;
 use cpp_conditions::Condition;
@@ -224,46 +224,35 @@ pub(crate) fn gather_all(
     }
 }
 
-/// Adds the form of an atom with what is known of its truth.
-#[tactic(auto, using(crate::proofs::Gathered::adds_none, crate::proofs::Gathered::adds_fact))]
-fn add_fact(
-    alloc: Global,
-    atom: &Atom,
-    truth: bool,
-    facts: &mut Vec<Linear>,
-) -> Result<(), NoMemory>
-    ensures { IfOk result (λ _. Adds (Test atom.now) truth facts.old.items facts.new.items) }
+/// What is known of the atom of a number.
+fn truth_at(known: &[Option<bool>], number: usize) -> Option<bool>
+    ensures { result ≡ slice_index_or known.now number None }
 {
-    match of_atom(alloc, atom, truth)? {
-        None => Ok(()),
-        Some(form) => {
-            facts.push(form)?;
-            Ok(())
-        }
+    match known.get(number) {
+        None => None,
+        Some(truth) => *truth,
     }
 }
 
-/// Adds the forms of the atoms whose truths are known.
-#[tactic(auto, using(crate::proofs::Gathered::known_none, crate::proofs::Gathered::known_skip, crate::proofs::Gathered::known_more))]
-pub(crate) fn gather_known(
+/// The form that is at least 0 where the atom of a number has the truth that is known.
+#[tactic(auto, using(crate::proofs::Learned::known_fact))]
+pub(crate) fn known_form(
     alloc: Global,
     atoms: &[Atom],
     known: &[Option<bool>],
-    facts: &mut Vec<Linear>,
-) -> Result<(), NoMemory>
-    ensures { IfOk result (λ _. AddsKnown atoms.now known.now facts.old.items facts.new.items) }
+    number: usize,
+) -> Result<Option<Linear>, NoMemory>
+    ensures { IfOk result (λ made. MatchOption made (Unit {0})
+        (λ f. IsKnownFact atoms.now known.now f)) }
 {
-    match cut(atoms) {
-        None => Ok(()),
-        Some((atom, others)) => match cut(known) {
-            None => Ok(()),
-            Some((truth, behind)) => match *truth {
-                None => gather_known(alloc, others, behind, facts),
-                Some(is_true) => {
-                    add_fact(alloc, atom, is_true, facts)?;
-                    gather_known(alloc, others, behind, facts)
-                }
-            },
+    if number >= atoms.len() {
+        return Ok(None);
+    }
+    match truth_at(known, number) {
+        None => Ok(None),
+        Some(truth) => match of_atom(alloc, &atoms[number], truth)? {
+            None => Ok(None),
+            Some(form) => Ok(Some(form)),
         },
     }
 }

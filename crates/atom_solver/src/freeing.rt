@@ -198,6 +198,7 @@ pub(crate) fn reduced(
     alloc: Global,
     spans: &[Span],
     constraints: &[Condition],
+    naming: &[Vec<usize>],
     wanted: &Condition,
 ) -> Result<Vec<Span>, NoMemory>
     requires constraints { AreFit (length spans.now) constraints.now }
@@ -206,7 +207,7 @@ pub(crate) fn reduced(
     ensures { IfOk result (λ made. Serves
         (meets constraints.now (proposition wanted.now)) spans.now made.items) }
 {
-    let mut inner = narrowed(alloc, spans, constraints, wanted)?;
+    let mut inner = narrowed(alloc, spans, constraints, naming, wanted)?;
     pin_from(&mut inner, 0, constraints, wanted);
     Ok(inner)
 }

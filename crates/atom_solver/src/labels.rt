@@ -55,15 +55,20 @@ fn own_labels(alloc: Global, count: usize) -> Result<Vec<usize>, NoMemory> {
 }
 
 /// Marks the labels of the features that are marked.
-fn labels_marked(alloc: Global, labels: &[usize], marks: &[bool]) -> Result<Vec<bool>, NoMemory> {
-    let mut marked = vec![in alloc; false; labels.len()]?;
+fn mark_labels(labels: &[usize], marks: &[bool], marked: &mut [bool]) {
     let mut place: usize = 0;
     for label in labels {
         if is_marked(marks, place) {
-            mark(&mut marked, *label);
+            mark(marked, *label);
         }
         place = place.saturating_add(1);
     }
+}
+
+/// The labels of the features that are marked.
+fn labels_marked(alloc: Global, labels: &[usize], marks: &[bool]) -> Result<Vec<bool>, NoMemory> {
+    let mut marked = vec![in alloc; false; labels.len()]?;
+    mark_labels(labels, marks, &mut marked);
     Ok(marked)
 }
 
@@ -93,17 +98,30 @@ fn joined(alloc: Global, labels: &[usize], marked: &[bool]) -> Result<Vec<usize>
     Ok(made)
 }
 
-/// A label for each of so many features, the same for those that conditions link.
-pub(crate) fn labels_of(
+/// For each condition which of so many features it names.
+pub(crate) fn marks_by(
     alloc: Global,
     count: usize,
     conditions: &[Condition],
-) -> Result<Vec<usize>, NoMemory> {
-    let mut labels = own_labels(alloc, count)?;
+) -> Result<Vec<Vec<bool>>, NoMemory> {
+    let mut made = Vec::new(alloc);
     for condition in conditions {
         let mut marks = vec![in alloc; false; count]?;
         mark_named(condition, &mut marks);
-        let marked = labels_marked(alloc, &labels, &marks)?;
+        made.push(marks)?;
+    }
+    Ok(made)
+}
+
+/// A label for each of so many features, the same for those that a condition links.
+pub(crate) fn labels_of(
+    alloc: Global,
+    count: usize,
+    named: &[Vec<bool>],
+) -> Result<Vec<usize>, NoMemory> {
+    let mut labels = own_labels(alloc, count)?;
+    for marks in named {
+        let marked = labels_marked(alloc, &labels, marks)?;
         labels = joined(alloc, &labels, &marked)?;
     }
     Ok(labels)
@@ -125,17 +143,15 @@ fn add_number(marks: &[bool], number: usize, naming: &mut [Vec<usize>]) -> Resul
 pub(crate) fn naming_of(
     alloc: Global,
     count: usize,
-    conditions: &[Condition],
+    named: &[Vec<bool>],
 ) -> Result<Vec<Vec<usize>>, NoMemory> {
     let mut naming = Vec::new(alloc);
     for _feature in 0..count {
         naming.push(Vec::new(alloc))?;
     }
     let mut place: usize = 0;
-    for condition in conditions {
-        let mut marks = vec![in alloc; false; count]?;
-        mark_named(condition, &mut marks);
-        add_number(&marks, place, &mut naming)?;
+    for marks in named {
+        add_number(marks, place, &mut naming)?;
         place = place.saturating_add(1);
     }
     Ok(naming)
@@ -154,13 +170,12 @@ fn marks_of(alloc: Global, labels: &[usize], label: usize) -> Result<Vec<bool>, 
 pub(crate) fn parts_of(
     alloc: Global,
     labels: &[usize],
-    conditions: &[Condition],
+    named: &[Vec<bool>],
 ) -> Result<Vec<Vec<bool>>, NoMemory> {
-    let mut named = vec![in alloc; false; labels.len()]?;
-    for condition in conditions {
-        mark_named(condition, &mut named);
+    let mut marked = vec![in alloc; false; labels.len()]?;
+    for marks in named {
+        mark_labels(labels, marks, &mut marked);
     }
-    let marked = labels_marked(alloc, labels, &named)?;
     let mut parts = Vec::new(alloc);
     for label in 0..labels.len() {
         if is_marked(&marked, label) {

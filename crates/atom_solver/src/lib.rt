@@ -3,6 +3,7 @@
 
 mod branching;
 mod clashing;
+mod clauses;
 mod cycles;
 mod deciding;
 mod end_forms;

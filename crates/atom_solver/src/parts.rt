@@ -10,6 +10,8 @@ ghost use Rattle.atom_solver.specs.Free.{Serves};
 ghost use Rattle.atom_solver.specs.Spans.{ranges, meets, FindsIn};
 ghost use Rattle.atom_solver.specs.Truths.{StandsForAll};
 
+use crate::branching::MOST_TURNS;
+use crate::labels::{marks_by, naming_of};
 use crate::numbering::{Question, numbered};
 use crate::parting::{part_of, with_values};
 use crate::refuting::are_opposed;
@@ -27,6 +29,7 @@ fn first_of(
     spans: &[Span],
     conditions: &[Condition],
     question: &Question,
+    naming: &[Vec<usize>],
 ) -> Result<Option<Config>, NoMemory>
     requires fit { AreFit (length spans.now) conditions.now }
     requires ranges { AreRanges (ranges spans.now) }
@@ -41,10 +44,12 @@ fn first_of(
         alloc,
         spans,
         conditions,
+        naming,
         &every,
         &question.atoms,
         &question.order,
         &question.asked,
+        MOST_TURNS,
     )
 }
 
@@ -59,7 +64,9 @@ fn first_alone(
     ensures { IfOk result (λ found. FindsIn (ranges spans.now) (meets conditions.now (Const true)) found) }
 {
     let question = numbered(alloc, conditions)?;
-    first_of(alloc, spans, conditions, &question)
+    let named = marks_by(alloc, spans.len(), conditions)?;
+    let naming = naming_of(alloc, spans.len(), &named)?;
+    first_of(alloc, spans, conditions, &question, &naming)
 }
 
 /// The box with the first values of a part alone; None where it has no solution.
@@ -128,6 +135,7 @@ pub(crate) fn first_by_parts(
     spans: &[Span],
     conditions: &[Condition],
     question: &Question,
+    naming: &[Vec<usize>],
     parts: &[Vec<bool>],
 ) -> Result<Option<Config>, NoMemory>
     requires fit { AreFit (length spans.now) conditions.now }
@@ -137,7 +145,7 @@ pub(crate) fn first_by_parts(
 {
     match all_solved(alloc, spans, conditions, parts)? {
         None => Ok(None),
-        Some(inner) => match first_of(alloc, &inner, conditions, question)? {
+        Some(inner) => match first_of(alloc, &inner, conditions, question, naming)? {
             None => Ok(None),
             Some(config) => Ok(Some(config)),
         },

@@ -10,8 +10,8 @@ ghost use Rattle.cpp_conditions.specs.View.{formula, proposition};
 ghost use Rattle.atom_solver.specs.Narrowing.{HasAllValid};
 ghost use Rattle.atom_solver.specs.Solutions.{Finds, IsImplied, all_hold};
 
-use crate::branching::is_untrue;
-use crate::labels::{labels_of, parts_of, untouched};
+use crate::branching::{MOST_TURNS, is_untrue};
+use crate::labels::{labels_of, marks_by, naming_of, parts_of, untouched};
 use crate::narrowing::narrowed;
 use crate::numbering::{Question, numbered};
 use crate::parting::box_apart;
@@ -33,6 +33,7 @@ pub struct Prepared<'a> {
     model: &'a Model,
     spans: Vec<Span>,
     question: Question,
+    naming: Vec<Vec<usize>>,
     labels: Vec<usize>,
     least: Option<Config>,
 }
@@ -55,24 +56,31 @@ impl<'a> marker::Model for Prepared<'a> {
 
 /// The box of all valid configurations that bounds leave of the ranges of a model. Where there is none, bounds are not
 /// asked: they may take long to show it.
-fn valid_box(alloc: Global, model: &Model, question: &Question) -> Result<Vec<Span>, NoMemory>
+fn valid_box(
+    alloc: Global,
+    model: &Model,
+    question: &Question,
+    naming: &[Vec<usize>],
+) -> Result<Vec<Span>, NoMemory>
     requires constraints { AreFit (length model.now.features) model.now.constraints }
     requires ranges { AreRanges model.now.features }
     requires atoms { AreAtoms (length model.now.features) question.now.atoms.items }
     ensures { IfOk result (λ made. HasAllValid model.now made.items) }
 {
     let whole = spans_of(alloc, model.features.items())?;
-    if is_untrue(
+    let (is_out, _left) = is_untrue(
         alloc,
         &whole,
         &question.atoms,
         &question.order,
         &question.asked,
-    )? {
+        MOST_TURNS,
+    )?;
+    if is_out {
         return Ok(whole);
     }
     let every = Condition::Const(true);
-    narrowed(alloc, &whole, model.constraints.items(), &every)
+    narrowed(alloc, &whole, model.constraints.items(), naming, &every)
 }
 
 impl<'a> Prepared<'a> {
@@ -86,15 +94,19 @@ impl<'a> Prepared<'a> {
         ensures { IfOk result (λ made. made ≡ model.now) }
     {
         let question = numbered(alloc, model.constraints.items())?;
-        let spans = valid_box(alloc, model, &question)?;
         let constraints = model.constraints.items();
-        let labels = labels_of(alloc, spans.len(), constraints)?;
-        let parts = parts_of(alloc, &labels, constraints)?;
-        let least = first_by_parts(alloc, &spans, constraints, &question, &parts)?;
+        let count = model.features.items().len();
+        let named = marks_by(alloc, count, constraints)?;
+        let naming = naming_of(alloc, count, &named)?;
+        let spans = valid_box(alloc, model, &question, &naming)?;
+        let labels = labels_of(alloc, count, &named)?;
+        let parts = parts_of(alloc, &labels, &named)?;
+        let least = first_by_parts(alloc, &spans, constraints, &question, &naming, &parts)?;
         Ok(Prepared {
             model,
             spans,
             question,
+            naming,
             labels,
             least,
         })
@@ -107,8 +119,8 @@ impl<'a> Prepared<'a> {
         self.model
     }
 
-    /// The first of the valid configurations at which the condition is true. The features of parts that it does not name
-    /// keep the values of the least valid configuration.
+    /// The first of the valid configurations at which the condition is true: the least valid one, if it is. Else the features of
+    /// parts that it does not name keep the values of the least one.
     #[tactic(auto, using(crate::proofs::Boxed::least_at, crate::proofs::Boxed::box_serves, crate::proofs::Boxed::void_finds))]
     fn first(&self, alloc: Global, wanted: &Condition) -> Result<Option<Config>, NoMemory>
         requires { IsFit (length self.now.features) (proposition wanted.now) }
@@ -120,10 +132,21 @@ impl<'a> Prepared<'a> {
         match &self.least {
             None => Ok(None),
             Some(least) => {
+                if wanted.at(least) {
+                    let values = least.values.copy(alloc)?;
+                    return Ok(Some(Config { values }));
+                }
                 let marks = untouched(alloc, &self.labels, wanted)?;
                 let constraints = self.model.constraints.items();
                 let inner = box_apart(alloc, &self.spans, constraints, wanted, least, &marks)?;
-                first_valid(alloc, self.model, &inner, &self.question, wanted)
+                first_valid(
+                    alloc,
+                    self.model,
+                    &inner,
+                    &self.question,
+                    &self.naming,
+                    wanted,
+                )
             }
         }
     }

@@ -8,11 +8,11 @@ ghost use Rattle.cpp_conditions.specs.View.{proposition};
 ghost use Rattle.atom_solver.specs.Spans.{meets, ranges};
 ghost use Rattle.cpp_conditions.specs.Numbering.{vector_at};
 ghost use Rattle.atom_solver.specs.Facts.{AreMet, AreRising, IsMixed, IsSum};
-ghost use Rattle.atom_solver.specs.Truths.{Knows};
+ghost use Rattle.atom_solver.specs.Truths.{Knows, IsMoreWhere};
 
-use crate::cycles::cycle;
+use crate::cycles::{Edge, cycle};
 use crate::end_forms::{add_ends, copies};
-use crate::facts::{gather_all, gather_known, number, times};
+use crate::facts::{gather_all, known_form, number, times};
 use cpp_conditions::Condition;
 use fam_outer::NoMemory;
 use linear_atoms::slices::cut;
@@ -291,73 +291,77 @@ fn form_of(forms: &[Linear], place: usize) -> Option<&Linear>
     }
 }
 
-/// Whether a form, with those at some places added to it, becomes a number below 0.
-fn adds_up(
+/// The sum of a form and of that at a place: of further forms, or behind them of atoms with the truths that are known.
+#[tactic(auto, using(crate::proofs::Refuted::more_end, crate::proofs::Refuted::more_fact))]
+fn with_place(
     alloc: Global,
     start: &Linear,
-    forms: &[Linear],
-    places: &[usize],
-) -> Result<bool, NoMemory>
+    ends: &[Linear],
+    atoms: &[Atom],
+    known: &[Option<bool>],
+    place: usize,
+) -> Result<Option<Linear>, NoMemory>
     requires start { IsRising start.now.terms }
-    requires rising { AreRising forms.now }
-    ensures { IfOk result (λ answer. answer ≡ true → (values : List ℤ) → AreMet values forms.now
-        → pos 0 ≤ℤ form_at start.now values → ⊥) }
+    requires rising { AreRising ends.now }
+    ensures { IfOk result (λ made. MatchOption made (Unit {0})
+        (λ f. IsMoreWhere ends.now atoms.now known.now start.now f)) }
 {
-    match cut(places) {
-        None => Ok(is_negative(start)),
-        Some((place, behind)) => match form_of(forms, *place) {
-            None => Ok(false),
-            Some(other) => match sum(alloc, start, other)? {
-                None => Ok(false),
-                Some(more) => adds_up(alloc, &more, forms, behind),
+    match form_of(ends, place) {
+        Some(form) => match sum(alloc, start, form)? {
+            None => Ok(None),
+            Some(made) => Ok(Some(made)),
+        },
+        None => match known_form(alloc, atoms, known, place.wrapping_sub(ends.len()))? {
+            None => Ok(None),
+            Some(form) => match sum(alloc, start, &form)? {
+                None => Ok(None),
+                Some(made) => Ok(Some(made)),
             },
         },
     }
 }
 
-/// Whether forms clash, by the sum of a cycle of them.
-#[tactic(auto, using(crate::proofs::Refuted::from_zero))]
-fn is_cyclic(alloc: Global, forms: &[Linear]) -> Result<bool, NoMemory>
-    requires { AreRising forms.now }
-    ensures { IfOk result (λ answer. answer ≡ true → (values : List ℤ) → AreMet values forms.now → ⊥) }
+/// Whether a form, with those at some places added to it, becomes a number below 0.
+fn adds_up(
+    alloc: Global,
+    start: &Linear,
+    ends: &[Linear],
+    atoms: &[Atom],
+    known: &[Option<bool>],
+    places: &[usize],
+) -> Result<bool, NoMemory>
+    requires start { IsRising start.now.terms }
+    requires rising { AreRising ends.now }
+    ensures { IfOk result (λ answer. answer ≡ true → (values : List ℤ) → AreMet values ends.now
+        → Knows known.now (vector_at atoms.now values) → pos 0 ≤ℤ form_at start.now values → ⊥) }
 {
-    let places = cycle(alloc, forms)?;
-    match number(alloc, 0)? {
-        None => Ok(false),
-        Some(zero) => adds_up(alloc, &zero, forms, &places),
+    match cut(places) {
+        None => Ok(is_negative(start)),
+        Some((place, behind)) => match with_place(alloc, start, ends, atoms, known, *place)? {
+            None => Ok(false),
+            Some(more) => adds_up(alloc, &more, ends, atoms, known, behind),
+        },
     }
 }
 
-/// Whether the truth of an atom of more than one feature is known: with less there is no cycle but of equal terms, whose
-/// order says it already, or of a range, which the box decides.
-fn are_linked(atoms: &[Atom], known: &[Option<bool>]) -> bool {
-    let mut place: usize = 0;
-    for atom in atoms {
-        if atom.terms.items().len() > 1 {
-            if let Some(Some(_truth)) = known.get(place) {
-                return true;
-            }
-        }
-        place = place.saturating_add(1);
-    }
-    false
-}
-
-/// Whether no values give the atoms the truths that are known where further forms are at least 0, by the sum of a cycle.
+/// Whether no values give the atoms the truths that are known where further forms are at least 0, by the sum of a cycle of
+/// their forms. Values of the nodes of the edges are lowered meanwhile.
+#[tactic(auto, using(crate::proofs::Refuted::from_zero))]
 pub(crate) fn is_clash(
     alloc: Global,
     ends: &[Linear],
     atoms: &[Atom],
+    edges: &[Edge],
     known: &[Option<bool>],
+    lowered: &mut [i64],
 ) -> Result<bool, NoMemory>
     requires { AreRising ends.now }
     ensures { IfOk result (λ answer. answer ≡ true → (values : List ℤ) → AreMet values ends.now
         → Knows known.now (vector_at atoms.now values) → ⊥) }
 {
-    if !are_linked(atoms, known) {
-        return Ok(false);
+    let places = cycle(alloc, edges, known, lowered)?;
+    match number(alloc, 0)? {
+        None => Ok(false),
+        Some(zero) => adds_up(alloc, &zero, ends, atoms, known, &places),
     }
-    let mut facts = copies(alloc, ends)?;
-    gather_known(alloc, atoms, known, &mut facts)?;
-    is_cyclic(alloc, &facts)
 }

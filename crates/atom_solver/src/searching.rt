@@ -11,7 +11,7 @@ ghost use Rattle.atom_solver.specs.Solutions.{Finds};
 ghost use Rattle.atom_solver.specs.Spans.{ranges, span_of, meets, FindsIn};
 ghost use Rattle.atom_solver.specs.Truths.{StandsFor, StandsForAll};
 
-use crate::branching::is_untrue;
+use crate::branching::{MOST_TURNS, is_untrue};
 use crate::deciding::is_ruled_out;
 use crate::freeing::reduced;
 use crate::numbering::{Question, asked_too};
@@ -23,16 +23,32 @@ use fam_outer::NoMemory;
 use linear_atoms::{Atom, Config, Span};
 use std::alloc::Global;
 
-/// The first configuration of the box at which the constraints and what is wanted are true.
+/// How few choices are made for a box at least.
+const FEWEST_TURNS: u32 = 16;
+
+/// How many choices are made for a part of a box, by how many were made for the box and how many of them were left: a quarter
+/// where all were made in vain, since a smaller box needs fewer.
+fn turns_within(turns: u32, left: u32) -> u32 {
+    if left == 0 {
+        (turns / 4).max(FEWEST_TURNS)
+    } else {
+        turns
+    }
+}
+
+/// The first configuration of the box at which the constraints and what is wanted are true, with so many choices of truths at
+/// most for the box.
 #[tactic(auto, using(crate::proofs::Learned::out_by))]
 pub(crate) fn search(
     alloc: Global,
     spans: &[Span],
     constraints: &[Condition],
+    naming: &[Vec<usize>],
     wanted: &Condition,
     atoms: &[Atom],
     order: &[u32],
     asked: &Formula,
+    turns: u32,
 ) -> Result<Option<Config>, NoMemory>
     requires constraints { AreFit (length spans.now) constraints.now }
     requires wanted { IsFit (length spans.now) (proposition wanted.now) }
@@ -44,10 +60,12 @@ pub(crate) fn search(
     if is_ruled_out(spans, constraints, wanted) {
         return Ok(None);
     }
-    if is_untrue(alloc, spans, atoms, order, asked)? {
+    let (is_out, left) = is_untrue(alloc, spans, atoms, order, asked, turns)?;
+    if is_out {
         return Ok(None);
     }
-    let narrower = reduced(alloc, spans, constraints, wanted)?;
+    let turns = turns_within(turns, left);
+    let narrower = reduced(alloc, spans, constraints, naming, wanted)?;
     let inner = narrower.as_slice();
     match at_lows(alloc, inner, constraints, wanted)? {
         Some(config) => Ok(Some(config)),
@@ -57,20 +75,24 @@ pub(crate) fn search(
                 alloc,
                 &halves.lower,
                 constraints,
+                naming,
                 wanted,
                 atoms,
                 order,
                 asked,
+                turns,
             )? {
                 Some(config) => Ok(Some(config)),
                 None => search(
                     alloc,
                     &halves.upper,
                     constraints,
+                    naming,
                     wanted,
                     atoms,
                     order,
                     asked,
+                    turns,
                 ),
             },
         },
@@ -83,6 +105,7 @@ pub(crate) fn first_valid(
     model: &Model,
     spans: &[Span],
     question: &Question,
+    naming: &[Vec<usize>],
     wanted: &Condition,
 ) -> Result<Option<Config>, NoMemory>
     requires constraints { AreFit (length model.now.features) model.now.constraints }
@@ -106,9 +129,11 @@ pub(crate) fn first_valid(
         alloc,
         spans,
         constraints,
+        naming,
         wanted,
         &whole.atoms,
         &whole.order,
         &whole.asked,
+        MOST_TURNS,
     )
 }

@@ -176,7 +176,7 @@ pub(crate) fn has_truth(part: &Formula, truth: bool, known: &[Option<bool>]) -> 
 /// Adds the truths that tests must have where the formula has one: of two formulas of which one must be true, where the
 /// other is known to be false. The second comes first here too.
 #[tactic(auto, using(crate::proofs::Learned::and_first, crate::proofs::Learned::and_second, crate::proofs::Learned::or_first, crate::proofs::Learned::or_second))]
-fn force(part: &Formula, truth: bool, known: &mut [Option<bool>])
+pub(crate) fn force(part: &Formula, truth: bool, known: &mut [Option<bool>])
     ensures { (v : List Bool) → Knows known.old v → true_on v (formula part.now) ≡ truth → Knows known.new v }
 {
     match part {
@@ -268,7 +268,7 @@ fn follow_up(atoms: &[Atom], order: &[u32], place: usize, steps: usize, known: &
 }
 
 /// Adds the truths that follow from those of atoms of equal terms.
-fn follow_all(atoms: &[Atom], order: &[u32], known: &mut [Option<bool>])
+pub(crate) fn follow_all(atoms: &[Atom], order: &[u32], known: &mut [Option<bool>])
     ensures { (values : List ℤ) → Knows known.old (vector_at atoms.now values)
         → Knows known.new (vector_at atoms.now values) }
 {

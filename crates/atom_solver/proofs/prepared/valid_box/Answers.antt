@@ -15,8 +15,8 @@ pub is_untrue-requires-clause-ranges : goal.is_untrue-requires-clause-ranges
 is_untrue-requires-clause-ranges c =
     box_is c.args.model.now.features c.deref.result.now (c.deref.ensures.value ∙ c.in_ok-whole.ensures ∙ ap (map span_of) c.items.ensures) c.requires.ranges
 
-pub returns-then-branch : goal.returns-then-branch
-returns-then-branch c =
+pub returns-then-is_out : goal.returns-then-is_out
+returns-then-is_out c =
     whole_box c.args.model.now c.in_ok-whole.whole.items (c.in_ok-whole.ensures ∙ ap (map span_of) c.items.ensures) c.requires.ranges
 
 pub narrowed-requires-clause-ranges : goal.narrowed-requires-clause-ranges
