@@ -1,5 +1,5 @@
 -- The formula that trees are false.
-use Rattle.std.proofs.Common.{◌≡◌, ℕ, zero, suc, Bool, true, false, not, ◌&&◌, ◌||◌, List, [], ◌∷◌, cond, map, take, drop, refl, ap, sym, ◌∙◌}
+use Rattle.std.proofs.Common.{◌≡◌, ℕ, zero, suc, Bool, true, false, not, ◌&&◌, List, [], ◌∷◌, map, take, drop, refl, ap, sym, ◌∙◌}
 use Rattle.decision_tree.specs.declared.tree.Tree.{Tree}
 use Rattle.decision_tree.specs.Plain.{leaf_of}
 use Rattle.decision_tree.specs.View.{plain}
@@ -8,14 +8,6 @@ use Rattle.configuration_advice.specs.Nearest.{are_false}
 true_end : (b : Bool) → (b && true) ≡ b
 true_end true = refl
 true_end false = refl
-
-pub by_both : (b off on : Bool) → ((not b || on) && (b || off)) ≡ cond b on off
-by_both true off on = true_end on
-by_both false off on = refl
-
-pub not_cond : (b off on : Bool) → cond b (not on) (not off) ≡ not (cond b on off)
-not_cond true off on = refl
-not_cond false off on = refl
 
 pub and_assoc : (a b c : Bool) → (a && (b && c)) ≡ ((a && b) && c)
 and_assoc true b c = refl

@@ -5,7 +5,7 @@ use Rattle.cpp_conditions.specs.View.{formula}
 use Rattle.decision_tree.specs.declared.tree.Node.{Node}
 use Rattle.decision_tree.specs.Plain.{TestsBelow}
 use Rattle.decision_tree.specs.View.{plain}
-use Rattle.configuration_advice.proofs.quietness.+untrue.Goals as goal
+use Rattle.tree_formulas.proofs.formulas.+untrue.Goals as goal
 
 pub returns-in_ok-yes-in-Node-clause-below : goal.returns-in_ok-yes-in-Node-clause-below
 returns-in_ok-yes-in-Node-clause-below t c =
