@@ -1,5 +1,5 @@
 -- What the analysis of a family answers is what it promises.
-use Rattle.std.proofs.Common.{◌≡◌, ℕ, ◌≤◌, ◌+◌, true, false, Bool, List, [], ◌∷◌, ◌++◌, map, length, if◌then◌else◌, refl, ap, sym, subst, ◌∙◌, inl, inr, Result, Ok, Err, slice_index_or}
+use Rattle.std.proofs.Common.{◌≡◌, ℕ, ◌≤◌, ◌<◌, ◌+◌, true, false, Bool, List, [], ◌∷◌, ◌++◌, map, length, if◌then◌else◌, refl, ap, sym, subst, ◌∙◌, inl, inr, Result, Ok, Err, slice_index_or}
 use Rattle.std.specs.Prelude.{OnOk}
 use Rattle.std.specs.List.{All}
 use Rattle.std.proofs.lemmas.List.{map-append}
@@ -24,27 +24,29 @@ use Rattle.decision_tree.proofs.Reduced.{tests_below}
 use Rattle.leaf_domain.specs.Leaves.{LeafValue, LeafMeaning, LeafLaws, nothing_of}
 use Rattle.leaf_domain.specs.Soundness.{TransferAnswers, TransferHolds, NothingStops}
 use Rattle.plain_analysis.specs.declared.options.Options.{Options}
-use Rattle.plain_analysis.specs.Entered.{leaves_in}
-use Rattle.plain_analysis.specs.Places.{at_of, alarm_of}
+use Rattle.plain_analysis.specs.Places.{at_by, alarm_by}
 use Rattle.plain_analysis.specs.Promises.{RunsForeseen}
-use Rattle.plain_analysis.specs.Statements.{after_of}
+use Rattle.plain_analysis.specs.Statements.{Heads, passed, final_heads}
 use Rattle.plain_analysis.proofs.Held.{analysis_foresees}
 use Rattle.tree_unify.specs.Formulas as formulas
 use Rattle.lifted_analysis.specs.declared.entries.Found.{Found}
 use Rattle.lifted_analysis.specs.declared.family.Family.{Family}
 use Rattle.lifted_analysis.specs.declared.findings.AlarmTree.{AlarmTree}
-use Rattle.lifted_analysis.specs.declared.findings.FamilyFindings.{FamilyFindings}
 use Rattle.lifted_analysis.specs.declared.findings.PlaceTree.{PlaceTree}
+use Rattle.lifted_analysis.specs.Canon.{IsTreeOf}
 use Rattle.lifted_analysis.specs.Conditions.{AreTreesOf}
-use Rattle.lifted_analysis.specs.Entries.{entries_at, stops_in, leaf_there, stop_there, IsReducedTree, AreReduced, AreReducedStops, entered_with, HasEntered}
+use Rattle.lifted_analysis.specs.Entries.{visits_at, leaves_in, stops_in, turns_in, leaf_there, stop_there, turn_there, IsReducedTree, AreReduced, AreReducedStops, IsSizedTurn, AreSized, entered_with, HasEntered}
 use Rattle.lifted_analysis.specs.Findings.{HasEnded, HasFound, AreFindings}
-use Rattle.lifted_analysis.specs.Promises.{truths_of, variant_at, begin_at, leaf_at, stop_at, by_kind, valued, Occurs, AreBelow}
+use Rattle.lifted_analysis.specs.Promises.{truths_of, variant_at, begin_at, leaf_at, stop_at, by_kind, valued, Occurs}
 use Rattle.lifted_analysis.specs.Start.{start_at}
-use Rattle.lifted_analysis.specs.States.{truths_in, IsTest}
-use Rattle.lifted_analysis.specs.Steps.{after_at}
+use Rattle.lifted_analysis.specs.declared.entries.TurnTree.{TurnTree}
+use Rattle.lifted_analysis.specs.Rules.{passed_with}
+use Rattle.lifted_analysis.specs.States.{truths_in, IsTest, HasRegionNumber}
+use Rattle.lifted_analysis.specs.Turns.{Turn, is_inductive}
 use Rattle.lifted_analysis.proofs.ConditionLemmas.{truths_same, tests_each, occurs_below}
 use Rattle.lifted_analysis.proofs.EntryLemmas.{three, reduced_push}
-use Rattle.lifted_analysis.proofs.FoundLemmas.{leaves_are, stops_are}
+use Rattle.lifted_analysis.proofs.FoundLemmas.{leaves_are, stops_are, loops_are}
+use Rattle.lifted_analysis.proofs.PassedLemmas.{AreFit}
 
 -- ---- keys and values of two lists
 
@@ -99,6 +101,40 @@ pub leaf_kept : {A : Type 0} (t : Numbered A) (x : A) → erase t ≡ leaf x →
 leaf_kept (kept n y) x e = let h : y ≡ x = cc in (n, ap (kept n) h)
 leaf_kept (branch n k low high) x e = cc
 
+-- the trees of places, and trees of truths, over so many tests
+module _ (family : Family) (m : ℕ) (small : (k : ℕ) → IsTest family k → k < m) where
+  below : {A : Type 0} (t : Plain A) → IsReducedTree family t → TestsBelow m t
+  below t r = tests_below m t (λ k w. small k (r.tests k w))
+
+  pub leaf_findings : {L : Type 0} (value : L → LeafValue) → ((a b : L) → value a ≡ value b → a ≡ b) → (ps : List (PlaceTree L)) (places : List Place) (at : Place → List Bool → LeafValue) → AreReduced family ps
+      → ((v : List Bool) → map (leaf_there value v) ps ≡ map (λ (q : Place). (q, at q v)) places) → All (λ (x : PlaceTree L). IsTreeOf m (at x.place) (valued value (plain x.tree))) ps
+  leaf_findings value exact ps places at trees leaves = λ k d lt.
+      let x = slice_index_or ps k d in
+      let r = trees k d lt in
+      record {
+        reduced = valued_reduced value exact 0 (plain x.tree) r.reduced;
+        tests = valued_below value exact m (plain x.tree) (below (plain x.tree) r);
+        leads = λ v e. valued_leaf value exact (plain x.tree) v ∙ values_are (leaf_there value v) (λ q. at q v) ps places (leaves v) k d lt;
+      }
+
+  pub truth_findings : {X K : Type 0} (key : X → K) (tree : X → Tree Bool) (xs : List X) (ks : List K) (f : K → List Bool → Bool) → All (λ (x : X). IsReducedTree family (plain (tree x))) xs
+      → ((v : List Bool) → map {B = K × Bool} (λ (x : X). (key x, leaf_of (plain (tree x)) v)) xs ≡ map {B = K × Bool} (λ (k : K). (k, f k v)) ks) → All (λ (x : X). IsTreeOf m (f (key x)) (plain (tree x))) xs
+  truth_findings key tree xs ks f trees truths = λ k d lt.
+      let x = slice_index_or xs k d in
+      let r = trees k d lt in
+      record {
+        reduced = r.reduced;
+        tests = below (plain (tree x)) r;
+        leads = λ v e. values_are (λ x. (key x, leaf_of (plain (tree x)) v)) (λ k. f k v) xs ks (truths v) k d lt;
+      }
+
+  pub findings_below : {L : Type 0} (ps : List (PlaceTree L)) → AreReduced family ps → All (λ (x : PlaceTree L). TestsBelow m (plain x.tree)) ps
+  findings_below ps trees = λ k d lt. below (plain (slice_index_or ps k d).tree) (trees k d lt)
+
+twice : {X Y Z : Type 0} (f : X → Y) (g : Y → Z) (xs : List X) → map (λ (x : X). g (f x)) xs ≡ map g (map f xs)
+twice f g [] = refl
+twice f g (x ∷ xs) = ap (λ l. g (f x) ∷ l) (twice f g xs)
+
 module _ {L : Type 0} (value : L → LeafValue) (family : Family) where
   -- the last place, after a tree and three alarm trees
   pub ended_made : {E : Type 0} (made : Result (Unit {0}) E) (a c d z : Found L) (ps : List (PlaceTree L)) (place : Place) (tree : Tree L)
@@ -109,14 +145,16 @@ module _ {L : Type 0} (value : L → LeafValue) (family : Family) where
       → (AreReducedStops family c.alarms.items → AreReducedStops family d.alarms.items) → d.places.items ≡ c.places.items
       → OnOk made ((v : List Bool) → map (stop_there v) z.alarms.items ≡ map (stop_there v) d.alarms.items ++ ((place, Assertion), false) ∷ [])
       → OnOk made (AreReducedStops family d.alarms.items → AreReducedStops family z.alarms.items) → z.places.items ≡ d.places.items
+      → c.turns.items ≡ a.turns.items → d.turns.items ≡ c.turns.items → z.turns.items ≡ d.turns.items
       → OnOk made (HasEnded value family place (plain tree) a z)
-  ended_made (Err e) a c d z ps place tree r pushed h f g i j k l m n = tt
-  ended_made (Ok u) a c d z ps place tree r pushed h f g i j k l m n =
+  ended_made (Err e) a c d z ps place tree r pushed h f g i j k l m n t1 t2 t3 = tt
+  ended_made (Ok u) a c d z ps place tree r pushed h f g i j k l m n t1 t2 t3 =
       let x : PlaceTree L = record { place = place; tree = tree } in
       let places : z.places.items ≡ a.places.items ++ x ∷ [] = n ∙ (k ∙ (h ∙ pushed)) in
       record {
         leaves = λ v. ap (map (leaf_there value v)) places ∙ map-append (leaf_there value v) a.places.items (x ∷ []);
         stops = λ v. three (map (stop_there v) a.alarms.items) (map (stop_there v) c.alarms.items) (map (stop_there v) d.alarms.items) (map (stop_there v) z.alarms.items) _ _ _ (f v) (i v) (l v);
+        turns = t3 ∙ (t2 ∙ t1);
         trees = λ q. reduced_push (λ (p : PlaceTree L). IsReducedTree family (plain p.tree)) a.places.items z.places.items x places r q;
         alarm_trees = λ q. m (j (g q));
       }
@@ -132,93 +170,97 @@ module _ {L : Type 0} (value : L → LeafValue) (family : Family) where
     begin_count true ts = laws.start_variables (projected_start ts p.declared p.start) ∙ (length-start ts p.declared 0 p.start ∙ program.starts)
     begin_count false ts = count
 
+    pub start_valid : (v : List Bool) → M.valid (start_at M family p.start p.declared v)
+    start_valid v = begin_valid (leaf_of (plain family.plausible.now) v) (truths_in family.choices.now v)
+
+    pub start_count : (v : List Bool) → (start_at M family p.start p.declared v).variables ≡ length p.names
+    start_count v = begin_count (leaf_of (plain family.plausible.now) v) (truths_in family.choices.now v)
+
     -- all that is found
-    pub found_made : (a b z : Found L) (c : Code) (start tree : Plain L) → c ≡ p.body → a.places.items ≡ [] → a.alarms.items ≡ []
-        → HasEntered value M family a b (entered_with value M family c start)
+    pub found_made : (K H : List Bool → Heads) (a b z : Found L) (c : Code) (start tree : Plain L) → ((v : List Bool) → K v ≡ H v) → ((v : List Bool) → AreFit M family.options.mode (length p.names) (H v))
+        → c ≡ p.body → a.places.items ≡ [] → a.alarms.items ≡ [] → a.turns.items ≡ []
+        → HasEntered value M family a b (entered_with value M family K c start)
         → ((v : List Bool) → value (leaf_of start v) ≡ start_at M family p.start p.declared v)
-        → ((v : List Bool) → value (leaf_of tree v) ≡ after_at M family c v (value (leaf_of start v)))
-        → HasEnded value family p.end tree b z → HasFound value M family p (record { places = z.places; alarms = z.alarms })
-    found_made a b z c start tree body none no_alarms entered started after ended =
+        → ((v : List Bool) → value (leaf_of tree v) ≡ passed_with M family K c v (value (leaf_of start v)))
+        → HasEnded value family p.end tree b z → HasFound value M family p H z
+    found_made K H a b z c start tree heads fit body none no_alarms no_turns entered started after ended =
+        let mode = family.options.mode in
         let d : List Bool → LeafValue = λ v. start_at M family p.start p.declared v in
         let ts : List Bool → List Bool = λ v. truths_in family.choices.now v in
+        let is : (v : List Bool) → entered_with value M family K c start v ≡ visits_at M mode (ts v) (H v) p.body (d v) = λ v.
+        ap (λ G. visits_at M mode (ts v) G c (value (leaf_of start v))) (heads v)
+        ∙ (ap (λ x. visits_at M mode (ts v) (H v) x (value (leaf_of start v))) body ∙ ap (visits_at M mode (ts v) (H v) p.body) (started v)) in
         record {
           leaves = λ v.
-              let is : entered_with value M family c start v ≡ entries_at M family.options (ts v) p.body (d v) =
-              ap (λ x. entries_at M family.options (ts v) x (value (leaf_of start v))) body ∙ ap (entries_at M family.options (ts v) p.body) (started v)
-              in
-              let last : value (leaf_of tree v) ≡ after_of M family.options (projected (ts v) p.body) (d v) =
-              after v ∙ (ap (λ x. after_at M family x v (value (leaf_of start v))) body ∙ ap (after_at M family p.body v) (started v))
+              let last : value (leaf_of tree v) ≡ passed M mode (H v) (projected (ts v) p.body) (d v) =
+              after v ∙ (ap (λ G. passed M mode G (projected (ts v) c) (value (leaf_of start v))) (heads v)
+              ∙ (ap (λ x. passed M mode (H v) (projected (ts v) x) (value (leaf_of start v))) body ∙ ap (passed M mode (H v) (projected (ts v) p.body)) (started v)))
               in
               ended.leaves v
-              ∙ (ap (λ l. l ++ (p.end, value (leaf_of tree v)) ∷ []) (entered.leaves v ∙ ap (λ l. map (leaf_there value v) l ++ leaves_in (entered_with value M family c start v)) none)
-              ∙ (ap (λ l. leaves_in l ++ (p.end, value (leaf_of tree v)) ∷ []) is
-              ∙ (ap (λ (x : LeafValue). leaves_in (entries_at M family.options (ts v) p.body (d v)) ++ (p.end, x) ∷ []) last
-              ∙ leaves_are M laws family.options A N p program (ts v) (d v) (begin_valid (leaf_of (plain family.plausible.now) v) (ts v)) (begin_count (leaf_of (plain family.plausible.now) v) (ts v)))));
+              ∙ (ap (λ l. l ++ (p.end, value (leaf_of tree v)) ∷ []) (entered.leaves v ∙ ap (λ l. map (leaf_there value v) l ++ leaves_in (entered_with value M family K c start v)) none)
+              ∙ (ap (λ l. leaves_in l ++ (p.end, value (leaf_of tree v)) ∷ []) (is v)
+              ∙ (ap (λ (x : LeafValue). leaves_in (visits_at M mode (ts v) (H v) p.body (d v)) ++ (p.end, x) ∷ []) last
+              ∙ leaves_are M laws mode A N p program (ts v) (d v) (start_valid v) (start_count v) (H v) (fit v))));
           stops = λ v.
-              let is : entered_with value M family c start v ≡ entries_at M family.options (ts v) p.body (d v) =
-              ap (λ x. entries_at M family.options (ts v) x (value (leaf_of start v))) body ∙ ap (entries_at M family.options (ts v) p.body) (started v)
-              in
               let end : List ((Place × Kind) × Bool) = ((p.end, Overflow), false) ∷ (((p.end, ZeroDivisor), false) ∷ (((p.end, Assertion), false) ∷ [])) in
               ended.stops v
-              ∙ (ap (λ l. l ++ end) (entered.stops v ∙ ap (λ l. map (stop_there v) l ++ stops_in M family.options (entered_with value M family c start v)) no_alarms)
-              ∙ (ap (λ l. stops_in M family.options l ++ end) is
-              ∙ stops_are M laws family.options A N p program (ts v) (d v) (begin_valid (leaf_of (plain family.plausible.now) v) (ts v)) (begin_count (leaf_of (plain family.plausible.now) v) (ts v))));
+              ∙ (ap (λ l. l ++ end) (entered.stops v ∙ ap (λ l. map (stop_there v) l ++ stops_in M mode (entered_with value M family K c start v)) no_alarms)
+              ∙ (ap (λ l. stops_in M mode l ++ end) (is v)
+              ∙ stops_are M laws mode A N p program (ts v) (d v) (start_valid v) (start_count v) (H v) (fit v)));
+          turns = λ v.
+              let said : Turn → Place × Bool = λ t. (t.place, is_inductive M t) in
+              let there : map (turn_there value v) z.turns.items ≡ turns_in (visits_at M mode (ts v) (H v) p.body (d v)) =
+              ap (map (turn_there value v)) ended.turns ∙ (entered.turns v ∙ (ap (λ l. map (turn_there value v) l ++ turns_in (entered_with value M family K c start v)) no_turns ∙ ap turns_in (is v)))
+              in
+              twice (turn_there value v) said z.turns.items ∙ (ap (map said) there
+              ∙ loops_are M laws mode A N p program (ts v) (d v) (start_valid v) (start_count v) (H v) (fit v));
           trees = ended.trees (entered.trees (subst (AreReduced family) (sym none) (All-nil (λ (x : PlaceTree L). IsReducedTree family (plain x.tree)))));
           alarm_trees = ended.alarm_trees (entered.alarm_trees (subst (AreReducedStops family) (sym no_alarms) (All-nil (λ (x : AlarmTree). IsReducedTree family (plain x.tree)))));
+          sized = subst (AreSized value family) (sym ended.turns) (entered.sized (subst (AreSized value family) (sym no_turns) (All-nil (λ (t : TurnTree L). IsSizedTurn value family t))));
         }
 
 -- ---- over formulas
 
-module _ {L : Type 0} (value : L → LeafValue) (exact : (a b : L) → value a ≡ value b → a ≡ b) (M : LeafMeaning) (family : Family) (p : Whole) (cs : List Formula) (pl : Formula)
-    (trees : AreTreesOf cs family.choices.now) (plausible : formulas.IsTreeOf (formula pl) (plain family.plausible.now)) (count : family.variables ≡ length p.names) where
-  begins : (v : List Bool) → start_at M family p.start p.declared v ≡ begin_at M p cs pl v
-  begins v =
-      ap (λ (b : Bool). if b then M.start (projected_start (truths_in family.choices.now v) p.declared p.start) else nothing_of family.variables) (plausible.truth v)
-      ∙ (ap (λ ts. if true_on v (formula pl) then M.start (projected_start ts p.declared p.start) else nothing_of family.variables) (truths_same cs family.choices.now v trees)
-      ∙ ap (λ n. if true_on v (formula pl) then M.start (projected_start (truths_of cs v) p.declared p.start) else nothing_of n) count)
+-- start values by formulas
+pub begins : (M : LeafMeaning) (family : Family) (p : Whole) (cs : List Formula) (pl : Formula) → AreTreesOf cs family.choices.now → formulas.IsTreeOf (formula pl) (plain family.plausible.now) → family.variables ≡ length p.names
+    → (v : List Bool) → start_at M family p.start p.declared v ≡ begin_at M p cs pl v
+begins M family p cs pl trees plausible count v =
+    ap (λ (b : Bool). if b then M.start (projected_start (truths_in family.choices.now v) p.declared p.start) else nothing_of family.variables) (plausible.truth v)
+    ∙ (ap (λ ts. if true_on v (formula pl) then M.start (projected_start ts p.declared p.start) else nothing_of family.variables) (truths_same cs family.choices.now v trees)
+    ∙ ap (λ n. if true_on v (formula pl) then M.start (projected_start (truths_of cs v) p.declared p.start) else nothing_of n) count)
 
+module _ {L : Type 0} (value : L → LeafValue) (exact : (a b : L) → value a ≡ value b → a ≡ b) (M : LeafMeaning) (family : Family) (p : Whole) (cs : List Formula) (pl : Formula)
+    (trees : AreTreesOf cs family.choices.now) (plausible : formulas.IsTreeOf (formula pl) (plain family.plausible.now)) (count : family.variables ≡ length p.names) (no_lines : family.lines.now ≡ []) where
   occurs : (k : ℕ) → IsTest family k → Occurs cs pl k
   occurs k (inl w) = inl (plausible.tests k w)
-  occurs k (inr w) = inr (tests_each cs family.choices.now k trees w)
+  occurs k (inr (inl w)) = inr (tests_each cs family.choices.now k trees w)
+  occurs k (inr (inr w)) = absurd (subst (HasRegionNumber k) no_lines w)
 
-  module _ (f : FamilyFindings L) (h : HasFound value M family p f) where
+  module _ (f : Found L) (h : HasFound value M family p (λ v. final_heads M family.options) f) where
     leaves_at : (v : List Bool) → map (leaf_there value v) f.places.items ≡ map (λ (q : Place). (q, leaf_at M family.options p cs pl q v)) (program_places p)
     leaves_at v =
+        let H = final_heads M family.options in
+        let mode = family.options.mode in
         h.leaves v
-        ∙ (ap (λ ts. map (λ (q : Place). (q, at_of M family.options (projected_program ts p) (start_at M family p.start p.declared v) q)) (program_places p)) (truths_same cs family.choices.now v trees)
-        ∙ ap (λ d. map (λ (q : Place). (q, at_of M family.options (variant_at p cs v) d q)) (program_places p)) (begins v))
+        ∙ (ap (λ ts. map (λ (q : Place). (q, at_by M mode H (projected_program ts p) (start_at M family p.start p.declared v) q)) (program_places p)) (truths_same cs family.choices.now v trees)
+        ∙ ap (λ d. map (λ (q : Place). (q, at_by M mode H (variant_at p cs v) d q)) (program_places p)) (begins M family p cs pl trees plausible count v))
 
     stops_at : (v : List Bool) → map (stop_there v) f.alarms.items ≡ map (λ (q : Place × Kind). (q, stop_at M family.options p cs pl q v)) (by_kind (program_places p))
     stops_at v =
+        let H = final_heads M family.options in
+        let mode = family.options.mode in
         h.stops v
-        ∙ (ap (λ ts. map (λ (q : Place × Kind). (q, alarm_of M family.options (projected_program ts p) (start_at M family p.start p.declared v) q.0 q.1)) (by_kind (program_places p))) (truths_same cs family.choices.now v trees)
-        ∙ ap (λ d. map (λ (q : Place × Kind). (q, alarm_of M family.options (variant_at p cs v) d q.0 q.1)) (by_kind (program_places p))) (begins v))
+        ∙ (ap (λ ts. map (λ (q : Place × Kind). (q, alarm_by M mode H (projected_program ts p) (start_at M family p.start p.declared v) q.0 q.1)) (by_kind (program_places p))) (truths_same cs family.choices.now v trees)
+        ∙ ap (λ d. map (λ (q : Place × Kind). (q, alarm_by M mode H (variant_at p cs v) d q.0 q.1)) (by_kind (program_places p))) (begins M family p cs pl trees plausible count v))
 
-    below : {A : Type 0} (m : ℕ) (t : Plain A) → AreBelow m cs pl → IsReducedTree family t → TestsBelow m t
-    below m t b r = tests_below m t (λ k w. occurs_below m k cs pl b (occurs k (r.tests k w)))
-
-    pub are_findings : AreFindings value M family.options p cs pl f
+    pub are_findings : AreFindings value M family.options p cs pl (record { places = f.places; alarms = f.alarms })
     are_findings = record {
       places = keys_are (leaf_there value []) (λ q. leaf_at M family.options p cs pl q []) f.places.items (program_places p) (leaves_at []);
-      trees = λ m b k d lt.
-          let x = slice_index_or f.places.items k d in
-          let r = h.trees k d lt in
-          record {
-            reduced = valued_reduced value exact 0 (plain x.tree) r.reduced;
-            tests = valued_below value exact m (plain x.tree) (below m (plain x.tree) b r);
-            leads = λ v e. valued_leaf value exact (plain x.tree) v ∙ values_are (leaf_there value v) (λ q. leaf_at M family.options p cs pl q v) f.places.items (program_places p) (leaves_at v) k d lt;
-          };
+      trees = λ m b. leaf_findings family m (λ k w. occurs_below m k cs pl b (occurs k w)) value exact f.places.items (program_places p) (λ q v. leaf_at M family.options p cs pl q v) h.trees leaves_at;
       kinds = keys_are (stop_there []) (λ q. stop_at M family.options p cs pl q []) f.alarms.items (by_kind (program_places p)) (stops_at []);
-      alarms = λ m b k d lt.
-          let x = slice_index_or f.alarms.items k d in
-          let r = h.alarm_trees k d lt in
-          record {
-            reduced = r.reduced;
-            tests = below m (plain x.tree) b r;
-            leads = λ v e. values_are (stop_there v) (λ q. stop_at M family.options p cs pl q v) f.alarms.items (by_kind (program_places p)) (stops_at v) k d lt;
-          };
+      alarms = λ m b. truth_findings family m (λ k w. occurs_below m k cs pl b (occurs k w)) (λ (a : AlarmTree). (a.place, a.kind)) (λ (a : AlarmTree). a.tree) f.alarms.items (by_kind (program_places p)) (λ q v. stop_at M family.options p cs pl q v) h.alarm_trees stops_at;
       reduced = λ k d lt. (h.trees k d lt).reduced;
-      below = λ m b k d lt. below m (plain (slice_index_or f.places.items k d).tree) b (h.trees k d lt);
+      below = λ m b. findings_below family m (λ k w. occurs_below m k cs pl b (occurs k w)) f.places.items h.trees;
       tests = λ k d lt j w. occurs j ((h.trees k d lt).tests j w);
       alarm_tests = λ k d lt j w. occurs j ((h.alarm_trees k d lt).tests j w);
     }

@@ -47,7 +47,7 @@ pub trees_more : (cs : List Formula) (i : ℕ) (c : Formula) (ts us : List (Tree
 trees_more cs i c ts us t l e f h k n =
     subst (λ x. AreTreesOf x us) (sym (take_more cs i c l ∙ ap (λ x. take i cs ++ x ∷ []) (sym e))) (subst (AreTreesOf (take i cs ++ c ∷ [])) (sym f) (trees_push (take i cs) ts c t h k n))
 
-number_below : (m k : ℕ) (p : Proposition ℕ) → IsBelow m p → HasNumber k p → k < m
+pub number_below : (m k : ℕ) (p : Proposition ℕ) → IsBelow m p → HasNumber k p → k < m
 number_below m k (Const b) h w = absurd w
 number_below m k (Test n) h w = subst (λ (j : ℕ). j < m) (sym w) h
 number_below m k (Not p) h w = number_below m k p h w

@@ -1,8 +1,9 @@
 -- Statements of a family entered one after another.
-use Rattle.std.proofs.Common.{◌≡◌, ℕ, ◌+◌, ◌<◌, List, [], ◌∷◌, ◌++◌, map, take, length, get_or, Bool, true, false, if◌then◌else◌, refl, ap, sym, subst, ◌∙◌, append_assoc, append-nil}
+use Rattle.std.proofs.Common.{◌≡◌, ℕ, zero, suc, ◌+◌, ◌<◌, ◌≤◌, arith, List, [], ◌∷◌, ◌++◌, map, take, length, get_or, Bool, true, false, not, Some, None, drop, if◌then◌else◌, refl, ap, sym, subst, ◌∙◌, append_assoc, append-nil}
 use Rattle.std.specs.Prelude.{Result, Ok, Err, IfOk, OnOk, slice_index_or}
-use Rattle.std.specs.List.{All}
-use Rattle.std.proofs.lemmas.List.Elements.{All-append, All-cons, All-nil}
+use Rattle.std.specs.List.{All, insert}
+use Rattle.std.proofs.lemmas.List.{length-map, length-append, take_at, drop_at}
+use Rattle.std.proofs.lemmas.List.Elements.{All-append, All-cons, All-nil, All-take, All-drop}
 use Rattle.std.specs.declared.vec.Vec.{Vec}
 use Rattle.std.specs.declared.alloc.Global.{Global}
 use Rattle.fam_outer.specs.declared.faults.Place.{Place}
@@ -15,38 +16,52 @@ use Rattle.c_tree.specs.View.{term, front, code}
 use Rattle.c_tree.specs.Project.{projected}
 use Rattle.c_tree.proofs.Views.{code-take_more}
 use Rattle.decision_tree.specs.declared.tree.Tree.{Tree}
-use Rattle.decision_tree.specs.Plain.{Plain}
+use Rattle.decision_tree.specs.Plain.{Plain, leaf_of}
 use Rattle.decision_tree.specs.Listed.{IsTreeIn}
 use Rattle.decision_tree.specs.Numbered.{Numbered, erase}
 use Rattle.decision_tree.specs.View.{numbered, plain}
 use Rattle.leaf_domain.specs.Leaves.{LeafValue, LeafMeaning}
 use Rattle.leaf_domain.specs.Stops.{may_at}
 use Rattle.leaf_domain.specs.Transfer.{assumed, assigned, forgotten}
-use Rattle.plain_analysis.specs.declared.options.Options.{Options}
-use Rattle.plain_analysis.specs.Entered.{leaves_in}
-use Rattle.plain_analysis.specs.Loops.{final_leaf}
-use Rattle.plain_analysis.specs.Statements.{Entry, after_of}
-use Rattle.plain_analysis.proofs.EnteredLemmas.{leaves_in-append}
-use Rattle.plain_analysis.proofs.Listed.{after_of-followed, front-If, front-While, front-Block}
+use Rattle.c_tree.specs.declared.tree.Mode.{Mode}
+use Rattle.plain_analysis.specs.Statements.{Heads, passed}
+use Rattle.plain_analysis.proofs.Listed.{front-If, front-While, front-Block}
 use Rattle.tree_unify.specs.Leafwise.{TestsAreOf}
 use Rattle.lifted_analysis.specs.declared.entries.Found.{Found}
+use Rattle.lifted_analysis.specs.declared.entries.TurnTree.{TurnTree}
 use Rattle.lifted_analysis.specs.declared.family.Family.{Family}
-use Rattle.lifted_analysis.specs.Entries.{entries_at, stops_in, leaf_there, stop_there, IsReducedTree, AreReduced, AreReducedStops, HasEntered}
-use Rattle.lifted_analysis.specs.States.{IsState}
+use Rattle.lifted_analysis.specs.Entries.{Visit, visits_at, loop_visit, leaves_in, stops_in, turn_of, turns_in, leaf_there, stop_there, turn_there, IsReducedTree, AreReduced, AreReducedStops, AreSized, HasEntered}
+use Rattle.lifted_analysis.specs.Rules.{heads_where}
+use Rattle.lifted_analysis.specs.States.{IsState, IsSized}
 use Rattle.lifted_analysis.specs.Steps.{kept_by}
+use Rattle.lifted_analysis.specs.Turns.{Turn}
 use Rattle.lifted_analysis.proofs.FamilyLemmas.{front-Cond}
+use Rattle.lifted_analysis.proofs.PassedLemmas.{passed-followed}
 
 onward : {A : Type 0} (old mid new x y z : List A) → mid ≡ old ++ x → new ≡ mid ++ y → z ≡ x ++ y → new ≡ old ++ z
 onward old mid new x y z e f g = f ∙ (ap (λ l. l ++ y) e ∙ (append_assoc old x y ∙ ap (λ l. old ++ l) (sym g)))
+
+-- one more behind as many as there were
+inserted : {X : Type 0} (xs ys : List X) (x : X) (n : ℕ) → n ≡ length xs → insert (xs ++ ys) n x ≡ xs ++ x ∷ ys
+inserted xs ys x n e = ap (λ l. l ++ x ∷ drop n (xs ++ ys)) (take_at xs ys n (sym e)) ∙ ap (λ l. xs ++ x ∷ l) (drop_at xs ys n (sym e))
 
 pub three : {X : Type 0} (a b c d : List X) (x y z : X) → b ≡ a ++ x ∷ [] → c ≡ b ++ y ∷ [] → d ≡ c ++ z ∷ [] → d ≡ a ++ (x ∷ (y ∷ (z ∷ [])))
 three a b c d x y z e f g =
     g ∙ (ap (λ l. l ++ z ∷ []) f ∙ (append_assoc b (y ∷ []) (z ∷ []) ∙ (ap (λ l. l ++ y ∷ (z ∷ [])) e ∙ append_assoc a (x ∷ []) (y ∷ (z ∷ [])))))
 
-pub stops_in-append : (M : LeafMeaning) (o : Options) (xs ys : List Entry) → stops_in M o (xs ++ ys) ≡ stops_in M o xs ++ stops_in M o ys
-stops_in-append M o [] ys = refl
-stops_in-append M o (x ∷ xs) ys =
-    ap (λ l. ((x.place, Overflow), may_at M o.mode Overflow x.statement x.leaf) ∷ (((x.place, ZeroDivisor), may_at M o.mode ZeroDivisor x.statement x.leaf) ∷ (((x.place, Assertion), may_at M o.mode Assertion x.statement x.leaf) ∷ l))) (stops_in-append M o xs ys)
+pub leaves_in-append : (xs ys : List Visit) → leaves_in (xs ++ ys) ≡ leaves_in xs ++ leaves_in ys
+leaves_in-append [] ys = refl
+leaves_in-append (x ∷ xs) ys = ap (λ l. (x.place, x.leaf) ∷ l) (leaves_in-append xs ys)
+
+pub stops_in-append : (M : LeafMeaning) (mode : Mode) (xs ys : List Visit) → stops_in M mode (xs ++ ys) ≡ stops_in M mode xs ++ stops_in M mode ys
+stops_in-append M mode [] ys = refl
+stops_in-append M mode (x ∷ xs) ys =
+    ap (λ l. ((x.place, Overflow), may_at M mode Overflow x.statement x.leaf) ∷ (((x.place, ZeroDivisor), may_at M mode ZeroDivisor x.statement x.leaf) ∷ (((x.place, Assertion), may_at M mode Assertion x.statement x.leaf) ∷ l))) (stops_in-append M mode xs ys)
+
+pub turns_in-append : (xs ys : List Visit) → turns_in (xs ++ ys) ≡ turns_in xs ++ turns_in ys
+turns_in-append [] ys = refl
+turns_in-append (x ∷ xs) ys =
+    ap (λ l. turn_of x.place x.leaf x.turn ++ l) (turns_in-append xs ys) ∙ sym (append_assoc (turn_of x.place x.leaf x.turn) (turns_in xs) (turns_in ys))
 
 pub state_reduced : {L : Type 0} (value : L → LeafValue) (family : Family) (forest : List (Plain L)) (t : Numbered L) → IsState value family forest t → IsReducedTree family (erase t)
 state_reduced value family forest t s = record { reduced = s.tree.reduced; tests = s.tests }
@@ -62,114 +77,177 @@ module _ {L : Type 0} (value : L → LeafValue) (M : LeafMeaning) (family : Fami
   none_entered a = record {
     leaves = λ v. sym (append-nil (map (leaf_there value v) a.places.items));
     stops = λ v. sym (append-nil (map (stop_there v) a.alarms.items));
+    turns = λ v. sym (append-nil (map (turn_there value v) a.turns.items));
     trees = λ h. h;
     alarm_trees = λ h. h;
+    sized = λ h. h;
   }
 
-  pub entered_then : (a b c : Found L) (xs ys zs : List Bool → List Entry) → ((v : List Bool) → xs v ++ ys v ≡ zs v) → HasEntered value M family a b xs → HasEntered value M family b c ys → HasEntered value M family a c zs
+  pub entered_then : (a b c : Found L) (xs ys zs : List Bool → List Visit) → ((v : List Bool) → xs v ++ ys v ≡ zs v) → HasEntered value M family a b xs → HasEntered value M family b c ys → HasEntered value M family a c zs
   entered_then a b c xs ys zs e h k = record {
     leaves = λ v. onward (map (leaf_there value v) a.places.items) (map (leaf_there value v) b.places.items) (map (leaf_there value v) c.places.items) (leaves_in (xs v)) (leaves_in (ys v)) (leaves_in (zs v)) (h.leaves v) (k.leaves v) (ap leaves_in (sym (e v)) ∙ leaves_in-append (xs v) (ys v));
-    stops = λ v. onward (map (stop_there v) a.alarms.items) (map (stop_there v) b.alarms.items) (map (stop_there v) c.alarms.items) (stops_in M family.options (xs v)) (stops_in M family.options (ys v)) (stops_in M family.options (zs v)) (h.stops v) (k.stops v) (ap (stops_in M family.options) (sym (e v)) ∙ stops_in-append M family.options (xs v) (ys v));
+    stops = λ v. onward (map (stop_there v) a.alarms.items) (map (stop_there v) b.alarms.items) (map (stop_there v) c.alarms.items) (stops_in M family.options.mode (xs v)) (stops_in M family.options.mode (ys v)) (stops_in M family.options.mode (zs v)) (h.stops v) (k.stops v) (ap (stops_in M family.options.mode) (sym (e v)) ∙ stops_in-append M family.options.mode (xs v) (ys v));
+    turns = λ v. onward (map (turn_there value v) a.turns.items) (map (turn_there value v) b.turns.items) (map (turn_there value v) c.turns.items) (turns_in (xs v)) (turns_in (ys v)) (turns_in (zs v)) (h.turns v) (k.turns v) (ap turns_in (sym (e v)) ∙ turns_in-append (xs v) (ys v));
     trees = λ r. k.trees (h.trees r);
     alarm_trees = λ r. k.alarm_trees (h.alarm_trees r);
+    sized = λ r. k.sized (h.sized r);
   }
 
-  pub entered_as : (a b : Found L) (xs ys : List Bool → List Entry) → ((v : List Bool) → xs v ≡ ys v) → HasEntered value M family a b xs → HasEntered value M family a b ys
+  pub entered_as : (a b : Found L) (xs ys : List Bool → List Visit) → ((v : List Bool) → xs v ≡ ys v) → HasEntered value M family a b xs → HasEntered value M family a b ys
   entered_as a b xs ys e h = record {
     leaves = λ v. h.leaves v ∙ ap (λ l. map (leaf_there value v) a.places.items ++ leaves_in l) (e v);
-    stops = λ v. h.stops v ∙ ap (λ l. map (stop_there v) a.alarms.items ++ stops_in M family.options l) (e v);
+    stops = λ v. h.stops v ∙ ap (λ l. map (stop_there v) a.alarms.items ++ stops_in M family.options.mode l) (e v);
+    turns = λ v. h.turns v ∙ ap (λ l. map (turn_there value v) a.turns.items ++ turns_in l) (e v);
     trees = h.trees;
     alarm_trees = h.alarm_trees;
+    sized = h.sized;
   }
 
   -- a statement whose tree and three alarm trees were added
   pub entered_at_last : {E : Type 0} (made : Result (Unit {0}) E) (a b c d z : Found L) (place : Place) (s : Code) (x : List Bool → LeafValue)
       → ((v : List Bool) → map (leaf_there value v) b.places.items ≡ map (leaf_there value v) a.places.items ++ (place, x v) ∷ [])
-      → (AreReduced family a.places.items → AreReduced family b.places.items) → b.alarms.items ≡ a.alarms.items
+      → (AreReduced family a.places.items → AreReduced family b.places.items) → b.alarms.items ≡ a.alarms.items → b.turns.items ≡ a.turns.items → c.turns.items ≡ b.turns.items → d.turns.items ≡ c.turns.items → z.turns.items ≡ d.turns.items
       → ((v : List Bool) → map (stop_there v) c.alarms.items ≡ map (stop_there v) b.alarms.items ++ ((place, Overflow), may_at M family.options.mode Overflow s (x v)) ∷ [])
       → (AreReducedStops family b.alarms.items → AreReducedStops family c.alarms.items) → c.places.items ≡ b.places.items
       → ((v : List Bool) → map (stop_there v) d.alarms.items ≡ map (stop_there v) c.alarms.items ++ ((place, ZeroDivisor), may_at M family.options.mode ZeroDivisor s (x v)) ∷ [])
       → (AreReducedStops family c.alarms.items → AreReducedStops family d.alarms.items) → d.places.items ≡ c.places.items
       → OnOk made ((v : List Bool) → map (stop_there v) z.alarms.items ≡ map (stop_there v) d.alarms.items ++ ((place, Assertion), may_at M family.options.mode Assertion s (x v)) ∷ [])
       → OnOk made (AreReducedStops family d.alarms.items → AreReducedStops family z.alarms.items) → z.places.items ≡ d.places.items
-      → OnOk made (HasEntered value M family a z (λ v. record { place = place; statement = s; leaf = x v } ∷ []))
-  entered_at_last (Err e) a b c d z place s x leaves trees same f g h i j k l m n = tt
-  entered_at_last (Ok u) a b c d z place s x leaves trees same f g h i j k l m n =
+      → OnOk made (HasEntered value M family a z (λ v. record { place = place; statement = s; leaf = x v; turn = None } ∷ []))
+  entered_at_last (Err e) a b c d z place s x leaves trees same t1 t2 t3 t4 f g h i j k l m n = tt
+  entered_at_last (Ok u) a b c d z place s x leaves trees same t1 t2 t3 t4 f g h i j k l m n =
       let places : z.places.items ≡ b.places.items = n ∙ (k ∙ h) in
+      let turns : z.turns.items ≡ a.turns.items = t4 ∙ (t3 ∙ (t2 ∙ t1)) in
       record {
         leaves = λ v. ap (map (leaf_there value v)) places ∙ leaves v;
         stops = λ v. three (map (stop_there v) a.alarms.items) (map (stop_there v) c.alarms.items) (map (stop_there v) d.alarms.items) (map (stop_there v) z.alarms.items) _ _ _
             (f v ∙ ap (λ q. map (stop_there v) q ++ ((place, Overflow), may_at M family.options.mode Overflow s (x v)) ∷ []) same) (i v) (l v);
+        turns = λ v. ap (map (turn_there value v)) turns ∙ sym (append-nil (map (turn_there value v) a.turns.items));
         trees = λ r. subst (AreReduced family) (sym places) (trees r);
         alarm_trees = λ r. m (j (g (subst (AreReducedStops family) (sym same) r)));
+        sized = λ r. subst (AreSized value family) (sym turns) r;
       }
 
-module _ (M : LeafMeaning) (o : Options) (ts : List Bool) where
-  two_more : (xs ys zs us : List Entry) (e : Entry) → zs ≡ ys ++ us → e ∷ (xs ++ zs) ≡ (e ∷ (xs ++ ys)) ++ us
+  -- a loop, and the statements in its body, before which it was added
+  pub loop_entered : (a b c z : Found L) (at : ℕ) (place : Place) (s : Code) (x e g : List Bool → LeafValue) (ys : List Bool → List Visit) → at ≡ length a.turns.items
+      → HasEntered value M family a b (λ v. record { place = place; statement = s; leaf = x v; turn = None } ∷ []) → HasEntered value M family b c ys
+      → z.places.items ≡ c.places.items → z.alarms.items ≡ c.alarms.items
+      → ((v : List Bool) → map (turn_there value v) z.turns.items ≡ insert (map (turn_there value v) c.turns.items) at (record { place = place; entered = e v; head = x v; again = g v }))
+      → (AreSized value family c.turns.items → AreSized value family z.turns.items)
+      → HasEntered value M family a z (λ v. record { place = place; statement = s; leaf = x v; turn = Some (e v, g v) } ∷ ys v)
+  loop_entered a b c z at place s x e g ys first h k places alarms turns sized =
+      let both = entered_then a b c _ ys (λ v. record { place = place; statement = s; leaf = x v; turn = None } ∷ ys v) (λ v. refl) h k in
+      record {
+        leaves = λ v. ap (map (leaf_there value v)) places ∙ both.leaves v;
+        stops = λ v. ap (map (stop_there v)) alarms ∙ both.stops v;
+        turns = λ v.
+            let old = map (turn_there value v) a.turns.items in
+            let t : Turn = record { place = place; entered = e v; head = x v; again = g v } in
+            turns v ∙ (ap (λ l. insert l at t) (both.turns v) ∙ inserted old (turns_in (ys v)) t at (first ∙ sym (length-map a.turns.items (turn_there value v))));
+        trees = λ r. subst (AreReduced family) (sym places) (both.trees r);
+        alarm_trees = λ r. subst (AreReducedStops family) (sym alarms) (both.alarm_trees r);
+        sized = λ r. sized (both.sized r);
+      }
+
+  -- the loops so far come first
+  pub turns_before : (a b : Found L) (xs : List Bool → List Visit) → HasEntered value M family a b xs → length a.turns.items ≤ length b.turns.items
+  turns_before a b xs h =
+      let ts = map (turn_there value []) a.turns.items in
+      let e : length (map (turn_there value []) b.turns.items) ≡ length ts + length (turns_in (xs [])) = ap length (h.turns []) ∙ length-append ts (turns_in (xs [])) in
+      let f : length (map (turn_there value []) b.turns.items) ≡ length b.turns.items = length-map b.turns.items (turn_there value []) in
+      let g : length ts ≡ length a.turns.items = length-map a.turns.items (turn_there value []) in
+      omega arith
+
+module _ (M : LeafMeaning) (mode : Mode) (ts : List Bool) where
+  two_more : (xs ys zs us : List Visit) (e : Visit) → zs ≡ ys ++ us → e ∷ (xs ++ zs) ≡ (e ∷ (xs ++ ys)) ++ us
   two_more xs ys zs us e h = ap (λ l. e ∷ (xs ++ l)) h ∙ ap (λ l. e ∷ l) (sym (append_assoc xs ys us))
 
-  three_more : (xs ys zs us ws : List Entry) (e : Entry) → us ≡ zs ++ ws → e ∷ (xs ++ (ys ++ us)) ≡ (e ∷ (xs ++ (ys ++ zs))) ++ ws
+  three_more : (xs ys zs us ws : List Visit) (e : Visit) → us ≡ zs ++ ws → e ∷ (xs ++ (ys ++ us)) ≡ (e ∷ (xs ++ (ys ++ zs))) ++ ws
   three_more xs ys zs us ws e h =
       ap (λ l. e ∷ (xs ++ (ys ++ l))) h ∙ (ap (λ l. e ∷ (xs ++ l)) (sym (append_assoc ys zs ws)) ∙ ap (λ l. e ∷ l) (sym (append_assoc xs (ys ++ zs) ws)))
 
-  sides_more : (xs ys zs us ws : List Entry) → us ≡ zs ++ ws → xs ++ (ys ++ us) ≡ (xs ++ (ys ++ zs)) ++ ws
+  sides_more : (xs ys zs us ws : List Visit) → us ≡ zs ++ ws → xs ++ (ys ++ us) ≡ (xs ++ (ys ++ zs)) ++ ws
   sides_more xs ys zs us ws h = ap (λ l. xs ++ (ys ++ l)) h ∙ (ap (λ l. xs ++ l) (sym (append_assoc ys zs ws)) ∙ sym (append_assoc xs (ys ++ zs) ws))
 
-  pub entries_at-followed : (a b : Code) (x : LeafValue) → entries_at M o ts (followed a b) x ≡ entries_at M o ts a x ++ entries_at M o ts b (after_of M o (projected ts a) x)
-  entries_at-followed Done b x = refl
-  entries_at-followed (Assign place y e rest) b x =
-      ap (λ l. record { place = place; statement = Assign place y e Done; leaf = x } ∷ l) (entries_at-followed rest b (assigned M o.mode y e x))
-  entries_at-followed (Input place y rest) b x =
-      ap (λ l. record { place = place; statement = Input place y Done; leaf = x } ∷ l) (entries_at-followed rest b (forgotten M y x))
-  entries_at-followed (Assert place e rest) b x =
-      ap (λ l. record { place = place; statement = Assert place e Done; leaf = x } ∷ l) (entries_at-followed rest b (assumed M o.mode e true x))
-  entries_at-followed (If place e p q rest) b x =
-      three_more (entries_at M o ts p (assumed M o.mode e true x)) (entries_at M o ts q (assumed M o.mode e false x)) _ _ _ _
-      (entries_at-followed rest b (M.join (after_of M o (projected ts p) (assumed M o.mode e true x)) (after_of M o (projected ts q) (assumed M o.mode e false x))))
-  entries_at-followed (While place e body rest) b x =
-      two_more (entries_at M o ts body (assumed M o.mode e true (final_leaf M o e (after_of M o (projected ts body)) x))) _ _ _ _
-      (entries_at-followed rest b (assumed M o.mode e false (final_leaf M o e (after_of M o (projected ts body)) x)))
-  entries_at-followed (Block place body rest) b x = two_more (entries_at M o ts body x) _ _ _ _ (entries_at-followed rest b (after_of M o (projected ts body) x))
-  entries_at-followed (Skip place rest) b x =
-      ap (λ l. record { place = place; statement = Skip place Done; leaf = x } ∷ l) (entries_at-followed rest b x)
-  entries_at-followed (Cond number p q rest) b x =
-      let side = if slice_index_or ts number false then projected ts p else projected ts q in
-      sides_more (entries_at M o ts p (kept_by true (slice_index_or ts number false) x)) (entries_at M o ts q (kept_by false (slice_index_or ts number false) x))
-      (entries_at M o ts rest (after_of M o side x)) _ (entries_at M o ts b (after_of M o (followed side (projected ts rest)) x))
-      (entries_at-followed rest b (after_of M o side x)
-      ∙ ap (λ y. entries_at M o ts rest (after_of M o side x) ++ entries_at M o ts b y) (sym (after_of-followed M o side (projected ts rest) x)))
+  pub visits_at-followed : (H : Heads) (a b : Code) (x : LeafValue) → visits_at M mode ts H (followed a b) x ≡ visits_at M mode ts H a x ++ visits_at M mode ts H b (passed M mode H (projected ts a) x)
+  visits_at-followed H Done b x = refl
+  visits_at-followed H (Assign place y e rest) b x =
+      ap (λ l. record { place = place; statement = Assign place y e Done; leaf = x; turn = None } ∷ l) (visits_at-followed H rest b (assigned M mode y e x))
+  visits_at-followed H (Input place y rest) b x =
+      ap (λ l. record { place = place; statement = Input place y Done; leaf = x; turn = None } ∷ l) (visits_at-followed H rest b (forgotten M y x))
+  visits_at-followed H (Assert place e rest) b x =
+      ap (λ l. record { place = place; statement = Assert place e Done; leaf = x; turn = None } ∷ l) (visits_at-followed H rest b (assumed M mode e true x))
+  visits_at-followed H (If place e p q rest) b x =
+      three_more (visits_at M mode ts H p (assumed M mode e true x)) (visits_at M mode ts H q (assumed M mode e false x)) _ _ _ _
+      (visits_at-followed H rest b (M.join (passed M mode H (projected ts p) (assumed M mode e true x)) (passed M mode H (projected ts q) (assumed M mode e false x))))
+  visits_at-followed H (While place e body rest) b x =
+      two_more (visits_at M mode ts H body (assumed M mode e true (H place e (passed M mode H (projected ts body)) x))) _ _ _ _
+      (visits_at-followed H rest b (assumed M mode e false (H place e (passed M mode H (projected ts body)) x)))
+  visits_at-followed H (Block place body rest) b x = two_more (visits_at M mode ts H body x) _ _ _ _ (visits_at-followed H rest b (passed M mode H (projected ts body) x))
+  visits_at-followed H (Skip place rest) b x =
+      ap (λ l. record { place = place; statement = Skip place Done; leaf = x; turn = None } ∷ l) (visits_at-followed H rest b x)
+  visits_at-followed H (Cond number p q rest) b x =
+      let c = slice_index_or ts number false in
+      let side = if c then projected ts p else projected ts q in
+      sides_more (visits_at M mode ts (heads_where c H) p (kept_by true c x)) (visits_at M mode ts (heads_where (not c) H) q (kept_by false c x))
+      (visits_at M mode ts H rest (passed M mode H side x)) _ (visits_at M mode ts H b (passed M mode H (followed side (projected ts rest)) x))
+      (visits_at-followed H rest b (passed M mode H side x)
+      ∙ ap (λ y. visits_at M mode ts H rest (passed M mode H side x) ++ visits_at M mode ts H b y) (sym (passed-followed M mode H side (projected ts rest) x)))
 
   -- one more statement of a list
-  pub entries_at-more : (list : List Stmt) (i : ℕ) (s : Stmt) (x : LeafValue) → i < length list → s ≡ get_or list i s
-      → entries_at M o ts (code (take i list)) x ++ entries_at M o ts (front s Done) (after_of M o (projected ts (code (take i list))) x) ≡ entries_at M o ts (code (take (i + 1) list)) x
-  entries_at-more list i s x h e = sym (ap (λ c. entries_at M o ts c x) (code-take_more list i s h e) ∙ entries_at-followed (code (take i list)) (front s Done) x)
+  pub visits_at-more : (H : Heads) (list : List Stmt) (i : ℕ) (s : Stmt) (x : LeafValue) → i < length list → s ≡ get_or list i s
+      → visits_at M mode ts H (code (take i list)) x ++ visits_at M mode ts H (front s Done) (passed M mode H (projected ts (code (take i list))) x) ≡ visits_at M mode ts H (code (take (i + 1) list)) x
+  visits_at-more H list i s x h e = sym (ap (λ c. visits_at M mode ts H c x) (code-take_more list i s h e) ∙ visits_at-followed H (code (take i list)) (front s Done) x)
 
-  pub entries_at-If : (s : Stmt) (place : Place) (e : Expr) (p q : Vec Stmt Global) (x : LeafValue) → s ≡ variant.If place e p q
-      → (record { place = place; statement = front s Done; leaf = x } ∷ []) ++ (entries_at M o ts (code p.items) (assumed M o.mode (term e) true x) ++ entries_at M o ts (code q.items) (assumed M o.mode (term e) false x))
-      ≡ entries_at M o ts (front s Done) x
-  entries_at-If s place e p q x h =
+  pub visits_at-If : (H : Heads) (s : Stmt) (place : Place) (e : Expr) (p q : Vec Stmt Global) (x : LeafValue) → s ≡ variant.If place e p q
+      → (record { place = place; statement = front s Done; leaf = x; turn = None } ∷ []) ++ (visits_at M mode ts H (code p.items) (assumed M mode (term e) true x) ++ visits_at M mode ts H (code q.items) (assumed M mode (term e) false x))
+      ≡ visits_at M mode ts H (front s Done) x
+  visits_at-If H s place e p q x h =
       let f : front s Done ≡ If place (term e) (code p.items) (code q.items) Done = ap (λ s. front s Done) h ∙ front-If place e p q in
-      rw f (ap (λ l. record { place = place; statement = If place (term e) (code p.items) (code q.items) Done; leaf = x } ∷ (entries_at M o ts (code p.items) (assumed M o.mode (term e) true x) ++ l)) (sym (append-nil (entries_at M o ts (code q.items) (assumed M o.mode (term e) false x)))))
+      rw f (ap (λ l. record { place = place; statement = If place (term e) (code p.items) (code q.items) Done; leaf = x; turn = None } ∷ (visits_at M mode ts H (code p.items) (assumed M mode (term e) true x) ++ l)) (sym (append-nil (visits_at M mode ts H (code q.items) (assumed M mode (term e) false x)))))
 
-  pub entries_at-While : (s : Stmt) (place : Place) (e : Expr) (body : Vec Stmt Global) (x : LeafValue) → s ≡ variant.While place e body
-      → (record { place = place; statement = front s Done; leaf = final_leaf M o (term e) (after_of M o (projected ts (code body.items))) x } ∷ []) ++ entries_at M o ts (code body.items) (assumed M o.mode (term e) true (final_leaf M o (term e) (after_of M o (projected ts (code body.items))) x))
-      ≡ entries_at M o ts (front s Done) x
-  entries_at-While s place e body x h =
+  pub visits_at-While : (H : Heads) (s : Stmt) (place : Place) (e : Expr) (body : Vec Stmt Global) (x : LeafValue) → s ≡ variant.While place e body
+      → loop_visit M mode ts H place (front s Done) (term e) (code body.items) x ∷ visits_at M mode ts H (code body.items) (assumed M mode (term e) true (H place (term e) (passed M mode H (projected ts (code body.items))) x))
+      ≡ visits_at M mode ts H (front s Done) x
+  visits_at-While H s place e body x h =
       let f : front s Done ≡ While place (term e) (code body.items) Done = ap (λ s. front s Done) h ∙ front-While place e body in
-      rw f (ap (λ l. record { place = place; statement = While place (term e) (code body.items) Done; leaf = final_leaf M o (term e) (after_of M o (projected ts (code body.items))) x } ∷ l) (sym (append-nil (entries_at M o ts (code body.items) (assumed M o.mode (term e) true (final_leaf M o (term e) (after_of M o (projected ts (code body.items))) x))))))
+      rw f (ap (λ l. loop_visit M mode ts H place (While place (term e) (code body.items) Done) (term e) (code body.items) x ∷ l) (sym (append-nil (visits_at M mode ts H (code body.items) (assumed M mode (term e) true (H place (term e) (passed M mode H (projected ts (code body.items))) x))))))
 
-  pub entries_at-Block : (s : Stmt) (place : Place) (body : Vec Stmt Global) (x : LeafValue) → s ≡ variant.Block place body
-      → (record { place = place; statement = front s Done; leaf = x } ∷ []) ++ entries_at M o ts (code body.items) x ≡ entries_at M o ts (front s Done) x
-  entries_at-Block s place body x h =
+  pub visits_at-Block : (H : Heads) (s : Stmt) (place : Place) (body : Vec Stmt Global) (x : LeafValue) → s ≡ variant.Block place body
+      → (record { place = place; statement = front s Done; leaf = x; turn = None } ∷ []) ++ visits_at M mode ts H (code body.items) x ≡ visits_at M mode ts H (front s Done) x
+  visits_at-Block H s place body x h =
       let f : front s Done ≡ Block place (code body.items) Done = ap (λ s. front s Done) h ∙ front-Block place body in
-      rw f (ap (λ l. record { place = place; statement = Block place (code body.items) Done; leaf = x } ∷ l) (sym (append-nil (entries_at M o ts (code body.items) x))))
+      rw f (ap (λ l. record { place = place; statement = Block place (code body.items) Done; leaf = x; turn = None } ∷ l) (sym (append-nil (visits_at M mode ts H (code body.items) x))))
 
-  pub entries_at-Cond : (s : Stmt) (number : ℕ) (p q : Vec Stmt Global) (b : Bool) (x : LeafValue) → s ≡ variant.Cond number p q → slice_index_or ts number false ≡ b
-      → entries_at M o ts (code p.items) (kept_by true b x) ++ entries_at M o ts (code q.items) (kept_by false b x) ≡ entries_at M o ts (front s Done) x
-  entries_at-Cond s number p q b x h e =
+  pub visits_at-Cond : (H : Heads) (s : Stmt) (number : ℕ) (p q : Vec Stmt Global) (b : Bool) (x : LeafValue) → s ≡ variant.Cond number p q → slice_index_or ts number false ≡ b
+      → visits_at M mode ts (heads_where b H) (code p.items) (kept_by true b x) ++ visits_at M mode ts (heads_where (not b) H) (code q.items) (kept_by false b x) ≡ visits_at M mode ts H (front s Done) x
+  visits_at-Cond H s number p q b x h e =
       let f : front s Done ≡ Cond number (code p.items) (code q.items) Done = ap (λ s. front s Done) h ∙ front-Cond number p q in
-      ap (λ c. entries_at M o ts (code p.items) (kept_by true c x) ++ entries_at M o ts (code q.items) (kept_by false c x)) (sym e)
-      ∙ rw f (ap (λ l. entries_at M o ts (code p.items) (kept_by true (slice_index_or ts number false) x) ++ l) (sym (append-nil (entries_at M o ts (code q.items) (kept_by false (slice_index_or ts number false) x)))))
+      ap (λ c. visits_at M mode ts (heads_where c H) (code p.items) (kept_by true c x) ++ visits_at M mode ts (heads_where (not c) H) (code q.items) (kept_by false c x)) (sym e)
+      ∙ rw f (ap (λ l. visits_at M mode ts (heads_where (slice_index_or ts number false) H) (code p.items) (kept_by true (slice_index_or ts number false) x) ++ l) (sym (append-nil (visits_at M mode ts (heads_where (not (slice_index_or ts number false)) H) (code q.items) (kept_by false (slice_index_or ts number false) x)))))
 
 pub reduced_push : {X : Type 0} (P : X → Type 0) (xs ys : List X) (x : X) → ys ≡ xs ++ x ∷ [] → P x → All P xs → All P ys
 reduced_push P xs ys x e p h = subst (All P) (sym e) (All-append P xs (x ∷ []) h (All-cons P x [] p (All-nil P)))
+
+-- ---- a loop that is added
+
+map_insert : {X Y : Type 0} (f : X → Y) (xs : List X) (i : ℕ) (x : X) → map f (insert xs i x) ≡ insert (map f xs) i (f x)
+map_insert f xs zero x = refl
+map_insert f [] (suc i) x = refl
+map_insert f (y ∷ xs) (suc i) x = ap (λ l. f y ∷ l) (map_insert f xs i x)
+
+module _ {L : Type 0} (value : L → LeafValue) where
+  pub turns_inserted : (before now : List (TurnTree L)) (i : ℕ) (place : Place) (entered head again : Tree L) (e h : Numbered L) (v : List Bool) → now ≡ insert before i (record { place = place; entered = entered; head = head; again = again })
+      → numbered entered ≡ e → numbered head ≡ h
+      → map (turn_there value v) now ≡ insert (map (turn_there value v) before) i (record { place = place; entered = value (leaf_of (erase e) v); head = value (leaf_of (erase h) v); again = value (leaf_of (plain again) v) })
+  turns_inserted before now i place entered head again e h v is same also =
+      let t : Numbered L → Numbered L → Turn = λ x y. record { place = place; entered = value (leaf_of (erase x) v); head = value (leaf_of (erase y) v); again = value (leaf_of (plain again) v) } in
+      ap (map (turn_there value v)) is
+      ∙ (map_insert (turn_there value v) before i (record { place = place; entered = entered; head = head; again = again })
+      ∙ (ap (λ x. insert (map (turn_there value v) before) i (t x (numbered head))) same ∙ ap (λ y. insert (map (turn_there value v) before) i (t e y)) also))
+
+  pub sized_as : (family : Family) (t u : Numbered L) → u ≡ t → IsSized value family t → IsSized value family u
+  sized_as family t u e s = subst (IsSized value family) (sym e) s
+
+pub all_inserted : {X : Type 0} (P : X → Type 0) (xs ys : List X) (i : ℕ) (x : X) → ys ≡ insert xs i x → P x → All P xs → All P ys
+all_inserted P xs ys i x e p h = subst (All P) (sym e) (All-append P (take i xs) (x ∷ drop i xs) (All-take P i xs h) (All-cons P x (drop i xs) p (All-drop P i xs h)))

@@ -111,7 +111,7 @@ tests_in k (x ∷ cs) zero c e h = let f : c ≡ x = cc in inl (subst (λ t. Has
 tests_in k (x ∷ cs) (suc i) c e h = inr (tests_in k cs i c e h)
 
 pub choice_truth : (family : Family) (i : ℕ) (c : Tree Bool) → IsFamily family → slice_get family.choices.now i ≡ Some c → IsTruth family (numbered c)
-choice_truth family i c f e = record { tree = f.choices i c e; tests = λ k h. inr (tests_in k family.choices.now i c e h) }
+choice_truth family i c f e = record { tree = f.choices i c e; tests = λ k h. inr (inl (tests_in k family.choices.now i c e h)) }
 
 pub never_truth : (family : Family) → IsFamily family → IsTruth family (numbered family.never.now)
 never_truth family f =

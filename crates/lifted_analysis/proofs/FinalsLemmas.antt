@@ -62,6 +62,9 @@ module _ {L : Type 0} (value : L → LeafValue) (M : LeafMeaning) (family : Fami
   memory_joint (Ok r) a b f g t u h m = memory_stays a b f h.keeps m
   memory_joint (Err e) a b f g t u h m = tt
 
+  pub memory_empty : (forest : List (Plain L)) (f : Finals L) → f.entries.entries ≡ [] → Remembers value M family forest f
+  memory_empty forest f e = record { each = subst (λ es. AllByRecursion (λ (d : Entered × Tree L). IsFinal value M family forest d.0 d.1) es) (sym e) tt }
+
   -- ---- entries
 
   recalled : (forest : List (Plain L)) (f : Finals L) (k : Entered) (last : Tree L) → Remembers value M family forest f → lookup (same_entered k) f.entries.entries ≡ Some last → IsFinal value M family forest k last

@@ -1,5 +1,5 @@
 -- What is found of a family at a vector is what the analysis of its program finds.
-use Rattle.std.proofs.Common.{◌≡◌, true, false, Bool, List, [], ◌∷◌, ◌++◌, map, length, if◌then◌else◌, Option, Some, None, refl, ap, sym, subst, ◌∙◌, arith}
+use Rattle.std.proofs.Common.{◌≡◌, true, false, Bool, not, List, [], ◌∷◌, ◌++◌, map, length, if◌then◌else◌, Option, Some, None, refl, ap, sym, subst, ◌∙◌, arith}
 use Rattle.std.specs.Prelude.{IsTrue, slice_index_or}
 use Rattle.std.proofs.lemmas.List.{map-append}
 use Rattle.fam_outer.specs.declared.faults.Place.{Place}
@@ -15,16 +15,18 @@ use Rattle.leaf_domain.specs.Leaves.{LeafValue, LeafMeaning, LeafLaws, nothing_o
 use Rattle.leaf_domain.specs.Soundness.{TransferAnswers, NothingStops}
 use Rattle.leaf_domain.specs.Stops.{may_at}
 use Rattle.leaf_domain.specs.Transfer.{assumed, assigned, forgotten}
-use Rattle.plain_analysis.specs.declared.options.Options.{Options}
-use Rattle.plain_analysis.specs.Entered.{leaves_in}
-use Rattle.plain_analysis.specs.Loops.{final_leaf}
-use Rattle.plain_analysis.specs.Places.{is_same_place, entry_in, leaf_or, at_of, may_stop, alarm_of}
-use Rattle.plain_analysis.specs.Statements.{Entry, after_of, entries_of, final_heads}
-use Rattle.plain_analysis.proofs.Located.{place_of, none_at_end, same_places, at_end}
-use Rattle.lifted_analysis.specs.Entries.{entries_at, stops_in}
+use Rattle.c_tree.specs.declared.tree.Mode.{Mode}
+use Rattle.plain_analysis.specs.Places.{is_same_place, entry_in, leaf_or, at_by, may_stop, alarm_by}
+use Rattle.plain_analysis.specs.Statements.{Heads, Entry, passed, entries_by}
+use Rattle.plain_analysis.proofs.Located.{none_at_end, same_places, at_end}
+use Rattle.lifted_analysis.specs.Entries.{Visit, visits_at, leaves_in, stops_in, turns_in}
 use Rattle.lifted_analysis.specs.Promises.{by_kind}
+use Rattle.lifted_analysis.specs.Rules.{heads_where}
 use Rattle.lifted_analysis.specs.Steps.{kept_by}
-use Rattle.lifted_analysis.proofs.Drawn.{from, over, IsSame, IsDrawn, drawn_list, matched}
+use Rattle.lifted_analysis.specs.Turns.{Turn, turns_by, is_inductive, inductive_in, loop_places}
+use Rattle.lifted_analysis.proofs.Drawn.{place_of, from, over, IsSame, IsDrawn, drawn_list, matched, asked, loops_matched}
+use Rattle.lifted_analysis.proofs.PassedLemmas.{AreFit}
+use Rattle.lifted_analysis.proofs.EntryLemmas.{turns_in-append}
 
 -- ---- places
 
@@ -34,35 +36,73 @@ two place xs ys zs us e f = ap (λ l. place ∷ (l ++ zs)) e ∙ ap (λ l. place
 sides : (xs ys zs us vs ws : List Place) → xs ≡ ys → zs ≡ us → vs ≡ ws → xs ++ (zs ++ vs) ≡ ys ++ (us ++ ws)
 sides xs ys zs us vs ws e f g = ap (λ l. l ++ (zs ++ vs)) e ∙ (ap (λ l. ys ++ (l ++ vs)) f ∙ ap (λ l. ys ++ (us ++ l)) g)
 
-module _ (M : LeafMeaning) (o : Options) (ts : List Bool) where
-  three_parts : (xs ys zs : List Entry) → map place_of (xs ++ (ys ++ zs)) ≡ map place_of xs ++ (map place_of ys ++ map place_of zs)
+unfoldable pub loops_in : List Visit → List Place
+loops_in fs = map (λ (t : Turn). t.place) (turns_in fs)
+
+loops_in-append : (xs ys : List Visit) → loops_in (xs ++ ys) ≡ loops_in xs ++ loops_in ys
+unfolding loops_in
+loops_in-append xs ys = ap (map (λ (t : Turn). t.place)) (turns_in-append xs ys) ∙ map-append (λ (t : Turn). t.place) (turns_in xs) (turns_in ys)
+
+module _ (M : LeafMeaning) (mode : Mode) (ts : List Bool) where
+  three_parts : (xs ys zs : List Visit) → map place_of (xs ++ (ys ++ zs)) ≡ map place_of xs ++ (map place_of ys ++ map place_of zs)
   three_parts xs ys zs = map-append place_of xs (ys ++ zs) ∙ ap (λ l. map place_of xs ++ l) (map-append place_of ys zs)
 
-  pub places_at : (c : Code) (x : LeafValue) → map place_of (entries_at M o ts c x) ≡ places_of c
+  pub places_at : (H : Heads) (c : Code) (x : LeafValue) → map place_of (visits_at M mode ts H c x) ≡ places_of c
   unfolding place_of
-  places_at Done x = refl
-  places_at (Assign place y e rest) x = ap (λ l. place ∷ l) (places_at rest (assigned M o.mode y e x))
-  places_at (Input place y rest) x = ap (λ l. place ∷ l) (places_at rest (forgotten M y x))
-  places_at (Assert place e rest) x = ap (λ l. place ∷ l) (places_at rest (assumed M o.mode e true x))
-  places_at (If place e p q rest) x =
-      let t = assumed M o.mode e true x in
-      let f = assumed M o.mode e false x in
-      let j = M.join (after_of M o (projected ts p) t) (after_of M o (projected ts q) f) in
-      ap (λ l. place ∷ l) (three_parts (entries_at M o ts p t) (entries_at M o ts q f) (entries_at M o ts rest j)
-      ∙ sides _ _ _ _ _ _ (places_at p t) (places_at q f) (places_at rest j))
-  places_at (While place e body rest) x =
-      let F = final_leaf M o e (after_of M o (projected ts body)) x in
-      ap (λ l. place ∷ l) (map-append place_of (entries_at M o ts body (assumed M o.mode e true F)) (entries_at M o ts rest (assumed M o.mode e false F)))
-      ∙ two place _ _ _ _ (places_at body (assumed M o.mode e true F)) (places_at rest (assumed M o.mode e false F))
-  places_at (Block place body rest) x =
-      let r = after_of M o (projected ts body) x in
-      ap (λ l. place ∷ l) (map-append place_of (entries_at M o ts body x) (entries_at M o ts rest r)) ∙ two place _ _ _ _ (places_at body x) (places_at rest r)
-  places_at (Skip place rest) x = ap (λ l. place ∷ l) (places_at rest x)
-  places_at (Cond number p q rest) x =
+  places_at H Done x = refl
+  places_at H (Assign place y e rest) x = ap (λ l. place ∷ l) (places_at H rest (assigned M mode y e x))
+  places_at H (Input place y rest) x = ap (λ l. place ∷ l) (places_at H rest (forgotten M y x))
+  places_at H (Assert place e rest) x = ap (λ l. place ∷ l) (places_at H rest (assumed M mode e true x))
+  places_at H (If place e p q rest) x =
+      let t = assumed M mode e true x in
+      let f = assumed M mode e false x in
+      let j = M.join (passed M mode H (projected ts p) t) (passed M mode H (projected ts q) f) in
+      ap (λ l. place ∷ l) (three_parts (visits_at M mode ts H p t) (visits_at M mode ts H q f) (visits_at M mode ts H rest j)
+      ∙ sides _ _ _ _ _ _ (places_at H p t) (places_at H q f) (places_at H rest j))
+  places_at H (While place e body rest) x =
+      let F = H place e (passed M mode H (projected ts body)) x in
+      ap (λ l. place ∷ l) (map-append place_of (visits_at M mode ts H body (assumed M mode e true F)) (visits_at M mode ts H rest (assumed M mode e false F)))
+      ∙ two place _ _ _ _ (places_at H body (assumed M mode e true F)) (places_at H rest (assumed M mode e false F))
+  places_at H (Block place body rest) x =
+      let r = passed M mode H (projected ts body) x in
+      ap (λ l. place ∷ l) (map-append place_of (visits_at M mode ts H body x) (visits_at M mode ts H rest r)) ∙ two place _ _ _ _ (places_at H body x) (places_at H rest r)
+  places_at H (Skip place rest) x = ap (λ l. place ∷ l) (places_at H rest x)
+  places_at H (Cond number p q rest) x =
       let b = slice_index_or ts number false in
-      let r = after_of M o (if b then projected ts p else projected ts q) x in
-      three_parts (entries_at M o ts p (kept_by true b x)) (entries_at M o ts q (kept_by false b x)) (entries_at M o ts rest r)
-      ∙ sides _ _ _ _ _ _ (places_at p (kept_by true b x)) (places_at q (kept_by false b x)) (places_at rest r)
+      let r = passed M mode H (if b then projected ts p else projected ts q) x in
+      three_parts (visits_at M mode ts (heads_where b H) p (kept_by true b x)) (visits_at M mode ts (heads_where (not b) H) q (kept_by false b x)) (visits_at M mode ts H rest r)
+      ∙ sides _ _ _ _ _ _ (places_at (heads_where b H) p (kept_by true b x)) (places_at (heads_where (not b) H) q (kept_by false b x)) (places_at H rest r)
+
+  -- the loops among statements are those of the list
+  three_loops : (xs ys zs : List Visit) → loops_in (xs ++ (ys ++ zs)) ≡ loops_in xs ++ (loops_in ys ++ loops_in zs)
+  three_loops xs ys zs = loops_in-append xs (ys ++ zs) ∙ ap (λ l. loops_in xs ++ l) (loops_in-append ys zs)
+
+  pub loops_at : (H : Heads) (c : Code) (x : LeafValue) → loops_in (visits_at M mode ts H c x) ≡ loop_places c
+  unfolding loops_in
+  loops_at H Done x = refl
+  loops_at H (Assign place y e rest) x = loops_at H rest (assigned M mode y e x)
+  loops_at H (Input place y rest) x = loops_at H rest (forgotten M y x)
+  loops_at H (Assert place e rest) x = loops_at H rest (assumed M mode e true x)
+  loops_at H (If place e p q rest) x =
+      let t = assumed M mode e true x in
+      let f = assumed M mode e false x in
+      let j = M.join (passed M mode H (projected ts p) t) (passed M mode H (projected ts q) f) in
+      three_loops (visits_at M mode ts H p t) (visits_at M mode ts H q f) (visits_at M mode ts H rest j)
+      ∙ sides _ _ _ _ _ _ (loops_at H p t) (loops_at H q f) (loops_at H rest j)
+  loops_at H (While place e body rest) x =
+      let F = H place e (passed M mode H (projected ts body)) x in
+      ap (λ l. place ∷ l) (loops_in-append (visits_at M mode ts H body (assumed M mode e true F)) (visits_at M mode ts H rest (assumed M mode e false F)))
+      ∙ two place _ _ _ _ (loops_at H body (assumed M mode e true F)) (loops_at H rest (assumed M mode e false F))
+  loops_at H (Block place body rest) x =
+      let r = passed M mode H (projected ts body) x in
+      loops_in-append (visits_at M mode ts H body x) (visits_at M mode ts H rest r)
+      ∙ (ap (λ l. l ++ loops_in (visits_at M mode ts H rest r)) (loops_at H body x) ∙ ap (λ l. loop_places body ++ l) (loops_at H rest r))
+  loops_at H (Skip place rest) x = loops_at H rest x
+  loops_at H (Cond number p q rest) x =
+      let b = slice_index_or ts number false in
+      let r = passed M mode H (if b then projected ts p else projected ts q) x in
+      three_loops (visits_at M mode ts (heads_where b H) p (kept_by true b x)) (visits_at M mode ts (heads_where (not b) H) q (kept_by false b x)) (visits_at M mode ts H rest r)
+      ∙ sides _ _ _ _ _ _ (loops_at (heads_where b H) p (kept_by true b x)) (loops_at (heads_where (not b) H) q (kept_by false b x)) (loops_at H rest r)
 
 after_last : (a b : Place) → IsTrue (is_before a b) → is_same_place b a ≡ false
 after_last a b h = grind arith
@@ -73,15 +113,18 @@ by_kind-append (p ∷ ps) qs = ap (λ l. (p, Overflow) ∷ ((p, ZeroDivisor) ∷
 
 -- ---- a program at the truths of a vector
 
-module _ (M : LeafMeaning) (laws : LeafLaws M) (o : Options) (A : TransferAnswers M o.mode) (N : NothingStops M o.mode) (p : Whole) (program : IsProgram p) (ts : List Bool) (d : LeafValue) (valid : M.valid d) (count : d.variables ≡ length p.names) where
+module _ (M : LeafMeaning) (laws : LeafLaws M) (mode : Mode) (A : TransferAnswers M mode) (N : NothingStops M mode) (p : Whole) (program : IsProgram p) (ts : List Bool) (d : LeafValue) (valid : M.valid d) (count : d.variables ≡ length p.names) (H : Heads) (fit : AreFit M mode (length p.names) H) where
   V : Whole
   V = projected_program ts p
 
   abbrev R : List Entry
-  R = entries_of M o (projected ts p.body) d
+  R = entries_by M mode H (projected ts p.body) d
 
-  abbrev E : List Entry
-  E = entries_at M o ts p.body d
+  abbrev T : List Turn
+  T = turns_by M mode H (projected ts p.body) d
+
+  abbrev E : List Visit
+  E = visits_at M mode ts H p.body d
 
   well : IsProgram (projected_program ts p)
   well = IsProgram-projected ts p program
@@ -89,37 +132,37 @@ module _ (M : LeafMeaning) (laws : LeafLaws M) (o : Options) (A : TransferAnswer
   plain_body : IsPlain (projected ts p.body)
   plain_body = IsPlain-projected ts p.body
 
-  all_drawn : IsDrawn M o (length p.names) R E
-  all_drawn = drawn_list M o (length p.names) laws A program.few ts p.body d valid count well.names
+  all_drawn : IsDrawn M mode (length p.names) R T E
+  all_drawn = drawn_list M mode (length p.names) laws A program.few ts H fit p.body d valid count well.names
 
   rising : IsRising (map place_of E ++ p.end ∷ [])
-  rising = subst (λ l. IsRising (l ++ p.end ∷ [])) (sym (places_at M o ts p.body d)) program.rising
+  rising = subst (λ l. IsRising (l ++ p.end ∷ [])) (sym (places_at M mode ts H p.body d)) program.rising
 
   abbrev at : Place → LeafValue
-  at = at_of M o (projected_program ts p) d
+  at = at_by M mode H (projected_program ts p) d
 
   -- ---- leaves
 
-  abbrev leaf_said : Entry → List (Place × LeafValue)
+  abbrev leaf_said : Visit → List (Place × LeafValue)
   leaf_said f = (f.place, f.leaf) ∷ []
 
   abbrev leaf_there_is : Place → Option Entry → List (Place × LeafValue)
   leaf_there_is q e = (q, leaf_or (nothing_of (length p.names)) e) ∷ []
 
-  leaves_from : (fs : List Entry) → leaves_in fs ≡ from leaf_said fs
+  leaves_from : (fs : List Visit) → leaves_in fs ≡ from leaf_said fs
   leaves_from [] = refl
   leaves_from (f ∷ fs) = ap (λ l. (f.place, f.leaf) ∷ l) (leaves_from fs)
 
-  leaf_found : (e f : Entry) → IsSame M o (length p.names) e f → leaf_said f ≡ leaf_there_is f.place (Some e)
+  leaf_found : (e : Entry) (f : Visit) → IsSame M mode (length p.names) e f → leaf_said f ≡ leaf_there_is f.place (Some e)
   leaf_found e f s = ap (λ x. (f.place, x) ∷ []) (sym s.leaf)
 
-  leaf_lost : (f : Entry) → f.leaf ≡ nothing_of (length p.names) → leaf_said f ≡ leaf_there_is f.place None
+  leaf_lost : (f : Visit) → f.leaf ≡ nothing_of (length p.names) → leaf_said f ≡ leaf_there_is f.place None
   leaf_lost f e = ap (λ x. (f.place, x) ∷ []) e
 
   leaf_at_place : (q : Place) → IsTrue (is_before q p.end) → leaf_or (nothing_of (length p.names)) (entry_in R q) ≡ at q
   leaf_at_place q h =
       ap (λ m. leaf_or (nothing_of m) (entry_in R q)) (sym count)
-      ∙ ap (λ (b : Bool). leaf_or (if b then after_of M o (projected ts p.body) d else nothing_of d.variables) (entry_in R q)) (sym (after_last q p.end h))
+      ∙ ap (λ (b : Bool). leaf_or (if b then passed M mode H (projected ts p.body) d else nothing_of d.variables) (entry_in R q)) (sym (after_last q p.end h))
 
   leaves_over : (ps : List Place) → IsRising (ps ++ p.end ∷ []) → over leaf_there_is R ps ≡ map (λ (q : Place). (q, at q)) ps
   leaves_over [] h = refl
@@ -130,28 +173,28 @@ module _ (M : LeafMeaning) (laws : LeafLaws M) (o : Options) (A : TransferAnswer
       before_end q [] h = h.0
       before_end q (r ∷ ps) h = before_end q ps h.1
 
-  pub leaves_are : leaves_in E ++ (p.end, after_of M o (projected ts p.body) d) ∷ [] ≡ map (λ (q : Place). (q, at q)) (program_places p)
+  pub leaves_are : leaves_in E ++ (p.end, passed M mode H (projected ts p.body) d) ∷ [] ≡ map (λ (q : Place). (q, at q)) (program_places p)
   leaves_are =
       let f : Place → Place × LeafValue = λ q. (q, at q) in
       let found : leaves_in E ≡ map f (places_of p.body) =
-      leaves_from E ∙ (matched M o (length p.names) leaf_said leaf_there_is leaf_found leaf_lost (p.end ∷ []) all_drawn rising
-      ∙ (leaves_over (map place_of E) rising ∙ ap (map f) (places_at M o ts p.body d)))
+      leaves_from E ∙ (matched M mode (length p.names) leaf_said leaf_there_is leaf_found leaf_lost (p.end ∷ []) all_drawn rising
+      ∙ (leaves_over (map place_of E) rising ∙ ap (map f) (places_at M mode ts H p.body d)))
       in
-      ap (λ l. l ++ (p.end, after_of M o (projected ts p.body) d) ∷ []) found
-      ∙ (ap (λ x. map f (places_of p.body) ++ (p.end, x) ∷ []) (sym (at_end M o.mode (final_heads M o) (projected_program ts p) d plain_body well.rising))
+      ap (λ l. l ++ (p.end, passed M mode H (projected ts p.body) d) ∷ []) found
+      ∙ (ap (λ x. map f (places_of p.body) ++ (p.end, x) ∷ []) (sym (at_end M mode H (projected_program ts p) d plain_body well.rising))
       ∙ sym (map-append f (places_of p.body) (p.end ∷ [])))
 
   -- ---- stops
 
-  abbrev stop_said : Entry → List ((Place × Kind) × Bool)
+  abbrev stop_said : Visit → List ((Place × Kind) × Bool)
   stop_said f =
-      ((f.place, Overflow), may_at M o.mode Overflow f.statement f.leaf)
-      ∷ (((f.place, ZeroDivisor), may_at M o.mode ZeroDivisor f.statement f.leaf) ∷ (((f.place, Assertion), may_at M o.mode Assertion f.statement f.leaf) ∷ []))
+      ((f.place, Overflow), may_at M mode Overflow f.statement f.leaf)
+      ∷ (((f.place, ZeroDivisor), may_at M mode ZeroDivisor f.statement f.leaf) ∷ (((f.place, Assertion), may_at M mode Assertion f.statement f.leaf) ∷ []))
 
   abbrev stop_there_is : Place → Option Entry → List ((Place × Kind) × Bool)
-  stop_there_is q e = ((q, Overflow), may_stop M o.mode e Overflow) ∷ (((q, ZeroDivisor), may_stop M o.mode e ZeroDivisor) ∷ (((q, Assertion), may_stop M o.mode e Assertion) ∷ []))
+  stop_there_is q e = ((q, Overflow), may_stop M mode e Overflow) ∷ (((q, ZeroDivisor), may_stop M mode e ZeroDivisor) ∷ (((q, Assertion), may_stop M mode e Assertion) ∷ []))
 
-  stops_from : (fs : List Entry) → stops_in M o fs ≡ from stop_said fs
+  stops_from : (fs : List Visit) → stops_in M mode fs ≡ from stop_said fs
   stops_from [] = refl
   stops_from (f ∷ fs) = ap (λ l. stop_said f ++ l) (stops_from fs)
 
@@ -161,32 +204,44 @@ module _ (M : LeafMeaning) (laws : LeafLaws M) (o : Options) (A : TransferAnswer
   three_same : (q : Place) (a b c x y z : Bool) → a ≡ x → b ≡ y → c ≡ z → three q a b c ≡ three q x y z
   three_same q a b c x y z e f g = ap (λ u. three q u b c) e ∙ (ap (λ u. three q x u c) f ∙ ap (three q x y) g)
 
-  stop_found : (e f : Entry) → IsSame M o (length p.names) e f → stop_said f ≡ stop_there_is f.place (Some e)
+  stop_found : (e : Entry) (f : Visit) → IsSame M mode (length p.names) e f → stop_said f ≡ stop_there_is f.place (Some e)
   stop_found e f s = three_same f.place _ _ _ _ _ _ (sym (s.stops Overflow)) (sym (s.stops ZeroDivisor)) (sym (s.stops Assertion))
 
-  never_stops : (f : Entry) (kind : Kind) → f.leaf ≡ nothing_of (length p.names) → may_at M o.mode kind f.statement f.leaf ≡ false
+  never_stops : (f : Visit) (kind : Kind) → f.leaf ≡ nothing_of (length p.names) → may_at M mode kind f.statement f.leaf ≡ false
   never_stops f kind e = N kind f.statement f.leaf (ap is_nothing_of e)
 
-  stop_lost : (f : Entry) → f.leaf ≡ nothing_of (length p.names) → stop_said f ≡ stop_there_is f.place None
+  stop_lost : (f : Visit) → f.leaf ≡ nothing_of (length p.names) → stop_said f ≡ stop_there_is f.place None
   stop_lost f e = three_same f.place _ _ _ _ _ _ (never_stops f Overflow e) (never_stops f ZeroDivisor e) (never_stops f Assertion e)
 
   abbrev stop_at_place : Place × Kind → (Place × Kind) × Bool
-  stop_at_place q = (q, alarm_of M o (projected_program ts p) d q.0 q.1)
+  stop_at_place q = (q, alarm_by M mode H (projected_program ts p) d q.0 q.1)
 
   stops_over : (ps : List Place) → over stop_there_is R ps ≡ map (λ (q : Place × Kind). stop_at_place q) (by_kind ps)
   stops_over [] = refl
   stops_over (q ∷ ps) = ap (λ l. stop_there_is q (entry_in R q) ++ l) (stops_over ps)
 
   none_last : entry_in R p.end ≡ None
-  none_last = none_at_end R p.end (subst IsRising (sym (same_places M o.mode (final_heads M o) (projected_program ts p) d plain_body well.rising)) well.rising)
+  none_last = none_at_end R p.end (subst IsRising (sym (same_places M mode H (projected_program ts p) d plain_body well.rising)) well.rising)
 
-  pub stops_are : stops_in M o E ++ (((p.end, Overflow), false) ∷ (((p.end, ZeroDivisor), false) ∷ (((p.end, Assertion), false) ∷ []))) ≡ map (λ (q : Place × Kind). stop_at_place q) (by_kind (program_places p))
+  pub stops_are : stops_in M mode E ++ (((p.end, Overflow), false) ∷ (((p.end, ZeroDivisor), false) ∷ (((p.end, Assertion), false) ∷ []))) ≡ map (λ (q : Place × Kind). stop_at_place q) (by_kind (program_places p))
   stops_are =
       let f : Place × Kind → (Place × Kind) × Bool = λ q. stop_at_place q in
-      let found : stops_in M o E ≡ map f (by_kind (places_of p.body)) =
-      stops_from E ∙ (matched M o (length p.names) stop_said stop_there_is stop_found stop_lost (p.end ∷ []) all_drawn rising
-      ∙ (stops_over (map place_of E) ∙ ap (λ l. map f (by_kind l)) (places_at M o ts p.body d)))
+      let found : stops_in M mode E ≡ map f (by_kind (places_of p.body)) =
+      stops_from E ∙ (matched M mode (length p.names) stop_said stop_there_is stop_found stop_lost (p.end ∷ []) all_drawn rising
+      ∙ (stops_over (map place_of E) ∙ ap (λ l. map f (by_kind l)) (places_at M mode ts H p.body d)))
       in
       ap (λ l. l ++ stop_there_is p.end None) found
       ∙ (ap (λ (e : Option Entry). map f (by_kind (places_of p.body)) ++ stop_there_is p.end e) (sym none_last)
       ∙ (sym (map-append f (by_kind (places_of p.body)) (by_kind (p.end ∷ []))) ∙ ap (map f) (sym (by_kind-append (places_of p.body) (p.end ∷ [])))))
+
+  -- ---- loops
+
+  asked_at : (us : List Turn) → asked M mode (length p.names) T us ≡ map {B = Place × Bool} (λ (q : Place). (q, inductive_in M T q)) (map (λ (t : Turn). t.place) us)
+  asked_at [] = refl
+  asked_at (u ∷ us) = ap (λ l. (u.place, inductive_in M T u.place) ∷ l) (asked_at us)
+
+  pub loops_are : map {B = Place × Bool} (λ (t : Turn). (t.place, is_inductive M t)) (turns_in E) ≡ map {B = Place × Bool} (λ (q : Place). (q, inductive_in M T q)) (loop_places p.body)
+  unfolding loops_in
+  loops_are =
+      loops_matched M mode (length p.names) laws (p.end ∷ []) all_drawn rising
+      ∙ (asked_at (turns_in E) ∙ ap (map {B = Place × Bool} (λ (q : Place). (q, inductive_in M T q))) (loops_at M mode ts H p.body d))

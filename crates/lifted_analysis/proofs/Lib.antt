@@ -1,5 +1,8 @@
 pub mod StateLemmas
 pub mod FamilyLemmas
+pub mod PassedLemmas
+pub mod WalkLemmas
+pub mod RuleLemmas
 pub mod LoopLemmas
 pub mod AfterLemmas
 pub mod EntryLemmas
@@ -11,3 +14,4 @@ pub mod ConditionLemmas
 pub mod Answered
 pub mod CanonLaws
 pub mod FinalsLemmas
+pub mod PassAnswered

@@ -1,5 +1,5 @@
 -- States that are made leaf by leaf.
-use Rattle.std.proofs.Common.{◌≡◌, ◌≤◌, List, Bool, ap, sym, ◌∙◌, inl, inr, Result, Ok, Err, IfOk, refl, subst, true, false, if◌then◌else◌}
+use Rattle.std.proofs.Common.{◌≡◌, ◌≤◌, ◌+◌, ℕ, List, [], ◌∷◌, Option, Some, None, Bool, ap, sym, ◌∙◌, inl, inr, Result, Ok, Err, IfOk, refl, subst, true, false, if◌then◌else◌}
 use Rattle.c_tree.specs.declared.tree.Mode.{Mode}
 use Rattle.c_tree.specs.Tree.{Done, Assign, Input}
 use Rattle.c_tree.specs.View.{term}
@@ -18,8 +18,10 @@ use Rattle.lifted_analysis.specs.declared.family.Family.{Family}
 use Rattle.lifted_analysis.specs.declared.operations.Combination.TheVariants.{Join}
 use Rattle.lifted_analysis.specs.declared.operations.Step.{Step}
 use Rattle.lifted_analysis.specs.declared.operations.Step.TheVariants as step
+use Rattle.leaf_domain.specs.declared.range.Range.{Range}
+use Rattle.lifted_analysis.specs.Lines.{set_from, bounded_by}
 use Rattle.lifted_analysis.specs.Steps.{stepped_by, kept_by, combined_by}
-use Rattle.lifted_analysis.specs.States.{IsState, IsLifted, IsJoint, IsTruth}
+use Rattle.lifted_analysis.specs.States.{IsState, IsSized, IsLifted, IsJoint, IsTruth}
 
 -- what holds at Ok
 pub if_ok_by : {A E : Type 0} (r : Result A E) (P Q : A → Type 0) → ((x : A) → P x → Q x) → IfOk r P → IfOk r Q
@@ -31,11 +33,21 @@ pub kept_or : (M : LeafMeaning) → LeafLaws M → (b : Bool) (x y : LeafValue) 
 kept_or M laws true x y e = ap (λ n. M.join x (nothing_of n)) (sym e) ∙ laws.nothing_join x
 kept_or M laws false x y e = ap (λ n. M.join (nothing_of n) y) e ∙ laws.join_nothing y
 
+set_stays : (M : LeafMeaning) → LeafLaws M → (n x : ℕ) (rs : List Range) → set_from M x rs (nothing_of n) ≡ nothing_of n
+set_stays M laws n x [] = refl
+set_stays M laws n x (r ∷ rs) = ap (set_from M (x + 1) rs) (laws.set_nothing n x r) ∙ set_stays M laws n (x + 1) rs
+
+bounded_stays : (M : LeafMeaning) → LeafLaws M → (n : ℕ) (b : Option (List Range)) → bounded_by M b (nothing_of n) ≡ nothing_of n
+bounded_stays M laws n None = refl
+bounded_stays M laws n (Some rs) = set_stays M laws n 0 rs
+
 -- a step of Nothing
 pub stepped_stays : (M : LeafMeaning) → LeafLaws M → (mode : Mode) → TransferAnswers M mode → (x : LeafValue) → x.variables ≤ 16 → is_nothing_of x ≡ true → (s : Step) → stepped_by M mode s x ≡ x
 stepped_stays M laws mode answers x few is (step.Assign y e) = after_stays M laws (record { delay = 0; narrow = 0; mode = mode }) answers x few is (Assign (record { line = 0; column = 0 }) y (term e.now) Done)
 stepped_stays M laws mode answers x few is (step.Forget y) = after_stays M laws (record { delay = 0; narrow = 0; mode = mode }) answers x few is (Input (record { line = 0; column = 0 }) y Done)
 stepped_stays M laws mode answers x few is (step.Assume e want) = answers.assumed_of_nothing (term e.now) want x is
+stepped_stays M laws mode answers x few is (step.Bound b) =
+    let e : x ≡ nothing_of x.variables = nothing_value x x.variables is refl in ap (bounded_by M b.now) e ∙ (bounded_stays M laws x.variables b.now ∙ sym e)
 
 -- a leaf that is kept
 pub kept_is : (want b : Bool) (x : LeafValue) → b ≡ want → x ≡ kept_by want b x
@@ -51,6 +63,9 @@ module _ {L : Type 0} (value : L → LeafValue) (family : Family) where
 
   pub state_numbered : (forest : List (Plain L)) (t : Numbered L) → IsState value family forest t → IsNumberedTree 0 64 t
   state_numbered forest t s = numbered_tree 0 64 forest t s.tree
+
+  pub state_sized : (forest : List (Plain L)) (t : Numbered L) → IsState value family forest t → IsSized value family t
+  state_sized forest t s = record { tree = state_numbered forest t s; tests = s.tests; leaves = s.leaves }
 
   pub counted : (forest : List (Plain L)) (t : Numbered L) (v : List Bool) → IsState value family forest t → (value (leaf_of (erase t) v)).variables ≡ family.variables
   counted forest t v s = s.leaves (leaf_of (erase t) v) (has_leaf_of (erase t) v)
@@ -101,15 +116,24 @@ module _ {L : Type 0} (value : L → LeafValue) (family : Family) where
   }
   kept_made (Err e) P f before after c t says h s m l q own k = tt
 
-  pub truth_made : {E : Type 0} (made : Result (Tree Bool) E) (before : List (Plain L)) (after : List (Plain Bool)) (t u : Numbered L)
-      → IsState value family before t → IsState value family before u
+  pub truth_made : {E : Type 0} (made : Result (Tree Bool) E) (after : List (Plain Bool)) (t u : Numbered L)
+      → IsSized value family t → IsSized value family u
       → IfOk made (λ r. TestsAreOfEither (erase t) (erase u) (plain r)) → IfOk made (λ r. IsTreeIn 0 64 after (numbered r))
       → IfOk made (λ r. IsTruth family (numbered r))
-  truth_made (Ok r) before after t u s z q own = record {
+  truth_made (Ok r) after t u s z q own = record {
     tree = numbered_tree 0 64 after (numbered r) own;
     tests = λ j w. elim (q.each j w) [ inl x ↦ s.tests j x | inr y ↦ z.tests j y ];
   }
-  truth_made (Err e) before after t u s z q own = tt
+  truth_made (Err e) after t u s z q own = tt
+
+  -- where two truths are as they should be
+  pub truths_made : {E : Type 0} (made : Result (Tree Bool) E) (after : List (Plain Bool)) (t u : Numbered Bool) → IsTruth family t → IsTruth family u
+      → IfOk made (λ r. TestsAreOfEither (erase t) (erase u) (plain r)) → IfOk made (λ r. IsTreeIn 0 64 after (numbered r)) → IfOk made (λ r. IsTruth family (numbered r))
+  truths_made (Ok r) after t u s z q own = record {
+    tree = numbered_tree 0 64 after (numbered r) own;
+    tests = λ j w. elim (q.each j w) [ inl x ↦ s.tests j x | inr y ↦ z.tests j y ];
+  }
+  truths_made (Err e) after t u s z q own = tt
 
   -- ---- steps after steps
 

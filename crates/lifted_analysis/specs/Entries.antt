@@ -1,62 +1,93 @@
--- The leaves with which the statements of a family are entered.
-use Rattle.std.specs.Prelude.{◌≡◌, ℕ, Bool, true, false, List, [], ◌∷◌, ◌++◌, map, if◌then◌else◌, slice_index_or}
+-- The statements of a family, and the leaves with which they are entered.
+use Rattle.std.specs.Prelude.{◌≡◌, ℕ, Bool, true, false, not, List, [], ◌∷◌, ◌++◌, map, if◌then◌else◌, slice_index_or, Option, Some, None}
 use Rattle.std.specs.List.{All}
 use Rattle.fam_outer.specs.declared.faults.Place.{Place}
 use Rattle.c_tree.specs.declared.tree.Kind.{Kind}
 use Rattle.c_tree.specs.declared.tree.Kind.TheVariants.{Overflow, ZeroDivisor, Assertion}
+use Rattle.c_tree.specs.declared.tree.Mode.{Mode}
 use Rattle.c_tree.specs.Tree.{Term, Code, Done, Assign, Input, Assert, If, While, Block, Skip, Cond}
 use Rattle.c_tree.specs.Project.{projected}
 use Rattle.decision_tree.specs.Plain.{Plain, leaf_of, HasTest, IsReduced}
-use Rattle.decision_tree.specs.View.{plain}
+use Rattle.decision_tree.specs.View.{numbered, plain}
 use Rattle.leaf_domain.specs.Leaves.{LeafValue, LeafMeaning}
 use Rattle.leaf_domain.specs.Transfer.{assumed, assigned, forgotten}
 use Rattle.leaf_domain.specs.Stops.{may_at}
-use Rattle.plain_analysis.specs.declared.options.Options.{Options}
-use Rattle.plain_analysis.specs.Loops.{final_leaf}
-use Rattle.plain_analysis.specs.Statements.{Entry, after_of}
-use Rattle.plain_analysis.specs.Entered.{leaves_in}
+use Rattle.plain_analysis.specs.Statements.{Heads, passed}
 use Rattle.lifted_analysis.specs.declared.entries.Found.{Found}
+use Rattle.lifted_analysis.specs.declared.entries.TurnTree.{TurnTree}
 use Rattle.lifted_analysis.specs.declared.family.Family.{Family}
 use Rattle.lifted_analysis.specs.declared.findings.PlaceTree.{PlaceTree}
 use Rattle.lifted_analysis.specs.declared.findings.AlarmTree.{AlarmTree}
-use Rattle.lifted_analysis.specs.States.{IsTest, truths_in}
+use Rattle.lifted_analysis.specs.Rules.{heads_where, head_with}
+use Rattle.lifted_analysis.specs.States.{IsTest, IsSized, truths_in}
 use Rattle.lifted_analysis.specs.Steps.{kept_by}
+use Rattle.lifted_analysis.specs.Turns.{Turn}
 
--- all statements of a family's list that is entered with x, in the order of the text, each with the leaf with which it is
--- entered where the conditions have these truths; a statement that is not kept there has Nothing
-abbrev pub entries_at : LeafMeaning → Options → List Bool → Code → LeafValue → List Entry
-entries_at M o ts Done x = []
-entries_at M o ts (Assign place y e rest) x =
-    record { place = place; statement = Assign place y e Done; leaf = x } ∷ entries_at M o ts rest (assigned M o.mode y e x)
-entries_at M o ts (Input place y rest) x =
-    record { place = place; statement = Input place y Done; leaf = x } ∷ entries_at M o ts rest (forgotten M y x)
-entries_at M o ts (Assert place e rest) x =
-    record { place = place; statement = Assert place e Done; leaf = x } ∷ entries_at M o ts rest (assumed M o.mode e true x)
-entries_at M o ts (If place e p q rest) x =
-    record { place = place; statement = If place e p q Done; leaf = x }
-    ∷ (entries_at M o ts p (assumed M o.mode e true x)
-    ++ (entries_at M o ts q (assumed M o.mode e false x)
-    ++ entries_at M o ts rest (M.join (after_of M o (projected ts p) (assumed M o.mode e true x)) (after_of M o (projected ts q) (assumed M o.mode e false x)))))
-entries_at M o ts (While place e body rest) x =
-    record { place = place; statement = While place e body Done; leaf = final_leaf M o e (after_of M o (projected ts body)) x }
-    ∷ (entries_at M o ts body (assumed M o.mode e true (final_leaf M o e (after_of M o (projected ts body)) x))
-    ++ entries_at M o ts rest (assumed M o.mode e false (final_leaf M o e (after_of M o (projected ts body)) x)))
-entries_at M o ts (Block place body rest) x =
-    record { place = place; statement = Block place body Done; leaf = x }
-    ∷ (entries_at M o ts body x ++ entries_at M o ts rest (after_of M o (projected ts body) x))
-entries_at M o ts (Skip place rest) x = record { place = place; statement = Skip place Done; leaf = x } ∷ entries_at M o ts rest x
-entries_at M o ts (Cond number p q rest) x =
-    entries_at M o ts p (kept_by true (slice_index_or ts number false) x)
-    ++ (entries_at M o ts q (kept_by false (slice_index_or ts number false) x)
-    ++ entries_at M o ts rest (after_of M o (if slice_index_or ts number false then projected ts p else projected ts q) x))
+-- a statement, alone, the leaf at its place, and for a loop the leaf with which it is entered and that after its body
+pub record Visit : Type 0 where
+  pub place : Place
+  pub statement : Code
+  pub leaf : LeafValue
+  pub turn : Option (LeafValue × LeafValue)
+
+-- a loop of a family's list
+abbrev pub loop_visit : LeafMeaning → Mode → List Bool → Heads → Place → Code → Term → Code → LeafValue → Visit
+loop_visit M mode ts H place s e body x = record {
+  place = place;
+  statement = s;
+  leaf = H place e (passed M mode H (projected ts body)) x;
+  turn = Some (x, passed M mode H (projected ts body) (assumed M mode e true (H place e (passed M mode H (projected ts body)) x)));
+}
+
+-- all statements of a family's list that is entered with x, in the order of the text, where the conditions have these truths
+-- and loops these heads; a statement that is not kept there has Nothing
+abbrev pub visits_at : LeafMeaning → Mode → List Bool → Heads → Code → LeafValue → List Visit
+visits_at M mode ts H Done x = []
+visits_at M mode ts H (Assign place y e rest) x =
+    record { place = place; statement = Assign place y e Done; leaf = x; turn = None } ∷ visits_at M mode ts H rest (assigned M mode y e x)
+visits_at M mode ts H (Input place y rest) x =
+    record { place = place; statement = Input place y Done; leaf = x; turn = None } ∷ visits_at M mode ts H rest (forgotten M y x)
+visits_at M mode ts H (Assert place e rest) x =
+    record { place = place; statement = Assert place e Done; leaf = x; turn = None } ∷ visits_at M mode ts H rest (assumed M mode e true x)
+visits_at M mode ts H (If place e p q rest) x =
+    record { place = place; statement = If place e p q Done; leaf = x; turn = None }
+    ∷ (visits_at M mode ts H p (assumed M mode e true x)
+    ++ (visits_at M mode ts H q (assumed M mode e false x)
+    ++ visits_at M mode ts H rest (M.join (passed M mode H (projected ts p) (assumed M mode e true x)) (passed M mode H (projected ts q) (assumed M mode e false x)))))
+visits_at M mode ts H (While place e body rest) x =
+    loop_visit M mode ts H place (While place e body Done) e body x
+    ∷ (visits_at M mode ts H body (assumed M mode e true (H place e (passed M mode H (projected ts body)) x))
+    ++ visits_at M mode ts H rest (assumed M mode e false (H place e (passed M mode H (projected ts body)) x)))
+visits_at M mode ts H (Block place body rest) x =
+    record { place = place; statement = Block place body Done; leaf = x; turn = None }
+    ∷ (visits_at M mode ts H body x ++ visits_at M mode ts H rest (passed M mode H (projected ts body) x))
+visits_at M mode ts H (Skip place rest) x = record { place = place; statement = Skip place Done; leaf = x; turn = None } ∷ visits_at M mode ts H rest x
+visits_at M mode ts H (Cond number p q rest) x =
+    visits_at M mode ts (heads_where (slice_index_or ts number false) H) p (kept_by true (slice_index_or ts number false) x)
+    ++ (visits_at M mode ts (heads_where (not (slice_index_or ts number false)) H) q (kept_by false (slice_index_or ts number false) x)
+    ++ visits_at M mode ts H rest (passed M mode H (if slice_index_or ts number false then projected ts p else projected ts q) x))
+
+-- the places of statements with their leaves
+abbrev pub leaves_in : List Visit → List (Place × LeafValue)
+leaves_in [] = []
+leaves_in (e ∷ es) = (e.place, e.leaf) ∷ leaves_in es
 
 -- whether each statement may stop, by kind
-abbrev pub stops_in : LeafMeaning → Options → List Entry → List ((Place × Kind) × Bool)
-stops_in M o [] = []
-stops_in M o (e ∷ es) =
-    ((e.place, Overflow), may_at M o.mode Overflow e.statement e.leaf)
-    ∷ (((e.place, ZeroDivisor), may_at M o.mode ZeroDivisor e.statement e.leaf)
-    ∷ (((e.place, Assertion), may_at M o.mode Assertion e.statement e.leaf) ∷ stops_in M o es))
+abbrev pub stops_in : LeafMeaning → Mode → List Visit → List ((Place × Kind) × Bool)
+stops_in M mode [] = []
+stops_in M mode (e ∷ es) =
+    ((e.place, Overflow), may_at M mode Overflow e.statement e.leaf)
+    ∷ (((e.place, ZeroDivisor), may_at M mode ZeroDivisor e.statement e.leaf)
+    ∷ (((e.place, Assertion), may_at M mode Assertion e.statement e.leaf) ∷ stops_in M mode es))
+
+-- the loops
+abbrev pub turn_of : Place → LeafValue → Option (LeafValue × LeafValue) → List Turn
+turn_of place leaf None = []
+turn_of place leaf (Some t) = record { place = place; entered = t.0; head = leaf; again = t.1 } ∷ []
+
+abbrev pub turns_in : List Visit → List Turn
+turns_in [] = []
+turns_in (e ∷ es) = turn_of e.place e.leaf e.turn ++ turns_in es
 
 -- what a tree of a place and an alarm tree say of a vector
 abbrev pub leaf_there : {L : Type 0} → (L → LeafValue) → List Bool → PlaceTree L → Place × LeafValue
@@ -64,6 +95,23 @@ leaf_there value v p = (p.place, value (leaf_of (plain p.tree) v))
 
 abbrev pub stop_there : List Bool → AlarmTree → (Place × Kind) × Bool
 stop_there v a = ((a.place, a.kind), leaf_of (plain a.tree) v)
+
+abbrev pub turn_there : {L : Type 0} → (L → LeafValue) → List Bool → TurnTree L → Turn
+turn_there value v t = record {
+  place = t.place;
+  entered = value (leaf_of (plain t.entered) v);
+  head = value (leaf_of (plain t.head) v);
+  again = value (leaf_of (plain t.again) v);
+}
+
+-- the three trees of a loop are states, of any forest
+pub record IsSizedTurn {L : Type 0} (value : L → LeafValue) (family : Family) (t : TurnTree L) : Type 0 where
+  pub entered : IsSized value family (numbered t.entered)
+  pub head : IsSized value family (numbered t.head)
+  pub again : IsSized value family (numbered t.again)
+
+abbrev pub AreSized : {L : Type 0} → (L → LeafValue) → Family → List (TurnTree L) → Type 0
+AreSized {L} value family ts = All (λ (t : TurnTree L). IsSizedTurn value family t) ts
 
 -- a reduced tree whose tests are the family's
 pub record IsReducedTree {L : Type 0} (family : Family) (t : Plain L) : Type 0 where
@@ -76,29 +124,33 @@ AreReduced {L} family ps = All (λ (p : PlaceTree L). IsReducedTree family (plai
 abbrev pub AreReducedStops : Family → List AlarmTree → Type 0
 AreReducedStops family stops = All (λ (a : AlarmTree). IsReducedTree family (plain a.tree)) stops
 
--- the entries of a list that is entered with a tree, at each vector
-abbrev pub entered_with : {L : Type 0} → (L → LeafValue) → LeafMeaning → Family → Code → Plain L → List Bool → List Entry
-entered_with value M family c t v = entries_at M family.options (truths_in family.choices.now v) c (value (leaf_of t v))
+-- the statements of a list that is entered with a tree, at each vector
+abbrev pub entered_with : {L : Type 0} → (L → LeafValue) → LeafMeaning → Family → (List Bool → Heads) → Code → Plain L → List Bool → List Visit
+entered_with value M family H c t v = visits_at M family.options.mode (truths_in family.choices.now v) (H v) c (value (leaf_of t v))
 
 -- those of the two sides of a test, and of the two lists of a section of groups
-abbrev pub entered_sides : {L : Type 0} → (L → LeafValue) → LeafMeaning → Family → Term → Code → Code → Plain L → List Bool → List Entry
-entered_sides value M family test p q t v =
-    entries_at M family.options (truths_in family.choices.now v) p (assumed M family.options.mode test true (value (leaf_of t v)))
-    ++ entries_at M family.options (truths_in family.choices.now v) q (assumed M family.options.mode test false (value (leaf_of t v)))
+abbrev pub entered_sides : {L : Type 0} → (L → LeafValue) → LeafMeaning → Family → (List Bool → Heads) → Term → Code → Code → Plain L → List Bool → List Visit
+entered_sides value M family H test p q t v =
+    visits_at M family.options.mode (truths_in family.choices.now v) (H v) p (assumed M family.options.mode test true (value (leaf_of t v)))
+    ++ visits_at M family.options.mode (truths_in family.choices.now v) (H v) q (assumed M family.options.mode test false (value (leaf_of t v)))
 
-abbrev pub entered_group : {L : Type 0} → (L → LeafValue) → LeafMeaning → Family → Plain Bool → Code → Code → Plain L → List Bool → List Entry
-entered_group value M family choice p q t v =
-    entries_at M family.options (truths_in family.choices.now v) p (kept_by true (leaf_of choice v) (value (leaf_of t v)))
-    ++ entries_at M family.options (truths_in family.choices.now v) q (kept_by false (leaf_of choice v) (value (leaf_of t v)))
+abbrev pub entered_group : {L : Type 0} → (L → LeafValue) → LeafMeaning → Family → (List Bool → Heads) → Plain Bool → Code → Code → Plain L → List Bool → List Visit
+entered_group value M family H choice p q t v =
+    visits_at M family.options.mode (truths_in family.choices.now v) (heads_where (leaf_of choice v) (H v)) p (kept_by true (leaf_of choice v) (value (leaf_of t v)))
+    ++ visits_at M family.options.mode (truths_in family.choices.now v) (heads_where (not (leaf_of choice v)) (H v)) q (kept_by false (leaf_of choice v) (value (leaf_of t v)))
 
--- those of the body of a loop with this final tree
-abbrev pub entered_body : {L : Type 0} → (L → LeafValue) → LeafMeaning → Family → Term → Code → Plain L → List Bool → List Entry
-entered_body value M family test c t v =
-    entries_at M family.options (truths_in family.choices.now v) c (assumed M family.options.mode test true (value (leaf_of t v)))
+-- a loop and the statements in its body
+abbrev pub entered_loop : {L : Type 0} → (L → LeafValue) → LeafMeaning → Family → (List Bool → Heads) → Code → Place → Term → Code → Plain L → List Bool → List Visit
+entered_loop value M family H s place test body t v =
+    loop_visit M family.options.mode (truths_in family.choices.now v) (H v) place s test body (value (leaf_of t v))
+    ∷ visits_at M family.options.mode (truths_in family.choices.now v) (H v) body
+    (assumed M family.options.mode test true (head_with M family H place test body v (value (leaf_of t v))))
 
--- these statements, each with its tree and its alarm trees, and nothing else
-pub record HasEntered {L : Type 0} (value : L → LeafValue) (M : LeafMeaning) (family : Family) (before now : Found L) (entries : List Bool → List Entry) : Type 0 where
+-- these statements, each with its tree and its alarm trees, the loops among them, and nothing else
+pub record HasEntered {L : Type 0} (value : L → LeafValue) (M : LeafMeaning) (family : Family) (before now : Found L) (entries : List Bool → List Visit) : Type 0 where
   pub leaves : (v : List Bool) → map (leaf_there value v) now.places.items ≡ map (leaf_there value v) before.places.items ++ leaves_in (entries v)
-  pub stops : (v : List Bool) → map (stop_there v) now.alarms.items ≡ map (stop_there v) before.alarms.items ++ stops_in M family.options (entries v)
+  pub stops : (v : List Bool) → map (stop_there v) now.alarms.items ≡ map (stop_there v) before.alarms.items ++ stops_in M family.options.mode (entries v)
+  pub turns : (v : List Bool) → map (turn_there value v) now.turns.items ≡ map (turn_there value v) before.turns.items ++ turns_in (entries v)
   pub trees : AreReduced family before.places.items → AreReduced family now.places.items
   pub alarm_trees : AreReducedStops family before.alarms.items → AreReducedStops family now.alarms.items
+  pub sized : AreSized value family before.turns.items → AreSized value family now.turns.items

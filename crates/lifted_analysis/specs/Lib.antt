@@ -8,3 +8,7 @@ pub mod Promises
 pub mod Conditions
 pub mod Findings
 pub mod Finals
+pub mod Lines
+pub mod Rules
+pub mod Turns
+pub mod Pass

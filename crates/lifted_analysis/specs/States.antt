@@ -1,12 +1,17 @@
 -- Trees of leaves: the states of all variants at once.
 use Rattle.std.specs.Prelude.{◌≡◌, ◌⊎◌, ◌≤◌, ℕ, Bool, false, List, [], ◌∷◌, map, Some, slice_get}
+use Rattle.std.specs.List.{All}
+use Rattle.cpp_conditions.specs.View.{formula}
 use Rattle.decision_tree.specs.declared.tree.Tree.{Tree}
 use Rattle.decision_tree.specs.Plain.{Plain, leaf_of, HasTest, HasLeaf}
 use Rattle.decision_tree.specs.Numbered.{Numbered, kept, erase}
 use Rattle.decision_tree.specs.Listed.{IsNumberedTree, IsTreeIn, Keeps}
 use Rattle.decision_tree.specs.View.{numbered, plain}
 use Rattle.leaf_domain.specs.Leaves.{LeafValue}
+use Rattle.tree_unify.specs.Formulas.{HasNumber}
 use Rattle.lifted_analysis.specs.declared.family.Family.{Family}
+use Rattle.lifted_analysis.specs.declared.lines.LoopLine.{LoopLine}
+use Rattle.lifted_analysis.specs.Lines.{AreBounds, AreRegionsBelow}
 
 -- the truths of the conditions at a vector
 abbrev pub truths_in : List (Tree Bool) → List Bool → List Bool
@@ -17,14 +22,22 @@ abbrev pub HasTestIn : ℕ → List (Tree Bool) → Type 0
 HasTestIn k [] = ⊥
 HasTestIn k (c ∷ cs) = HasTest k (plain c) ⊎ HasTestIn k cs
 
--- k is a test of the conditions, or of what is plausible
-abbrev pub IsTest : Family → ℕ → Type 0
-IsTest family k = HasTest k (plain family.plausible.now) ⊎ HasTestIn k family.choices.now
+-- k is a number of the region of one of the lines
+abbrev pub HasRegionNumber : ℕ → List LoopLine → Type 0
+HasRegionNumber k [] = ⊥
+HasRegionNumber k (l ∷ ls) = HasNumber k (formula l.region) ⊎ HasRegionNumber k ls
 
--- at most 16 variables, trees of conditions that are reduced and numbered, and the tree that is false everywhere
+-- k is a test of the conditions, of what is plausible, or of a region
+abbrev pub IsTest : Family → ℕ → Type 0
+IsTest family k = HasTest k (plain family.plausible.now) ⊎ (HasTestIn k family.choices.now ⊎ HasRegionNumber k family.lines.now)
+
+-- at most 16 variables, trees of conditions that are reduced and numbered, the tree that is false everywhere, and lines whose
+-- numbers are below 64, with bounds for all variables
 pub record IsFamily (family : Family) : Type 0 where
   pub few : family.variables ≤ 16
   pub never : (x : ℕ) × (numbered family.never.now ≡ kept x false)
+  pub regions : AreRegionsBelow 64 family.lines.now
+  pub bounds : All (λ (l : LoopLine). AreBounds family.variables l.bounds) family.lines.now
   pub choices : (i : ℕ) (c : Tree Bool) → slice_get family.choices.now i ≡ Some c → IsNumberedTree 0 64 (numbered c)
 
 -- a tree of truths whose tests are the family's
@@ -36,6 +49,12 @@ module _ {L : Type 0} (value : L → LeafValue) (family : Family) where
   -- a reduced tree of the forest whose tests are the family's, and whose leaves are over its variables
   pub record IsState (forest : List (Plain L)) (t : Numbered L) : Type 0 where
     pub tree : IsTreeIn 0 64 forest t
+    pub tests : (k : ℕ) → HasTest k (erase t) → IsTest family k
+    pub leaves : (x : L) → HasLeaf x (erase t) → (value x).variables ≡ family.variables
+
+  -- the same of any forest
+  pub record IsSized (t : Numbered L) : Type 0 where
+    pub tree : IsNumberedTree 0 64 t
     pub tests : (k : ℕ) → HasTest k (erase t) → IsTest family k
     pub leaves : (x : L) → HasLeaf x (erase t) → (value x).variables ≡ family.variables
 

@@ -15,6 +15,7 @@ use Rattle.lifted_analysis.specs.declared.operations.Step.{Step}
 use Rattle.lifted_analysis.specs.declared.operations.Step.TheVariants as step
 use Rattle.lifted_analysis.specs.declared.operations.Combination.{Combination}
 use Rattle.lifted_analysis.specs.declared.operations.Combination.TheVariants as combination
+use Rattle.lifted_analysis.specs.Lines.{AreBounds, bounded_by}
 use Rattle.lifted_analysis.specs.States.{truths_in}
 
 -- a step over so many variables
@@ -22,11 +23,13 @@ abbrev pub IsStepOf : ℕ → Step → Type 0
 IsStepOf n (step.Assign x e) = (x < n) × IsTermOf n (term e.now)
 IsStepOf n (step.Forget x) = x < n
 IsStepOf n (step.Assume e want) = IsTermOf n (term e.now)
+IsStepOf n (step.Bound bounds) = AreBounds n bounds.now
 
 abbrev pub stepped_by : LeafMeaning → Mode → Step → LeafValue → LeafValue
 stepped_by M mode (step.Assign x e) v = assigned M mode x (term e.now) v
 stepped_by M mode (step.Forget x) v = forgotten M x v
 stepped_by M mode (step.Assume e want) v = assumed M mode (term e.now) want v
+stepped_by M mode (step.Bound bounds) v = bounded_by M bounds.now v
 
 abbrev pub combined_by : LeafMeaning → Combination → LeafValue → LeafValue → LeafValue
 combined_by M combination.Join v w = M.join v w

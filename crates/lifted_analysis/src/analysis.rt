@@ -17,6 +17,8 @@ ghost use Rattle.lifted_analysis.specs.Canon.{IsTreeOf};
 ghost use Rattle.lifted_analysis.specs.Conditions.{AreTreesOf};
 ghost use Rattle.lifted_analysis.specs.Entries.{stop_there, IsReducedTree, AreReducedStops};
 ghost use Rattle.lifted_analysis.specs.Findings.{HasEnded, HasFound, AreFindings};
+ghost use Rattle.lifted_analysis.specs.Rules.{chosen_heads};
+ghost use Rattle.lifted_analysis.specs.Start.{start_at};
 ghost use Rattle.lifted_analysis.specs.States.{IsFamily, IsTruth};
 ghost use Rattle.lifted_analysis.specs.Promises.{variant_at, begin_at, leaf_at, stop_at, by_kind, valued, Occurs, AreBelow};
 
@@ -24,6 +26,7 @@ use crate::entries::{Found, enter_list};
 use crate::family::{Family, Tables};
 use crate::finals::Finals;
 use crate::findings::{AlarmTree, FamilyFindings, PlaceTree};
+use crate::rule::rule_of;
 use crate::start::start_tree;
 use c_tree::{Kind, Program};
 use cpp_conditions::Formula;
@@ -38,7 +41,7 @@ use std::sync::ledger::{Blank, Ledger};
 use tree_unify::{Steps, test_tree_in};
 
 /// The trees of conditions, each made once.
-fn condition_trees<L: Leaf, K: Ledger>(
+pub(crate) fn condition_trees<L: Leaf, K: Ledger>(
     tables: &mut Tables<L, K>,
     conditions: &[Formula],
 ) -> Result<Vec<Tree<bool>>, NoMemory>
@@ -68,6 +71,7 @@ fn add_never<L: Leaf>(
     ensures trees { OnOk result (AreReducedStops family.now found.old.alarms.items
         → AreReducedStops family.now found.new.alarms.items) }
     ensures places { found.new.places.items ≡ found.old.places.items }
+    ensures turns { found.new.turns.items ≡ found.old.turns.items }
 {
     let tree = family.never.share()?;
     found.alarms.push(AlarmTree { place, kind, tree })?;
@@ -91,34 +95,46 @@ fn add_end<L: Leaf>(
     add_never(found, family, place, Kind::Assertion)
 }
 
-/// What is found of a family's program.
-fn findings_of<L: Leaf, K: Ledger>(
+/// What is found of a family's program, where its loops have at their heads what lines give them, or else their final trees.
+pub(crate) fn found_in<L: Leaf, K: Ledger>(
     tables: &mut Tables<L, K>,
     family: &Family,
-) -> Result<FamilyFindings<L>, NoMemory>
+    is_given: bool,
+) -> Result<Found<L>, NoMemory>
     requires family { IsFamily family.now }
     requires plausible { IsTruth family.now (numbered family.now.plausible.now) }
     requires program { IsProgram (whole family.now.program.now) }
     requires count { family.now.variables ≡ length family.now.program.now.names }
-    ensures { IfOk result (λ f. HasFound L.value L.meaning family.now (whole family.now.program.now) f) }
+    ensures { IfOk result (λ f. HasFound L.value L.meaning family.now (whole family.now.program.now)
+        (λ v. chosen_heads L.meaning family.now is_given v
+        (start_at L.meaning family.now family.now.program.now.start family.now.program.now.declared v)) f) }
 {
     transfer_is_sound::<L>();
     let alloc = tables.alloc;
     let code = family.program;
     let start = start_tree(tables, family, code.start.items(), &code.declared)?;
+    let rule = rule_of(&start, is_given)?;
     let mut found = Found {
         places: Vec::new(alloc),
         alarms: Vec::new(alloc),
+        turns: Vec::new(alloc),
     };
     let mut finals = Finals {
         entries: IndexMap::new(alloc),
     };
-    let tree = enter_list(tables, &mut finals, &mut found, family, &code.body, &start)?;
+    let here = tables.truths.leaf(true)?;
+    let tree = enter_list(
+        tables,
+        &mut finals,
+        &mut found,
+        family,
+        &rule,
+        &here,
+        &code.body,
+        &start,
+    )?;
     add_end(&mut found, family, code.end, tree)?;
-    Ok(FamilyFindings {
-        places: found.places,
-        alarms: found.alarms,
-    })
+    Ok(found)
 }
 
 /// The analysis of a family, with a counter of its steps.
@@ -153,10 +169,15 @@ fn analyse_counted<L: Leaf, K: Ledger>(
         choices: &choices,
         plausible: &plausible,
         never: &never,
+        lines: &[],
         variables: code.names.items().len() as u32,
         options,
     };
-    findings_of(&mut tables, &family)
+    let found = found_in(&mut tables, &family, false)?;
+    Ok(FamilyFindings {
+        places: found.places,
+        alarms: found.alarms,
+    })
 }
 
 /// The analysis of all variants of a family at once.

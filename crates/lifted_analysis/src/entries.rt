@@ -1,26 +1,25 @@
 //! The trees and alarm trees of statements.
 #![tactic(auto)]
 
-ghost use Rattle.std.specs.Prelude.{◌≡◌, ◌++◌, ◌∷◌, [], map, IfOk, OnOk, List, Bool};
+ghost use Rattle.std.specs.Prelude.{◌≡◌, ◌≤◌, ◌++◌, ◌∷◌, [], map, length, IfOk, OnOk, List, Bool, None};
+ghost use Rattle.std.specs.List.{insert};
 ghost use Rattle.c_tree.specs.Tree.{Done};
 ghost use Rattle.c_tree.specs.View.{term, front, code, whole};
 ghost use Rattle.c_tree.specs.Fit.{IsTermOf, IsCodeOf};
-ghost use Rattle.decision_tree.specs.Listed.{Keeps};
 ghost use Rattle.decision_tree.specs.Plain.{leaf_of};
 ghost use Rattle.decision_tree.specs.View.{numbered, plain};
 ghost use Rattle.leaf_domain.specs.Stops.{may_at};
-ghost use Rattle.plain_analysis.specs.Stated.{HasLoopsOf};
-ghost use Rattle.lifted_analysis.specs.Entries.{leaf_there, stop_there, IsReducedTree, AreReduced, AreReducedStops, entered_with, entered_sides, entered_group, entered_body, HasEntered};
-ghost use Rattle.lifted_analysis.specs.Finals.{Remembers};
-ghost use Rattle.lifted_analysis.specs.States.{IsFamily, IsState, IsLifted, IsTruth};
-ghost use Rattle.lifted_analysis.specs.Steps.{after_at, if_at, group_at};
+ghost use Rattle.plain_analysis.specs.Stated.{IsLoopAt, HasLoopsOf};
+ghost use Rattle.lifted_analysis.specs.Entries.{leaf_there, stop_there, IsReducedTree, AreReduced, AreReducedStops, entered_with, entered_sides, entered_group, entered_loop, AreSized, turn_there, HasEntered};
+ghost use Rattle.lifted_analysis.specs.Rules.{Knows, heads_in, passed_with, sides_with, group_with, head_with};
+ghost use Rattle.lifted_analysis.specs.States.{IsFamily, IsState, IsSized, IsLifted, IsTruth};
 
-use crate::after::final_tree;
 use crate::family::{Family, Tables};
 use crate::finals::Finals;
 use crate::findings::{AlarmTree, PlaceTree};
 use crate::operations::Step;
-use crate::states::{joined, kept, stepped};
+use crate::rule::{Rule, head_tree};
+use crate::states::{joined, kept, stepped, within};
 use c_tree::{Expr, Kind, Stmt};
 use decision_tree::Tree;
 use fam_outer::{NoMemory, Place};
@@ -28,11 +27,21 @@ use leaf_domain::{Leaf, may, transfer_is_sound};
 use std::sync::ledger::Ledger;
 use tree_unify::map_in;
 
+/// A loop: the tree with which it is entered, that at its head, and that after its body.
+#[derive(Drop)]
+pub(crate) struct TurnTree<L> {
+    pub(crate) place: Place,
+    pub(crate) entered: Tree<L>,
+    pub(crate) head: Tree<L>,
+    pub(crate) again: Tree<L>,
+}
+
 /// The trees found so far, in the order of the text.
 #[derive(Drop)]
 pub(crate) struct Found<L> {
     pub(crate) places: Vec<PlaceTree<L>>,
     pub(crate) alarms: Vec<AlarmTree>,
+    pub(crate) turns: Vec<TurnTree<L>>,
 }
 
 /// Where a statement may stop with the kind.
@@ -76,6 +85,7 @@ fn add_tree<L: Leaf>(
     ensures trees { OnOk result (AreReduced family.now found.old.places.items
         → AreReduced family.now found.new.places.items) }
     ensures alarms { found.new.alarms.items ≡ found.old.alarms.items }
+    ensures turns { found.new.turns.items ≡ found.old.turns.items }
 {
     let _family = family.variables;
     let tree = t.share()?;
@@ -106,6 +116,7 @@ fn add_alarm<L: Leaf, K: Ledger>(
     ensures trees { OnOk result (AreReducedStops family.now found.old.alarms.items
         → AreReducedStops family.now found.new.alarms.items) }
     ensures places { found.new.places.items ≡ found.old.places.items }
+    ensures turns { found.new.turns.items ≡ found.old.turns.items }
     ensures same { tables.new.leaves ≡ tables.old.leaves }
 {
     let tree = may_stop(tables, family, s, kind, t)?;
@@ -125,7 +136,12 @@ fn enter<L: Leaf, K: Ledger>(
     requires fit { IsCodeOf family.now.variables (front s.now Done) }
     requires state { IsState L.value family.now tables.old.leaves (numbered t.now) }
     ensures entered { OnOk result (HasEntered L.value L.meaning family.now found.old found.new
-        (λ v. record { place = place; statement = front s.now Done; leaf = L.value (leaf_of (plain t.now) v) }
+        (λ v. record {
+          place = place;
+          statement = front s.now Done;
+          leaf = L.value (leaf_of (plain t.now) v);
+          turn = None;
+        }
         ∷ [])) }
     ensures same { tables.new.leaves ≡ tables.old.leaves }
 {
@@ -135,6 +151,48 @@ fn enter<L: Leaf, K: Ledger>(
     add_alarm(tables, family, found, s, place, Kind::Assertion, t)
 }
 
+/// Adds a loop before those in its body, which come behind it in the text.
+fn add_turn<L: Leaf>(
+    found: &mut Found<L>,
+    family: &Family,
+    at: usize,
+    place: Place,
+    entered: &Tree<L>,
+    head: &Tree<L>,
+    again: Tree<L>,
+) -> Result<(), NoMemory>
+    requires at { at ≤ length found.old.turns.items }
+    requires entered { IsSized L.value family.now (numbered entered.now) }
+    requires head { IsSized L.value family.now (numbered head.now) }
+    requires again { IsSized L.value family.now (numbered again) }
+    ensures turns { OnOk result ((v : List Bool)
+        → map (turn_there L.value v) found.new.turns.items
+        ≡ insert (map (turn_there L.value v) found.old.turns.items) at (record {
+          place = place;
+          entered = L.value (leaf_of (plain entered.now) v);
+          head = L.value (leaf_of (plain head.now) v);
+          again = L.value (leaf_of (plain again) v);
+        })) }
+    ensures sized { OnOk result (AreSized L.value family.now found.old.turns.items
+        → AreSized L.value family.now found.new.turns.items) }
+    ensures places { found.new.places.items ≡ found.old.places.items }
+    ensures alarms { found.new.alarms.items ≡ found.old.alarms.items }
+{
+    let _family = family.variables;
+    let entered = entered.share()?;
+    let head = head.share()?;
+    found.turns.insert(
+        at,
+        TurnTree {
+            place,
+            entered,
+            head,
+            again,
+        },
+    )?;
+    Ok(())
+}
+
 /// Enters the statements of a list with `t`, and answers the tree after them.
 #[cycle(enter)]
 pub(crate) fn enter_list<L: Leaf, K: Ledger>(
@@ -142,48 +200,59 @@ pub(crate) fn enter_list<L: Leaf, K: Ledger>(
     finals: &mut Finals<L>,
     found: &mut Found<L>,
     family: &Family,
+    rule: &Rule<L>,
+    here: &Tree<bool>,
     list: &[Stmt],
     t: &Tree<L>,
 ) -> Result<Tree<L>, NoMemory>
     requires family { IsFamily family.now }
+    requires here { IsTruth family.now (numbered here.now) }
     requires fit { IsCodeOf family.now.variables (code list.now) }
     requires state { IsState L.value family.now tables.old.leaves (numbered t.now) }
     requires loops { HasLoopsOf (whole family.now.program.now) (code list.now) }
-    requires memory { Remembers L.value L.meaning family.now tables.old.leaves finals.old }
+    requires memory { Knows L.value L.meaning family.now rule.now tables.old.leaves finals.old }
     ensures lifted { IfOk result (λ r. IsLifted L.value family.now tables.old.leaves tables.new.leaves
-        (after_at L.meaning family.now (code list.now)) (plain t.now) (numbered r)) }
+        (passed_with L.meaning family.now
+        (heads_in L.value L.meaning family.now rule.now (plain here.now)) (code list.now)) (plain t.now) (numbered r)) }
     ensures entered { OnOk result (HasEntered L.value L.meaning family.now found.old found.new
-        (entered_with L.value L.meaning family.now (code list.now) (plain t.now))) }
-    ensures memory { OnOk result (Remembers L.value L.meaning family.now tables.new.leaves finals.new) }
+        (entered_with L.value L.meaning family.now
+        (heads_in L.value L.meaning family.now rule.now (plain here.now)) (code list.now) (plain t.now))) }
+    ensures memory { OnOk result
+        (Knows L.value L.meaning family.now rule.now tables.new.leaves finals.new) }
 {
     let mut made = t.share()?;
     for s in list {
-        made = enter_stmt(tables, finals, found, family, s, &made)?;
+        made = enter_stmt(tables, finals, found, family, rule, here, s, &made)?;
     }
     Ok(made)
 }
 
-/// Enters a statement and those in it with `t`, and answers the tree after it. A loop is entered with its final tree, and its
-/// body once, from there.
+/// Enters a statement and those in it with `t`, and answers the tree after it.
 #[cycle(enter)]
 fn enter_stmt<L: Leaf, K: Ledger>(
     tables: &mut Tables<L, K>,
     finals: &mut Finals<L>,
     found: &mut Found<L>,
     family: &Family,
+    rule: &Rule<L>,
+    here: &Tree<bool>,
     s: &Stmt,
     t: &Tree<L>,
 ) -> Result<Tree<L>, NoMemory>
     requires family { IsFamily family.now }
+    requires here { IsTruth family.now (numbered here.now) }
     requires fit { IsCodeOf family.now.variables (front s.now Done) }
     requires state { IsState L.value family.now tables.old.leaves (numbered t.now) }
     requires loops { HasLoopsOf (whole family.now.program.now) (front s.now Done) }
-    requires memory { Remembers L.value L.meaning family.now tables.old.leaves finals.old }
+    requires memory { Knows L.value L.meaning family.now rule.now tables.old.leaves finals.old }
     ensures lifted { IfOk result (λ r. IsLifted L.value family.now tables.old.leaves tables.new.leaves
-        (after_at L.meaning family.now (front s.now Done)) (plain t.now) (numbered r)) }
+        (passed_with L.meaning family.now
+        (heads_in L.value L.meaning family.now rule.now (plain here.now)) (front s.now Done)) (plain t.now) (numbered r)) }
     ensures entered { OnOk result (HasEntered L.value L.meaning family.now found.old found.new
-        (entered_with L.value L.meaning family.now (front s.now Done) (plain t.now))) }
-    ensures memory { OnOk result (Remembers L.value L.meaning family.now tables.new.leaves finals.new) }
+        (entered_with L.value L.meaning family.now
+        (heads_in L.value L.meaning family.now rule.now (plain here.now)) (front s.now Done) (plain t.now))) }
+    ensures memory { OnOk result
+        (Knows L.value L.meaning family.now rule.now tables.new.leaves finals.new) }
 {
     match s {
         Stmt::Assign {
@@ -209,17 +278,17 @@ fn enter_stmt<L: Leaf, K: Ledger>(
             no,
         } => {
             enter(tables, family, found, s, *place, t)?;
-            enter_if(tables, finals, found, family, yes, no, test, t)
+            enter_if(tables, finals, found, family, rule, here, yes, no, test, t)
         }
         Stmt::While { place, test, body } => {
-            let last = final_tree(tables, finals, family, *place, body, test, t)?;
-            enter(tables, family, found, s, *place, &last)?;
-            enter_body(tables, finals, found, family, body, test, &last)?;
-            stepped(tables, family, &Step::Assume(test, false), &last)
+            let head = enter_loop(
+                tables, finals, found, family, rule, here, s, *place, body, test, t,
+            )?;
+            stepped(tables, family, &Step::Assume(test, false), &head)
         }
         Stmt::Block { place, body } => {
             enter(tables, family, found, s, *place, t)?;
-            enter_list(tables, finals, found, family, body, t)
+            enter_list(tables, finals, found, family, rule, here, body, t)
         }
         Stmt::Skip { place } => {
             enter(tables, family, found, s, *place, t)?;
@@ -227,7 +296,9 @@ fn enter_stmt<L: Leaf, K: Ledger>(
         }
         Stmt::Cond { number, yes, no } => {
             let choice = family.choice(*number);
-            enter_group(tables, finals, found, family, yes, no, choice, t)
+            enter_group(
+                tables, finals, found, family, rule, here, yes, no, choice, t,
+            )
         }
     }
 }
@@ -239,31 +310,37 @@ fn enter_if<L: Leaf, K: Ledger>(
     finals: &mut Finals<L>,
     found: &mut Found<L>,
     family: &Family,
+    rule: &Rule<L>,
+    here: &Tree<bool>,
     yes: &[Stmt],
     no: &[Stmt],
     test: &Expr,
     t: &Tree<L>,
 ) -> Result<Tree<L>, NoMemory>
     requires family { IsFamily family.now }
+    requires here { IsTruth family.now (numbered here.now) }
     requires test { IsTermOf family.now.variables (term test.now) }
     requires yes { IsCodeOf family.now.variables (code yes.now) }
     requires no { IsCodeOf family.now.variables (code no.now) }
     requires state { IsState L.value family.now tables.old.leaves (numbered t.now) }
     requires yes_loops { HasLoopsOf (whole family.now.program.now) (code yes.now) }
     requires no_loops { HasLoopsOf (whole family.now.program.now) (code no.now) }
-    requires memory { Remembers L.value L.meaning family.now tables.old.leaves finals.old }
+    requires memory { Knows L.value L.meaning family.now rule.now tables.old.leaves finals.old }
     ensures lifted { IfOk result (λ r. IsLifted L.value family.now tables.old.leaves tables.new.leaves
-        (if_at L.meaning family.now (term test.now) (code yes.now) (code no.now)) (plain t.now)
+        (sides_with L.meaning family.now
+        (heads_in L.value L.meaning family.now rule.now (plain here.now)) (term test.now) (code yes.now) (code no.now)) (plain t.now)
         (numbered r)) }
     ensures entered { OnOk result (HasEntered L.value L.meaning family.now found.old found.new
-        (entered_sides L.value L.meaning family.now (term test.now) (code yes.now) (code no.now)
+        (entered_sides L.value L.meaning family.now
+        (heads_in L.value L.meaning family.now rule.now (plain here.now)) (term test.now) (code yes.now) (code no.now)
         (plain t.now))) }
-    ensures memory { OnOk result (Remembers L.value L.meaning family.now tables.new.leaves finals.new) }
+    ensures memory { OnOk result
+        (Knows L.value L.meaning family.now rule.now tables.new.leaves finals.new) }
 {
     let in_yes = stepped(tables, family, &Step::Assume(test, true), t)?;
     let in_no = stepped(tables, family, &Step::Assume(test, false), t)?;
-    let after_yes = enter_list(tables, finals, found, family, yes, &in_yes)?;
-    let after_no = enter_list(tables, finals, found, family, no, &in_no)?;
+    let after_yes = enter_list(tables, finals, found, family, rule, here, yes, &in_yes)?;
+    let after_no = enter_list(tables, finals, found, family, rule, here, no, &in_no)?;
     joined(tables, family, &after_yes, &after_no)
 }
 
@@ -274,58 +351,84 @@ fn enter_group<L: Leaf, K: Ledger>(
     finals: &mut Finals<L>,
     found: &mut Found<L>,
     family: &Family,
+    rule: &Rule<L>,
+    here: &Tree<bool>,
     yes: &[Stmt],
     no: &[Stmt],
     choice: &Tree<bool>,
     t: &Tree<L>,
 ) -> Result<Tree<L>, NoMemory>
     requires family { IsFamily family.now }
+    requires here { IsTruth family.now (numbered here.now) }
     requires choice { IsTruth family.now (numbered choice.now) }
     requires yes { IsCodeOf family.now.variables (code yes.now) }
     requires no { IsCodeOf family.now.variables (code no.now) }
     requires state { IsState L.value family.now tables.old.leaves (numbered t.now) }
     requires yes_loops { HasLoopsOf (whole family.now.program.now) (code yes.now) }
     requires no_loops { HasLoopsOf (whole family.now.program.now) (code no.now) }
-    requires memory { Remembers L.value L.meaning family.now tables.old.leaves finals.old }
+    requires memory { Knows L.value L.meaning family.now rule.now tables.old.leaves finals.old }
     ensures lifted { IfOk result (λ r. IsLifted L.value family.now tables.old.leaves tables.new.leaves
-        (group_at L.meaning family.now (plain choice.now) (code yes.now) (code no.now)) (plain t.now)
+        (group_with L.meaning family.now
+        (heads_in L.value L.meaning family.now rule.now (plain here.now)) (plain choice.now) (code yes.now) (code no.now)) (plain t.now)
         (numbered r)) }
     ensures entered { OnOk result (HasEntered L.value L.meaning family.now found.old found.new
-        (entered_group L.value L.meaning family.now (plain choice.now) (code yes.now) (code no.now)
+        (entered_group L.value L.meaning family.now
+        (heads_in L.value L.meaning family.now rule.now (plain here.now)) (plain choice.now) (code yes.now) (code no.now)
         (plain t.now))) }
-    ensures memory { OnOk result (Remembers L.value L.meaning family.now tables.new.leaves finals.new) }
+    ensures memory { OnOk result
+        (Knows L.value L.meaning family.now rule.now tables.new.leaves finals.new) }
 {
     transfer_is_sound::<L>();
+    let yes_here = within(tables, family, here, choice, true)?;
+    let no_here = within(tables, family, here, choice, false)?;
     let in_yes = kept(tables, family, choice, true, t)?;
     let in_no = kept(tables, family, choice, false, t)?;
-    let after_yes = enter_list(tables, finals, found, family, yes, &in_yes)?;
-    let after_no = enter_list(tables, finals, found, family, no, &in_no)?;
+    let after_yes = enter_list(tables, finals, found, family, rule, &yes_here, yes, &in_yes)?;
+    let after_no = enter_list(tables, finals, found, family, rule, &no_here, no, &in_no)?;
     joined(tables, family, &after_yes, &after_no)
 }
 
-/// Enters the body of a loop from its final tree.
+/// Enters a loop with the tree at its head, and its body once, from there. Answers the tree at its head.
 #[cycle(enter)]
-fn enter_body<L: Leaf, K: Ledger>(
+fn enter_loop<L: Leaf, K: Ledger>(
     tables: &mut Tables<L, K>,
     finals: &mut Finals<L>,
     found: &mut Found<L>,
     family: &Family,
+    rule: &Rule<L>,
+    here: &Tree<bool>,
+    s: &Stmt,
+    place: Place,
     body: &[Stmt],
     test: &Expr,
-    last: &Tree<L>,
-) -> Result<(), NoMemory>
+    t: &Tree<L>,
+) -> Result<Tree<L>, NoMemory>
     requires family { IsFamily family.now }
+    requires here { IsTruth family.now (numbered here.now) }
+    requires fit { IsCodeOf family.now.variables (front s.now Done) }
     requires test { IsTermOf family.now.variables (term test.now) }
     requires body { IsCodeOf family.now.variables (code body.now) }
-    requires state { IsState L.value family.now tables.old.leaves (numbered last.now) }
+    requires state { IsState L.value family.now tables.old.leaves (numbered t.now) }
     requires loops { HasLoopsOf (whole family.now.program.now) (code body.now) }
-    requires memory { Remembers L.value L.meaning family.now tables.old.leaves finals.old }
+    requires at { IsLoopAt (whole family.now.program.now) place (term test.now) (code body.now) }
+    requires memory { Knows L.value L.meaning family.now rule.now tables.old.leaves finals.old }
+    ensures lifted { IfOk result (λ r. IsLifted L.value family.now tables.old.leaves tables.new.leaves
+        (head_with L.meaning family.now
+        (heads_in L.value L.meaning family.now rule.now (plain here.now)) place (term test.now) (code body.now))
+        (plain t.now) (numbered r)) }
     ensures entered { OnOk result (HasEntered L.value L.meaning family.now found.old found.new
-        (entered_body L.value L.meaning family.now (term test.now) (code body.now) (plain last.now))) }
-    ensures keeps { OnOk result (Keeps tables.old.leaves tables.new.leaves) }
-    ensures memory { OnOk result (Remembers L.value L.meaning family.now tables.new.leaves finals.new) }
+        (entered_loop L.value L.meaning family.now
+        (heads_in L.value L.meaning family.now rule.now (plain here.now)) (front s.now Done) place (term test.now) (code body.now)
+        (plain t.now))) }
+    ensures memory { OnOk result
+        (Knows L.value L.meaning family.now rule.now tables.new.leaves finals.new) }
 {
-    let inside = stepped(tables, family, &Step::Assume(test, true), last)?;
-    enter_list(tables, finals, found, family, body, &inside)?;
-    Ok(())
+    let turns = found.turns.as_slice();
+    let at = turns.len();
+    let head = head_tree(tables, finals, family, rule, here, place, body, test, t)?;
+    enter(tables, family, found, s, place, &head)?;
+    let inside = stepped(tables, family, &Step::Assume(test, true), &head)?;
+    let again = enter_list(tables, finals, found, family, rule, here, body, &inside)?;
+    add_turn(found, family, at, place, t, &head, again)?;
+    Ok(head)
 }

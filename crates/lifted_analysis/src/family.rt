@@ -6,6 +6,7 @@ ghost use Rattle.decision_tree.specs.Plain.{leaf_of};
 ghost use Rattle.decision_tree.specs.View.{numbered, plain};
 ghost use Rattle.lifted_analysis.specs.States.{IsFamily, IsTruth, truths_in};
 
+use crate::lines::LoopLine;
 use c_tree::Program;
 use decision_tree::{Forest, Tree};
 use leaf_domain::Leaf;
@@ -15,13 +16,14 @@ use std::sync::ledger::Ledger;
 use tree_unify::Steps;
 
 /// What is known of a family: its program, the trees of its conditions, that of the vectors that are plausible, that of no
-/// vector, how many variables it has, and how it is analysed.
+/// vector, what lines say of its loops, how many variables it has, and how it is analysed.
 #[derive(Clone, Copy)]
 pub(crate) struct Family<'a> {
     pub(crate) program: &'a Program,
     pub(crate) choices: &'a [Tree<bool>],
     pub(crate) plausible: &'a Tree<bool>,
     pub(crate) never: &'a Tree<bool>,
+    pub(crate) lines: &'a [LoopLine],
     pub(crate) variables: u32,
     pub(crate) options: Options,
 }

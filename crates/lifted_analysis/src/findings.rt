@@ -27,3 +27,19 @@ pub struct FamilyFindings<L> {
     pub places: Vec<PlaceTree<L>>,
     pub alarms: Vec<AlarmTree>,
 }
+
+/// The vectors at which the loop at a place is inductive.
+#[derive(Drop)]
+pub struct LoopTree {
+    pub place: Place,
+    pub tree: Tree<bool>,
+}
+
+/// What a pass over a family finds: a tree for each place in the order of the text, for each place three alarm trees in the
+/// order of the kinds, and a tree for each loop in the order of the text.
+#[derive(Drop)]
+pub struct PassFindings<L> {
+    pub places: Vec<PlaceTree<L>>,
+    pub alarms: Vec<AlarmTree>,
+    pub loops: Vec<LoopTree>,
+}

@@ -9,10 +9,15 @@ mod family;
 mod finals;
 pub mod findings;
 pub mod laws;
+pub mod lines;
 mod operations;
+pub mod pass;
+mod rule;
 mod start;
 mod states;
 
 pub use analysis::analyse_family;
-pub use findings::{AlarmTree, FamilyFindings, PlaceTree};
+pub use findings::{AlarmTree, FamilyFindings, LoopTree, PassFindings, PlaceTree};
 pub use laws::{leaf_trees_are_canonical, truth_trees_are_canonical};
+pub use lines::{LoopLine, Ranges};
+pub use pass::pass_family;

@@ -1,23 +1,58 @@
 //! What is done to single leaves, and to pairs of them.
 #![tactic(auto)]
 
-ghost use Rattle.std.specs.Prelude.{◌≡◌, IfOk};
+ghost use Rattle.std.specs.Prelude.{◌≡◌, length, IfOk, All};
+ghost use Rattle.leaf_domain.specs.Ranges.{IsInInt};
+ghost use Rattle.lifted_analysis.specs.Lines.{AreBounds, bounded_by, set_from};
 ghost use Rattle.lifted_analysis.specs.Steps.{IsStepOf, stepped_by};
 
+use crate::lines::Ranges;
 use c_tree::{Expr, Mode};
 use fam_outer::NoMemory;
-use leaf_domain::{Leaf, assign, assume, forget, leaf_is_valid, transfer_is_sound};
+use leaf_domain::{Leaf, Range, assign, assume, forget, leaf_is_valid, transfer_is_sound};
 use plain_analysis::{joined, narrowed_by, round};
 use std::alloc::Global;
 use tree_unify::Operation;
 
-/// What a straight statement or a test does to a leaf: a variable is set to a value or to any input, or the value of a test
-/// is known to be other than 0, or to be 0.
+/// What a straight statement, a test or a line does to a leaf: a variable is set to a value or to any input, the value of a test
+/// is known to be other than 0, or to be 0, or each variable is set to its range.
 #[derive(Drop)]
 pub(crate) enum Step<'a> {
     Assign(u32, &'a Expr),
     Forget(u32),
     Assume(&'a Expr, bool),
+    Bound(&'a Option<Ranges>),
+}
+
+/// The leaf with each variable set to its range, or Nothing where there are no ranges.
+fn bounded<L: Leaf>(alloc: Global, leaf: &L, bounds: &Option<Ranges>) -> Result<L, NoMemory>
+    requires { AreBounds (L.value leaf.now).variables bounds.now }
+    ensures value { IfOk result (λ made. L.value made ≡ bounded_by L.meaning bounds.now (L.value leaf.now)) }
+    ensures same { IfOk result (λ made. (L.value made).variables ≡ (L.value leaf.now).variables) }
+{
+    leaf_is_valid(leaf);
+    match bounds {
+        None => L::nothing(alloc, leaf.variables()),
+        Some(ranges) => ranged(alloc, leaf, ranges.items()),
+    }
+}
+
+/// The leaf with each variable set to its range.
+fn ranged<L: Leaf>(alloc: Global, leaf: &L, ranges: &[Range]) -> Result<L, NoMemory>
+    requires count { length ranges.now ≡ (L.value leaf.now).variables }
+    requires ranges { All IsInInt ranges.now }
+    ensures value { IfOk result (λ made. L.value made ≡ set_from L.meaning 0 ranges.now (L.value leaf.now)) }
+    ensures same { IfOk result (λ made. (L.value made).variables ≡ (L.value leaf.now).variables) }
+{
+    leaf_is_valid(leaf);
+    let mut made = leaf.copy(alloc)?;
+    let mut x = 0u32;
+    for range in ranges {
+        leaf_is_valid(&made);
+        made = made.set_range(alloc, x, *range)?;
+        x += 1;
+    }
+    Ok(made)
 }
 
 impl Step<'_> {
@@ -37,6 +72,7 @@ impl Step<'_> {
             Step::Assign(x, e) => assign(alloc, leaf, *x, e, mode),
             Step::Forget(x) => forget(alloc, leaf, *x),
             Step::Assume(e, want) => assume(alloc, leaf, e, *want, mode),
+            Step::Bound(bounds) => bounded(alloc, leaf, bounds),
         }
     }
 }
@@ -112,5 +148,23 @@ impl<L: Leaf> Operation<bool, L, L> for Keep {
         } else {
             L::nothing(self.alloc, second.variables())
         }
+    }
+}
+
+/// Whether a truth holds, and another is as wanted.
+#[derive(Drop)]
+pub(crate) struct Guarded {
+    pub(crate) positive: bool,
+}
+
+impl Operation<bool, bool, bool> for Guarded {
+    ghost use Rattle.std.specs.Prelude.{◌≡◌, ◌&&◌, not, if◌then◌else◌};
+
+    ghost takes = { λ _ _ _. Unit {0} };
+
+    ghost gives = { λ op a b c. c ≡ (a && (if op.positive then b else not b)) };
+
+    fn apply(&self, first: &bool, second: &bool) -> Result<bool, NoMemory> {
+        Ok(*first && *second == self.positive)
     }
 }

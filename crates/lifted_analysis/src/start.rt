@@ -13,6 +13,7 @@ ghost use Rattle.lifted_analysis.specs.States.{IsFamily, IsState, IsTruth, IsTes
 ghost use Rattle.lifted_analysis.specs.Start.{IsTreeAt, start_at};
 
 use crate::family::{Family, Tables};
+use crate::operations::Guarded;
 use crate::states::kept;
 use c_tree::{Declarations, Declared, Guard};
 use decision_tree::{Forest, Tree};
@@ -95,24 +96,6 @@ impl Operation<bool, StartValues, StartValues> for Declare<'_> {
             *n = value;
         }
         Ok(StartValues { list })
-    }
-}
-
-/// Whether a truth holds, and another is as a guard asks.
-#[derive(Drop)]
-struct Guarded {
-    positive: bool,
-}
-
-impl Operation<bool, bool, bool> for Guarded {
-    ghost use Rattle.std.specs.Prelude.{◌≡◌, ◌&&◌, not, if◌then◌else◌};
-
-    ghost takes = { λ _ _ _. Unit {0} };
-
-    ghost gives = { λ op a b c. c ≡ (a && (if op.positive then b else not b)) };
-
-    fn apply(&self, first: &bool, second: &bool) -> Result<bool, NoMemory> {
-        Ok(*first && *second == self.positive)
     }
 }
 

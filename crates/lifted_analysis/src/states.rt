@@ -1,17 +1,18 @@
 //! Steps on trees of leaves.
 #![tactic(auto)]
 
-ghost use Rattle.std.specs.Prelude.{◌≡◌, IfOk, true, false, List, Bool, if◌then◌else◌};
+ghost use Rattle.std.specs.Prelude.{◌≡◌, ◌&&◌, IfOk, true, false, List, Bool, if◌then◌else◌};
 ghost use Rattle.decision_tree.specs.Listed.{Keeps};
 ghost use Rattle.decision_tree.specs.Plain.{leaf_of};
 ghost use Rattle.decision_tree.specs.View.{numbered, plain};
 ghost use Rattle.leaf_domain.specs.Leaves.{is_nothing_of};
 ghost use Rattle.lifted_analysis.specs.declared.operations.Combination.TheVariants.{Join};
-ghost use Rattle.lifted_analysis.specs.States.{IsState, IsLifted, IsJoint, IsTruth};
+ghost use Rattle.lifted_analysis.specs.States.{IsState, IsSized, IsLifted, IsJoint, IsTruth};
+ghost use Rattle.lifted_analysis.specs.Rules.{as_wanted};
 ghost use Rattle.lifted_analysis.specs.Steps.{IsStepOf, stepped_by, combined_by, kept_by};
 
 use crate::family::{Family, Tables};
-use crate::operations::{Below, Combination, Combine, Keep, Step};
+use crate::operations::{Below, Combination, Combine, Guarded, Keep, Step};
 use decision_tree::Tree;
 use fam_outer::NoMemory;
 use leaf_domain::Leaf;
@@ -87,8 +88,8 @@ pub(crate) fn below<L: Leaf, K: Ledger>(
     t: &Tree<L>,
     u: &Tree<L>,
 ) -> Result<Tree<bool>, NoMemory>
-    requires t { IsState L.value family.now tables.old.leaves (numbered t.now) }
-    requires u { IsState L.value family.now tables.old.leaves (numbered u.now) }
+    requires t { IsSized L.value family.now (numbered t.now) }
+    requires u { IsSized L.value family.now (numbered u.now) }
     ensures truth { IfOk result (λ r. IsTruth family.now (numbered r)) }
     ensures at_each { IfOk result (λ r. (v : List Bool)
         → leaf_of (plain r) v ≡ L.meaning.leq (L.value (leaf_of (plain t.now) v))
@@ -119,6 +120,34 @@ pub(crate) fn kept<L: Leaf, K: Ledger>(
     let alloc = tables.alloc;
     let op = Keep { alloc, want };
     unify_in(alloc, &mut tables.leaves, &op, truth, t, &mut tables.steps)
+}
+
+/// Where a truth holds and another is as wanted.
+pub(crate) fn within<L: Leaf, K: Ledger>(
+    tables: &mut Tables<L, K>,
+    family: &Family,
+    here: &Tree<bool>,
+    choice: &Tree<bool>,
+    want: bool,
+) -> Result<Tree<bool>, NoMemory>
+    requires here { IsTruth family.now (numbered here.now) }
+    requires choice { IsTruth family.now (numbered choice.now) }
+    ensures truth { IfOk result (λ r. IsTruth family.now (numbered r)) }
+    ensures at_each { IfOk result (λ r. (v : List Bool)
+        → leaf_of (plain r) v ≡ (leaf_of (plain here.now) v && as_wanted want (leaf_of (plain choice.now) v))) }
+    ensures same { tables.new.leaves ≡ tables.old.leaves }
+{
+    let alloc = tables.alloc;
+    let _family = family.variables;
+    let op = Guarded { positive: want };
+    unify_in(
+        alloc,
+        &mut tables.truths,
+        &op,
+        here,
+        choice,
+        &mut tables.steps,
+    )
 }
 
 /// The tree with the leaf of `t` where the truth holds, and that of `u` elsewhere.

@@ -1,6 +1,6 @@
 //! Families made by hand, over three conditions and the variables `a` and `b`.
 
-ghost use Rattle.std.specs.Prelude.{◌≡◌, ◌+◌, ◌<◌, IfOk, [], ◌∷◌, pos, true};
+ghost use Rattle.std.specs.Prelude.{◌≡◌, ◌+◌, ◌<◌, length, IfOk, [], ◌∷◌, pos, true};
 ghost use Rattle.c_tree.specs.declared.tree.Op.TheVariants as op;
 ghost use Rattle.c_tree.specs.Tree.{Code, followed, Done, Assign, Assert, If, While, Cond, Binary, Var, Number};
 ghost use Rattle.c_tree.specs.View.{term, front, code, whole};
@@ -372,4 +372,15 @@ pub(crate) fn restarted_family(alloc: Global) -> Result<Program, NoMemory>
 {
     let body = section(alloc, 0, restarted(alloc)?, Vec::new(alloc))?;
     over_two(alloc, Declarations::from_vec(Vec::new(alloc)), body, 49)
+}
+
+/// `while (b < 10) b = b + 1;` in the lines 4 and 5 in the variants with condition 0, and `assert(a == 0);` in line 8.
+pub(crate) fn held_family(alloc: Global) -> Result<Program, NoMemory>
+    ensures program { IfOk result (λ made. IsProgram (whole made)) }
+    ensures conditions { IfOk result (λ made. IsConditioned 1 (whole made)) }
+    ensures variables { IfOk result (λ made. length made.names ≡ 2) }
+{
+    let loops = section(alloc, 0, counted(alloc, 4, 1, 10)?, Vec::new(alloc))?;
+    let body = both(loops, claimed(alloc, 8, 0)?)?;
+    over_two(alloc, Declarations::from_vec(Vec::new(alloc)), body, 9)
 }

@@ -6,6 +6,8 @@ mod bounds;
 #[cfg(test)]
 mod families;
 #[cfg(test)]
+mod passes;
+#[cfg(test)]
 mod steps;
 #[cfg(test)]
 mod tests;

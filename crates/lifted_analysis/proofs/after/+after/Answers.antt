@@ -16,7 +16,7 @@ use Rattle.plain_analysis.proofs.StatedLemmas.{loops-at}
 use Rattle.plain_analysis.specs.Stated.{HasLoopsOf}
 use Rattle.lifted_analysis.specs.declared.finals.Entered.{Entered}
 use Rattle.lifted_analysis.specs.Steps.{kept_by, after_at, if_at, group_at, turn_at, final_at}
-use Rattle.lifted_analysis.proofs.StateLemmas.{state_stays, counted, lifted_then, lifted_as}
+use Rattle.lifted_analysis.proofs.StateLemmas.{state_sized, state_stays, counted, lifted_then, lifted_as}
 use Rattle.lifted_analysis.proofs.FamilyLemmas.{after_at-more, after_at-While, after_at-Cond, kept_joins}
 use Rattle.lifted_analysis.proofs.LoopLemmas.{rounds_go}
 use Rattle.lifted_analysis.proofs.FinalsLemmas.{memory_stays, memory_same, memory_lifted, memory_joint, recalled_made, remembered}
@@ -419,3 +419,15 @@ widened-head_at-requires-in-loop-k g t c κs within =
     let at = c.in_ok-made.ensures.state in
     let memory = memory_stays value M family a d f keeps c.loop-k.invariant.memory in
     (omega arith, search rules)
+
+pub widened-below-requires-clause-t : goal.widened-below-requires-clause-t
+widened-below-requires-clause-t g t c = state_sized g.L.Leaf.value c.args.family.now c.loop-k.tables.leaves (numbered c.loop-k.head.next) c.loop-k.invariant.head.next_state
+
+pub widened-below-requires-clause-u : goal.widened-below-requires-clause-u
+widened-below-requires-clause-u g t c = state_sized g.L.Leaf.value c.args.family.now c.loop-k.tables.leaves (numbered c.loop-k.head.at) c.loop-k.invariant.head.at_state
+
+pub narrowed-below-requires-clause-t : goal.narrowed-below-requires-clause-t
+narrowed-below-requires-clause-t g t c = state_sized g.L.Leaf.value c.args.family.now c.head_at.new.tables.leaves (numbered c.in_ok-made.made.next) c.in_ok-made.ensures.head.next_state
+
+pub narrowed-below-requires-clause-u : goal.narrowed-below-requires-clause-u
+narrowed-below-requires-clause-u g t c = state_sized g.L.Leaf.value c.args.family.now c.head_at.new.tables.leaves (numbered c.in_ok-made.made.at) c.in_ok-made.ensures.head.at_state

@@ -4,9 +4,8 @@ use Rattle.c_tree.specs.View.{front, code}
 use Rattle.decision_tree.specs.View.{numbered, plain}
 use Rattle.plain_analysis.proofs.Sizes.{size_of}
 use Rattle.lifted_analysis.specs.Entries.{entered_with, HasEntered}
-use Rattle.lifted_analysis.specs.Finals.{Remembers}
+use Rattle.lifted_analysis.specs.Rules.{Knows, heads_in, passed_with}
 use Rattle.lifted_analysis.specs.States.{IsLifted}
-use Rattle.lifted_analysis.specs.Steps.{after_at}
 use Rattle.lifted_analysis.proofs.entries.+enter.Given as goal
 
 -- the tree after the statements so far, and these entered
@@ -15,9 +14,9 @@ invariant-enter_list-loop-s g l =
     let value = g.L.Leaf.value in
     let M = g.L.Leaf.meaning in
     record {
-      made : IsLifted value l.family l.fn.tables.leaves l.tables.leaves (after_at M l.family (code (take l.s-index l.list))) (plain l.t) (numbered l.made);
-      entered : HasEntered value M l.family l.fn.found l.found (entered_with value M l.family (code (take l.s-index l.list)) (plain l.t));
-      memory : Remembers value M l.family l.tables.leaves l.finals;
+      made : IsLifted value l.family l.fn.tables.leaves l.tables.leaves (passed_with M l.family (heads_in value M l.family l.rule (plain l.here)) (code (take l.s-index l.list))) (plain l.t) (numbered l.made);
+      entered : HasEntered value M l.family l.fn.found l.found (entered_with value M l.family (heads_in value M l.family l.rule (plain l.here)) (code (take l.s-index l.list)) (plain l.t));
+      memory : Knows value M l.family l.rule l.tables.leaves l.finals;
     }
 
 -- the size of the statements, and then the order of the calls
@@ -33,5 +32,5 @@ decreases-enter_if g l = 4 * (size_of (code l.yes.now) + size_of (code l.no.now)
 abbrev pub decreases-enter_group : goal.decreases-enter_group
 decreases-enter_group g l = 4 * (size_of (code l.yes.now) + size_of (code l.no.now)) + 2
 
-abbrev pub decreases-enter_body : goal.decreases-enter_body
-decreases-enter_body g l = 4 * size_of (code l.body.now) + 2
+abbrev pub decreases-enter_loop : goal.decreases-enter_loop
+decreases-enter_loop g l = 4 * size_of (code l.body.now) + 2

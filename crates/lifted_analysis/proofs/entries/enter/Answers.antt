@@ -7,4 +7,4 @@ returns-clause-entered g c =
     let one = c.in_ok-add_alarm.ensures in
     let two = c.in_ok-add_alarm-2.ensures in
     entered_at_last g.L.Leaf.value g.L.Leaf.meaning c.args.family.now c.add_alarm-3.result c.args.found.now c.add_tree.new.found c.add_alarm.new.found c.add_alarm-2.new.found c.add_alarm-3.new.found c.args.place _ _
-    tree.leaves tree.trees tree.alarms one.stops one.trees one.places two.stops two.trees two.places c.add_alarm-3.ensures.stops c.add_alarm-3.ensures.trees c.add_alarm-3.ensures.places
+    tree.leaves tree.trees tree.alarms tree.turns one.turns two.turns c.add_alarm-3.ensures.turns one.stops one.trees one.places two.stops two.trees two.places c.add_alarm-3.ensures.stops c.add_alarm-3.ensures.trees c.add_alarm-3.ensures.places

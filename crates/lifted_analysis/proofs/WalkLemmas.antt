@@ -1,0 +1,167 @@
+-- What statements of a family do at a vector, whatever loops have at their heads.
+use Rattle.std.proofs.Common.{◌≡◌, ℕ, ◌+◌, ◌<◌, ◌≤◌, List, Bool, true, false, not, ◌&&◌, if◌then◌else◌, cond, take, length, get_or, refl, ap, sym, subst, ◌∙◌, Result, Ok, Err, IfOk}
+use Rattle.std.specs.Prelude.{slice_index_or, OnOk}
+use Rattle.std.specs.List.{All}
+use Rattle.fam_outer.specs.declared.faults.Place.{Place}
+use Rattle.std.specs.declared.vec.Vec.{Vec}
+use Rattle.std.specs.declared.alloc.Global.{Global}
+use Rattle.c_tree.specs.declared.tree.Expr.{Expr}
+use Rattle.c_tree.specs.declared.tree.Stmt.{Stmt}
+use Rattle.c_tree.specs.declared.tree.Stmt.TheVariants as variant
+use Rattle.c_tree.specs.Tree.{Term, Code, Done}
+use Rattle.c_tree.specs.View.{term, front, code}
+use Rattle.c_tree.specs.Project.{projected}
+use Rattle.c_tree.proofs.Listed.{projected-take_more, projected-Cond}
+use Rattle.decision_tree.specs.declared.tree.Tree.{Tree}
+use Rattle.decision_tree.specs.Plain.{Plain, leaf_of}
+use Rattle.decision_tree.specs.Listed.{Keeps}
+use Rattle.decision_tree.specs.Numbered.{Numbered, erase}
+use Rattle.decision_tree.specs.View.{numbered, plain}
+use Rattle.decision_tree.proofs.Numbers.{keeps_both}
+use Rattle.leaf_domain.specs.Leaves.{LeafValue, LeafMeaning, LeafLaws, nothing_of}
+use Rattle.leaf_domain.specs.Soundness.{TransferAnswers}
+use Rattle.leaf_domain.specs.Transfer.{assumed}
+use Rattle.plain_analysis.specs.Statements.{Heads, passed}
+use Rattle.plain_analysis.proofs.Listed.{front-If, front-While, front-Block}
+use Rattle.lifted_analysis.specs.declared.family.Family.{Family}
+use Rattle.lifted_analysis.specs.declared.finals.Finals.{Finals}
+use Rattle.lifted_analysis.specs.declared.rule.Rule.{Rule}
+use Rattle.lifted_analysis.specs.declared.rule.Rule.TheVariants as rule
+use Rattle.lifted_analysis.specs.Finals.{Remembers}
+use Rattle.lifted_analysis.specs.declared.lines.LoopLine.{LoopLine}
+use Rattle.lifted_analysis.specs.Lines.{AreBounds, given_heads}
+use Rattle.lifted_analysis.specs.Rules.{no_heads, heads_where, IsRuleOf, chosen_heads, ruled_heads, passed_with, sides_with, head_with, IsRuled, Knows}
+use Rattle.lifted_analysis.specs.States.{IsState, IsLifted, IsJoint, truths_in}
+use Rattle.lifted_analysis.specs.Steps.{kept_by}
+use Rattle.lifted_analysis.proofs.FinalsLemmas.{memory_stays}
+use Rattle.lifted_analysis.proofs.PassedLemmas.{AreFit, final_fit, given_fit, passed-followed, passed_nothing}
+use Rattle.lifted_analysis.proofs.StateLemmas.{state_stays, state_as, counted, lifted_as}
+
+module _ (M : LeafMeaning) (family : Family) (H : List Bool → Heads) where
+  -- one more statement of a list
+  pub passed_with-more : (list : List Stmt) (i : ℕ) (s : Stmt) (v : List Bool) (x : LeafValue) → i < length list → s ≡ get_or list i s
+      → passed_with M family H (code (take (i + 1) list)) v x ≡ passed_with M family H (front s Done) v (passed_with M family H (code (take i list)) v x)
+  passed_with-more list i s v x h e =
+      let ts = truths_in family.choices.now v in
+      ap (λ c. passed M family.options.mode (H v) c x) (projected-take_more ts list i s h e)
+      ∙ passed-followed M family.options.mode (H v) (projected ts (code (take i list))) (projected ts (front s Done)) x
+
+  pub passed_with-If : (s : Stmt) (place : Place) (e : Expr) (p q : Vec Stmt Global) (v : List Bool) (x : LeafValue) → s ≡ variant.If place e p q
+      → sides_with M family H (term e) (code p.items) (code q.items) v x ≡ passed_with M family H (front s Done) v x
+  passed_with-If s place e p q v x h =
+      ap (λ c. passed M family.options.mode (H v) (projected (truths_in family.choices.now v) c) x) (sym (ap (λ s. front s Done) h ∙ front-If place e p q))
+
+  pub passed_with-While : (s : Stmt) (place : Place) (e : Expr) (body : Vec Stmt Global) (v : List Bool) (x : LeafValue) → s ≡ variant.While place e body
+      → assumed M family.options.mode (term e) false (head_with M family H place (term e) (code body.items) v x) ≡ passed_with M family H (front s Done) v x
+  passed_with-While s place e body v x h =
+      ap (λ c. passed M family.options.mode (H v) (projected (truths_in family.choices.now v) c) x) (sym (ap (λ s. front s Done) h ∙ front-While place e body))
+
+  pub passed_with-Block : (s : Stmt) (place : Place) (body : Vec Stmt Global) (v : List Bool) (x : LeafValue) → s ≡ variant.Block place body
+      → passed_with M family H (code body.items) v x ≡ passed_with M family H (front s Done) v x
+  passed_with-Block s place body v x h =
+      ap (λ c. passed M family.options.mode (H v) (projected (truths_in family.choices.now v) c) x) (sym (ap (λ s. front s Done) h ∙ front-Block place body))
+
+  chosen : (b : Bool) (v : List Bool) (p q : Code) (x : LeafValue) → (if b then passed M family.options.mode (H v) p x else passed M family.options.mode (H v) q x) ≡ passed M family.options.mode (H v) (cond b p q) x
+  chosen true v p q x = refl
+  chosen false v p q x = refl
+
+  -- a section of groups, by the truth of its condition
+  pub passed_with-Cond : (s : Stmt) (number : ℕ) (p q : Vec Stmt Global) (b : Bool) (v : List Bool) (x : LeafValue) → s ≡ variant.Cond number p q
+      → slice_index_or (truths_in family.choices.now v) number false ≡ b
+      → (if b then passed_with M family H (code p.items) v x else passed_with M family H (code q.items) v x) ≡ passed_with M family H (front s Done) v x
+  passed_with-Cond s number p q b v x h e =
+      let ts = truths_in family.choices.now v in
+      chosen b v (projected ts (code p.items)) (projected ts (code q.items)) x
+      ∙ ap (λ c. passed M family.options.mode (H v) c x) (sym (ap (λ s. projected ts (front s Done)) h ∙ projected-Cond ts number p q b e))
+
+-- where two sides are entered with Nothing where they are not kept, their join is what the kept one gives
+pub sides_join : (M : LeafMeaning) → LeafLaws M → (family : Family) → TransferAnswers M family.options.mode → family.variables ≤ 16 → (H : Heads) (ts : List Bool) (p q : Code) (b : Bool) (x : LeafValue) → x.variables ≡ family.variables
+    → (passed M family.options.mode (heads_where b H) (projected ts p) (kept_by true b x)).variables ≡ family.variables → (passed M family.options.mode (heads_where (not b) H) (projected ts q) (kept_by false b x)).variables ≡ family.variables
+    → M.join (passed M family.options.mode (heads_where b H) (projected ts p) (kept_by true b x)) (passed M family.options.mode (heads_where (not b) H) (projected ts q) (kept_by false b x))
+    ≡ (if b then passed M family.options.mode H (projected ts p) x else passed M family.options.mode H (projected ts q) x)
+sides_join M laws family answers few H ts p q true x e f g =
+    let mode = family.options.mode in
+    let y = passed M mode H (projected ts p) x in
+    ap (λ n. M.join y (passed M mode no_heads (projected ts q) (nothing_of n))) e
+    ∙ (ap (M.join y) (passed_nothing M laws mode answers family.variables few (projected ts q) ∙ ap (λ n. nothing_of n) (sym f))
+    ∙ laws.nothing_join y)
+sides_join M laws family answers few H ts p q false x e f g =
+    let mode = family.options.mode in
+    let y = passed M mode H (projected ts q) x in
+    ap (λ n. M.join (passed M mode no_heads (projected ts p) (nothing_of n)) y) e
+    ∙ (ap (λ z. M.join z y) (passed_nothing M laws mode answers family.variables few (projected ts p) ∙ ap (λ n. nothing_of n) (sym g))
+    ∙ laws.join_nothing y)
+
+-- heads of statements in a group
+pub heads_within : (a b c : Bool) (H : Heads) → c ≡ (a && b) → heads_where c H ≡ heads_where b (heads_where a H)
+heads_within true true c H e = ap (λ d. heads_where d H) e
+heads_within true false c H e = ap (λ d. heads_where d H) e
+heads_within false true c H e = ap (λ d. heads_where d H) e
+heads_within false false c H e = ap (λ d. heads_where d H) e
+
+-- a list passed with heads that are the same at each vector
+pub lifted_by : {L : Type 0} (value : L → LeafValue) (M : LeafMeaning) (family : Family) (a b : List (Plain L)) (H K : List Bool → Heads) (c : Code) (t : Plain L) (r : Numbered L)
+    → ((v : List Bool) → K v ≡ H v) → IsLifted value family a b (passed_with M family K c) t r → IsLifted value family a b (passed_with M family H c) t r
+lifted_by value M family a b H K c t r e h =
+    lifted_as value family a b (passed_with M family K c) (passed_with M family H c) t r (λ v. ap (λ G. passed M family.options.mode G (projected (truths_in family.choices.now v) c) (value (leaf_of t v))) (e v)) h
+
+-- a step in a forest that has more since
+pub lifted_longer : {L : Type 0} (value : L → LeafValue) (family : Family) (a b z : List (Plain L)) (f : List Bool → LeafValue → LeafValue) (t : Plain L) (r : Numbered L) → Keeps b z → IsLifted value family a b f t r → IsLifted value family a z f t r
+lifted_longer value family a b z f t r k h = record { state = state_stays value family b z r k h.state; keeps = keeps_both a b z h.keeps k; at_each = h.at_each }
+
+-- ---- what is known of loops, in a forest that grows
+
+module _ {L : Type 0} (value : L → LeafValue) (M : LeafMeaning) (family : Family) where
+  ruled_stays : (a b : List (Plain L)) (r : Rule L) → Keeps a b → IsRuled value M family a r → IsRuled value M family b r
+  ruled_stays a b rule.Rounds k h = tt
+  ruled_stays a b (rule.Lines start) k h = record { state = state_stays value family a b (numbered start) k h.state; valid = h.valid }
+
+  -- heads are leaves of the kind
+  pub ruled_fit : LeafLaws M → TransferAnswers M family.options.mode → (forest : List (Plain L)) (r : Rule L) (v : List Bool) → IsRuled value M family forest r
+      → All (λ (l : LoopLine). AreBounds family.variables l.bounds) family.lines.now → AreFit M family.options.mode family.variables (ruled_heads value M family r v)
+  ruled_fit laws A forest rule.Rounds v h i = final_fit M laws family.options A family.variables
+  ruled_fit laws A forest (rule.Lines start) v h i =
+      let d = value (leaf_of (plain start) v) in
+      let n : d.variables ≡ family.variables = counted value family forest (numbered start) v h.state in
+      subst (λ m. AreFit M family.options.mode m (given_heads M family.lines.now v d)) n (given_fit M laws family.options.mode family.lines.now v d (h.valid v) (subst (λ m. All (λ (l : LoopLine). AreBounds m l.bounds) family.lines.now) (sym n) i))
+
+  pub known_stays : (r : Rule L) (a b : List (Plain L)) (f : Finals L) → Keeps a b → Knows value M family r a f → Knows value M family r b f
+  known_stays r a b f h k = record { memory = memory_stays value M family a b f h k.memory; ruled = ruled_stays a b r h k.ruled }
+
+  pub known_same : (r : Rule L) (a b : List (Plain L)) (f : Finals L) → b ≡ a → Knows value M family r a f → Knows value M family r b f
+  known_same r a b f e k = subst (λ forest. Knows value M family r forest f) (sym e) k
+
+  -- behind a step, and behind a step of two trees
+  pub known_lifted : {E : Type 0} (r : Rule L) (made : Result (Tree L) E) (a b : List (Plain L)) (f : Finals L) (g : List Bool → LeafValue → LeafValue) (t : Plain L) → IfOk made (λ x. IsLifted value family a b g t (numbered x)) → Knows value M family r a f → OnOk made (Knows value M family r b f)
+  known_lifted r (Ok x) a b f g t h m = known_stays r a b f h.keeps m
+  known_lifted r (Err e) a b f g t h m = tt
+
+  pub known_joint : {E : Type 0} (r : Rule L) (made : Result (Tree L) E) (a b : List (Plain L)) (f : Finals L) (g : List Bool → LeafValue → LeafValue → LeafValue) (t u : Plain L) → IfOk made (λ x. IsJoint value family a b g t u (numbered x)) → Knows value M family r a f → OnOk made (Knows value M family r b f)
+  known_joint r (Ok x) a b f g t u h m = known_stays r a b f h.keeps m
+  known_joint r (Err e) a b f g t u h m = tt
+
+  -- behind a loop of which more is remembered
+  pub known_more : {E : Type 0} (r : Rule L) (made : Result (Tree L) E) (a b : List (Plain L)) (f : Finals L) (g : List Bool → LeafValue → LeafValue) (t : Plain L) → IfOk made (λ x. IsLifted value family a b g t (numbered x)) → IsRuled value M family a r → OnOk made (Remembers value M family b f) → OnOk made (Knows value M family r b f)
+  known_more r (Ok x) a b f g t h k m = record { memory = m; ruled = ruled_stays a b r h.keeps k }
+  known_more r (Err e) a b f g t h k m = tt
+
+  -- ---- the rule that is chosen
+
+  pub rule_known : (is_given : Bool) (forest : List (Plain L)) (start : Tree L) (r : Rule L) → IsRuleOf is_given (numbered start) r → IsState value family forest (numbered start) → ((v : List Bool) → M.valid (value (leaf_of (plain start) v)))
+      → IsRuled value M family forest r
+  rule_known true forest start (rule.Lines s) e h valid = record { state = state_as value family forest (numbered start) (numbered s) e h; valid = λ v. subst (λ u. M.valid (value (leaf_of (erase u) v))) (sym e) (valid v) }
+  rule_known true forest start rule.Rounds e h valid = tt
+  rule_known false forest start (rule.Lines s) e h valid = absurd e
+  rule_known false forest start rule.Rounds e h valid = tt
+
+  pub rule_heads : (is_given : Bool) (start : Tree L) (r : Rule L) (v : List Bool) (d : LeafValue) → IsRuleOf is_given (numbered start) r → value (leaf_of (plain start) v) ≡ d → ruled_heads value M family r v ≡ chosen_heads M family is_given v d
+  rule_heads true start (rule.Lines s) v d e f = ap (λ x. given_heads M family.lines.now v x) (ap (λ u. value (leaf_of (erase u) v)) e ∙ f)
+  rule_heads true start rule.Rounds v d e f = absurd e
+  rule_heads false start (rule.Lines s) v d e f = absurd e
+  rule_heads false start rule.Rounds v d e f = refl
+
+  -- a head where its loop is kept, and Nothing elsewhere
+  pub head_kept : (b : Bool) (R : List Bool → Heads) (place : Place) (test : Term) (body : Code) (v : List Bool) (x : LeafValue) → (head_with M family R place test body v x).variables ≡ x.variables
+      → kept_by true b (head_with M family R place test body v x) ≡ heads_where b (R v) place test (passed M family.options.mode (heads_where b (R v)) (projected (truths_in family.choices.now v) body)) x
+  head_kept true R place test body v x e = refl
+  head_kept false R place test body v x e = ap (λ n. nothing_of n) e

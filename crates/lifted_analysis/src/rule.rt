@@ -1,0 +1,186 @@
+//! What the loops of a family have at their heads.
+#![tactic(auto)]
+
+ghost use Rattle.std.specs.Prelude.{◌≡◌, ◌&&◌, ℕ, IfOk, OnOk, true, if◌then◌else◌, List, Bool};
+ghost use Rattle.cpp_conditions.specs.Propositions.{true_on, IsBelow};
+ghost use Rattle.cpp_conditions.specs.View.{formula};
+ghost use Rattle.c_tree.specs.View.{term, code, whole};
+ghost use Rattle.c_tree.specs.Fit.{IsTermOf, IsCodeOf};
+ghost use Rattle.decision_tree.specs.Plain.{leaf_of};
+ghost use Rattle.decision_tree.specs.View.{numbered, plain};
+ghost use Rattle.plain_analysis.specs.Places.{is_same_place};
+ghost use Rattle.plain_analysis.specs.Stated.{IsLoopAt, HasLoopsOf};
+ghost use Rattle.lifted_analysis.specs.Lines.{AreBounds, bounded_by, given_at};
+ghost use Rattle.lifted_analysis.specs.Rules.{Knows, IsRuleOf, heads_in, ruled_heads, head_with};
+ghost use Rattle.tree_unify.specs.Formulas.{HasNumber};
+ghost use Rattle.lifted_analysis.specs.States.{IsFamily, IsState, IsLifted, IsJoint, IsTruth, IsTest};
+
+use crate::after::final_tree;
+use crate::family::{Family, Tables};
+use crate::finals::Finals;
+use crate::lines::{LoopLine, Ranges};
+use crate::operations::Step;
+use crate::states::{kept, selected, stepped};
+use c_tree::{Expr, Stmt};
+use decision_tree::Tree;
+use fam_outer::{NoMemory, Place};
+use leaf_domain::Leaf;
+use std::sync::ledger::Ledger;
+use tree_unify::test_tree_in;
+
+/// What the loops of a family have at their heads: their final trees, or what the family's lines make of the tree of the start
+/// values.
+#[derive(Drop)]
+pub(crate) enum Rule<L> {
+    Rounds,
+    Lines(Tree<L>),
+}
+
+/// The rule by lines, over the tree of the start values, or that by rounds.
+pub(crate) fn rule_of<L: Leaf>(start: &Tree<L>, is_given: bool) -> Result<Rule<L>, NoMemory>
+    ensures { IfOk result (IsRuleOf is_given (numbered start.now)) }
+{
+    if is_given {
+        let start = start.share()?;
+        return Ok(Rule::Lines(start));
+    }
+    Ok(Rule::Rounds)
+}
+
+/// Whether a line is that of a place.
+fn is_at(line: &LoopLine, place: Place) -> bool
+    ensures { result ≡ is_same_place line.now.place place }
+{
+    line.place.line == place.line && line.place.column == place.column
+}
+
+/// What a line gives where its region holds, and a tree elsewhere.
+fn region_tree<L: Leaf, K: Ledger>(
+    tables: &mut Tables<L, K>,
+    family: &Family,
+    line: &LoopLine,
+    start: &Tree<L>,
+    elsewhere: &Tree<L>,
+) -> Result<Tree<L>, NoMemory>
+    requires start { IsState L.value family.now tables.old.leaves (numbered start.now) }
+    requires elsewhere { IsState L.value family.now tables.old.leaves (numbered elsewhere.now) }
+    requires region { IsBelow 64 (formula line.now.region) }
+    requires tests { (k : ℕ) → HasNumber k (formula line.now.region) → IsTest family.now k }
+    requires bounds { AreBounds family.now.variables line.now.bounds }
+    ensures { IfOk result (λ r. IsJoint L.value family.now tables.old.leaves tables.new.leaves
+        (λ v x y. if true_on v (formula line.now.region) then bounded_by L.meaning line.now.bounds x else y)
+        (plain start.now) (plain elsewhere.now) (numbered r)) }
+{
+    let alloc = tables.alloc;
+    let _family = family.variables;
+    let region = test_tree_in(alloc, &mut tables.truths, &line.region, &mut tables.steps)?;
+    let bounded = stepped(tables, family, &Step::Bound(&line.bounds), start)?;
+    selected(tables, family, &region, &bounded, elsewhere)
+}
+
+/// What a line gives the loop at a place where its region holds, and a tree elsewhere. A line at another place gives nothing.
+fn line_tree<L: Leaf, K: Ledger>(
+    tables: &mut Tables<L, K>,
+    family: &Family,
+    line: &LoopLine,
+    place: Place,
+    start: &Tree<L>,
+    elsewhere: &Tree<L>,
+) -> Result<Tree<L>, NoMemory>
+    requires start { IsState L.value family.now tables.old.leaves (numbered start.now) }
+    requires elsewhere { IsState L.value family.now tables.old.leaves (numbered elsewhere.now) }
+    requires region { IsBelow 64 (formula line.now.region) }
+    requires tests { (k : ℕ) → HasNumber k (formula line.now.region) → IsTest family.now k }
+    requires bounds { AreBounds family.now.variables line.now.bounds }
+    ensures { IfOk result (λ r. IsJoint L.value family.now tables.old.leaves tables.new.leaves
+        (λ v x y. if is_same_place line.now.place place && true_on v (formula line.now.region)
+        then bounded_by L.meaning line.now.bounds x else y)
+        (plain start.now) (plain elsewhere.now) (numbered r)) }
+{
+    let _family = family.variables;
+    if is_at(line, place) {
+        return region_tree(tables, family, line, start, elsewhere);
+    }
+    elsewhere.share()
+}
+
+/// What the lines give the loop at a place: the first of its lines whose region holds counts, so the last one is taken first.
+fn given_tree<L: Leaf, K: Ledger>(
+    tables: &mut Tables<L, K>,
+    family: &Family,
+    start: &Tree<L>,
+    place: Place,
+) -> Result<Tree<L>, NoMemory>
+    requires family { IsFamily family.now }
+    requires start { IsState L.value family.now tables.old.leaves (numbered start.now) }
+    ensures { IfOk result (λ r. IsLifted L.value family.now tables.old.leaves tables.new.leaves
+        (λ v d. given_at L.meaning family.now.lines.now v d place) (plain start.now) (numbered r)) }
+{
+    let unreached: Option<Ranges> = None;
+    let mut made = stepped(tables, family, &Step::Bound(&unreached), start)?;
+    for k in (0..family.lines.len()).rev() {
+        let line = &family.lines[k];
+        made = line_tree(tables, family, line, place, start, &made)?;
+    }
+    Ok(made)
+}
+
+/// The tree that the rule gives the loop at a place that is entered with `t`.
+fn ruled_tree<L: Leaf, K: Ledger>(
+    tables: &mut Tables<L, K>,
+    finals: &mut Finals<L>,
+    family: &Family,
+    rule: &Rule<L>,
+    place: Place,
+    body: &[Stmt],
+    test: &Expr,
+    t: &Tree<L>,
+) -> Result<Tree<L>, NoMemory>
+    requires family { IsFamily family.now }
+    requires test { IsTermOf family.now.variables (term test.now) }
+    requires body { IsCodeOf family.now.variables (code body.now) }
+    requires state { IsState L.value family.now tables.old.leaves (numbered t.now) }
+    requires loops { HasLoopsOf (whole family.now.program.now) (code body.now) }
+    requires at { IsLoopAt (whole family.now.program.now) place (term test.now) (code body.now) }
+    requires memory { Knows L.value L.meaning family.now rule.now tables.old.leaves finals.old }
+    ensures lifted { IfOk result (λ r. IsLifted L.value family.now tables.old.leaves tables.new.leaves
+        (head_with L.meaning family.now (ruled_heads L.value L.meaning family.now rule.now)
+        place (term test.now) (code body.now)) (plain t.now) (numbered r)) }
+    ensures memory { OnOk result
+        (Knows L.value L.meaning family.now rule.now tables.new.leaves finals.new) }
+{
+    match rule {
+        Rule::Rounds => final_tree(tables, finals, family, place, body, test, t),
+        Rule::Lines(start) => given_tree(tables, family, start, place),
+    }
+}
+
+/// The tree at the head of the loop at a place that is entered with `t`, and Nothing where the loop is not kept.
+pub(crate) fn head_tree<L: Leaf, K: Ledger>(
+    tables: &mut Tables<L, K>,
+    finals: &mut Finals<L>,
+    family: &Family,
+    rule: &Rule<L>,
+    here: &Tree<bool>,
+    place: Place,
+    body: &[Stmt],
+    test: &Expr,
+    t: &Tree<L>,
+) -> Result<Tree<L>, NoMemory>
+    requires family { IsFamily family.now }
+    requires here { IsTruth family.now (numbered here.now) }
+    requires test { IsTermOf family.now.variables (term test.now) }
+    requires body { IsCodeOf family.now.variables (code body.now) }
+    requires state { IsState L.value family.now tables.old.leaves (numbered t.now) }
+    requires loops { HasLoopsOf (whole family.now.program.now) (code body.now) }
+    requires at { IsLoopAt (whole family.now.program.now) place (term test.now) (code body.now) }
+    requires memory { Knows L.value L.meaning family.now rule.now tables.old.leaves finals.old }
+    ensures lifted { IfOk result (λ r. IsLifted L.value family.now tables.old.leaves tables.new.leaves
+        (head_with L.meaning family.now (heads_in L.value L.meaning family.now rule.now (plain here.now))
+        place (term test.now) (code body.now)) (plain t.now) (numbered r)) }
+    ensures memory { OnOk result
+        (Knows L.value L.meaning family.now rule.now tables.new.leaves finals.new) }
+{
+    let made = ruled_tree(tables, finals, family, rule, place, body, test, t)?;
+    kept(tables, family, here, true, &made)
+}
