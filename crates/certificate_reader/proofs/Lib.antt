@@ -1,0 +1,9 @@
+pub mod Bounded
+pub mod Certified
+pub mod Digits
+pub mod Pieces
+pub mod Placing
+pub mod Ranging
+pub mod Shapes
+pub mod Splitting
+pub mod Tables

@@ -1,0 +1,20 @@
+-- A well-formed atom over one feature.
+use Rattle.std.proofs.Common.{◌≢◌, pos, [], ◌∷◌, refl, arith}
+use Rattle.std.proofs.lemmas.Int.{ints}
+use Rattle.linear_atoms.specs.Atoms.{IsAtom}
+use Rattle.linear_atoms.specs.Divisors.{common_divisor}
+
+one_nonzero : pos 1 ≢ pos 0
+one_nonzero = λ e. omega (arith, ints)
+
+-- the feature is at least 1
+pub single : IsAtom 1 (record { terms = (0, pos 1) ∷ []; bound = pos 1 })
+unfolding common_divisor
+single = record {
+  rising = (omega arith, one_nonzero, tt);
+  coprime = refl;
+  small = refl;
+  positive = omega (arith, ints);
+  below = (omega arith, tt);
+  bounded = omega arith;
+}

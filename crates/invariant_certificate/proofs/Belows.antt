@@ -1,0 +1,51 @@
+-- The numbers of tests of trees and of formulas.
+use Rattle.std.proofs.Common.{◌≡◌, ◌≤◌, ℕ, ◌<◌, Bool, List, sym, subst, inl, inr, arith}
+use Rattle.std.specs.List.{All}
+use Rattle.std.proofs.lemmas.List.Elements.{All-weaker}
+use Rattle.cpp_conditions.specs.Propositions.{Proposition, Const, Test, Not, And, Or, IsBelow}
+use Rattle.cpp_conditions.specs.View.{formula}
+use Rattle.cpp_conditions.specs.declared.formulas.Formula.{Formula}
+use Rattle.certificate_reader.specs.declared.certificates.AlarmLine.{AlarmLine}
+use Rattle.decision_tree.specs.Plain.{Plain, leaf, node, TestsBelow}
+use Rattle.lifted_analysis.specs.declared.lines.LoopLine.{LoopLine}
+use Rattle.lifted_analysis.specs.Lines.{AreRegionsBelow}
+use Rattle.lifted_analysis.specs.Promises.{AreBelow}
+use Rattle.decision_tree.proofs.Reduced.{tests_below}
+use Rattle.tree_unify.specs.Formulas.{HasNumber, IsTreeOf}
+
+number_below : (n k : ℕ) (p : Proposition ℕ) → IsBelow n p → HasNumber k p → k < n
+number_below n k (Const b) h w = absurd w
+number_below n k (Test m) h w = subst (λ (j : ℕ). j < n) (sym w) h
+number_below n k (Not p) h w = number_below n k p h w
+number_below n k (And p q) h (inl w) = number_below n k p h.0 w
+number_below n k (And p q) h (inr w) = number_below n k q h.1 w
+number_below n k (Or p q) h (inl w) = number_below n k p h.0 w
+number_below n k (Or p q) h (inr w) = number_below n k q h.1 w
+
+pub tests_under : (count : ℕ) (p : Proposition ℕ) (t : Plain Bool) → IsBelow count p → IsTreeOf p t → TestsBelow count t
+tests_under count p t h w = tests_below count t (λ k x. number_below count k p h (w.tests k x))
+
+pub more_tests : (m n : ℕ) → m ≤ n → (p : Proposition ℕ) → IsBelow m p → IsBelow n p
+more_tests m n le (Const b) h = tt
+more_tests m n le (Test x) h = omega (arith, le, h)
+more_tests m n le (Not p) h = more_tests m n le p h
+more_tests m n le (And p q) h = (more_tests m n le p h.0, more_tests m n le q h.1)
+more_tests m n le (Or p q) h = (more_tests m n le p h.0, more_tests m n le q h.1)
+
+pub more_nodes : (m n : ℕ) → m ≤ n → (t : Plain Bool) → TestsBelow m t → TestsBelow n t
+more_nodes m n le (leaf b) h = tt
+more_nodes m n le (node test low high) h = (omega (arith, le, h.0), more_nodes m n le low h.1, more_nodes m n le high h.2)
+
+pub more_lines : (m n : ℕ) → m ≤ n → (ls : List AlarmLine) → All (λ (l : AlarmLine). IsBelow m (formula l.region)) ls → All (λ (l : AlarmLine). IsBelow n (formula l.region)) ls
+more_lines m n le ls h =
+    All-weaker (λ (l : AlarmLine). IsBelow m (formula l.region)) (λ (l : AlarmLine). IsBelow n (formula l.region)) (λ l. more_tests m n le (formula l.region)) ls h
+
+pub more_regions : (m n : ℕ) → m ≤ n → (ls : List LoopLine) → AreRegionsBelow m ls → AreRegionsBelow n ls
+more_regions m n le ls h =
+    All-weaker (λ (l : LoopLine). IsBelow m (formula l.region)) (λ (l : LoopLine). IsBelow n (formula l.region)) (λ l. more_tests m n le (formula l.region)) ls h
+
+pub more_below : (m n : ℕ) → m ≤ n → (cs : List Formula) (p : Formula) → AreBelow m cs p → AreBelow n cs p
+more_below m n le cs p h = record {
+  each = All-weaker (λ (c : Formula). IsBelow m (formula c)) (λ (c : Formula). IsBelow n (formula c)) (λ c. more_tests m n le (formula c)) cs h.each;
+  last = more_tests m n le (formula p) h.last;
+}

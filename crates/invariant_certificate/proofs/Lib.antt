@@ -1,0 +1,9 @@
+pub mod Sublists
+pub mod Looped
+pub mod Inductive
+pub mod First
+pub mod Halves
+pub mod Belows
+pub mod Listed
+pub mod Passed
+pub mod Judged

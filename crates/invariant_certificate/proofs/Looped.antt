@@ -1,0 +1,134 @@
+-- The loops and the places of a variant are among the family's.
+use Rattle.std.proofs.Common.{◌≡◌, Bool, true, false, List, [], ◌∷◌, ◌++◌, map, cond, refl, ap, sym, subst, ◌∙◌, append_assoc}
+use Rattle.std.specs.Prelude.{slice_index_or}
+use Rattle.std.proofs.lemmas.List.{map-append}
+use Rattle.fam_outer.specs.declared.faults.Place.{Place}
+use Rattle.c_tree.specs.declared.tree.Mode.{Mode}
+use Rattle.c_tree.specs.Fit.{IsPlain}
+use Rattle.c_tree.specs.Places.{places_of}
+use Rattle.c_tree.specs.Project.{projected}
+use Rattle.c_tree.specs.Tree.{Code, Done, Assign, Input, Assert, If, While, Block, Skip, Cond, followed}
+use Rattle.c_tree.proofs.Listed.{places_of-followed}
+use Rattle.leaf_domain.specs.Leaves.{LeafValue, LeafMeaning}
+use Rattle.leaf_domain.specs.Transfer.{assumed, assigned, forgotten}
+use Rattle.plain_analysis.specs.Statements.{Heads, passed}
+use Rattle.lifted_analysis.specs.Turns.{Turn, turns_by, loop_places}
+use Rattle.invariant_certificate.proofs.Sublists.{Within, none, takes, skips, empty, both, at_left, at_right}
+
+loops_followed : (a b : Code) → loop_places (followed a b) ≡ loop_places a ++ loop_places b
+loops_followed Done b = refl
+loops_followed (Assign place target value rest) b = loops_followed rest b
+loops_followed (Input place target rest) b = loops_followed rest b
+loops_followed (Assert place test rest) b = loops_followed rest b
+loops_followed (If place test p q rest) b = simp (loops_followed rest b, append_assoc)
+loops_followed (While place test body rest) b = simp (loops_followed rest b, append_assoc)
+loops_followed (Block place body rest) b = simp (loops_followed rest b, append_assoc)
+loops_followed (Skip place rest) b = loops_followed rest b
+loops_followed (Cond number p q rest) b = simp (loops_followed rest b, append_assoc)
+
+-- one of two sides
+side : (f : Code → List Place) (b : Bool) (p q : Code) (ps qs : List Place) → Within (f p) ps → Within (f q) qs → Within (f (cond b p q)) (ps ++ qs)
+side f true p q ps qs h k = at_left (f p) ps qs h
+side f false p q ps qs h k = at_right (f q) ps qs k
+
+pub loops_projected : (ts : List Bool) (c : Code) → Within (loop_places (projected ts c)) (loop_places c)
+loops_projected ts Done = none
+loops_projected ts (Assign place target value rest) = loops_projected ts rest
+loops_projected ts (Input place target rest) = loops_projected ts rest
+loops_projected ts (Assert place test rest) = loops_projected ts rest
+loops_projected ts (If place test p q rest) =
+    both (loop_places (projected ts p)) (loop_places p) (loop_places (projected ts q) ++ loop_places (projected ts rest)) (loop_places q ++ loop_places rest) (loops_projected ts p)
+    (both (loop_places (projected ts q)) (loop_places q) (loop_places (projected ts rest)) (loop_places rest) (loops_projected ts q) (loops_projected ts rest))
+loops_projected ts (While place test body rest) =
+    takes place (loop_places (projected ts body) ++ loop_places (projected ts rest)) (loop_places body ++ loop_places rest)
+    (both (loop_places (projected ts body)) (loop_places body) (loop_places (projected ts rest)) (loop_places rest) (loops_projected ts body) (loops_projected ts rest))
+loops_projected ts (Block place body rest) =
+    both (loop_places (projected ts body)) (loop_places body) (loop_places (projected ts rest)) (loop_places rest) (loops_projected ts body) (loops_projected ts rest)
+loops_projected ts (Skip place rest) = loops_projected ts rest
+loops_projected ts (Cond number p q rest) =
+    let chosen : Code = cond (slice_index_or ts number false) (projected ts p) (projected ts q) in
+    subst (Within (loop_places (followed chosen (projected ts rest)))) (append_assoc (loop_places p) (loop_places q) (loop_places rest))
+    (subst (λ l. Within l ((loop_places p ++ loop_places q) ++ loop_places rest)) (sym (loops_followed chosen (projected ts rest)))
+    (both (loop_places chosen) (loop_places p ++ loop_places q) (loop_places (projected ts rest)) (loop_places rest)
+    (side loop_places (slice_index_or ts number false) (projected ts p) (projected ts q) (loop_places p) (loop_places q) (loops_projected ts p) (loops_projected ts q))
+    (loops_projected ts rest)))
+
+pub places_projected : (ts : List Bool) (c : Code) → Within (places_of (projected ts c)) (places_of c)
+places_projected ts Done = none
+places_projected ts (Assign place target value rest) = takes place (places_of (projected ts rest)) (places_of rest) (places_projected ts rest)
+places_projected ts (Input place target rest) = takes place (places_of (projected ts rest)) (places_of rest) (places_projected ts rest)
+places_projected ts (Assert place test rest) = takes place (places_of (projected ts rest)) (places_of rest) (places_projected ts rest)
+places_projected ts (If place test p q rest) =
+    takes place (places_of (projected ts p) ++ (places_of (projected ts q) ++ places_of (projected ts rest))) (places_of p ++ (places_of q ++ places_of rest))
+    (both (places_of (projected ts p)) (places_of p) (places_of (projected ts q) ++ places_of (projected ts rest)) (places_of q ++ places_of rest) (places_projected ts p)
+    (both (places_of (projected ts q)) (places_of q) (places_of (projected ts rest)) (places_of rest) (places_projected ts q) (places_projected ts rest)))
+places_projected ts (While place test body rest) =
+    takes place (places_of (projected ts body) ++ places_of (projected ts rest)) (places_of body ++ places_of rest)
+    (both (places_of (projected ts body)) (places_of body) (places_of (projected ts rest)) (places_of rest) (places_projected ts body) (places_projected ts rest))
+places_projected ts (Block place body rest) =
+    takes place (places_of (projected ts body) ++ places_of (projected ts rest)) (places_of body ++ places_of rest)
+    (both (places_of (projected ts body)) (places_of body) (places_of (projected ts rest)) (places_of rest) (places_projected ts body) (places_projected ts rest))
+places_projected ts (Skip place rest) = takes place (places_of (projected ts rest)) (places_of rest) (places_projected ts rest)
+places_projected ts (Cond number p q rest) =
+    let chosen : Code = cond (slice_index_or ts number false) (projected ts p) (projected ts q) in
+    subst (Within (places_of (followed chosen (projected ts rest)))) (append_assoc (places_of p) (places_of q) (places_of rest))
+    (subst (λ l. Within l ((places_of p ++ places_of q) ++ places_of rest)) (sym (places_of-followed chosen (projected ts rest)))
+    (both (places_of chosen) (places_of p ++ places_of q) (places_of (projected ts rest)) (places_of rest)
+    (side places_of (slice_index_or ts number false) (projected ts p) (projected ts q) (places_of p) (places_of q) (places_projected ts p) (places_projected ts q))
+    (places_projected ts rest)))
+
+-- each loop has a place
+pub loops_placed : (c : Code) → Within (loop_places c) (places_of c)
+loops_placed Done = none
+loops_placed (Assign place target value rest) = skips place (loop_places rest) (places_of rest) (loops_placed rest)
+loops_placed (Input place target rest) = skips place (loop_places rest) (places_of rest) (loops_placed rest)
+loops_placed (Assert place test rest) = skips place (loop_places rest) (places_of rest) (loops_placed rest)
+loops_placed (If place test p q rest) =
+    skips place (loop_places p ++ (loop_places q ++ loop_places rest)) (places_of p ++ (places_of q ++ places_of rest))
+    (both (loop_places p) (places_of p) (loop_places q ++ loop_places rest) (places_of q ++ places_of rest) (loops_placed p)
+    (both (loop_places q) (places_of q) (loop_places rest) (places_of rest) (loops_placed q) (loops_placed rest)))
+loops_placed (While place test body rest) =
+    takes place (loop_places body ++ loop_places rest) (places_of body ++ places_of rest)
+    (both (loop_places body) (places_of body) (loop_places rest) (places_of rest) (loops_placed body) (loops_placed rest))
+loops_placed (Block place body rest) =
+    skips place (loop_places body ++ loop_places rest) (places_of body ++ places_of rest)
+    (both (loop_places body) (places_of body) (loop_places rest) (places_of rest) (loops_placed body) (loops_placed rest))
+loops_placed (Skip place rest) = skips place (loop_places rest) (places_of rest) (loops_placed rest)
+loops_placed (Cond number p q rest) =
+    both (loop_places p) (places_of p) (loop_places q ++ loop_places rest) (places_of q ++ places_of rest) (loops_placed p)
+    (both (loop_places q) (places_of q) (loop_places rest) (places_of rest) (loops_placed q) (loops_placed rest))
+
+-- ---- the loops of a pass
+
+abbrev pub turn_place : Turn → Place
+turn_place t = t.place
+
+module _ (M : LeafMeaning) (mode : Mode) (H : Heads) where
+  pub turns_placed : (c : Code) (v : LeafValue) → IsPlain c → map turn_place (turns_by M mode H c v) ≡ loop_places c
+  turns_placed Done v h = refl
+  turns_placed (Assign place x e rest) v h = turns_placed rest (assigned M mode x e v) h
+  turns_placed (Input place x rest) v h = turns_placed rest (forgotten M x v) h
+  turns_placed (Assert place e rest) v h = turns_placed rest (assumed M mode e true v) h
+  turns_placed (If place e p q rest) v h =
+      let x = assumed M mode e true v in
+      let y = assumed M mode e false v in
+      let z = M.join (passed M mode H p x) (passed M mode H q y) in
+      map-append turn_place (turns_by M mode H p x) (turns_by M mode H q y ++ turns_by M mode H rest z)
+      ∙ ap (λ l. l ++ map turn_place (turns_by M mode H q y ++ turns_by M mode H rest z)) (turns_placed p x h.0)
+      ∙ ap (λ l. loop_places p ++ l) (map-append turn_place (turns_by M mode H q y) (turns_by M mode H rest z)
+      ∙ ap (λ l. l ++ map turn_place (turns_by M mode H rest z)) (turns_placed q y h.1)
+      ∙ ap (λ l. loop_places q ++ l) (turns_placed rest z h.2))
+  turns_placed (While place e body rest) v h =
+      let head = H place e (passed M mode H body) v in
+      let x = assumed M mode e true head in
+      let y = assumed M mode e false head in
+      ap (λ l. place ∷ l) (map-append turn_place (turns_by M mode H body x) (turns_by M mode H rest y)
+      ∙ ap (λ l. l ++ map turn_place (turns_by M mode H rest y)) (turns_placed body x h.0)
+      ∙ ap (λ l. loop_places body ++ l) (turns_placed rest y h.1))
+  turns_placed (Block place body rest) v h =
+      let y = passed M mode H body v in
+      map-append turn_place (turns_by M mode H body v) (turns_by M mode H rest y)
+      ∙ ap (λ l. l ++ map turn_place (turns_by M mode H rest y)) (turns_placed body v h.0)
+      ∙ ap (λ l. loop_places body ++ l) (turns_placed rest y h.1)
+  turns_placed (Skip place rest) v h = turns_placed rest v h
+  turns_placed (Cond number p q rest) v h = absurd h

@@ -1,0 +1,16 @@
+//! Certificates, checked against a family without its analysis.
+#![tactic(auto)]
+
+mod asking;
+mod checking;
+mod listing;
+mod settling;
+mod stopping;
+pub mod verdicts;
+
+pub use certificate_reader::{
+    AlarmLine, Certificate, CertificateFault, CertificateRefusal, LoopLine, Ranges,
+    read_certificate,
+};
+pub use checking::check;
+pub use verdicts::Verdict;
