@@ -1,7 +1,7 @@
 #!/usr/bin/env bash
 # Compares what `famlint` writes for each example with the file NAME.expected beside it: for a file NAME.c here, the output of
-# `plain`; for one in refused/, the line on the error stream; in families/, for the words of NAME.words, the output and the line.
-# Ends with 1 where one differs. No gate runs this.
+# `plain`; for one in refused/, the line on the error stream; in families/ and refused/families/, for the words of NAME.words, the
+# output and the line. Ends with 1 where one differs. No gate runs this.
 set -u
 here=$(cd "$(dirname "$0")" && pwd)
 famlint=$here/../famlint.sh
@@ -17,7 +17,7 @@ compare() {
 
 # the lines of the program, without those of the quick run
 lines() {
-    grep -E '^(usage|model|file|configuration|read fault|write fault|want of memory)'
+    grep -E '^(usage|model|file|configuration|certificate|read fault|write fault|want of memory)'
 }
 
 for example in "$here"/*.c; do
@@ -26,8 +26,8 @@ done
 for example in "$here"/refused/*.c; do
     compare "${example%.c}" < <("$famlint" plain "$example" 2>&1 >/dev/null | lines)
 done
-cd "$here/families" || exit 1
-for example in *.words; do
+for example in "$here"/families/*.words "$here"/refused/families/*.words; do
+    cd "$(dirname "$example")" || exit 1
     read -r -a words < "$example"
     compare "${example%.words}" < <("$famlint" "${words[@]}" 2>"$errors"; lines <"$errors")
 done

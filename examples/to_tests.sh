@@ -17,8 +17,11 @@ pair() {
 }
 
 cd "$here"
-files=(*.c refused/*.c families/*.c families/*.json)
-outputs=(*.expected refused/*.expected families/*.expected)
+files=(*.c refused/*.c {,refused/}families/*.{c,json})
+outputs=(*.expected refused/*.expected {,refused/}families/*.expected)
+# the tests know each file by its name alone
+twice=$(basename -a "${files[@]}" "${outputs[@]}" | sort | uniq -d)
+[ -z "$twice" ] || { echo "to_tests.sh: in two folders: $twice" >&2; exit 1; }
 {
     echo '//! The example files, and the words of commands on them with what is expected, as `examples/to_tests.sh` writes them.'
     echo

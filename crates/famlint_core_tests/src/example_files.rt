@@ -1,7 +1,7 @@
 //! The example files, and the words of commands on them with what is expected, as `examples/to_tests.sh` writes them.
 
 /// Each file under its path.
-pub(crate) const FILES: [(&str, &str); 22] = [
+pub(crate) const FILES: [(&str, &str); 54] = [
     (
         "assertion.c",
         "int level = 900;\nint limit = 1000;\nint main(void)\n{\n    level = level - limit;\n    assert(level > 0 - 200);\n    assert(level >= 0);\n    level = 0;\n}\n",
@@ -90,10 +90,135 @@ pub(crate) const FILES: [(&str, &str); 22] = [
         "ring.json",
         "{\"features\": [{\"name\": \"SLOTS\", \"min\": 4, \"max\": 64}]}\n",
     ),
+    (
+        "F13_family.c",
+        "#ifdef FAST\nint limit = 4;\n#endif\nint count;\nint main(void)\n{\n    while (count < limit)\n        count++;\n}\n",
+    ),
+    (
+        "F14_family.c",
+        "int limit = 4;\n#if SIZE >= 8\nint limit = 8;\n#endif\nint main(void)\n{\n    limit = limit + 1;\n}\n",
+    ),
+    (
+        "F15.c",
+        "int count;\nint main(void)\n{\n    while (count < SIZE)\n        count++;\n}\n",
+    ),
+    (
+        "F16_family.c",
+        "int port;\nint main(void)\n{\n#if PIN >= 64\n    port = 64;\n#elif PIN >= 63\n    port = 63;\n#elif PIN >= 62\n    port = 62;\n#elif PIN >= 61\n    port = 61;\n#elif PIN >= 60\n    port = 60;\n#elif PIN >= 59\n    port = 59;\n#elif PIN >= 58\n    port = 58;\n#elif PIN >= 57\n    port = 57;\n#elif PIN >= 56\n    port = 56;\n#elif PIN >= 55\n    port = 55;\n#elif PIN >= 54\n    port = 54;\n#elif PIN >= 53\n    port = 53;\n#elif PIN >= 52\n    port = 52;\n#elif PIN >= 51\n    port = 51;\n#elif PIN >= 50\n    port = 50;\n#elif PIN >= 49\n    port = 49;\n#elif PIN >= 48\n    port = 48;\n#elif PIN >= 47\n    port = 47;\n#elif PIN >= 46\n    port = 46;\n#elif PIN >= 45\n    port = 45;\n#elif PIN >= 44\n    port = 44;\n#elif PIN >= 43\n    port = 43;\n#elif PIN >= 42\n    port = 42;\n#elif PIN >= 41\n    port = 41;\n#elif PIN >= 40\n    port = 40;\n#elif PIN >= 39\n    port = 39;\n#elif PIN >= 38\n    port = 38;\n#elif PIN >= 37\n    port = 37;\n#elif PIN >= 36\n    port = 36;\n#elif PIN >= 35\n    port = 35;\n#elif PIN >= 34\n    port = 34;\n#elif PIN >= 33\n    port = 33;\n#elif PIN >= 32\n    port = 32;\n#elif PIN >= 31\n    port = 31;\n#elif PIN >= 30\n    port = 30;\n#elif PIN >= 29\n    port = 29;\n#elif PIN >= 28\n    port = 28;\n#elif PIN >= 27\n    port = 27;\n#elif PIN >= 26\n    port = 26;\n#elif PIN >= 25\n    port = 25;\n#elif PIN >= 24\n    port = 24;\n#elif PIN >= 23\n    port = 23;\n#elif PIN >= 22\n    port = 22;\n#elif PIN >= 21\n    port = 21;\n#elif PIN >= 20\n    port = 20;\n#elif PIN >= 19\n    port = 19;\n#elif PIN >= 18\n    port = 18;\n#elif PIN >= 17\n    port = 17;\n#elif PIN >= 16\n    port = 16;\n#elif PIN >= 15\n    port = 15;\n#elif PIN >= 14\n    port = 14;\n#elif PIN >= 13\n    port = 13;\n#elif PIN >= 12\n    port = 12;\n#elif PIN >= 11\n    port = 11;\n#elif PIN >= 10\n    port = 10;\n#elif PIN >= 9\n    port = 9;\n#elif PIN >= 8\n    port = 8;\n#elif PIN >= 7\n    port = 7;\n#elif PIN >= 6\n    port = 6;\n#elif PIN >= 5\n    port = 5;\n#elif PIN >= 4\n    port = 4;\n#elif PIN >= 3\n    port = 3;\n#elif PIN >= 2\n    port = 2;\n#elif PIN >= 1\n    port = 1;\n#elif PIN == 0\n    port = 100;\n#endif\n}\n",
+    ),
+    (
+        "F19.c",
+        "int count;\nint level;\nint main(void)\n{\n    if (count > 8)\n        level = 1;\n#ifdef FAST\n    else\n        level = 2;\n#endif\n}\n",
+    ),
+    (
+        "F5.c",
+        "int count;\nint main(void)\n{\n    count = 1;\n#endif\n}\n",
+    ),
+    (
+        "F6.c",
+        "int count;\nint main(void)\n{\n#ifdef FAST\n    count = 1;\n}\n",
+    ),
+    (
+        "F7.c",
+        "int count;\nint main(void)\n{\n#ifdef FAST\n    count = 4;\n#else\n    count = 1;\n#elif SIZE > 8\n    count = 8;\n#endif\n}\n",
+    ),
+    (
+        "F8_C1.c",
+        "int count;\nint main(void)\n{\n#ifdef FAST SIZE\n    count = 1;\n#endif\n}\n",
+    ),
+    (
+        "F8_C1_syntax.c",
+        "int count;\nint main(void)\n{\n#if 20 --SIZE > 4\n    count = 1;\n#endif\n}\n",
+    ),
+    (
+        "F8_C2.c",
+        "int count;\nint main(void)\n{\n#if (SIZE > 4) + FAST > 1\n    count = 1;\n#endif\n}\n",
+    ),
+    (
+        "F8_C3.c",
+        "int count;\nint main(void)\n{\n#if SIZE * 65536 * 65536 > 0\n    count = 1;\n#endif\n}\n",
+    ),
+    (
+        "F8_C4.c",
+        "int count;\nint main(void)\n{\n#ifdef __linux__\n    count = 1;\n#endif\n}\n",
+    ),
+    (
+        "F8_C5.c",
+        "int count;\nint main(void)\n{\n#if PIN == 1 || PIN == 3 || PIN == 5 || PIN == 7 || PIN == 9 || PIN == 11 || PIN == 13 || PIN == 15 || PIN == 17 || PIN == 19 || PIN == 21 || PIN == 23 || PIN == 25 || PIN == 27 || PIN == 29 || PIN == 31 || PIN == 33 || PIN == 35 || PIN == 37 || PIN == 39 || PIN == 41 || PIN == 43 || PIN == 45 || PIN == 47 || PIN == 49 || PIN == 51 || PIN == 53 || PIN == 55 || PIN == 57 || PIN == 59 || PIN == 61 || PIN == 63 || PIN == 65\n    count = 1;\n#endif\n}\n",
+    ),
+    (
+        "F9.c",
+        "int odd;\nint main(void)\n{\n#if PIN == 1 || PIN == 3 || PIN == 5 || PIN == 7 || PIN == 9 || PIN == 11 || PIN == 13 || PIN == 15\n    odd = 1;\n#elif PIN == 17 || PIN == 19 || PIN == 21 || PIN == 23 || PIN == 25 || PIN == 27 || PIN == 29 || PIN == 31\n    odd = 1;\n#elif PIN == 33 || PIN == 35 || PIN == 37 || PIN == 39 || PIN == 41 || PIN == 43 || PIN == 45 || PIN == 47\n    odd = 1;\n#elif PIN == 49 || PIN == 51 || PIN == 53 || PIN == 55 || PIN == 57 || PIN == 59 || PIN == 61 || PIN == 63\n    odd = 1;\n#elif PIN > 64\n    odd = 2;\n#endif\n}\n",
+    ),
+    (
+        "buffer.c",
+        "int count;\n\nint main(void)\n{\n    while (count < 10)\n        count++;\n#ifdef FAST\n    assert(count == 10);\n#endif\n}\n",
+    ),
+    ("M1.json", "{\"features\": [}\n"),
+    (
+        "M10.json",
+        "{\"features\": [{\"name\": \"PIN\", \"min\": 0, \"max\": 100}],\n\"constraints\": [\n\"PIN != 1 && PIN != 3 && PIN != 5 && PIN != 7 && PIN != 9 && PIN != 11 && PIN != 13 && PIN != 15\",\n\"PIN != 17 && PIN != 19 && PIN != 21 && PIN != 23 && PIN != 25 && PIN != 27 && PIN != 29 && PIN != 31\",\n\"PIN != 33 && PIN != 35 && PIN != 37 && PIN != 39 && PIN != 41 && PIN != 43 && PIN != 45 && PIN != 47\",\n\"PIN != 49 && PIN != 51 && PIN != 53 && PIN != 55 && PIN != 57 && PIN != 59 && PIN != 61 && PIN != 63\",\n\"PIN <= 64\"\n]}\n",
+    ),
+    (
+        "M2.json",
+        "{\"features\": [{\"name\": \"SIZE\", \"min\": 1}]}\n",
+    ),
+    (
+        "M3.json",
+        "{\"features\": [{\"name\": \"FAST\"}, {\"name\": \"int\"}]}\n",
+    ),
+    (
+        "M4.json",
+        "{\"features\": [{\"name\": \"FAST\"}, {\"name\": \"SAFE\"}, {\"name\": \"FAST\"}]}\n",
+    ),
+    (
+        "M5.json",
+        "{\"features\": [{\"name\": \"SIZE\", \"min\": 16, \"max\": 1}]}\n",
+    ),
+    (
+        "M6.json",
+        "{\"features\": [\n{\"name\": \"LED1\"}, {\"name\": \"LED2\"}, {\"name\": \"LED3\"}, {\"name\": \"LED4\"}, {\"name\": \"LED5\"}, {\"name\": \"LED6\"},\n{\"name\": \"LED7\"}, {\"name\": \"LED8\"}, {\"name\": \"LED9\"}, {\"name\": \"LED10\"}, {\"name\": \"LED11\"}, {\"name\": \"LED12\"},\n{\"name\": \"LED13\"}, {\"name\": \"LED14\"}, {\"name\": \"LED15\"}, {\"name\": \"LED16\"}, {\"name\": \"LED17\"}, {\"name\": \"LED18\"},\n{\"name\": \"LED19\"}, {\"name\": \"LED20\"}, {\"name\": \"LED21\"}, {\"name\": \"LED22\"}, {\"name\": \"LED23\"}, {\"name\": \"LED24\"},\n{\"name\": \"LED25\"}, {\"name\": \"LED26\"}, {\"name\": \"LED27\"}, {\"name\": \"LED28\"}, {\"name\": \"LED29\"}, {\"name\": \"LED30\"},\n{\"name\": \"LED31\"}, {\"name\": \"LED32\"}, {\"name\": \"LED33\"}\n]}\n",
+    ),
+    (
+        "M7_C1.json",
+        "{\"features\": [{\"name\": \"FAST\"}, {\"name\": \"SIZE\", \"min\": 1, \"max\": 16}],\n\"constraints\": [\"!FAST || SIZE >= 4\", \"SIZE > 0x10\"]}\n",
+    ),
+    (
+        "M7_C1_syntax.json",
+        "{\"features\": [{\"name\": \"FAST\"}, {\"name\": \"SIZE\", \"min\": 1, \"max\": 16}],\n\"constraints\": [\"!FAST || SIZE >= 4\", \"SIZE >\"]}\n",
+    ),
+    (
+        "M7_C2.json",
+        "{\"features\": [{\"name\": \"FAST\"}, {\"name\": \"SIZE\", \"min\": 1, \"max\": 16}],\n\"constraints\": [\"!FAST || SIZE >= 4\", \"SIZE * SIZE > 4\"]}\n",
+    ),
+    (
+        "M7_C3.json",
+        "{\"features\": [{\"name\": \"FAST\"}, {\"name\": \"SIZE\", \"min\": 1, \"max\": 16}],\n\"constraints\": [\"!FAST || SIZE >= 4\", \"SIZE < 4294967296\"]}\n",
+    ),
+    (
+        "M7_C4.json",
+        "{\"features\": [{\"name\": \"FAST\"}, {\"name\": \"SIZE\", \"min\": 1, \"max\": 16}],\n\"constraints\": [\"!FAST || SIZE >= 4\", \"__GNUC__ >= 4\"]}\n",
+    ),
+    (
+        "M7_C5.json",
+        "{\"features\": [{\"name\": \"PIN\", \"min\": 0, \"max\": 100}],\n\"constraints\": [\"PIN != 1 && PIN != 3 && PIN != 5 && PIN != 7 && PIN != 9 && PIN != 11 && PIN != 13 && PIN != 15 && PIN != 17 && PIN != 19 && PIN != 21 && PIN != 23 && PIN != 25 && PIN != 27 && PIN != 29 && PIN != 31 && PIN != 33 && PIN != 35 && PIN != 37 && PIN != 39 && PIN != 41 && PIN != 43 && PIN != 45 && PIN != 47 && PIN != 49 && PIN != 51 && PIN != 53 && PIN != 55 && PIN != 57 && PIN != 59 && PIN != 61 && PIN != 63 && PIN != 65\"]}\n",
+    ),
+    (
+        "M9.json",
+        "{\"features\": [{\"name\": \"FAST\"}, {\"name\": \"SAFE\"}],\n\"constraints\": [\"FAST || SAFE\", \"!FAST\", \"!SAFE\"]}\n",
+    ),
+    (
+        "buffer.json",
+        "{\"features\": [{\"name\": \"FAST\"}, {\"name\": \"SIZE\", \"min\": 1, \"max\": 16}], \"constraints\": [\"!FAST || SIZE >= 4\"]}\n",
+    ),
+    (
+        "pins.json",
+        "{\"features\": [{\"name\": \"PIN\", \"min\": 0, \"max\": 100}]}\n",
+    ),
 ];
 
 /// The words of each command, with its output and then its line on the error stream.
-pub(crate) const COMMANDS: [(&str, &str); 31] = [
+pub(crate) const COMMANDS: [(&str, &str); 66] = [
     ("plain assertion.c", "7:5: assertion\nalarms: 1\n"),
     ("plain logger.c", "20:9: overflow\nalarms: 1\n"),
     ("plain logger_mended.c", "alarms: 0\n"),
@@ -161,4 +286,81 @@ pub(crate) const COMMANDS: [(&str, &str); 31] = [
         "analyse ring.json ring.c",
         "15:9: zero-divisor if SLOTS <= 7; example SLOTS=4\nalarms: 1\n",
     ),
+    (
+        "analyse buffer.json F13_family.c",
+        "file: F13 at 7:20; example FAST=0 SIZE=1\n",
+    ),
+    (
+        "analyse buffer.json F14_family.c",
+        "file: F14 at 3:5; example FAST=0 SIZE=8\n",
+    ),
+    ("analyse buffer.json F15.c", "file: F15 at 4:20\n"),
+    ("analyse pins.json F16_family.c", "file: F16 at 132:1\n"),
+    ("analyse buffer.json F19.c", "file: F19 at 8:5\n"),
+    ("analyse buffer.json F5.c", "file: F5 at 5:1\n"),
+    ("analyse buffer.json F6.c", "file: F6 at 4:1\n"),
+    ("analyse buffer.json F7.c", "file: F7 at 8:1\n"),
+    ("analyse buffer.json F8_C1.c", "file: F8 C1 at 4:1\n"),
+    ("analyse buffer.json F8_C1_syntax.c", "file: F8 C1 at 4:1\n"),
+    ("analyse buffer.json F8_C2.c", "file: F8 C2 at 4:1\n"),
+    ("analyse buffer.json F8_C3.c", "file: F8 C3 at 4:1\n"),
+    ("analyse buffer.json F8_C4.c", "file: F8 C4 at 4:1\n"),
+    ("analyse pins.json F8_C5.c", "file: F8 C5 at 4:1\n"),
+    ("analyse pins.json F9.c", "file: F9 at 12:1\n"),
+    (
+        "variant buffer.json buffer.c SLOW",
+        "configuration: K1 at word 1\n",
+    ),
+    (
+        "variant buffer.json buffer.c FAST",
+        "configuration: K2 SIZE\n",
+    ),
+    (
+        "variant buffer.json buffer.c SIZE=4 SIZE=8",
+        "configuration: K3 at word 2\n",
+    ),
+    (
+        "variant buffer.json buffer.c SIZE=17",
+        "configuration: K4 at word 1\n",
+    ),
+    (
+        "variant buffer.json buffer.c SIZE=08",
+        "configuration: K4 at word 1\n",
+    ),
+    (
+        "variant buffer.json buffer.c FAST SIZE=2",
+        "configuration: K5\n",
+    ),
+    ("analyse M1.json buffer.c", "model: M1\n"),
+    ("analyse M10.json buffer.c", "model: M10\n"),
+    ("analyse M2.json buffer.c", "model: M2\n"),
+    ("analyse M3.json buffer.c", "model: M3 at feature 2\n"),
+    ("analyse M4.json buffer.c", "model: M4 at feature 3\n"),
+    ("analyse M5.json buffer.c", "model: M5 at feature 1\n"),
+    ("analyse M6.json buffer.c", "model: M6\n"),
+    (
+        "analyse M7_C1.json buffer.c",
+        "model: M7 C1 at constraint 2\n",
+    ),
+    (
+        "analyse M7_C1_syntax.json buffer.c",
+        "model: M7 C1 at constraint 2\n",
+    ),
+    (
+        "analyse M7_C2.json buffer.c",
+        "model: M7 C2 at constraint 2\n",
+    ),
+    (
+        "analyse M7_C3.json buffer.c",
+        "model: M7 C3 at constraint 2\n",
+    ),
+    (
+        "analyse M7_C4.json buffer.c",
+        "model: M7 C4 at constraint 2\n",
+    ),
+    (
+        "analyse M7_C5.json buffer.c",
+        "model: M7 C5 at constraint 1\n",
+    ),
+    ("analyse M9.json buffer.c", "model: M9\n"),
 ];

@@ -1,0 +1,9 @@
+#ifdef FAST
+int limit = 4;
+#endif
+int count;
+int main(void)
+{
+    while (count < limit)
+        count++;
+}

@@ -1,0 +1,6 @@
+int count;
+int main(void)
+{
+    while (count < SIZE)
+        count++;
+}

@@ -1,0 +1,11 @@
+int count;
+int level;
+int main(void)
+{
+    if (count > 8)
+        level = 1;
+#ifdef FAST
+    else
+        level = 2;
+#endif
+}

@@ -1,0 +1,6 @@
+int count;
+int main(void)
+{
+#ifdef FAST
+    count = 1;
+}

@@ -1,0 +1,7 @@
+int count;
+int main(void)
+{
+#ifdef FAST SIZE
+    count = 1;
+#endif
+}

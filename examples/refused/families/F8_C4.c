@@ -1,0 +1,7 @@
+int count;
+int main(void)
+{
+#ifdef __linux__
+    count = 1;
+#endif
+}
