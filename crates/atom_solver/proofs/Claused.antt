@@ -1,5 +1,5 @@
 -- Formulas that must all be true.
-use Rattle.std.proofs.Common.{◌≡◌, ℕ, zero, suc, ◌<◌, ℤ, Bool, true, false, ◌&&◌, List, [], ◌∷◌, ◌++◌, length, get_or, Option, sym, subst, refl, ◌∙◌, arith}
+use Rattle.std.proofs.Common.{◌≡◌, ℕ, zero, suc, ◌<◌, ℤ, Bool, true, false, not, ◌&&◌, List, [], ◌∷◌, ◌++◌, length, get_or, Option, sym, subst, refl, ◌∙◌, arith}
 use Rattle.std.proofs.lemmas.Bool.{false≢true}
 use Rattle.linear_atoms.specs.declared.atoms.Atom.{Atom}
 use Rattle.linear_atoms.specs.declared.atoms.Feature.{Feature}
@@ -71,17 +71,20 @@ void_denied ends atoms ks fs d vs m k t = d vs k t
 pub void_clash : (ends : List Linear) (atoms : List Atom) (old new : List (Option Bool)) (fs : List Formula) → KeepsAll atoms old fs new → ((vs : List ℤ) → AreMet vs ends → Knows new (vector_at atoms vs) → ⊥) → IsVoid ends atoms old fs
 void_clash ends atoms old new fs h c vs m k t = c vs m (h.knows vs k t)
 
-by_truth : (b : Bool) → (b ≡ true → ⊥) → (b ≡ false → ⊥) → ⊥
-by_truth true f g = f refl
-by_truth false f g = g refl
+one_or_other : (b q : Bool) → (b ≡ q → ⊥) → (b ≡ not q → ⊥) → ⊥
+one_or_other true true f g = f refl
+one_or_other true false f g = g refl
+one_or_other false true f g = g refl
+one_or_other false false f g = f refl
 
-pub void_both : (ends : List Linear) (atoms : List Atom) (old new on off : List (Option Bool)) (fs : List Formula) (n : ℕ) → KeepsAll atoms old fs new
-    → ((v : List Bool) → Knows new v → get_or v n false ≡ true → Knows on v) → ((v : List Bool) → Knows new v → get_or v n false ≡ false → Knows off v)
-    → IsVoid ends atoms on fs → IsVoid ends atoms off fs → IsVoid ends atoms old fs
-void_both ends atoms old new on off fs n h f g a b vs m k t =
+-- a test tried with one truth, and then with the other
+pub void_both : (ends : List Linear) (atoms : List Atom) (old new one other : List (Option Bool)) (fs : List Formula) (n : ℕ) (truth : Bool) → KeepsAll atoms old fs new
+    → ((v : List Bool) → Knows new v → get_or v n false ≡ truth → Knows one v) → ((v : List Bool) → Knows new v → get_or v n false ≡ not truth → Knows other v)
+    → IsVoid ends atoms one fs → IsVoid ends atoms other fs → IsVoid ends atoms old fs
+void_both ends atoms old new one other fs n truth h f g a b vs m k t =
     let v = vector_at atoms vs in
     let w : Knows new v = h.knows vs k t in
-    by_truth (get_or v n false) (λ e. a vs m (f v w e) t) (λ e. b vs m (g v w e) t)
+    one_or_other (get_or v n false) truth (λ e. a vs m (f v w e) t) (λ e. b vs m (g v w e) t)
 
 -- ---- what nothing in a box makes true
 

@@ -14,6 +14,7 @@ ghost use Rattle.atom_solver.specs.Truths.{Knows};
 use crate::clauses::{add_clauses, places_at, places_of, propagate_from};
 use crate::cycles::{Edge, edges_of, start_values};
 use crate::end_forms::ends_of;
+use crate::guesses::{preferred, put_known, serve};
 use crate::refuting::is_clash;
 use crate::truths::{has_truth, learn, propagate};
 use cpp_conditions::Formula;
@@ -22,7 +23,7 @@ use linear_atoms::{Atom, Linear, Span};
 use std::alloc::Global;
 
 /// How many choices are made at most for a box.
-pub(crate) const MOST_TURNS: u32 = 1_000;
+pub(crate) const MOST_TURNS: u32 = 8_000;
 
 /// What truths leave to decide of a formula: nothing, or so many tests, and one of these.
 #[derive(Clone, Copy)]
@@ -118,13 +119,17 @@ fn with_truth(
     Ok(made)
 }
 
-/// What is advised of the choice of truths: the order of the atoms of equal terms, the places of the formulas that name each
-/// test, and the edges of the forms of atoms and of the ends of ranges.
-#[derive(Drop)]
-struct Advice {
-    order: Vec<u32>,
-    naming: Vec<Vec<usize>>,
-    edges: Vec<Edge>,
+/// What is asked of truths: which forms are at least 0, the atoms whose truths they are, and the formulas that must be true. Of the
+/// choice of truths it is advised in which order atoms of equal terms stand, which of the formulas name each test, and which
+/// edges the forms of atoms and the ends of ranges are.
+#[derive(Clone, Copy)]
+struct Case<'a> {
+    ends: &'a [Linear],
+    atoms: &'a [Atom],
+    clauses: &'a [Formula],
+    order: &'a [u32],
+    naming: &'a [Vec<usize>],
+    edges: &'a [Edge],
 }
 
 /// Where a choice begins: the places of the formulas that are looked at first, and values of the nodes of the edges, which may
@@ -140,90 +145,72 @@ struct Start<'a> {
 #[tactic(auto, using(crate::proofs::Claused::void_denied, crate::proofs::Claused::void_clash))]
 fn is_void(
     alloc: Global,
-    ends: &[Linear],
-    atoms: &[Atom],
-    advice: &Advice,
-    clauses: &[Formula],
+    case: &Case<'_>,
     places: &[usize],
     lowered: &mut [i64],
     known: &mut [Option<bool>],
 ) -> Result<bool, NoMemory>
-    requires { AreRising ends.now }
-    ensures knows { KeepsAll atoms.now known.old clauses.now known.new }
+    requires { AreRising case.now.ends.now }
+    ensures knows { KeepsAll case.now.atoms.now known.old case.now.clauses.now known.new }
     ensures out { IfOk result (λ answer. answer ≡ true
-        → IsVoid ends.now atoms.now known.old clauses.now) }
+        → IsVoid case.now.ends.now case.now.atoms.now known.old case.now.clauses.now) }
 {
-    let (order, naming) = (&advice.order, &advice.naming);
+    let (atoms, rounds) = (case.atoms, case.atoms.len());
     if propagate_from(
         alloc,
         atoms,
-        order,
-        clauses,
-        naming,
+        case.order,
+        case.clauses,
+        case.naming,
         places,
         known,
-        atoms.len(),
+        rounds,
     )? {
         return Ok(true);
     }
-    if is_clash(alloc, ends, atoms, &advice.edges, known, lowered)? {
+    if is_clash(alloc, case.ends, atoms, case.edges, known, lowered)? {
         return Ok(true);
     }
     Ok(false)
 }
 
 /// Whether no truths, with those that are known, make all formulas true where further forms are at least 0. A false answer
-/// says nothing. It answers too how many choices are left.
+/// says nothing, and then the truths are kept that nothing refutes. It answers too how many choices are left.
 fn is_refuted(
     alloc: Global,
-    ends: &[Linear],
-    atoms: &[Atom],
-    advice: &Advice,
-    clauses: &[Formula],
+    case: &Case<'_>,
     from: &Start<'_>,
     known: &mut [Option<bool>],
     turns: u32,
+    found: &mut [Option<bool>],
 ) -> Result<(bool, u32), NoMemory>
-    requires { AreRising ends.now }
+    requires { AreRising case.now.ends.now }
     ensures { IfOk result (λ answer. answer.0 ≡ true
-        → IsVoid ends.now atoms.now known.old clauses.now) }
+        → IsVoid case.now.ends.now case.now.atoms.now known.old case.now.clauses.now) }
 {
     let mut lowered = Vec::from_slice(alloc, from.lowered)?;
-    if is_void(
-        alloc,
-        ends,
-        atoms,
-        advice,
-        clauses,
-        from.places,
-        &mut lowered,
-        known,
-    )? {
+    if is_void(alloc, case, from.places, &mut lowered, known)? {
         return Ok((true, turns));
     }
+    let Some(number) = narrowest(case.clauses, known) else {
+        put_known(known, found);
+        return Ok((false, turns));
+    };
     if turns == 0 {
         return Ok((false, 0));
     }
-    match narrowest(clauses, known) {
-        None => Ok((false, turns)),
-        Some(number) => {
-            let from = Start {
-                places: places_at(&advice.naming, number as usize),
-                lowered: &lowered,
-            };
-            let mut on = with_truth(alloc, known, number, true)?;
-            let next = turns - 1;
-            let (is_out, rest) = is_refuted(
-                alloc, ends, atoms, advice, clauses, &from, &mut on, next,
-            )?;
-            if !is_out {
-                return Ok((false, rest));
-            }
-            let mut off = with_truth(alloc, known, number, false)?;
-            let next = rest.min(turns - 1);
-            is_refuted(alloc, ends, atoms, advice, clauses, &from, &mut off, next)
-        }
+    let from = Start {
+        places: places_at(case.naming, number as usize),
+        lowered: &lowered,
+    };
+    let first = preferred(found, number);
+    let mut one = with_truth(alloc, known, number, first)?;
+    let (is_out, rest) = is_refuted(alloc, case, &from, &mut one, turns - 1, found)?;
+    if !is_out {
+        return Ok((false, rest));
     }
+    let mut other = with_truth(alloc, known, number, !first)?;
+    is_refuted(alloc, case, &from, &mut other, rest.min(turns - 1), found)
 }
 
 /// Adds the truths that atoms have at each configuration of a box, from a place on.
@@ -305,35 +292,45 @@ fn is_untrue_where(
     asked: &Formula,
     known: &mut [Option<bool>],
     turns: u32,
+    found: &mut [Option<bool>],
 ) -> Result<(bool, u32), NoMemory>
     requires { AreRanges (ranges spans.now) }
     ensures { IfOk result (λ answer. answer.0 ≡ true → (values : List ℤ) → IsWithin (ranges spans.now) values
         → Knows known.old (vector_at atoms.now values)
         → true_on (vector_at atoms.now values) (formula asked.now) ≡ true → ⊥) }
 {
+    let ends = ends_of(alloc, spans, atoms)?;
+    let edges = edges_of(alloc, &ends, atoms)?;
+    if serve(alloc, asked, &edges, known, found)? {
+        return Ok((false, turns));
+    }
     propagate(atoms, order, asked, known, atoms.len());
     if has_truth(asked, false, known) {
         return Ok((true, turns));
     }
-    let ends = ends_of(alloc, spans, atoms)?;
     let mut clauses = Vec::new(alloc);
     add_clauses(alloc, asked, known, &mut clauses)?;
-    let advice = Advice {
-        order: sharing(alloc, atoms, order)?,
-        naming: places_of(alloc, atoms.len(), &clauses)?,
-        edges: edges_of(alloc, &ends, atoms)?,
+    let order = sharing(alloc, atoms, order)?;
+    let naming = places_of(alloc, atoms.len(), &clauses)?;
+    let lowered = start_values(alloc, &edges)?;
+    let case = Case {
+        ends: &ends,
+        atoms,
+        clauses: &clauses,
+        order: &order,
+        naming: &naming,
+        edges: &edges,
     };
-    let lowered = start_values(alloc, &advice.edges)?;
     let from = Start {
         places: &[],
         lowered: &lowered,
     };
-    let answer = is_refuted(alloc, &ends, atoms, &advice, &clauses, &from, known, turns)?;
+    let answer = is_refuted(alloc, &case, &from, known, turns, found)?;
     Ok(answer)
 }
 
 /// Whether no configuration of the box makes the formula true, with so many choices at most, and how many of them are left. A
-/// false answer says nothing.
+/// false answer says nothing, but truths that nothing refutes are kept, and tried first the next time.
 pub(crate) fn is_untrue(
     alloc: Global,
     spans: &[Span],
@@ -341,6 +338,7 @@ pub(crate) fn is_untrue(
     order: &[u32],
     asked: &Formula,
     turns: u32,
+    found: &mut [Option<bool>],
 ) -> Result<(bool, u32), NoMemory>
     requires atoms { AreAtoms (length spans.now) atoms.now }
     requires ranges { AreRanges (ranges spans.now) }
@@ -348,6 +346,6 @@ pub(crate) fn is_untrue(
         → true_on (vector_at atoms.now values) (formula asked.now) ≡ true → ⊥) }
 {
     let mut known = known_within(alloc, spans, atoms)?;
-    let answer = is_untrue_where(alloc, spans, atoms, order, asked, &mut known, turns)?;
+    let answer = is_untrue_where(alloc, spans, atoms, order, asked, &mut known, turns, found)?;
     Ok(answer)
 }

@@ -11,7 +11,6 @@ use crate::truths::{follow_all, force, has_truth, residual};
 use cpp_conditions::Formula;
 use fam_outer::NoMemory;
 use linear_atoms::Atom;
-use linear_atoms::slices::cut;
 use std::alloc::Global;
 
 /// Whether a formula is the constant true.
@@ -150,16 +149,12 @@ fn force_all(clauses: &[Formula], places: &[usize], known: &mut [Option<bool>]) 
     ensures knows { (v : List Bool) → Knows known.old v → AreTrue v clauses.now → Knows known.new v }
     ensures out { result ≡ true → IsDenied known.old clauses.now }
 {
-    match cut(places) {
-        None => false,
-        Some((place, behind)) => {
-            if force_at(clauses, *place, known) {
-                true
-            } else {
-                force_all(clauses, behind, known)
-            }
+    for place in places {
+        if force_at(clauses, *place, known) {
+            return true;
         }
     }
+    false
 }
 
 /// Adds the truths that tests must have where the formulas at some places are true, and those that follow from these. It answers

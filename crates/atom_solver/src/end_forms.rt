@@ -57,40 +57,39 @@ fn below_high(alloc: Global, spans: &[Span], place: u32) -> Result<Option<Linear
     }
 }
 
-/// Adds the form of the low end of the range at a place.
-#[tactic(auto, using(crate::proofs::Ended::adds_none, crate::proofs::Ended::adds_form))]
-fn add_low(
-    alloc: Global,
-    spans: &[Span],
-    place: u32,
-    forms: &mut Vec<Linear>,
-) -> Result<(), NoMemory>
+/// An end of a range.
+#[derive(Clone, Copy)]
+enum End {
+    Low,
+    High,
+}
+
+/// The form that is at least 0 where a feature is not beyond an end of its range.
+fn end_form(alloc: Global, spans: &[Span], place: u32, end: End) -> Result<Option<Linear>, NoMemory>
     requires place { place < length spans.now }
     requires ranges { AreRanges (ranges spans.now) }
-    ensures { IfOk result (λ _. AddsWithin (ranges spans.now) forms.old.items forms.new.items) }
+    ensures { IfOk result (λ made. MatchOption made (Unit {0}) (λ f. IsMetWithin (ranges spans.now) f)) }
 {
-    match above_low(alloc, spans, place)? {
-        None => Ok(()),
-        Some(form) => {
-            forms.push(form)?;
-            Ok(())
-        }
+    match end {
+        End::Low => above_low(alloc, spans, place),
+        End::High => below_high(alloc, spans, place),
     }
 }
 
-/// Adds the form of the high end of the range at a place.
+/// Adds the form of an end of the range at a place.
 #[tactic(auto, using(crate::proofs::Ended::adds_none, crate::proofs::Ended::adds_form))]
-fn add_high(
+fn add_end(
     alloc: Global,
     spans: &[Span],
     place: u32,
+    end: End,
     forms: &mut Vec<Linear>,
 ) -> Result<(), NoMemory>
     requires place { place < length spans.now }
     requires ranges { AreRanges (ranges spans.now) }
     ensures { IfOk result (λ _. AddsWithin (ranges spans.now) forms.old.items forms.new.items) }
 {
-    match below_high(alloc, spans, place)? {
+    match end_form(alloc, spans, place, end)? {
         None => Ok(()),
         Some(form) => {
             forms.push(form)?;
@@ -111,8 +110,8 @@ fn add_both(
     requires ranges { AreRanges (ranges spans.now) }
     ensures { IfOk result (λ _. AddsWithin (ranges spans.now) forms.old.items forms.new.items) }
 {
-    add_low(alloc, spans, place, forms)?;
-    add_high(alloc, spans, place, forms)?;
+    add_end(alloc, spans, place, End::Low, forms)?;
+    add_end(alloc, spans, place, End::High, forms)?;
     Ok(())
 }
 

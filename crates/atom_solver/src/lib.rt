@@ -10,6 +10,7 @@ mod end_forms;
 mod ends;
 mod facts;
 mod freeing;
+mod guesses;
 mod labels;
 mod narrowing;
 mod numbering;

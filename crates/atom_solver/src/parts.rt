@@ -11,11 +11,13 @@ ghost use Rattle.atom_solver.specs.Spans.{ranges, meets, FindsIn};
 ghost use Rattle.atom_solver.specs.Truths.{StandsForAll};
 
 use crate::branching::MOST_TURNS;
+use crate::guesses::low_truths;
 use crate::labels::{marks_by, naming_of};
 use crate::numbering::{Question, numbered};
 use crate::parting::{part_of, with_values};
 use crate::refuting::are_opposed;
-use crate::searching::search;
+use crate::searching::{Sought, search};
+use crate::spans::CutPlace;
 use cpp_conditions::Condition;
 use fam_outer::NoMemory;
 use linear_atoms::slices::cut;
@@ -30,6 +32,7 @@ fn first_of(
     conditions: &[Condition],
     question: &Question,
     naming: &[Vec<usize>],
+    found: &mut [Option<bool>],
 ) -> Result<Option<Config>, NoMemory>
     requires fit { AreFit (length spans.now) conditions.now }
     requires ranges { AreRanges (ranges spans.now) }
@@ -40,17 +43,15 @@ fn first_of(
     if are_opposed(alloc, spans, conditions, &every)? {
         return Ok(None);
     }
-    search(
-        alloc,
-        spans,
-        conditions,
+    let sought = Sought {
+        constraints: conditions,
         naming,
-        &every,
-        &question.atoms,
-        &question.order,
-        &question.asked,
-        MOST_TURNS,
-    )
+        wanted: &every,
+        atoms: &question.atoms,
+        order: &question.order,
+        asked: &question.asked,
+    };
+    search(alloc, spans, &sought, MOST_TURNS, CutPlace::LowEnd, found)
 }
 
 /// The first configuration of the box at which conditions are true.
@@ -66,7 +67,8 @@ fn first_alone(
     let question = numbered(alloc, conditions)?;
     let named = marks_by(alloc, spans.len(), conditions)?;
     let naming = naming_of(alloc, spans.len(), &named)?;
-    first_of(alloc, spans, conditions, &question, &naming)
+    let mut found = low_truths(alloc, spans, &question.atoms)?;
+    first_of(alloc, spans, conditions, &question, &naming, &mut found)
 }
 
 /// The box with the first values of a part alone; None where it has no solution.
@@ -137,6 +139,7 @@ pub(crate) fn first_by_parts(
     question: &Question,
     naming: &[Vec<usize>],
     parts: &[Vec<bool>],
+    found: &mut [Option<bool>],
 ) -> Result<Option<Config>, NoMemory>
     requires fit { AreFit (length spans.now) conditions.now }
     requires ranges { AreRanges (ranges spans.now) }
@@ -145,7 +148,7 @@ pub(crate) fn first_by_parts(
 {
     match all_solved(alloc, spans, conditions, parts)? {
         None => Ok(None),
-        Some(inner) => match first_of(alloc, &inner, conditions, question, naming)? {
+        Some(inner) => match first_of(alloc, &inner, conditions, question, naming, found)? {
             None => Ok(None),
             Some(config) => Ok(Some(config)),
         },

@@ -11,6 +11,7 @@ ghost use Rattle.atom_solver.specs.Narrowing.{HasAllValid};
 ghost use Rattle.atom_solver.specs.Solutions.{Finds, IsImplied, all_hold};
 
 use crate::branching::{MOST_TURNS, is_untrue};
+use crate::guesses::low_truths;
 use crate::labels::{labels_of, marks_by, naming_of, parts_of, untouched};
 use crate::narrowing::narrowed;
 use crate::numbering::{Question, numbered};
@@ -55,12 +56,13 @@ impl<'a> marker::Model for Prepared<'a> {
 }
 
 /// The box of all valid configurations that bounds leave of the ranges of a model. Where there is none, bounds are not
-/// asked: they may take long to show it.
+/// asked: they may take long to show it. Truths that were found are tried first.
 fn valid_box(
     alloc: Global,
     model: &Model,
     question: &Question,
     naming: &[Vec<usize>],
+    found: &mut [Option<bool>],
 ) -> Result<Vec<Span>, NoMemory>
     requires constraints { AreFit (length model.now.features) model.now.constraints }
     requires ranges { AreRanges model.now.features }
@@ -75,6 +77,7 @@ fn valid_box(
         &question.order,
         &question.asked,
         MOST_TURNS,
+        found,
     )?;
     if is_out {
         return Ok(whole);
@@ -98,10 +101,20 @@ impl<'a> Prepared<'a> {
         let count = model.features.items().len();
         let named = marks_by(alloc, count, constraints)?;
         let naming = naming_of(alloc, count, &named)?;
-        let spans = valid_box(alloc, model, &question, &naming)?;
+        let whole = spans_of(alloc, model.features.items())?;
+        let mut found = low_truths(alloc, &whole, &question.atoms)?;
+        let spans = valid_box(alloc, model, &question, &naming, &mut found)?;
         let labels = labels_of(alloc, count, &named)?;
         let parts = parts_of(alloc, &labels, &named)?;
-        let least = first_by_parts(alloc, &spans, constraints, &question, &naming, &parts)?;
+        let least = first_by_parts(
+            alloc,
+            &spans,
+            constraints,
+            &question,
+            &naming,
+            &parts,
+            &mut found,
+        )?;
         Ok(Prepared {
             model,
             spans,

@@ -14,10 +14,11 @@ ghost use Rattle.atom_solver.specs.Truths.{StandsFor, StandsForAll};
 use crate::branching::{MOST_TURNS, is_untrue};
 use crate::deciding::is_ruled_out;
 use crate::freeing::reduced;
+use crate::guesses::low_truths;
 use crate::numbering::{Question, asked_too};
 use crate::points::at_lows;
 use crate::refuting::are_opposed;
-use crate::spans::cut_box;
+use crate::spans::{CutPlace, cut_box};
 use cpp_conditions::{Condition, Formula, Model};
 use fam_outer::NoMemory;
 use linear_atoms::{Atom, Config, Span};
@@ -36,65 +37,66 @@ fn turns_within(turns: u32, left: u32) -> u32 {
     }
 }
 
+/// What is sought: where constraints are true, of which it is advised which name each feature, and what is wanted is; and both as
+/// a formula over the numbers of atoms, with an order of these.
+#[derive(Clone, Copy)]
+pub(crate) struct Sought<'a> {
+    pub(crate) constraints: &'a [Condition],
+    pub(crate) naming: &'a [Vec<usize>],
+    pub(crate) wanted: &'a Condition,
+    pub(crate) atoms: &'a [Atom],
+    pub(crate) order: &'a [u32],
+    pub(crate) asked: &'a Formula,
+}
+
 /// The first configuration of the box at which the constraints and what is wanted are true, with so many choices of truths at
-/// most for the box.
+/// most for the box. It is advised where the box is cut, and which truths were found last that nothing refutes.
 #[tactic(auto, using(crate::proofs::Learned::out_by))]
 pub(crate) fn search(
     alloc: Global,
     spans: &[Span],
-    constraints: &[Condition],
-    naming: &[Vec<usize>],
-    wanted: &Condition,
-    atoms: &[Atom],
-    order: &[u32],
-    asked: &Formula,
+    sought: &Sought<'_>,
     turns: u32,
+    cut_place: CutPlace,
+    found: &mut [Option<bool>],
 ) -> Result<Option<Config>, NoMemory>
-    requires constraints { AreFit (length spans.now) constraints.now }
-    requires wanted { IsFit (length spans.now) (proposition wanted.now) }
+    requires constraints { AreFit (length spans.now) sought.now.constraints.now }
+    requires wanted { IsFit (length spans.now) (proposition sought.now.wanted.now) }
     requires ranges { AreRanges (ranges spans.now) }
-    requires asked { StandsFor constraints.now (proposition wanted.now) atoms.now (formula asked.now) }
+    requires asked { StandsFor sought.now.constraints.now (proposition sought.now.wanted.now) sought.now.atoms.now
+        (formula sought.now.asked.now) }
     ensures { IfOk result (λ found. FindsIn (ranges spans.now)
-        (meets constraints.now (proposition wanted.now)) found) }
+        (meets sought.now.constraints.now (proposition sought.now.wanted.now)) found) }
 {
+    let (constraints, wanted, atoms) = (sought.constraints, sought.wanted, sought.atoms);
     if is_ruled_out(spans, constraints, wanted) {
         return Ok(None);
     }
-    let (is_out, left) = is_untrue(alloc, spans, atoms, order, asked, turns)?;
+    let (is_out, left) = is_untrue(
+        alloc,
+        spans,
+        atoms,
+        sought.order,
+        sought.asked,
+        turns,
+        found,
+    )?;
     if is_out {
         return Ok(None);
     }
     let turns = turns_within(turns, left);
-    let narrower = reduced(alloc, spans, constraints, naming, wanted)?;
+    let narrower = reduced(alloc, spans, constraints, sought.naming, wanted)?;
     let inner = narrower.as_slice();
     match at_lows(alloc, inner, constraints, wanted)? {
         Some(config) => Ok(Some(config)),
-        None => match cut_box(alloc, inner, atoms)? {
+        None => match cut_box(alloc, inner, atoms, cut_place)? {
             None => Ok(None),
-            Some(halves) => match search(
-                alloc,
-                &halves.lower,
-                constraints,
-                naming,
-                wanted,
-                atoms,
-                order,
-                asked,
-                turns,
-            )? {
-                Some(config) => Ok(Some(config)),
-                None => search(
-                    alloc,
-                    &halves.upper,
-                    constraints,
-                    naming,
-                    wanted,
-                    atoms,
-                    order,
-                    asked,
-                    turns,
-                ),
-            },
+            Some(halves) => {
+                match search(alloc, &halves.lower, sought, turns, CutPlace::LowEnd, found)? {
+                    Some(config) => Ok(Some(config)),
+                    None => search(alloc, &halves.upper, sought, turns, halves.next, found),
+                }
+            }
         },
     }
 }
@@ -125,15 +127,21 @@ pub(crate) fn first_valid(
         return Ok(None);
     }
     let whole = asked_too(alloc, question, wanted)?;
-    search(
-        alloc,
-        spans,
+    let sought = Sought {
         constraints,
         naming,
         wanted,
-        &whole.atoms,
-        &whole.order,
-        &whole.asked,
+        atoms: &whole.atoms,
+        order: &whole.order,
+        asked: &whole.asked,
+    };
+    let mut found = low_truths(alloc, spans, &whole.atoms)?;
+    search(
+        alloc,
+        spans,
+        &sought,
         MOST_TURNS,
+        CutPlace::LowEnd,
+        &mut found,
     )
 }

@@ -1,5 +1,5 @@
 use Rattle.std.proofs.lemmas.Result.{IfOk-weaker}
-use Rattle.std.proofs.Common.{◌≡◌, ℕ, Bool, List, true, false, get_or, sym, subst}
+use Rattle.std.proofs.Common.{◌≡◌, ℕ, Bool, List, true, false, not, get_or, sym, subst}
 use Rattle.atom_solver.specs.Clauses.{IsVoid}
 use Rattle.atom_solver.specs.Truths.{Knows}
 use Rattle.atom_solver.proofs.Claused.{void_both}
@@ -7,16 +7,18 @@ use Rattle.atom_solver.proofs.branching.+is_refuted.Goals as goal
 
 pub returns : goal.returns
 returns t c =
-    let ends = c.args.ends.now in
-    let atoms = c.args.atoms.now in
+    let case = c.args.case.now in
+    let ends = case.ends.now in
+    let atoms = case.atoms.now in
+    let fs = case.clauses.now in
     let old = c.args.known.now in
     let new = c.is_void.new.known in
-    let fs = c.args.clauses.now in
     let n = c.in-Some.number in
-    let on = c.deref_mut-in-Some.result.now in
-    let off = c.deref_mut-in-Some-2.result.now in
-    let f : (v : List Bool) → Knows new v → get_or v n false ≡ true → Knows on v = λ v k e. subst (λ x. Knows x v) (sym c.deref_mut-in-Some.ensures.value) (c.in_ok-on-in-Some.ensures v k e) in
-    let g : (v : List Bool) → Knows new v → get_or v n false ≡ false → Knows off v = λ v k e. subst (λ x. Knows x v) (sym c.deref_mut-in-Some-2.ensures.value) (c.in_ok-off-in-Some.ensures v k e) in
-    IfOk-weaker c.is_refuted-in-Some.result (λ (answer : Bool × ℕ). answer.0 ≡ true → IsVoid ends atoms off fs) (λ (answer : Bool × ℕ). answer.0 ≡ true → IsVoid ends atoms old fs)
-    (λ answer k done. void_both ends atoms old new on off fs n c.is_void.ensures.knows f g (c.in_ok-is_out-in-Some.ensures c.if-not-is_out.false) (k done))
-    c.is_refuted-in-Some.ensures
+    let truth = c.preferred-first.result in
+    let one = c.deref_mut-2.result.now in
+    let other = c.deref_mut-3.result.now in
+    let f : (v : List Bool) → Knows new v → get_or v n false ≡ truth → Knows one v = λ v k e. subst (λ x. Knows x v) (sym c.deref_mut-2.ensures.value) (c.in_ok-one.ensures v k e) in
+    let g : (v : List Bool) → Knows new v → get_or v n false ≡ not truth → Knows other v = λ v k e. subst (λ x. Knows x v) (sym c.deref_mut-3.ensures.value) (c.in_ok-other.ensures v k e) in
+    IfOk-weaker c.is_refuted-2.result (λ (answer : Bool × ℕ). answer.0 ≡ true → IsVoid ends atoms other fs) (λ (answer : Bool × ℕ). answer.0 ≡ true → IsVoid ends atoms old fs)
+    (λ answer k done. void_both ends atoms old new one other fs n truth c.is_void.ensures.knows f g (c.in_ok-is_out.ensures c.if-not-is_out.false) (k done))
+    c.is_refuted-2.ensures
