@@ -8,3 +8,4 @@ pub mod Placed
 pub mod Stops
 pub mod Wellformed
 pub mod ReadBack
+pub mod Recalled

@@ -3,6 +3,7 @@ pub mod Alarms
 pub mod Dropping
 pub mod Forming
 pub mod Invariants
+pub mod Known
 pub mod LeafTexts
 pub mod Regions
 pub mod Texts

@@ -1,7 +1,7 @@
 //! The alarms of a family, with their regions.
 #![tactic(auto)]
 
-ghost use Rattle.std.specs.Prelude.{◌≡◌, length, map, IfOk};
+ghost use Rattle.std.specs.Prelude.{◌≡◌, length, map, IfOk, OnOk};
 ghost use Rattle.std.specs.List.{All};
 ghost use Rattle.linear_atoms.specs.Atoms.{AreAtoms, AreLiterals};
 ghost use Rattle.decision_tree.specs.Plain.{TestsBelow};
@@ -9,9 +9,11 @@ ghost use Rattle.decision_tree.specs.View.{plain};
 ghost use Rattle.lifted_analysis.specs.declared.findings.AlarmTree.{AlarmTree};
 ghost use Rattle.alarm_report.specs.declared.alarms.FamilyAlarm.{FamilyAlarm};
 ghost use Rattle.alarm_report.specs.Adding.{AddsTree};
+ghost use Rattle.alarm_report.specs.Known.{AreKnown};
 ghost use Rattle.alarm_report.specs.Alarms.{AreAlarms, AreKeyed, CoversStops, stop_tree, alarm_in};
 
-use crate::finding::regions_over;
+use crate::finding::regions_known;
+use crate::known::Known;
 use crate::region::Region;
 use atom_solver::Prepared;
 use c_tree::Kind;
@@ -84,6 +86,7 @@ fn placed(
 /// Adds the alarms of a tree.
 fn push_alarms(
     alloc: Global,
+    known: &mut Known,
     prepared: &Prepared,
     atoms: &[Atom],
     tree: &AlarmTree,
@@ -91,10 +94,12 @@ fn push_alarms(
 ) -> Result<(), NoMemory>
     requires atoms { AreAtoms (length prepared.now.features) atoms.now }
     requires tests { TestsBelow (length atoms.now) (plain tree.now.tree) }
-    ensures { IfOk result (λ _. AddsTree prepared.now atoms.now
+    requires known { AreKnown prepared.now atoms.now known.old }
+    ensures added { IfOk result (λ _. AddsTree prepared.now atoms.now
         (stop_tree tree.now) list.old.items list.new.items) }
+    ensures known { OnOk result (AreKnown prepared.now atoms.now known.new) }
 {
-    let regions = regions_over(alloc, prepared, atoms, &tree.tree)?;
+    let regions = regions_known(alloc, known, prepared, atoms, &tree.tree)?;
     let mut alarms = placed(alloc, tree.place, tree.kind, regions.into_vec())?;
     list.append(&mut alarms)?;
     Ok(())
@@ -119,9 +124,10 @@ pub fn alarms_of(
     ensures fit { IfOk result (λ made. All
         (λ (a : FamilyAlarm). AreLiterals (length prepared.now.features) a.region.literals) made) }
 {
+    let mut known = Known::new(alloc);
     let mut list = Vec::new(alloc);
     'trees: for tree in trees {
-        push_alarms(alloc, prepared, atoms, tree, &mut list)?;
+        push_alarms(alloc, &mut known, prepared, atoms, tree, &mut list)?;
     }
     Ok(FamilyAlarms::from_vec(list))
 }

@@ -1,7 +1,7 @@
 //! The invariants of a family, with their regions.
 #![tactic(auto)]
 
-ghost use Rattle.std.specs.Prelude.{◌≡◌, ◌<◌, length, map, IfOk};
+ghost use Rattle.std.specs.Prelude.{◌≡◌, ◌<◌, length, map, IfOk, OnOk};
 ghost use Rattle.std.specs.List.{All};
 ghost use Rattle.linear_atoms.specs.Atoms.{AreAtoms, AreLiterals};
 ghost use Rattle.decision_tree.specs.Paths.{paths_of};
@@ -10,9 +10,10 @@ ghost use Rattle.decision_tree.specs.View.{plain};
 ghost use Rattle.lifted_analysis.specs.declared.findings.PlaceTree.{PlaceTree};
 ghost use Rattle.alarm_report.specs.declared.invariants.FamilyInvariant.{FamilyInvariant};
 ghost use Rattle.alarm_report.specs.Adding.{AddsPath, AddsLeafTree};
+ghost use Rattle.alarm_report.specs.Known.{AreKnown};
 ghost use Rattle.alarm_report.specs.Invariants.{AreOfPaths, AreInvariants, ArePlaced, CoversPlaces, leaf_tree, invariant};
 
-use crate::finding::region_of;
+use crate::known::{Known, region_known};
 use crate::region::Region;
 use atom_solver::Prepared;
 use decision_tree::{Kept, Path};
@@ -35,6 +36,7 @@ pub struct FamilyInvariant<L> {
 /// Adds the invariant of a path, if some valid configuration meets it.
 fn push_invariant<L: Leaf>(
     alloc: Global,
+    known: &mut Known,
     prepared: &Prepared,
     atoms: &[Atom],
     place: Place,
@@ -43,11 +45,13 @@ fn push_invariant<L: Leaf>(
 ) -> Result<(), NoMemory>
     requires atoms { AreAtoms (length prepared.now.features) atoms.now }
     requires tests { All (λ turn. turn.0 < length atoms.now) path.now.turns }
-    ensures { IfOk result (λ _. AddsPath prepared.now atoms.now place
+    requires known { AreKnown prepared.now atoms.now known.old }
+    ensures added { IfOk result (λ _. AddsPath prepared.now atoms.now place
         (path.now.turns, L.value path.now.leaf.value.value) (map (invariant L.value) list.old.items)
         (map (invariant L.value) list.new.items)) }
+    ensures known { OnOk result (AreKnown prepared.now atoms.now known.new) }
 {
-    match region_of(alloc, prepared, atoms, path.turns.items())? {
+    match region_known(alloc, known, prepared, atoms, path.turns.items())? {
         None => Ok(()),
         Some(region) => {
             let leaf = path.leaf.clone()?;
@@ -64,20 +68,23 @@ fn push_invariant<L: Leaf>(
 /// The invariants of a tree.
 fn invariants_at<L: Leaf>(
     alloc: Global,
+    known: &mut Known,
     prepared: &Prepared,
     atoms: &[Atom],
     tree: &PlaceTree<L>,
 ) -> Result<Vec<FamilyInvariant<L>>, NoMemory>
     requires atoms { AreAtoms (length prepared.now.features) atoms.now }
     requires tests { TestsBelow (length atoms.now) (plain tree.now.tree) }
-    ensures { IfOk result (λ made. AreOfPaths prepared.now atoms.now tree.now.place
+    requires known { AreKnown prepared.now atoms.now known.old }
+    ensures made { IfOk result (λ made. AreOfPaths prepared.now atoms.now tree.now.place
         (paths_of (leaf_tree L.value tree.now).tree) (map (invariant L.value) made.items)) }
+    ensures known { OnOk result (AreKnown prepared.now atoms.now known.new) }
 {
     let place = tree.place;
     let paths = tree.tree.paths(alloc)?;
     let mut list = Vec::new(alloc);
     'paths: for path in &paths {
-        push_invariant(alloc, prepared, atoms, place, path, &mut list)?;
+        push_invariant(alloc, known, prepared, atoms, place, path, &mut list)?;
     }
     Ok(list)
 }
@@ -85,6 +92,7 @@ fn invariants_at<L: Leaf>(
 /// Adds the invariants of a tree.
 fn push_invariants<L: Leaf>(
     alloc: Global,
+    known: &mut Known,
     prepared: &Prepared,
     atoms: &[Atom],
     tree: &PlaceTree<L>,
@@ -92,10 +100,12 @@ fn push_invariants<L: Leaf>(
 ) -> Result<(), NoMemory>
     requires atoms { AreAtoms (length prepared.now.features) atoms.now }
     requires tests { TestsBelow (length atoms.now) (plain tree.now.tree) }
-    ensures { IfOk result (λ _. AddsLeafTree prepared.now atoms.now (leaf_tree L.value tree.now)
+    requires known { AreKnown prepared.now atoms.now known.old }
+    ensures added { IfOk result (λ _. AddsLeafTree prepared.now atoms.now (leaf_tree L.value tree.now)
         (map (invariant L.value) list.old.items) (map (invariant L.value) list.new.items)) }
+    ensures known { OnOk result (AreKnown prepared.now atoms.now known.new) }
 {
-    let mut own = invariants_at(alloc, prepared, atoms, tree)?;
+    let mut own = invariants_at(alloc, known, prepared, atoms, tree)?;
     list.append(&mut own)?;
     Ok(())
 }
@@ -123,9 +133,10 @@ pub fn invariants_of<L: Leaf>(
         (λ (i : FamilyInvariant L). AreLiterals
         (length prepared.now.features) i.region.literals) made.items) }
 {
+    let mut known = Known::new(alloc);
     let mut list = Vec::new(alloc);
     'trees: for tree in trees {
-        push_invariants(alloc, prepared, atoms, tree, &mut list)?;
+        push_invariants(alloc, &mut known, prepared, atoms, tree, &mut list)?;
     }
     Ok(list)
 }

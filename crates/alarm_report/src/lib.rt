@@ -6,6 +6,7 @@ mod dropping;
 pub mod finding;
 pub mod invariants;
 mod joining;
+mod known;
 pub mod laws;
 pub mod leaf_texts;
 mod literals;

@@ -1,9 +1,11 @@
 //! Regions.
 #![tactic(auto)]
 
-ghost use Rattle.std.specs.Prelude.{◌≡◌};
+ghost use Rattle.std.specs.Prelude.{◌≡◌, IfOk};
 
+use fam_outer::NoMemory;
 use linear_atoms::{Config, Literal};
+use std::alloc::Global;
 use std::marker::Model;
 
 /// A list of literals.
@@ -21,12 +23,35 @@ impl Model for Literals {
     ghost view = { λ literals. literals.list.items };
 }
 
+/// Copies of literals.
+fn copies(alloc: Global, literals: &[Literal]) -> Result<Vec<Literal>, NoMemory>
+    ensures { IfOk result (λ made. made.items ≡ literals.now) }
+{
+    let mut made = Vec::new(alloc);
+    for literal in literals {
+        made.push(Literal {
+            atom: literal.atom.copy(alloc)?,
+            positive: literal.positive,
+        })?;
+    }
+    Ok(made)
+}
+
 impl Literals {
     /// These literals.
     pub fn from_vec(list: Vec<Literal>) -> Literals
         ensures { result ≡ list.items }
     {
         Literals { list }
+    }
+
+    /// A copy of the literals.
+    pub fn copy(&self, alloc: Global) -> Result<Literals, NoMemory>
+        ensures { IfOk result (λ made. made ≡ self.now) }
+    {
+        Ok(Literals {
+            list: copies(alloc, self.items())?,
+        })
     }
 
     /// The literals.
@@ -42,6 +67,20 @@ impl Literals {
 pub struct Region {
     pub literals: Literals,
     pub example: Config,
+}
+
+impl Region {
+    /// A copy of the region.
+    pub fn copy(&self, alloc: Global) -> Result<Region, NoMemory>
+        ensures { IfOk result (λ made. made ≡ self.now) }
+    {
+        Ok(Region {
+            literals: self.literals.copy(alloc)?,
+            example: Config {
+                values: self.example.values.copy(alloc)?,
+            },
+        })
+    }
 }
 
 /// A list of regions.

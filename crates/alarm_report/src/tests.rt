@@ -6,11 +6,15 @@ ghost use Rattle.cpp_conditions.specs.Validity.{AreFit};
 ghost use Rattle.decision_tree.specs.Plain.{TestsBelow, IsReducedFrom};
 ghost use Rattle.decision_tree.specs.View.{plain};
 
+use crate::alarms::alarms_of;
 use crate::finding::regions;
 use crate::region::Region;
+use atom_solver::Prepared;
+use c_tree::Kind;
 use cpp_conditions::{Condition, Conditions, Features, Model};
 use decision_tree::Tree;
-use fam_outer::Text;
+use fam_outer::{Place, Text};
+use lifted_analysis::AlarmTree;
 use linear_atoms::{Atom, Feature, Linear};
 use std::alloc::Global;
 use std::test::Fail;
@@ -128,6 +132,47 @@ fn a_path_without_a_configuration_has_no_region(rt: HostRuntime) -> Result<(), F
     match found.items() {
         [region] => assert!(rt; is_region(region, &[(1, true)], [1, 0])),
         _ => return Err(Fail::new("one region")),
+    }
+    Ok(())
+}
+
+/// The vectors at which a statement may stop.
+fn stops(line: u32, kind: Kind, tree: Tree<bool>) -> AlarmTree
+    ensures { result ≡ record { place = record { line = line; column = 5 }; kind = kind; tree = tree } }
+{
+    AlarmTree {
+        place: Place { line, column: 5 },
+        kind,
+        tree,
+    }
+}
+
+// `!A` in both trees, and `A && N >= 3` in the second
+#[test]
+fn alarms_with_one_path_have_equal_regions(rt: HostRuntime) -> Result<(), Fail> {
+    let alloc = rt.alloc();
+    let model = model(alloc)?;
+    let prepared = Prepared::new(alloc, &model)?;
+    let atoms = atoms(alloc)?;
+    let yes = Tree::leaf(alloc, true)?;
+    let no = Tree::leaf(alloc, false)?;
+    let high = Tree::node(alloc, 1, &no, &yes)?;
+    let off = Tree::node(alloc, 0, &yes, &no)?;
+    let either = Tree::node(alloc, 0, &yes, &high)?;
+    let trees = [
+        stops(4, Kind::Overflow, off),
+        stops(6, Kind::ZeroDivisor, either),
+    ];
+    let found = alarms_of(alloc, &prepared, &atoms, &trees)?;
+    match found.items() {
+        [first, second, third] => {
+            assert!(rt; is_region(&first.region, &[(1, false)], [0, 3]));
+            assert!(rt; is_region(&second.region, &[(1, false)], [0, 3]));
+            assert!(rt; is_region(&third.region, &[(1, true), (3, true)], [1, 3]));
+            assert_eq!(rt; second.place, Place { line: 6, column: 5 });
+            assert_eq!(rt; second.kind, Kind::ZeroDivisor);
+        }
+        _ => return Err(Fail::new("three alarms")),
     }
     Ok(())
 }

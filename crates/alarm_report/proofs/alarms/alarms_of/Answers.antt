@@ -2,11 +2,15 @@ use Rattle.std.proofs.Common.{length, map, sym, subst, ap, []}
 use Rattle.alarm_report.specs.Alarms.{AreAlarms, stop_tree}
 use Rattle.alarm_report.specs.Alarms as stops
 use Rattle.alarm_report.proofs.Dropped.{taken}
+use Rattle.alarm_report.proofs.Recalled.{none_known}
 use Rattle.alarm_report.proofs.Stops.{covers_stops, alarms_fit, seen_below}
 use Rattle.alarm_report.proofs.alarms.alarms_of.Goals as goal
 
 pub trees-init : goal.trees-init
-trees-init c = subst (λ xs. AreAlarms c.args.prepared.now c.args.atoms.now [] xs) (sym c.new-list.ensures.items) stops.no_tree
+trees-init c = record {
+  alarms = subst (λ xs. AreAlarms c.args.prepared.now c.args.atoms.now [] xs) (sym c.new-list.ensures.items) stops.no_tree;
+  known = none_known c.args.prepared.now c.args.atoms.now c.new-known.result c.new-known.ensures;
+}
 
 pub returns-clause-alarms : goal.returns-clause-alarms
 returns-clause-alarms c =
@@ -14,7 +18,7 @@ returns-clause-alarms c =
     let atoms = c.args.atoms.now in
     let all = ap (map stop_tree) (taken c.args.trees.now c.trees.tree-index c.trees-test.false) in
     subst (λ xs. AreAlarms m atoms (map stop_tree c.args.trees.now) xs) (sym c.from_vec.ensures)
-    (subst (λ ts. AreAlarms m atoms ts c.trees.list.items) all c.trees.invariant)
+    (subst (λ ts. AreAlarms m atoms ts c.trees.list.items) all c.trees.invariant.alarms)
 
 pub returns-clause-cover : goal.returns-clause-cover
 returns-clause-cover c =

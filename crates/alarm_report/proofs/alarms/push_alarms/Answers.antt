@@ -3,8 +3,8 @@ use Rattle.alarm_report.specs.Alarms.{AreAlarms, stop_tree, alarm_in}
 use Rattle.alarm_report.proofs.Stops.{alarms_more}
 use Rattle.alarm_report.proofs.alarms.push_alarms.Goals as goal
 
-pub returns : goal.returns
-returns c =
+pub returns-clause-added : goal.returns-clause-added
+returns-clause-added c =
     let m = c.args.prepared.now in
     let atoms = c.args.atoms.now in
     let t = stop_tree c.args.tree.now in

@@ -6,16 +6,16 @@ use Rattle.alarm_report.proofs.Leading.{map_joined}
 use Rattle.alarm_report.proofs.Placed.{placed, void_added, region_added}
 use Rattle.alarm_report.proofs.invariants.push_invariant.Goals as goal
 
-pub returns-in-None : goal.returns-in-None
-returns-in-None g c =
+pub returns-in-None-clause-added : goal.returns-in-None-clause-added
+returns-in-None-clause-added g c =
     let value = g.L.Leaf.value in
     let m = c.args.prepared.now in
     let p = c.args.path.now in
     let k : IsRegionOf m c.args.atoms.now p.turns None = search rules in
     void_added m c.args.atoms.now c.args.place (p.turns, value p.leaf.value.value) (map (invariant value) c.args.list.now.items) k
 
-pub returns-in_ok-push-in-Some : goal.returns-in_ok-push-in-Some
-returns-in_ok-push-in-Some g c =
+pub returns-in_ok-push-in-Some-clause-added : goal.returns-in_ok-push-in-Some-clause-added
+returns-in_ok-push-in-Some-clause-added g c =
     let value = g.L.Leaf.value in
     let m = c.args.prepared.now in
     let p = c.args.path.now in

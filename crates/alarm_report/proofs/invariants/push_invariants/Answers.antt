@@ -4,8 +4,8 @@ use Rattle.alarm_report.proofs.Leading.{map_joined}
 use Rattle.alarm_report.proofs.Placed.{invariants_more}
 use Rattle.alarm_report.proofs.invariants.push_invariants.Goals as goal
 
-pub returns : goal.returns
-returns g c =
+pub returns-clause-added : goal.returns-clause-added
+returns-clause-added g c =
     let value = g.L.Leaf.value in
     let m = c.args.prepared.now in
     let atoms = c.args.atoms.now in
@@ -15,4 +15,4 @@ returns g c =
     let added : map (invariant value) c.append.new.self.items ≡ map (invariant value) old ++ map (invariant value) own =
     ap (map (invariant value)) c.in_ok-append.ensures.items ∙ map_joined (invariant value) old own in
     λ ts h. subst (λ xs. AreInvariants m atoms (ts ++ t ∷ []) xs) (sym added)
-    (invariants_more m atoms ts (map (invariant value) old) t (map (invariant value) own) h c.in_ok-own.ensures)
+    (invariants_more m atoms ts (map (invariant value) old) t (map (invariant value) own) h c.in_ok-own.ensures.made)

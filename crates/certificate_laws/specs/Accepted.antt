@@ -1,0 +1,80 @@
+-- What a check answers of a certificate that says what an analysis found.
+use Rattle.std.specs.Prelude.{◌≡◌, ℕ, ℤ, true, false, List, length, map}
+use Rattle.std.specs.List.{All}
+use Rattle.c_tree.specs.Places.{program_places}
+use Rattle.c_tree.specs.Tree.{Whole}
+use Rattle.c_tree.specs.Whole.{IsProgram}
+use Rattle.linear_atoms.specs.declared.atoms.Atom.{Atom}
+use Rattle.cpp_conditions.specs.declared.formulas.Formula.{Formula}
+use Rattle.cpp_conditions.specs.declared.models.Model.{Model}
+use Rattle.cpp_conditions.specs.Numbering.{vector_at}
+use Rattle.cpp_conditions.specs.Propositions.{true_on}
+use Rattle.cpp_conditions.specs.Validity.{plain, IsValid}
+use Rattle.cpp_conditions.specs.View.{formula}
+use Rattle.leaf_domain.specs.Leaves.{LeafValue, LeafMeaning, Alike, Answers, is_nothing_of}
+use Rattle.lifted_analysis.specs.Canon.{IsTreeOf}
+use Rattle.lifted_analysis.specs.Lines.{set_from}
+use Rattle.lifted_analysis.specs.Promises.{leaf_at, stop_at, by_kind}
+use Rattle.lifted_analysis.specs.Turns.{loop_places}
+use Rattle.plain_analysis.specs.declared.options.Options.{Options}
+use Rattle.alarm_report.specs.declared.alarms.FamilyAlarm.{FamilyAlarm}
+use Rattle.alarm_report.specs.Alarms.{StopTree, AreAlarms}
+use Rattle.alarm_report.specs.Invariants.{LeafTree, Invariant, AreInvariants}
+use Rattle.certificate_reader.specs.declared.certificates.Certificate.{Certificate}
+use Rattle.certificate_text.specs.Loops.{trees_at}
+use Rattle.invariant_certificate.specs.declared.verdicts.Verdict.{Verdict}
+use Rattle.invariant_certificate.specs.declared.verdicts.Verdict.TheVariants.{Yes}
+use Rattle.invariant_certificate.specs.Verdicts.{IsVerdict}
+use Rattle.certificate_laws.specs.ReadBack.{bounds_from, IsReadBack}
+
+-- ---- kinds of leaves
+
+-- a leaf that holds a store, over variables with such names
+pub record IsSome (M : LeafMeaning) (names : List (List ℕ)) (v : LeafValue) : Type 0 where
+  pub valid : M.valid v
+  pub holds : is_nothing_of v ≡ false
+  pub count : v.variables ≡ length names
+
+-- setting each variable of one such leaf to its bounds in another makes the other: a leaf is what its bounds say
+abbrev pub AreToldByBounds : LeafMeaning → Type 0
+AreToldByBounds M = (names : List (List ℕ)) (d v : LeafValue) → IsSome M names d → IsSome M names v → set_from M 0 (bounds_from M v 0 names) d ≡ v
+
+-- what has a join below it has both leaves below it
+abbrev pub AreBelowJoins : LeafMeaning → Type 0
+AreBelowJoins M = (a b x : LeafValue) → Alike M a b → Answers M a x → M.leq (M.join a b) x ≡ true → (M.leq a x ≡ true) × (M.leq b x ≡ true)
+
+-- ---- analyses and their certificates
+
+module _ (M : LeafMeaning) (o : Options) (model : Model) (p : Whole) (conditions : List Formula) (atoms : List Atom) where
+  -- the one tree of each place in the analysis of a family with these options, where the formula is true at the vector of each
+  -- valid configuration
+  pub record AreLeaves (places : List LeafTree) : Type 0 where
+    pub plausible : Formula
+    pub valid : (values : List ℤ) → IsValid (plain model) values → true_on (vector_at atoms values) (formula plausible) ≡ true
+    pub keys : map (λ (t : LeafTree). t.place) places ≡ program_places p
+    pub are : All (λ (t : LeafTree). IsTreeOf (length atoms) (leaf_at M o p conditions plausible t.place) t.tree) places
+
+  -- the same of each place and kind
+  pub record AreStops (stops : List StopTree) : Type 0 where
+    pub plausible : Formula
+    pub valid : (values : List ℤ) → IsValid (plain model) values → true_on (vector_at atoms values) (formula plausible) ≡ true
+    pub keys : map (λ (t : StopTree). (t.place, t.kind)) stops ≡ by_kind (program_places p)
+    pub are : All (λ (t : StopTree). IsTreeOf (length atoms) (stop_at M o p conditions plausible (t.place, t.kind)) t.tree) stops
+
+  -- the certificate says the invariants of the loops and the alarms of such an analysis
+  pub record IsOfAnalysis (c : Certificate) : Type 0 where
+    pub places : List LeafTree
+    pub stops : List StopTree
+    pub invariants : List Invariant
+    pub alarms : List FamilyAlarm
+    pub leaves_are : AreLeaves places
+    pub stops_are : AreStops stops
+    pub loops_are : AreInvariants model atoms (trees_at (loop_places p.body) places) invariants
+    pub alarms_are : AreAlarms model atoms stops alarms
+    pub read : IsReadBack M model atoms p.names o.mode invariants alarms c
+
+-- a check answers yes of a certificate of an analysis of a family
+abbrev pub AnalysesAreAccepted : LeafMeaning → Type 0
+AnalysesAreAccepted M =
+    (o : Options) (model : Model) (p : Whole) (conditions : List Formula) (atoms : List Atom) (c : Certificate) (verdict : Verdict)
+    → IsProgram p → IsOfAnalysis M o model p conditions atoms c → IsVerdict M model p conditions atoms c verdict → verdict ≡ Yes

@@ -1,0 +1,5 @@
+pub mod ReadBack
+pub mod Written
+pub mod Laws
+pub mod Accepted
+pub mod Certified

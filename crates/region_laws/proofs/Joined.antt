@@ -1,0 +1,106 @@
+-- The texts of regions.
+use Rattle.std.proofs.Common.{◌≡◌, ℕ, ℤ, Bool, true, false, ◌&&◌, if◌then◌else◌, List, [], ◌∷◌, ◌++◌, length, map, codes, flat_map, Result, Ok, Err, inl, inr, refl, sym, ap, subst, ◌∙◌}
+use Rattle.fam_outer.specs.declared.faults.ConditionFault.{ConditionFault}
+use Rattle.fam_outer.specs.declared.faults.ConditionFault.TheVariants as faults
+use Rattle.std.proofs.Math.Bool.{and_assoc}
+use Rattle.std.proofs.lemmas.Bool.{false≢true}
+use Rattle.std.proofs.lemmas.List.{append-nil, append_assoc}
+use Rattle.linear_atoms.specs.declared.atoms.Atom.{Atom}
+use Rattle.linear_atoms.specs.declared.atoms.Feature.{Feature}
+use Rattle.linear_atoms.specs.declared.atoms.Literal.{Literal}
+use Rattle.linear_atoms.specs.Atoms.{AreLiterals, IsWithin, literal_holds}
+use Rattle.linear_atoms.specs.Texts.{literal_text}
+use Rattle.cpp_conditions.specs.Expressions.{Expression, between, bit, is_nonzero}
+use Rattle.cpp_conditions.specs.Grammar.{CSpells, ReadsAs, Spells, has_reserved, is_small_condition, judged, no_tokens, too_deep, no_condition, read}
+use Rattle.cpp_conditions.specs.Meaning.{is_linear, cond}
+use Rattle.cpp_conditions.specs.Propositions.{Proposition, true_at}
+use Rattle.cpp_conditions.proofs.Lexemes.{one_list}
+use Rattle.cpp_conditions.proofs.Once.{has_value, spelled_once}
+use Rattle.atom_solver.specs.Solutions.{all_hold}
+use Rattle.alarm_report.specs.Texts.{region_text}
+use Rattle.feature_model.specs.Features.{AreDistinct, AreNamed, HaveSwitches}
+use Rattle.region_laws.proofs.Marks.{both}
+use Rattle.region_laws.proofs.Spelling.{IsTold, any, looser, with_value, with_text, told_one, told_both, both_mark, c_spells}
+use Rattle.region_laws.specs.Spelled.{SpellsRegion, IsOfSize}
+use Rattle.region_laws.proofs.Compared.{told_literal}
+
+both_bits : (a b : Bool) → between both (bit a) (bit b) ≡ bit (a && b)
+both_bits true true = refl
+both_bits true false = refl
+both_bits false b = refl
+
+and_true : (a : Bool) → a ≡ (a && true)
+and_true true = refl
+and_true false = refl
+
+bit_told : (b : Bool) → is_nonzero (bit b) ≡ b
+bit_told true = refl
+bit_told false = refl
+
+-- ` && ` and a literal, for each
+abbrev behind : List Feature → List Literal → List ℕ
+behind features ls = flat_map (λ (u : List ℕ). codes " && " ++ u) (map (literal_text features) ls)
+
+-- ---- refusals
+
+abbrev refusal : ConditionFault → Result (Proposition Atom) ConditionFault
+refusal fault = Err fault
+
+err_is : (f g : ConditionFault) → refusal f ≡ refusal g → f ≡ g
+err_is f g e = cc
+
+by_size : (small : Bool) (p : Proposition Atom) (fault : ConditionFault) → (if small then Ok p else Err faults.TooLarge) ≡ Err fault → IsOfSize fault
+by_size true p fault e = absurd cc
+by_size false p fault e = inr (sym (err_is faults.TooLarge fault e))
+
+judged_by_size : (features : List Feature) (e : Expression) (fault : ConditionFault) → has_reserved e ≡ false → is_linear features e ≡ true → judged features e ≡ Err fault → IsOfSize fault
+judged_by_size features e fault allowed linear is =
+    by_size (is_small_condition features e) (cond features e) fault
+    (sym (ap (λ b. Judged b (is_linear features e)) allowed ∙ ap (Judged false) linear) ∙ is)
+  where
+    Judged : Bool → Bool → Result (Proposition Atom) ConditionFault
+    Judged reserved linear = if reserved then Err faults.ReservedName else (if linear then (if is_small_condition features e then Ok (cond features e) else Err faults.TooLarge) else Err faults.NonLinear)
+
+refused : (features : List Feature) (bytes : List ℕ) (e : Expression) (r : Result (Proposition Atom) ConditionFault) (fault : ConditionFault) → CSpells e bytes → has_reserved e ≡ false → is_linear features e ≡ true
+    → ReadsAs features bytes r → r ≡ Err fault → IsOfSize fault
+refused features bytes e _ fault c allowed linear (no_tokens none) is = absurd (none c.tokens c.read)
+refused features bytes e _ fault c allowed linear (too_deep ts s deep) is = inl (sym (err_is faults.TooDeep fault is))
+refused features bytes e _ fault c allowed linear (no_condition ts s few none) is = absurd (none e (subst (λ vs. Spells 6 vs e) (one_list c.read ts s) c.spells))
+refused features bytes e _ fault c allowed linear (read ts d s few spells) is =
+    let same : d ≡ e = spelled_once bytes d e (record { tokens = ts; read = s; spells = spells }) c in
+    judged_by_size features e fault allowed linear (subst (λ x. judged features x ≡ Err fault) same is)
+
+module _ {features : List Feature} (named : AreNamed features) (distinct : AreDistinct features) (switches : HaveSwitches features) where
+  told_behind : (text : List ℕ) (f : List ℤ → Bool) (ls : List Literal) → AreLiterals (length features) ls → IsTold features 5 false text (λ values. bit (f values))
+      → IsTold features 5 false (text ++ behind features ls) (λ values. bit (f values && all_hold ls values))
+  told_behind text f [] are t = with_text (text ++ []) (sym (append-nil text)) (with_value (λ values. bit (f values && true)) (λ values within. ap bit (and_true (f values))) t)
+  told_behind text f (l ∷ ls) are t =
+      let one = told_literal named distinct switches l are.0 in
+      let own = literal_text features l in
+      let two : IsTold features 5 false (text ++ (codes " && " ++ own)) (λ values. bit (f values && literal_holds l values)) =
+      with_value (λ values. bit (f values && literal_holds l values)) (λ values within. both_bits (f values) (literal_holds l values))
+      (told_both features both false false false (λ e. absurd (false≢true e)) (codes " && ") text own (λ values. bit (f values)) (λ values. bit (literal_holds l values)) both_mark t (looser one) refl) in
+      with_text (text ++ ((codes " && " ++ own) ++ behind features ls)) (append_assoc text (codes " && " ++ own) (behind features ls))
+      (with_value (λ values. bit (f values && (literal_holds l values && all_hold ls values))) (λ values within. ap bit (and_assoc (f values) (literal_holds l values) (all_hold ls values)))
+      (told_behind (text ++ (codes " && " ++ own)) (λ values. f values && literal_holds l values) ls are.1 two))
+
+  pub told_region : (ls : List Literal) → AreLiterals (length features) ls → IsTold features 6 false (region_text features ls) (λ values. bit (all_hold ls values))
+  told_region [] are = looser (looser (looser (looser (looser (looser (any (told_one features)))))))
+  told_region (l ∷ ls) are = looser (told_behind (literal_text features l) (literal_holds l) ls are.1 (looser (looser (told_literal named distinct switches l are.0))))
+
+  -- what a region's text is read as is true exactly where all literals hold
+  pub read_truly : (ls : List Literal) (p : Proposition Atom) (values : List ℤ) → AreLiterals (length features) ls → ReadsAs features (region_text features ls) (Ok p) → IsWithin features values
+      → true_at values p ≡ all_hold ls values
+  read_truly ls p values are r within =
+      let t = told_region ls are in
+      has_value features (region_text features ls) p r t.tree values (c_spells t) within ∙ ap is_nonzero (t.value_is values within) ∙ bit_told (all_hold ls values)
+
+  pub region_spelled : (ls : List Literal) → AreLiterals (length features) ls → SpellsRegion features ls
+  region_spelled ls are =
+      let t = told_region ls are in
+      record { expression = t.tree; spelled = c_spells t; true_where = λ values within. ap is_nonzero (t.value_is values within) ∙ bit_told (all_hold ls values) }
+
+  pub refused_by_size : (ls : List Literal) (fault : ConditionFault) → AreLiterals (length features) ls → ReadsAs features (region_text features ls) (Err fault) → IsOfSize fault
+  refused_by_size ls fault are r =
+      let t = told_region ls are in
+      refused features (region_text features ls) t.tree (Err fault) fault (c_spells t) t.allowed t.linear r refl

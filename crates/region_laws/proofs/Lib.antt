@@ -1,0 +1,7 @@
+pub mod Marks
+pub mod Named
+pub mod Numerals
+pub mod Spelling
+pub mod Summed
+pub mod Compared
+pub mod Joined
