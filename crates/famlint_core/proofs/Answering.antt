@@ -32,10 +32,13 @@ one_answer once analysis bytes (Err (fault.File code place example)) (Err (fault
     ap (λ (y : FileCode × Place). Err (fault.File y.0 y.1 example)) f ∙ ap (λ (y : Option (List ℕ)). Err (fault.File c p y)) (none ∙ sym nothing)
 one_answer once analysis bytes (Ok d) (Err (fault.Model given)) h k = elim k [ ]
 one_answer once analysis bytes (Ok d) (Err (fault.Settings given name)) h k = elim k [ ]
+one_answer once analysis bytes (Ok d) (Err (fault.Certificate given)) h k = elim k [ ]
 one_answer once analysis bytes (Err (fault.Model given)) b h k = elim h [ ]
 one_answer once analysis bytes (Err (fault.Settings given name)) b h k = elim h [ ]
+one_answer once analysis bytes (Err (fault.Certificate given)) b h k = elim h [ ]
 one_answer once analysis bytes (Err (fault.File code place example)) (Err (fault.Model given)) h k = elim k [ ]
 one_answer once analysis bytes (Err (fault.File code place example)) (Err (fault.Settings given name)) h k = elim k [ ]
+one_answer once analysis bytes (Err (fault.File code place example)) (Err (fault.Certificate given)) h k = elim k [ ]
 
 -- each file is read as a program, or has a refusal
 abbrev pub SomeReading : Type 0

@@ -9,6 +9,8 @@ use Rattle.plain_analysis.specs.declared.alarm.Alarm.{Alarm}
 use Rattle.plain_analysis.specs.declared.options.Options.{Options}
 use Rattle.alarm_report.specs.declared.alarms.FamilyAlarm.{FamilyAlarm}
 use Rattle.configuration_advice.specs.declared.comparing.Advice.{Advice}
+use Rattle.invariant_certificate.specs.declared.verdicts.Verdict.{Verdict}
+use Rattle.invariant_certificate.specs.declared.verdicts.Verdict.TheVariants.{Yes, NotInductive, Unlisted}
 use Rattle.famlint_core.specs.Advised.{advice_status}
 use Rattle.famlint_core.specs.declared.request.Analysis.{Analysis}
 use Rattle.famlint_core.specs.declared.fault.Done.{Done}
@@ -26,6 +28,7 @@ use Rattle.famlint_core.specs.declared.request.VariantTask.{VariantTask}
 use Rattle.famlint_core.specs.declared.request.VariantTask.TheVariants as task
 use Rattle.famlint_core.specs.declared.selected.Selected.{Selected}
 use Rattle.famlint_core.specs.Answers.{Contents, IsAccepted, IsDone, IsTold, Answers, plain_done, meaning_of}
+use Rattle.famlint_core.specs.Checked.{verdict_status}
 use Rattle.famlint_core.specs.Endings.{IsEnded, EndsWith, status_at}
 use Rattle.famlint_core.specs.FamilyReports.{IsFamilyDone, family_status}
 use Rattle.famlint_core.specs.Faults.{status_of}
@@ -46,6 +49,7 @@ refused_high : (f : Fault) → 3 ≤ status_of f
 refused_high (fault.Model given) = omega arith
 refused_high (fault.File code place example) = omega arith
 refused_high (fault.Settings given name) = omega arith
+refused_high (fault.Certificate given) = omega arith
 
 -- at 0 and 1 the whole output was appended, of which this holds
 pub appended : (P : ℕ → List ℕ → Type 0) (came : Result Done Stop) (role : Role) (status : ℕ) (out out' err err' : Option (List ℕ)) (outs outs' errs errs' : ℕ)
@@ -83,7 +87,13 @@ family_status_low alarms = elim (nat_lt 0 (length alarms)) as (λ b. (if b then 
 family_low : (M : LeafMeaning) (o : Options) (t : FamilyTask) (l : ProductLine) (done : Done) → IsFamilyDone M o t l done → done.status ≤ 1
 family_low M o families.Alarms l done (alarms, are, e) = rw e (family_status_low alarms)
 family_low M o families.Invariants l done (invariants, alarms, are, have, e) = rw e (family_status_low alarms)
+family_low M o families.Certificate l done (loops, alarms, are, have, e) = rw e (family_status_low alarms)
 family_low M o families.Sizes l done (alarms, are, e) = rw e (family_status_low alarms)
+
+verdict_low : (verdict : Verdict) (done : Done) → done.status ≡ verdict_status verdict → done.status ≤ 1
+verdict_low Yes done e = omega (arith, e)
+verdict_low (NotInductive place config) done e = omega (arith, e)
+verdict_low (Unlisted place kind config) done e = omega (arith, e)
 
 advice_low : (found : Option Advice) (done : Done) → done.status ≡ advice_status found → done.status ≤ 1
 advice_low None done e = omega (arith, e)
@@ -94,6 +104,7 @@ answered_low (request.Plain file analysis) told done (p, reads, e) = plain_low a
 answered_low (request.Variant model file settings t) told done (s, selected, is) = done_low t s done is
 answered_low (request.Family model file analysis t) told done (l, line, is) = family_low (meaning_of analysis.domain) analysis.options t l done is
 answered_low (request.Generate number analysis) told done (l, line, is) = family_low (meaning_of analysis.domain) analysis.options families.Sizes l done is
+answered_low (request.Check model file certificate) told done (l, line, is) = verdict_low is.verdict done is.status
 answered_low (request.Advice model file settings analysis) told done (s, selected, is) = advice_low is.found done is.status
 answered_low (request.Features model) told done (m, is, uses) = let e : done.status ≡ 0 = uses.status in omega (arith, e)
 

@@ -366,6 +366,7 @@ pub done_as : (M : LeafMeaning) (o : Options) (task : FamilyTask) (l : ProductLi
     → AreGoodAlarms M o l alarms → IsGoodText M o task l alarms text → status ≡ family_status alarms → IsFamilyDone M o task l (record { text = text; status = status })
 done_as M o tasks.Alarms l alarms text status good is e = (alarms, good.are, rw (is, e) refl)
 done_as M o tasks.Invariants l alarms text status good is e = (is.invariants, alarms, is.good.are, good.are, rw (is.is, e) refl)
+done_as M o tasks.Certificate l alarms text status good is e = (is.loops, alarms, is.are, good.are, rw (is.is, e) refl)
 done_as M o tasks.Sizes l alarms text status good is e = (alarms, good.are, rw (is, e) refl)
 
 pub promised_as : (M : LeafMeaning) (o : Options) (task : FamilyTask) (l : ProductLine) (alarms : List FamilyAlarm) (text : List ℕ) (status : ℕ)
@@ -373,4 +374,6 @@ pub promised_as : (M : LeafMeaning) (o : Options) (task : FamilyTask) (l : Produ
 promised_as M o tasks.Alarms l alarms text status good is e = (alarms, is, subst (λ n. AreAlarmsOfAll M o l alarms n) (sym e) good.all)
 promised_as M o tasks.Invariants l alarms text status good is e =
     (is.invariants, alarms, is.is, is.good.all, subst (λ n. AreAlarmsOfAll M o l alarms n) (sym e) good.all)
+promised_as M o tasks.Certificate l alarms text status good is e =
+    (is.loops, alarms, is.is, subst (λ n. AreAlarmsOfAll M o l alarms n) (sym e) good.all)
 promised_as M o tasks.Sizes l alarms text status good is e = (alarms, is, subst (λ n. AreAlarmsOfAll M o l alarms n) (sym e) good.all)

@@ -1,7 +1,6 @@
 -- How many places a generated family has.
 use Rattle.std.proofs.Common.{◌≡◌, length, map, sym, ap, ◌∙◌}
 use Rattle.std.proofs.lemmas.List.{length-map}
-use Rattle.fam_outer.specs.declared.faults.Place.{Place}
 use Rattle.c_tree.specs.Places.{program_places}
 use Rattle.c_tree.specs.View.{whole}
 use Rattle.leaf_domain.specs.Leaves.{LeafValue, LeafMeaning}

@@ -1,6 +1,9 @@
 pub mod Advising
 pub mod Analysed
 pub mod Answering
+pub mod Certified
+pub mod Certifying
+pub mod Checking
 pub mod Ended
 pub mod Foretold
 pub mod Generated

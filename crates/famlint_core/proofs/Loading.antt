@@ -11,6 +11,8 @@ use Rattle.feature_model.specs.Models as models
 use Rattle.feature_model.specs.Stages.{told_of}
 use Rattle.c_parser.proofs.Readings.{reads_too_long}
 use Rattle.linear_atoms.specs.declared.atoms.Config.{Config}
+use Rattle.certificate_reader.specs.declared.certificates.Certificate.{Certificate}
+use Rattle.certificate_reader.specs.declared.certificates.CertificateFault.TheVariants.{TooLong as TooLongCertificate}
 use Rattle.famlint_core.specs.declared.request.Analysis.{Analysis}
 use Rattle.famlint_core.specs.declared.fault.Done.{Done}
 use Rattle.famlint_core.specs.declared.fault.Fault.{Fault}
@@ -22,7 +24,9 @@ use Rattle.famlint_core.specs.declared.product_line.ProductLine.{ProductLine}
 use Rattle.famlint_core.specs.declared.request.FamilyTask.{FamilyTask}
 use Rattle.famlint_core.specs.declared.request.VariantTask.{VariantTask}
 use Rattle.famlint_core.specs.declared.selected.Selected.{Selected}
-use Rattle.famlint_core.specs.Answers.{Contents, AnswersPlain, AnswersVariant, AnswersFamily}
+use Rattle.famlint_core.specs.Answers.{Contents, AnswersPlain, AnswersVariant, AnswersFamily, AnswersCheck}
+use Rattle.famlint_core.specs.Checked.{IsCertificateFor, IsLoadedForCheck}
+use Rattle.famlint_core.specs.Checked as checked
 use Rattle.famlint_core.specs.Loads.{Comes, IsReadFault, IsOneOf, IsText, IsFileText, IsModel, IsFamilyFile, IsFamily}
 use Rattle.famlint_core.specs.ProductLines.{IsProductLine, ReadsProductLine, IsLoadedFor}
 use Rattle.famlint_core.specs.ProductLines as lines
@@ -107,3 +111,45 @@ pub variant_refused : (task : VariantTask) (settings : List (List ℕ)) (told : 
 variant_refused task settings told (stop.Refused given) h = h
 variant_refused task settings told stop.ReadFault h = h
 variant_refused task settings told stop.NoMemory h = h
+
+-- ---- and CERTIFICATE
+
+-- a certificate's text that is refused
+pub certificate_refused : (l : ProductLine) (bytes : List ℕ) (s : Stop) → Comes {X = List ℕ} (IsText 16777216 (fault.Certificate TooLongCertificate) bytes) (Err s)
+    → Comes {X = Certificate} (IsCertificateFor l bytes) (Err s)
+certificate_refused l bytes (stop.Refused given) h = subst (λ (x : Fault). IsCertificateFor l bytes (Err x)) (sym h.1) h.0
+certificate_refused l bytes stop.ReadFault h = h
+certificate_refused l bytes stop.NoMemory h = h
+
+pub check_no_line : (told : Contents) (s : Stop) → Comes {X = ProductLine} (ReadsProductLine told.model told.file) (Err s) → Comes {X = Done} (AnswersCheck told) (Err s)
+check_no_line told (stop.Refused given) h = checked.no_product_line h
+check_no_line told stop.ReadFault h = h
+check_no_line told stop.NoMemory h = h
+
+pub check_no_certificate : (told : Contents) (l : ProductLine) (s : Stop) → IsProductLine told.model told.file l
+    → Comes {X = Certificate} (IsCertificateFor l told.certificate) (Err s) → Comes {X = Done} (AnswersCheck told) (Err s)
+check_no_certificate told l (stop.Refused given) read h = checked.no_certificate l read h
+check_no_certificate told l stop.ReadFault read h = h
+check_no_certificate told l stop.NoMemory read h = h
+
+-- CERTIFICATE is loaded where MODEL and FILE are accepted
+third_of : (failed : Option (List ℕ)) (model_path file_path certificate_path m f : List ℕ) (l : ProductLine) → IsProductLine m f l
+    → IsOneOf failed (certificate_path ∷ []) → IsLoadedForCheck model_path file_path certificate_path m f failed
+third_of failed model_path file_path certificate_path m f l read (inl e) = inr (e, l, read)
+third_of failed model_path file_path certificate_path m f l read (inr h) = absurd h
+
+pub loaded_third : (failed : Option (List ℕ)) (model_path file_path certificate_path m f : List ℕ) (l : ProductLine) (s : Stop) → IsProductLine m f l
+    → (IsReadFault {X = Certificate} (Err s) → IsOneOf failed (certificate_path ∷ [])) → IsReadFault {X = Done} (Err s)
+    → IsLoadedForCheck model_path file_path certificate_path m f failed
+loaded_third failed model_path file_path certificate_path m f l (stop.Refused given) read path h = absurd h
+loaded_third failed model_path file_path certificate_path m f l stop.ReadFault read path h = third_of failed model_path file_path certificate_path m f l read (path h)
+loaded_third failed model_path file_path certificate_path m f l stop.NoMemory read path h = absurd h
+
+-- one of the first two, or the third
+pub one_of_first : (failed : Option (List ℕ)) (a b c : List ℕ) → IsOneOf failed (a ∷ b ∷ []) → IsOneOf failed (a ∷ b ∷ c ∷ [])
+one_of_first failed a b c (inl e) = inl e
+one_of_first failed a b c (inr (inl e)) = inr (inl e)
+one_of_first failed a b c (inr (inr h)) = absurd h
+
+pub one_of_third : (failed : Option (List ℕ)) (a b c : List ℕ) → IsOneOf failed (c ∷ []) → IsOneOf failed (a ∷ b ∷ c ∷ [])
+one_of_third failed a b c h = inr (inr h)

@@ -69,13 +69,16 @@ no_model_fault : VariantLaws → (m : List ℕ) (a : Model) (f : Fault) → IsMo
 no_model_fault laws m a (fault.Model f) h k = ok_or_err (plain a) f (laws.models m (Ok (plain a)) (Err f) h k)
 no_model_fault laws m a (fault.File code place example) h k = absurd k
 no_model_fault laws m a (fault.Settings given name) h k = absurd k
+no_model_fault laws m a (fault.Certificate given) h k = absurd k
 
 same_model_fault : VariantLaws → (m : List ℕ) (f g : Fault) → IsModel m (Err f) → IsModel m (Err g) → f ≡ g
 same_model_fault laws m (fault.Model f) (fault.Model g) h k = ap (λ (x : ModelFault). fault.Model x) (same_err f g (laws.models m (Err f) (Err g) h k))
 same_model_fault laws m (fault.Model f) (fault.File code place example) h k = absurd k
 same_model_fault laws m (fault.Model f) (fault.Settings given name) h k = absurd k
+same_model_fault laws m (fault.Model f) (fault.Certificate given) h k = absurd k
 same_model_fault laws m (fault.File code place example) g h k = absurd h
 same_model_fault laws m (fault.Settings given name) g h k = absurd h
+same_model_fault laws m (fault.Certificate given) g h k = absurd h
 
 -- ---- families
 
@@ -83,6 +86,7 @@ no_family_fault : VariantLaws → (a b : Model) → plain a ≡ plain b → (byt
 no_family_fault laws a b e bytes l (fault.File code place example) h k = laws.accepted a b bytes l (code, place) e h k.1
 no_family_fault laws a b e bytes l (fault.Model given) h k = k
 no_family_fault laws a b e bytes l (fault.Settings given name) h k = k
+no_family_fault laws a b e bytes l (fault.Certificate given) h k = k
 
 same_family_fault : VariantLaws → (a b : Model) → plain a ≡ plain b → (bytes : List ℕ) (f g : Fault) → IsFamily a bytes (Err f) → IsFamily b bytes (Err g) → f ≡ g
 same_family_fault laws a b e bytes (fault.File c p x) (fault.File d q y) h k =
@@ -92,8 +96,10 @@ same_family_fault laws a b e bytes (fault.File c p x) (fault.File d q y) h k =
     ap (λ (z : FileCode × Place). fault.File z.0 z.1 x) same ∙ ap (λ (z : Option (List ℕ)). fault.File d q z) example
 same_family_fault laws a b e bytes (fault.File c p x) (fault.Model given) h k = absurd k
 same_family_fault laws a b e bytes (fault.File c p x) (fault.Settings given name) h k = absurd k
+same_family_fault laws a b e bytes (fault.File c p x) (fault.Certificate given) h k = absurd k
 same_family_fault laws a b e bytes (fault.Model given) g h k = absurd h
 same_family_fault laws a b e bytes (fault.Settings given name) g h k = absurd h
+same_family_fault laws a b e bytes (fault.Certificate given) g h k = absurd h
 
 -- ---- settings
 
@@ -133,10 +139,10 @@ same_settings_fault a b e words f g h k =
 -- ---- refusals
 
 -- the models of two product lines of the same files are the same
-same_line_model : VariantLaws → (m f : List ℕ) (l k : ProductLine) → IsProductLine m f l → IsProductLine m f k → plain l.model ≡ plain k.model
+pub same_line_model : VariantLaws → (m f : List ℕ) (l k : ProductLine) → IsProductLine m f l → IsProductLine m f k → plain l.model ≡ plain k.model
 same_line_model laws m f l k h i = same_model laws m l.model k.model h.model i.model
 
-no_line_refusal : VariantLaws → (m f : List ℕ) (l : ProductLine) (g : Fault) → IsProductLine m f l → IsLineRefused m f g → ⊥
+pub no_line_refusal : VariantLaws → (m f : List ℕ) (l : ProductLine) (g : Fault) → IsProductLine m f l → IsLineRefused m f g → ⊥
 no_line_refusal laws m f l g h (lines.no_model k) = no_model_fault laws m l.model g h.model k
 no_line_refusal laws m f l g h (lines.no_family b i k) = no_family_fault laws l.model b (same_model laws m l.model b h.model i) f l.family g h.family k
 

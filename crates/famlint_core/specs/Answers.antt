@@ -21,11 +21,12 @@ use Rattle.famlint_core.specs.declared.product_line.ProductLine.{ProductLine}
 use Rattle.famlint_core.specs.declared.request.FamilyTask.{FamilyTask}
 use Rattle.famlint_core.specs.declared.request.FamilyTask.TheVariants.{Sizes}
 use Rattle.famlint_core.specs.declared.request.Request.{Request}
-use Rattle.famlint_core.specs.declared.request.Request.TheVariants.{Plain, Variant, Family, Generate, Advice, Features}
+use Rattle.famlint_core.specs.declared.request.Request.TheVariants.{Plain, Variant, Family, Generate, Check, Advice, Features}
 use Rattle.famlint_core.specs.declared.request.VariantTask.{VariantTask}
 use Rattle.famlint_core.specs.declared.request.VariantTask.TheVariants.{Text, Report, Run}
 use Rattle.famlint_core.specs.declared.selected.Selected.{Selected}
 use Rattle.famlint_core.specs.Advised.{IsAdviceDone, IsAdviceText}
+use Rattle.famlint_core.specs.Checked.{IsCheckDone, IsCheckRefused, IsLoadedForCheck, IsCheckPromised, IsCertified}
 use Rattle.famlint_core.specs.FamilyReports.{IsFamilyDone}
 use Rattle.famlint_core.specs.FeatureUses.{AreUsesDone}
 use Rattle.famlint_core.specs.Generated.{IsGeneratedLine}
@@ -36,10 +37,11 @@ use Rattle.famlint_core.specs.Report.{report_done, IsReport}
 use Rattle.famlint_core.specs.RunText.{run_text}
 use Rattle.famlint_core.specs.Selected.{AreSelected, IsRefused, IsProgramOf}
 
--- the bytes that are told for the paths of a request: of MODEL and of FILE, if it has one
+-- the bytes that are told for the paths of a request: of MODEL, of FILE and of CERTIFICATE, if it has one
 pub record Contents : Type 0 where
   pub model : List ℕ
   pub file : List ℕ
+  pub certificate : List ℕ
 
 -- the contents of the paths of a request are told, and are these
 abbrev pub IsTold : Request → (List ℕ → Option (List ℕ)) → Contents → Type 0
@@ -47,6 +49,8 @@ IsTold (Plain file analysis) content told = content file ≡ Some told.file
 IsTold (Variant model file settings task) content told = (content model ≡ Some told.model) × (content file ≡ Some told.file)
 IsTold (Family model file analysis task) content told = (content model ≡ Some told.model) × (content file ≡ Some told.file)
 IsTold (Generate number analysis) content told = ⊤
+IsTold (Check model file certificate) content told =
+    (content model ≡ Some told.model) × (content file ≡ Some told.file) × (content certificate ≡ Some told.certificate)
 IsTold (Advice model file settings analysis) content told = (content model ≡ Some told.model) × (content file ≡ Some told.file)
 IsTold (Features model) content told = content model ≡ Some told.model
 
@@ -85,7 +89,7 @@ abbrev pub AnswersVariant : VariantTask → List (List ℕ) → Contents → Res
 AnswersVariant task settings told (Ok done) = (s : Selected) × AreSelected told.model told.file settings s × IsDone task s done
 AnswersVariant task settings told (Err fault) = IsRefused told.model told.file settings fault
 
--- ---- `analyse` and `invariants`
+-- ---- `analyse`, `invariants` and `certify`
 
 -- what is asked of all variants at once, or the refusal of the model or the file
 abbrev pub AnswersFamily : Analysis → FamilyTask → Contents → Result Done Fault → Type 0
@@ -104,6 +108,18 @@ IsGenerateDone analysis number done =
 abbrev pub AnswersGenerate : Analysis → ℕ → Result Done Fault → Type 0
 AnswersGenerate analysis number (Ok done) = IsGenerateDone analysis number done
 AnswersGenerate analysis number (Err fault) = ⊥
+
+-- ---- `check`
+
+-- what the check of the certificate comes to, or the refusal of the model, the file or the certificate
+abbrev pub AnswersCheck : Contents → Result Done Fault → Type 0
+AnswersCheck told (Ok done) = (l : ProductLine) × IsProductLine told.model told.file l × IsCheckDone l told.certificate done
+AnswersCheck told (Err fault) = IsCheckRefused told.model told.file told.certificate fault
+
+-- the request is to check what `certify` writes of its model and its file
+abbrev pub AsksOfCertified : Request → Contents → Type 0
+AsksOfCertified (Check model file certificate) told = IsCertified told.model told.file told.certificate
+AsksOfCertified other told = ⊥
 
 -- ---- `advise`
 
@@ -128,6 +144,7 @@ Answers (Plain file analysis) told answer = AnswersPlain analysis told.file answ
 Answers (Variant model file settings task) told answer = AnswersVariant task settings told answer
 Answers (Family model file analysis task) told answer = AnswersFamily analysis task told answer
 Answers (Generate number analysis) told answer = AnswersGenerate analysis number answer
+Answers (Check model file certificate) told answer = AnswersCheck told answer
 Answers (Advice model file settings analysis) told answer = AnswersAdvice analysis settings told answer
 Answers (Features model) told answer = AnswersFeatures told.model answer
 
@@ -141,6 +158,7 @@ IsLoaded (Plain file analysis) told failed = failed ≡ Some file
 IsLoaded (Variant model file settings task) told failed = IsLoadedFor model file told.model failed
 IsLoaded (Family model file analysis task) told failed = IsLoadedFor model file told.model failed
 IsLoaded (Generate number analysis) told failed = ⊥
+IsLoaded (Check model file certificate) told failed = IsLoadedForCheck model file certificate told.model told.file failed
 IsLoaded (Advice model file settings analysis) told failed = IsLoadedFor model file told.model failed
 IsLoaded (Features model) told failed = failed ≡ Some model
 
@@ -169,6 +187,10 @@ abbrev pub PromisedGenerate : Analysis → ℕ → ℕ → List ℕ → Type 0
 PromisedGenerate analysis number status text =
     (l : ProductLine) × IsGeneratedLine number l × PromisedOfAll (meaning_of analysis.domain) analysis.options Sizes l status text
 
+-- what is promised of a check: see `Checked`
+abbrev pub PromisedCheck : Contents → ℕ → Type 0
+PromisedCheck told status = (l : ProductLine) × IsProductLine told.model told.file l × IsCheckPromised l told.certificate status
+
 -- what is promised of advice: see `Advised`
 abbrev pub PromisedAdvice : Analysis → List (List ℕ) → Contents → ℕ → List ℕ → Type 0
 PromisedAdvice analysis settings told status text =
@@ -180,5 +202,6 @@ Promised (Plain file analysis) told status text = PromisedPlain analysis told.fi
 Promised (Variant model file settings task) told status text = PromisedVariant task settings told status text
 Promised (Family model file analysis task) told status text = PromisedFamily analysis task told status text
 Promised (Generate number analysis) told status text = PromisedGenerate analysis number status text
+Promised (Check model file certificate) told status text = PromisedCheck told status
 Promised (Advice model file settings analysis) told status text = PromisedAdvice analysis settings told status text
 Promised (Features model) told status text = status ≡ 0

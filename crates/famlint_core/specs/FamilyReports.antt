@@ -1,4 +1,4 @@
--- What a product line is answered under `analyse` and `invariants`.
+-- What a product line is answered under `analyse`, `invariants` and `certify`.
 use Rattle.std.specs.Prelude.{ℕ, ◌≡◌, ◌++◌, List, codes, map, length, nat_lt, if◌then◌else◌}
 use Rattle.std.specs.List.{All}
 use Rattle.std.specs.Fmt.{decimal}
@@ -10,16 +10,19 @@ use Rattle.atom_solver.specs.Plausible.{IsPlausible}
 use Rattle.leaf_domain.specs.Leaves.{LeafMeaning}
 use Rattle.lifted_analysis.specs.Canon.{IsTreeOf}
 use Rattle.lifted_analysis.specs.Promises.{leaf_at, stop_at, by_kind}
+use Rattle.lifted_analysis.specs.Turns.{loop_places}
 use Rattle.plain_analysis.specs.declared.options.Options.{Options}
 use Rattle.alarm_report.specs.declared.alarms.FamilyAlarm.{FamilyAlarm}
 use Rattle.alarm_report.specs.Alarms.{StopTree, AreAlarms}
 use Rattle.alarm_report.specs.Invariants.{LeafTree, Invariant, AreInvariants}
 use Rattle.alarm_report.specs.LeafTexts.{invariant_text}
 use Rattle.alarm_report.specs.Texts.{alarm_text}
+use Rattle.certificate_text.specs.Loops.{trees_at}
+use Rattle.certificate_text.specs.Texts.{certificate_text}
 use Rattle.famlint_core.specs.declared.fault.Done.{Done}
 use Rattle.famlint_core.specs.declared.product_line.ProductLine.{ProductLine}
 use Rattle.famlint_core.specs.declared.request.FamilyTask.{FamilyTask}
-use Rattle.famlint_core.specs.declared.request.FamilyTask.TheVariants.{Alarms, Invariants, Sizes}
+use Rattle.famlint_core.specs.declared.request.FamilyTask.TheVariants.{Alarms, Invariants, Certificate, Sizes}
 
 -- the formula is true at exactly the vectors that the constraints and the order of the atoms allow
 abbrev pub IsPlausibleFor : ProductLine → Formula → Type 0
@@ -51,6 +54,15 @@ pub record AreInvariantsOf (M : LeafMeaning) (o : Options) (l : ProductLine) (in
   pub are : All (IsLeafTree M o l plausible) trees
   pub regions : AreInvariants l.model l.family.atoms trees invariants
 
+-- the invariants of the loops of a product line: of the same trees those at the places of loops
+pub record AreLoopsOf (M : LeafMeaning) (o : Options) (l : ProductLine) (loops : List Invariant) : Type 0 where
+  pub plausible : Formula
+  pub plausible_is : IsPlausibleFor l plausible
+  pub trees : List LeafTree
+  pub keys : map (λ (t : LeafTree). t.place) trees ≡ program_places (whole l.family.code)
+  pub are : All (IsLeafTree M o l plausible) trees
+  pub regions : AreInvariants l.model l.family.atoms (trees_at (loop_places (whole l.family.code).body) trees) loops
+
 -- 1 where there is an alarm
 abbrev pub family_status : List FamilyAlarm → ℕ
 family_status alarms = if nat_lt 0 (length alarms) then 1 else 0
@@ -68,6 +80,12 @@ IsFamilyDone M o Invariants l done =
     (invariants : List Invariant) × (alarms : List FamilyAlarm) × AreInvariantsOf M o l invariants × AreAlarmsOf M o l alarms
     × (done ≡ record {
       text = invariant_text M l.model.features (whole l.family.code).names invariants ++ alarm_text l.model.features alarms;
+      status = family_status alarms;
+    })
+IsFamilyDone M o Certificate l done =
+    (loops : List Invariant) × (alarms : List FamilyAlarm) × AreLoopsOf M o l loops × AreAlarmsOf M o l alarms
+    × (done ≡ record {
+      text = certificate_text M l.model.features (whole l.family.code).names o.mode loops alarms;
       status = family_status alarms;
     })
 IsFamilyDone M o Sizes l done =

@@ -14,6 +14,8 @@ use Rattle.feature_model.specs.declared.faults.ConfigFault.{ConfigFault}
 use Rattle.feature_model.specs.declared.faults.ConfigFault.TheVariants as config
 use Rattle.setting_texts.specs.Settings.{config_text}
 use Rattle.alarm_report.specs.Texts.{place_text}
+use Rattle.certificate_reader.specs.declared.certificates.CertificateFault.{CertificateFault}
+use Rattle.certificate_reader.specs.declared.certificates.CertificateFault.TheVariants as certificate
 use Rattle.famlint_core.specs.declared.fault.Fault.{Fault}
 use Rattle.famlint_core.specs.declared.fault.Fault.TheVariants as fault
 use Rattle.famlint_core.specs.declared.request.Role.{Role}
@@ -118,6 +120,12 @@ config_line (config.Twice word) name = numbered (codes "configuration: K3 at wor
 config_line (config.OutOfRange word) name = numbered (codes "configuration: K4 at word ") word
 config_line config.NotValid name = codes "configuration: K5\n"
 
+abbrev pub certificate_line : CertificateFault → List ℕ
+certificate_line certificate.TooLong = codes "certificate: E1\n"
+certificate_line certificate.Header = codes "certificate: E2\n"
+certificate_line (certificate.Line number) = numbered (codes "certificate: E3 at line ") number
+certificate_line (certificate.Test number) = numbered (codes "certificate: E4 at line ") number
+
 abbrev pub usage_line : List ℕ
 usage_line = codes "usage: famlint plain FILE, project MODEL FILE SETTINGS, variant MODEL FILE SETTINGS, run MODEL FILE SETTINGS, analyse MODEL FILE, invariants MODEL FILE, generate NUMBER, certify MODEL FILE, check MODEL FILE CERTIFICATE, advise MODEL FILE SETTINGS, features MODEL\n"
 
@@ -126,17 +134,20 @@ abbrev pub status_of : Fault → ℕ
 status_of (fault.Model fault) = 3
 status_of (fault.File code place example) = 4
 status_of (fault.Settings fault name) = 5
+status_of (fault.Certificate fault) = 9
 
 -- the line that tells a fault
 abbrev pub line_of : Fault → List ℕ
 line_of (fault.Model fault) = model_line fault
 line_of (fault.File code place example) = file_line code place example
 line_of (fault.Settings fault name) = config_line fault name
+line_of (fault.Certificate fault) = certificate_line fault
 
 -- the line that tells a failed load
 abbrev pub read_fault_line : Role → List ℕ
 read_fault_line role.Model = codes "read fault: model\n"
 read_fault_line role.File = codes "read fault: file\n"
+read_fault_line role.Certificate = codes "read fault: certificate\n"
 
 abbrev pub write_fault_line : List ℕ
 write_fault_line = codes "write fault\n"

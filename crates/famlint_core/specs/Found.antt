@@ -22,10 +22,11 @@ use Rattle.alarm_report.specs.Alarms.{StopTree, stop_tree}
 use Rattle.alarm_report.specs.Invariants.{LeafTree, Invariant, leaf_tree}
 use Rattle.alarm_report.specs.LeafTexts.{invariant_text}
 use Rattle.alarm_report.specs.Texts.{alarm_text}
+use Rattle.certificate_text.specs.Texts.{certificate_text}
 use Rattle.famlint_core.specs.declared.product_line.ProductLine.{ProductLine}
 use Rattle.famlint_core.specs.declared.request.FamilyTask.{FamilyTask}
-use Rattle.famlint_core.specs.declared.request.FamilyTask.TheVariants.{Alarms, Invariants, Sizes}
-use Rattle.famlint_core.specs.FamilyReports.{IsPlausibleFor, IsStopTree, IsLeafTree, AreAlarmsOf, AreInvariantsOf, sizes_text, family_status}
+use Rattle.famlint_core.specs.declared.request.FamilyTask.TheVariants.{Alarms, Invariants, Certificate, Sizes}
+use Rattle.famlint_core.specs.FamilyReports.{IsPlausibleFor, IsStopTree, IsLeafTree, AreAlarmsOf, AreInvariantsOf, AreLoopsOf, sizes_text, family_status}
 use Rattle.famlint_core.specs.Headline.{AreAlarmsOfAll, AreInvariantsOfAll}
 
 -- the trees of stops and of leaves, of one analysis
@@ -61,8 +62,15 @@ pub record AreInvariantsBefore (M : LeafMeaning) (o : Options) (l : ProductLine)
   pub good : AreGoodInvariants M o l invariants
   pub is : text ≡ invariant_text M l.model.features (whole l.family.code).names invariants ++ behind
 
+-- the text of the certificate of the loops' invariants and of these alarms
+pub record IsCertificateOf (M : LeafMeaning) (o : Options) (l : ProductLine) (alarms : List FamilyAlarm) (text : List ℕ) : Type 0 where
+  pub loops : List Invariant
+  pub are : AreLoopsOf M o l loops
+  pub is : text ≡ certificate_text M l.model.features (whole l.family.code).names o.mode loops alarms
+
 -- the whole text that is asked for
 abbrev pub IsGoodText : LeafMeaning → Options → FamilyTask → ProductLine → List FamilyAlarm → List ℕ → Type 0
 IsGoodText M o Alarms l alarms text = text ≡ alarm_text l.model.features alarms
 IsGoodText M o Invariants l alarms text = AreInvariantsBefore M o l (alarm_text l.model.features alarms) text
+IsGoodText M o Certificate l alarms text = IsCertificateOf M o l alarms text
 IsGoodText M o Sizes l alarms text = text ≡ sizes_text l ++ alarm_text l.model.features alarms

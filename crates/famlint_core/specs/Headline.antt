@@ -23,9 +23,10 @@ use Rattle.alarm_report.specs.Alarms.{Tells, TellsOnce}
 use Rattle.alarm_report.specs.Invariants.{Invariant, HasOnce}
 use Rattle.alarm_report.specs.LeafTexts.{invariant_text}
 use Rattle.alarm_report.specs.Texts.{alarm_text}
+use Rattle.certificate_text.specs.Texts.{certificate_text}
 use Rattle.famlint_core.specs.declared.product_line.ProductLine.{ProductLine}
 use Rattle.famlint_core.specs.declared.request.FamilyTask.{FamilyTask}
-use Rattle.famlint_core.specs.declared.request.FamilyTask.TheVariants.{Alarms, Invariants, Sizes}
+use Rattle.famlint_core.specs.declared.request.FamilyTask.TheVariants.{Alarms, Invariants, Certificate, Sizes}
 use Rattle.famlint_core.specs.FamilyReports.{sizes_text}
 use Rattle.famlint_core.specs.ProductLines.{IsProgramAt}
 use Rattle.famlint_core.specs.Report.{NeverStops}
@@ -80,8 +81,8 @@ AreInvariantsOfAll M o l invariants =
     (values : List ℤ) → IsValid (plain l.model) values
     → (p : Whole) × IsProgramAt l values p × AreItsInvariants M o (program_places (whole l.family.code)) invariants values p
 
--- the whole output is the text of such alarms; under `invariants`, the text of such invariants, and then of such alarms;
--- under `generate`, the sizes, and then the text of such alarms
+-- the whole output is the text of such alarms; under `invariants`, the text of such invariants, and then of such alarms; under
+-- `certify`, the certificate of such alarms, and of invariants of loops; under `generate`, the sizes, and then the text of such alarms
 abbrev pub PromisedOfAll : LeafMeaning → Options → FamilyTask → ProductLine → ℕ → List ℕ → Type 0
 PromisedOfAll M o Alarms l status text =
     (alarms : List FamilyAlarm) × (text ≡ alarm_text l.model.features alarms) × AreAlarmsOfAll M o l alarms status
@@ -89,5 +90,9 @@ PromisedOfAll M o Invariants l status text =
     (invariants : List Invariant) × (alarms : List FamilyAlarm)
     × (text ≡ invariant_text M l.model.features (whole l.family.code).names invariants ++ alarm_text l.model.features alarms)
     × AreInvariantsOfAll M o l invariants × AreAlarmsOfAll M o l alarms status
+PromisedOfAll M o Certificate l status text =
+    (loops : List Invariant) × (alarms : List FamilyAlarm)
+    × (text ≡ certificate_text M l.model.features (whole l.family.code).names o.mode loops alarms)
+    × AreAlarmsOfAll M o l alarms status
 PromisedOfAll M o Sizes l status text =
     (alarms : List FamilyAlarm) × (text ≡ sizes_text l ++ alarm_text l.model.features alarms) × AreAlarmsOfAll M o l alarms status

@@ -1,5 +1,6 @@
 pub mod Advised
 pub mod Answers
+pub mod Checked
 pub mod Endings
 pub mod FamilyReports
 pub mod Faults

@@ -16,11 +16,12 @@ pub data IsLineRefused (m f : List ℕ) (fault : Fault) : Type 0 where
   no_model : IsModel m (Err fault) → IsLineRefused m f fault
   no_family : (model : Model) → IsModel m (Ok model) → IsFamily model f (Err fault) → IsLineRefused m f fault
 
--- the model and the family are those of the bytes
+-- the model and the family are those of the bytes, and the family is usable
 pub record IsProductLine (m f : List ℕ) (l : ProductLine) : Type 0 where
   pub model : IsModel m (Ok l.model)
   pub family : IsFamily l.model f (Ok l.family)
   pub text : l.text ≡ f
+  pub usable : IsUsableFamily (length l.model.features) l.family
 
 abbrev pub ReadsProductLine : List ℕ → List ℕ → Result ProductLine Fault → Type 0
 ReadsProductLine m f (Ok l) = IsProductLine m f l

@@ -7,6 +7,7 @@ use Rattle.c_tree.specs.Value.{IsInt}
 use Rattle.command_words.specs.Arguments.{arguments_of, nothing_given}
 use Rattle.command_words.specs.declared.reading.Arguments.{Arguments}
 use Rattle.command_words.specs.declared.settings.Chosen.{Chosen}
+use Rattle.command_words.specs.declared.settings.Domain.TheVariants as domains
 use Rattle.command_words.specs.declared.settings.Given.{Given}
 use Rattle.command_words.specs.declared.settings.Settings.{Settings}
 use Rattle.command_words.specs.Spelling.{number_up_to}
@@ -28,6 +29,10 @@ use Rattle.famlint_core.specs.declared.request.VariantTask.TheVariants as task
 abbrev pub analysis_options : Given
 analysis_options = record { domain = true; delay = true; narrow = true; overflow = true; steps = false; inputs = false }
 
+-- the options of an analysis by intervals
+abbrev pub interval_options : Given
+interval_options = record { domain = false; delay = true; narrow = true; overflow = true; steps = false; inputs = false }
+
 -- the options of a run
 abbrev pub run_options : Given
 run_options = record { domain = false; delay = false; narrow = false; overflow = true; steps = true; inputs = true }
@@ -41,6 +46,8 @@ taken_by command.Run = run_options
 taken_by command.Analyse = analysis_options
 taken_by command.Invariants = analysis_options
 taken_by command.Generate = analysis_options
+taken_by command.Certify = interval_options
+taken_by command.Check = nothing_given
 taken_by command.Advise = analysis_options
 taken_by command.Features = nothing_given
 
@@ -61,6 +68,10 @@ analysis_of chosen = record {
   options = record { delay = chosen.delay; narrow = chosen.narrow; mode = chosen.overflow };
 }
 
+-- the same, by intervals
+abbrev pub interval_analysis : Chosen → Analysis
+interval_analysis chosen = record { domain = domains.Interval; options = (analysis_of chosen).options }
+
 -- ---- commands
 
 -- the command with the name
@@ -73,8 +84,10 @@ command_of word =
     else (if bytes_eq word (codes "analyse") then Some command.Analyse
     else (if bytes_eq word (codes "invariants") then Some command.Invariants
     else (if bytes_eq word (codes "generate") then Some command.Generate
+    else (if bytes_eq word (codes "certify") then Some command.Certify
+    else (if bytes_eq word (codes "check") then Some command.Check
     else (if bytes_eq word (codes "advise") then Some command.Advise
-    else (if bytes_eq word (codes "features") then Some command.Features else None))))))))
+    else (if bytes_eq word (codes "features") then Some command.Features else None))))))))))
 
 -- what `plain` asks for with these words; nothing, where they are refused
 abbrev pub plain_request : Analysis → List (List ℕ) → Option Request
@@ -105,6 +118,14 @@ generate_request analysis [] = None
 generate_request analysis (number ∷ []) = option_map (λ n. request.Generate n analysis) (blocks_of number)
 generate_request analysis (number ∷ more ∷ words) = None
 
+-- what `check` asks for with these words
+abbrev pub check_request : List (List ℕ) → Option Request
+check_request [] = None
+check_request (model ∷ []) = None
+check_request (model ∷ file ∷ []) = None
+check_request (model ∷ file ∷ certificate ∷ []) = Some (request.Check model file certificate)
+check_request (model ∷ file ∷ certificate ∷ more ∷ words) = None
+
 -- what `advise` asks for with these words
 abbrev pub advice_request : Analysis → List (List ℕ) → Option Request
 advice_request analysis [] = None
@@ -130,6 +151,8 @@ request_for command.Run settings words = variant_request (run_task settings) wor
 request_for command.Analyse settings words = family_request (analysis_of settings.chosen) family.Alarms words
 request_for command.Invariants settings words = family_request (analysis_of settings.chosen) family.Invariants words
 request_for command.Generate settings words = generate_request (analysis_of settings.chosen) words
+request_for command.Certify settings words = family_request (interval_analysis settings.chosen) family.Certificate words
+request_for command.Check settings words = check_request words
 request_for command.Advise settings words = advice_request (analysis_of settings.chosen) words
 request_for command.Features settings words = features_request words
 
@@ -162,6 +185,7 @@ paths_of (request.Plain file analysis) = file ∷ []
 paths_of (request.Variant model file settings task) = model ∷ file ∷ []
 paths_of (request.Family model file analysis task) = model ∷ file ∷ []
 paths_of (request.Generate number analysis) = []
+paths_of (request.Check model file certificate) = model ∷ file ∷ certificate ∷ []
 paths_of (request.Advice model file settings analysis) = model ∷ file ∷ []
 paths_of (request.Features model) = model ∷ []
 
@@ -174,12 +198,19 @@ is_path (Some failed) path = bytes_eq failed path
 abbrev pub role_beside : Option (List ℕ) → List ℕ → Role
 role_beside failed model = if is_path failed model then role.Model else role.File
 
+-- the same of three paths: it is MODEL or FILE also where CERTIFICATE is the same path
+abbrev pub role_of_three : Option (List ℕ) → List ℕ → List ℕ → List ℕ → Role
+role_of_three failed model file certificate =
+    if is_path failed model then role.Model
+    else (if is_path failed file then role.File else (if is_path failed certificate then role.Certificate else role.File))
+
 -- what the path of a failed load is to a request
 abbrev pub role_of : Request → Option (List ℕ) → Role
 role_of (request.Plain file analysis) failed = role.File
 role_of (request.Variant model file settings task) failed = role_beside failed model
 role_of (request.Family model file analysis task) failed = role_beside failed model
 role_of (request.Generate number analysis) failed = role.File
+role_of (request.Check model file certificate) failed = role_of_three failed model file certificate
 role_of (request.Advice model file settings analysis) failed = role_beside failed model
 role_of (request.Features model) failed = role.Model
 
@@ -197,5 +228,6 @@ IsWithinRanges (request.Plain file analysis) = ⊤
 IsWithinRanges (request.Variant model file settings task) = HaveInts task
 IsWithinRanges (request.Family model file analysis task) = ⊤
 IsWithinRanges (request.Generate number analysis) = number ≤ 2000
+IsWithinRanges (request.Check model file certificate) = ⊤
 IsWithinRanges (request.Advice model file settings analysis) = ⊤
 IsWithinRanges (request.Features model) = ⊤

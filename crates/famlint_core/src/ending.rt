@@ -31,6 +31,7 @@ fn role_line(role: Role) -> &'static [u8]
     match role {
         Role::Model => b"read fault: model\n",
         Role::File => b"read fault: file\n",
+        Role::Certificate => b"read fault: certificate\n",
     }
 }
 

@@ -3,10 +3,11 @@
 
 mod lines;
 
-ghost use Rattle.std.specs.Prelude.{◌≡◌, ◌≤◌, IfOk, Some};
+ghost use Rattle.std.specs.Prelude.{◌≡◌, ◌≢◌, ◌≤◌, IfOk, Some};
 ghost use Rattle.famlint_core.specs.Faults.{status_of, line_of, fault_of_file, fault_of_settings, example_of, name_of};
 
-use crate::fault::lines::{config_line, file_line, model_line};
+use crate::fault::lines::{certificate_line, config_line, file_line, model_line};
+use certificate_reader::CertificateFault;
 use fam_outer::{FileCode, FileRefusal, NoMemory, Place, Text};
 use feature_model::{ConfigFault, ModelFault, ModelRefusal};
 use linear_atoms::Feature;
@@ -28,6 +29,7 @@ pub enum Fault {
         fault: ConfigFault,
         name: Text,
     },
+    Certificate(CertificateFault),
 }
 
 /// Why the work stops before its output.
@@ -120,7 +122,10 @@ impl Fault {
     pub fn status(&self) -> u8
         ensures status { result ≡ status_of self.now }
         ensures low { 3 ≤ result }
-        ensures high { result ≤ 5 }
+        ensures high { result ≤ 9 }
+        ensures no_load { result ≢ 6 }
+        ensures no_write { result ≢ 7 }
+        ensures no_memory { result ≢ 8 }
     {
         match self {
             Fault::Model(_) => 3,
@@ -130,6 +135,7 @@ impl Fault {
                 example: _,
             } => 4,
             Fault::Settings { fault: _, name: _ } => 5,
+            Fault::Certificate(_) => 9,
         }
     }
 
@@ -145,6 +151,7 @@ impl Fault {
                 example,
             } => file_line(alloc, code, *place, example.as_ref()),
             Fault::Settings { fault, name } => config_line(alloc, *fault, name.bytes()),
+            Fault::Certificate(fault) => certificate_line(alloc, *fault),
         }
     }
 }

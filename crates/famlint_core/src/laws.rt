@@ -6,11 +6,13 @@ ghost use Rattle.famlint_core.specs.declared.request.Analysis.{Analysis};
 ghost use Rattle.famlint_core.specs.declared.request.VariantTask.{VariantTask};
 ghost use Rattle.famlint_core.specs.declared.fault.Done.{Done};
 ghost use Rattle.famlint_core.specs.declared.fault.Fault.{Fault};
-ghost use Rattle.famlint_core.specs.Answers.{AnswersPlain, AnswersVariant, Contents};
+ghost use Rattle.famlint_core.specs.Answers.{AnswersCheck, AnswersPlain, AnswersVariant, Contents};
+ghost use Rattle.famlint_core.specs.Checked.{IsCertified, IsYes};
 
 use c_parser::laws::{reads_at_most_once, reads_something};
 use c_parser::variants::families_are_read_once;
-use cpp_lines::laws::variants_have_one_text;
+use certificate_laws::laws::{families_are_of_files, written_analyses_are_accepted};
+use cpp_lines::laws::{texts_are_read_once, variants_have_one_text};
 use feature_model::laws::bytes_say_one_model;
 
 /// `plain` has one answer, whatever its path holds.
@@ -34,4 +36,18 @@ pub fn variants_have_one_answer()
     families_are_read_once();
     variants_have_one_text();
     reads_at_most_once();
+}
+
+/// What `certify` writes of a model and a file, if it is not too long, `check` of these has no answer to but yes.
+pub fn certificates_are_accepted()
+    ensures { (told : Contents) (answer : Result Done Fault)
+        → IsCertified told.model told.file told.certificate → AnswersCheck told answer → IsYes answer }
+{
+    bytes_say_one_model();
+    families_are_read_once();
+    variants_have_one_text();
+    reads_at_most_once();
+    texts_are_read_once();
+    families_are_of_files();
+    written_analyses_are_accepted();
 }

@@ -1,6 +1,7 @@
 //! The program: words, loads, work and answers.
 #![tactic(auto)]
 
+mod certificate;
 mod ending;
 mod fault;
 pub mod laws;

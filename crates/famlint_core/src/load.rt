@@ -27,7 +27,7 @@ fn long_file() -> Fault
 }
 
 /// The text of a path, of at most so many bytes; a longer one has the fault.
-fn load_text<F: Files>(
+pub fn load_text<F: Files>(
     alloc: Global,
     path: &str,
     limit: u32,

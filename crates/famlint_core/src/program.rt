@@ -7,13 +7,14 @@ ghost use Rattle.fam_outer.specs.Causes.{Rose};
 ghost use Rattle.fam_outer.specs.Writing.{Reports};
 ghost use Rattle.command_words.specs.Arguments.{texts_of};
 ghost use Rattle.famlint_core.specs.declared.request.Request.{Request};
-ghost use Rattle.famlint_core.specs.Answers.{Contents, IsTold, IsAccepted, IsLoaded, Answers, Promised};
+ghost use Rattle.famlint_core.specs.Answers.{Contents, IsTold, IsAccepted, IsLoaded, Answers, Promised, AsksOfCertified};
 ghost use Rattle.famlint_core.specs.Endings.{EndsWith, HasLines};
 ghost use Rattle.famlint_core.specs.Faults.{usage_line, memory_line};
 ghost use Rattle.famlint_core.specs.Loads.{IsOneOf};
 ghost use Rattle.famlint_core.specs.Requests.{reading, paths_of, role_of};
 
 use crate::ending::{end, give_up, refuse};
+use crate::laws::certificates_are_accepted;
 use crate::request::read_request;
 use crate::work::work;
 use command_words::WordsRefusal;
@@ -49,6 +50,12 @@ pub fn famlint<F: Files, S: Sink, E: Sink>(
         → (told : Contents) → IsTold request (F.content files.old) told → IsAccepted request told
         → ¬ Rose (F.faults files.old) (F.faults files.new) → ¬ Rose (S.faults out.old) (S.faults out.new)
         → (result ≤ 1) ⊎ (result ≡ 8) }
+    // What `certify` writes of a model and a file, if it is not too long, `check` of these says yes to, unless memory runs out, a load
+    // fails or a write fails.
+    ensures certified { (request : Request) → reading (texts_of words.now) ≡ Some request
+        → (told : Contents) → IsTold request (F.content files.old) told → AsksOfCertified request told
+        → ¬ Rose (F.faults files.old) (F.faults files.new) → ¬ Rose (S.faults out.old) (S.faults out.new)
+        → (result ≡ 0) ⊎ (result ≡ 8) }
     // A refusal of what was loaded earlier comes before a failed load.
     ensures order { (request : Request) → reading (texts_of words.now) ≡ Some request
         → (told : Contents) → IsTold request (F.content files.old) told
@@ -75,6 +82,7 @@ pub fn famlint<F: Files, S: Sink, E: Sink>(
     ensures out_later { S.faults out.old ≤ S.faults out.new }
     ensures err_later { E.faults err.old ≤ E.faults err.new }
 {
+    certificates_are_accepted();
     match read_request(alloc, words) {
         Err(WordsRefusal::NoMemory) => give_up(err),
         Err(WordsRefusal::Fault(_)) => refuse(err),

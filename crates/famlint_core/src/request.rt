@@ -6,7 +6,7 @@ mod reading;
 
 ghost use Rattle.std.specs.Option.{option_copied};
 ghost use Rattle.std.specs.Prelude.{◌≡◌, ◌++◌, ◌∷◌, [], IfOk, OnOk, map, string_bytes};
-ghost use Rattle.famlint_core.specs.Requests.{role_of, role_beside, is_path};
+ghost use Rattle.famlint_core.specs.Requests.{role_of, role_beside, role_of_three, is_path};
 
 use c_tree::Mode;
 use command_words::{Domain, Word};
@@ -42,6 +42,12 @@ pub enum Request {
     Generate {
         number: u32,
         analysis: Analysis,
+    },
+    /// Whether CERTIFICATE holds of all variants of FILE, of those that MODEL allows.
+    Check {
+        model: Word,
+        file: Word,
+        certificate: Word,
     },
     /// The nearest configuration of MODEL to the one that the settings give at which FILE has no alarms.
     Advice {
@@ -85,6 +91,8 @@ pub enum FamilyTask {
     Alarms,
     /// The leaves at all places, with the configurations that have them, and then the alarms.
     Invariants,
+    /// The certificate: the invariants of the loops, and the alarms.
+    Certificate,
     /// How many bytes and places there are, and then the alarms.
     Sizes,
 }
@@ -128,6 +136,7 @@ impl SettingWords {
 pub enum Role {
     Model,
     File,
+    Certificate,
 }
 
 /// Whether the failed path is this one.
@@ -146,6 +155,21 @@ fn role_beside(failed: Option<&Text>, model: &Word) -> Role
 {
     if is_path(failed, model) {
         Role::Model
+    } else {
+        Role::File
+    }
+}
+
+/// What the path of a failed load is, where these are MODEL, FILE and CERTIFICATE.
+fn role_of_three(failed: Option<&Text>, model: &Word, file: &Word, certificate: &Word) -> Role
+    ensures { result ≡ role_of_three (option_copied failed.entry) model.now file.now certificate.now }
+{
+    if is_path(failed, model) {
+        Role::Model
+    } else if is_path(failed, file) {
+        Role::File
+    } else if is_path(failed, certificate) {
+        Role::Certificate
     } else {
         Role::File
     }
@@ -177,6 +201,11 @@ impl Request {
                 number: _,
                 analysis: _,
             } => Role::File,
+            Request::Check {
+                model,
+                file,
+                certificate,
+            } => role_of_three(failed, model, file, certificate),
             Request::Advice {
                 model,
                 file: _,

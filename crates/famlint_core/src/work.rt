@@ -2,6 +2,8 @@
 #![tactic(auto)]
 
 mod advice;
+mod certify;
+mod check;
 mod family;
 mod features;
 mod generate;
@@ -16,6 +18,7 @@ ghost use Rattle.famlint_core.specs.Requests.{paths_of, IsWithinRanges};
 use crate::fault::{Done, Stop};
 use crate::request::Request;
 use crate::work::advice::advice;
+use crate::work::check::check;
 use crate::work::family::family;
 use crate::work::features::features;
 use crate::work::generate::generate;
@@ -53,6 +56,11 @@ pub fn work<F: Files>(alloc: Global, request: &Request, files: &mut F) -> Result
             task,
         } => family(alloc, model, file, analysis, *task, files),
         Request::Generate { number, analysis } => Ok(generate(alloc, *number, analysis)?),
+        Request::Check {
+            model,
+            file,
+            certificate,
+        } => check(alloc, model, file, certificate, files),
         Request::Advice {
             model,
             file,

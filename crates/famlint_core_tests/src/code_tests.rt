@@ -1,7 +1,7 @@
 //! Codes that no example file gives: those of `plain` under `analyse`, and the largest model within the limit of tests. Each code has a
 //! file in `examples/refused`, but for those of large inputs, which stand with the tests of their limits.
 
-use crate::two_files::compares;
+use crate::comparing::compares;
 use fam_outer::NoMemory;
 use std::alloc::Global;
 use std::test::Fail;
@@ -31,12 +31,15 @@ fn with_tests(alloc: Global, count: u32) -> Result<String, NoMemory> {
 fn a_model_has_64_tests(rt: HostRuntime) -> Result<(), Fail> {
     let alloc = rt.alloc();
     let model = with_tests(alloc, 63)?;
-    let contents = (model.as_bytes(), b"int main(void) { }\n".as_slice());
+    let contents = [
+        ("m", model.as_bytes()),
+        ("f", b"int main(void) { }\n".as_slice()),
+    ];
     compares(
         &rt,
         alloc,
         "analyse m f",
-        contents,
+        &contents,
         (0, b"alarms: 0\n", b""),
     )
 }
@@ -81,12 +84,12 @@ fn codes_of_files_without_groups(rt: HostRuntime) -> Result<(), Fail> {
         ),
     ];
     for (file, told) in rows {
-        let contents = (MODEL.as_bytes(), file.as_bytes());
+        let contents = [("m", MODEL.as_bytes()), ("f", file.as_bytes())];
         compares(
             &rt,
             rt.alloc(),
             "analyse m f",
-            contents,
+            &contents,
             (4, b"", told.as_bytes()),
         )?;
     }

@@ -1,7 +1,7 @@
 //! The example files, and the words of commands on them with what is expected, as `examples/to_tests.sh` writes them.
 
 /// Each file under its path.
-pub(crate) const FILES: [(&str, &str); 54] = [
+pub(crate) const FILES: [(&str, &str); 59] = [
     (
         "assertion.c",
         "int level = 900;\nint limit = 1000;\nint main(void)\n{\n    level = level - limit;\n    assert(level > 0 - 200);\n    assert(level >= 0);\n    level = 0;\n}\n",
@@ -89,6 +89,14 @@ pub(crate) const FILES: [(&str, &str); 54] = [
     (
         "ring.json",
         "{\"features\": [{\"name\": \"SLOTS\", \"min\": 4, \"max\": 64}]}\n",
+    ),
+    (
+        "ring.certificate",
+        "famlint certificate 1 stop\nloop 13:5 if SLOTS <= 7: tick in [0,0], head in [0,0], size in [0,0]\nloop 13:5 if SLOTS >= 8 && SLOTS <= 31: tick in [0,100000], head in [0,7], size in [8,8]\nloop 13:5 if SLOTS >= 32: tick in [0,100000], head in [0,31], size in [32,32]\nalarm 15:9: zero-divisor if SLOTS <= 7\n",
+    ),
+    (
+        "ring_narrow.certificate",
+        "famlint certificate 1 stop\nloop 13:5 if SLOTS <= 7: tick in [0,0], head in [0,0], size in [0,0]\nloop 13:5 if SLOTS >= 8: tick in [0,100000], head in [0,7], size in [8,8]\nalarm 15:9: zero-divisor if SLOTS <= 7\n",
     ),
     (
         "F13_family.c",
@@ -215,10 +223,19 @@ pub(crate) const FILES: [(&str, &str); 54] = [
         "pins.json",
         "{\"features\": [{\"name\": \"PIN\", \"min\": 0, \"max\": 100}]}\n",
     ),
+    ("E2.certificate", "loop 5:5 if 1: count in [0,10]\n"),
+    (
+        "E3.certificate",
+        "famlint certificate 1 stop\nloop 5:5 if 1: count in [10,0]\n",
+    ),
+    (
+        "E4.certificate",
+        "famlint certificate 1 stop\nloop 5:5 if 1: count in [0,10]\nalarm 6:9: overflow if DEBUG\n",
+    ),
 ];
 
 /// The words of each command, with its output and then its line on the error stream.
-pub(crate) const COMMANDS: [(&str, &str); 66] = [
+pub(crate) const COMMANDS: [(&str, &str); 72] = [
     ("plain assertion.c", "7:5: assertion\nalarms: 1\n"),
     ("plain logger.c", "20:9: overflow\nalarms: 1\n"),
     ("plain logger_mended.c", "alarms: 0\n"),
@@ -285,6 +302,30 @@ pub(crate) const COMMANDS: [(&str, &str); 66] = [
     (
         "analyse ring.json ring.c",
         "15:9: zero-divisor if SLOTS <= 7; example SLOTS=4\nalarms: 1\n",
+    ),
+    (
+        "certify ring.json ring.c",
+        "famlint certificate 1 stop\nloop 13:5 if SLOTS <= 7: tick in [0,0], head in [0,0], size in [0,0]\nloop 13:5 if SLOTS >= 8 && SLOTS <= 31: tick in [0,100000], head in [0,7], size in [8,8]\nloop 13:5 if SLOTS >= 32: tick in [0,100000], head in [0,31], size in [32,32]\nalarm 15:9: zero-divisor if SLOTS <= 7\n",
+    ),
+    (
+        "check ring.json ring.c ring.certificate",
+        "certificate: yes, 1 alarms\n",
+    ),
+    (
+        "check ring.json ring.c ring_narrow.certificate",
+        "certificate: no: 13:5 loop; example SLOTS=32\n",
+    ),
+    (
+        "check buffer.json buffer.c E2.certificate",
+        "certificate: E2\n",
+    ),
+    (
+        "check buffer.json buffer.c E3.certificate",
+        "certificate: E3 at line 2\n",
+    ),
+    (
+        "check buffer.json buffer.c E4.certificate",
+        "certificate: E4 at line 3\n",
     ),
     (
         "analyse buffer.json F13_family.c",

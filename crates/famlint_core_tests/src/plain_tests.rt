@@ -1,41 +1,12 @@
 //! The program over files and sinks in memory.
 
-use fam_outer::{CallNumbers, Entries, MemoryFiles, MemorySink, NoMemory, Text};
+use fam_outer::{MemorySink, NoMemory};
 use famlint_core::famlint;
+use famlint_core_cases::{USAGE, memory_files, ran_over, words_of};
 use std::alloc::Global;
 use std::test::Fail;
 
-/// One file in memory, whose loads do not fail.
-fn one_file(alloc: Global, path: &str, content: &[u8]) -> Result<MemoryFiles, NoMemory> {
-    let path = Text::from_bytes(alloc, path.as_bytes())?;
-    let content = Text::from_bytes(alloc, content)?;
-    Ok(MemoryFiles {
-        entries: Entries::from_vec(vec![in alloc; (path, content)]?),
-        failing: CallNumbers::from_vec(Vec::new(alloc)),
-        calls: 0,
-        faults: 0,
-        failed: None,
-    })
-}
-
-/// The words of a line.
-fn words_of(alloc: Global, line: &str) -> Result<Vec<String>, NoMemory> {
-    let mut words = Vec::new(alloc);
-    for word in line.split_whitespace() {
-        words.push(String::from_str(alloc, word)?)?;
-    }
-    Ok(words)
-}
-
-/// A sink with ample room.
-fn ample_sink(alloc: Global) -> Result<MemorySink, NoMemory> {
-    MemorySink::new(alloc, 1000, 1000, Vec::new(alloc))
-}
-
 const ROW_1: &[u8] = b"int main(void) { }\n";
-
-const USAGE: &[u8] =
-    b"usage: famlint plain FILE, project MODEL FILE SETTINGS, variant MODEL FILE SETTINGS, run MODEL FILE SETTINGS, analyse MODEL FILE, invariants MODEL FILE, generate NUMBER, certify MODEL FILE, check MODEL FILE CERTIFICATE, advise MODEL FILE SETTINGS, features MODEL\n";
 
 const ROW_3: &[u8] = b"int x;\nint main(void) {\nx = 2147483647;\nx = x + 1;\nassert(0);\n}\n";
 
@@ -57,23 +28,6 @@ const ROW_36: &[u8] =
     b"int x;\nint y;\nint main(void) {\nx = input();\ny = x + 1;\nassert(y > x);\n}\n";
 
 const ROW_35: &[u8] = b"int x;\nint main(void) {\nx = 2147483647;\nx = x + 1;\nassert(x < 0);\n}\n";
-
-/// What the program answers and writes for the words of a line, with one file under a path.
-#[derive(Drop)]
-struct Ran {
-    status: u8,
-    out: MemorySink,
-    err: MemorySink,
-}
-
-fn run(alloc: Global, line: &str, path: &str, content: &[u8]) -> Result<Ran, NoMemory> {
-    let words = words_of(alloc, line)?;
-    let mut files = one_file(alloc, path, content)?;
-    let mut out = ample_sink(alloc)?;
-    let mut err = ample_sink(alloc)?;
-    let status = famlint(alloc, words.as_slice(), &mut files, &mut out, &mut err);
-    Ok(Ran { status, out, err })
-}
 
 #[test]
 fn refuses_words(rt: HostRuntime) -> Result<(), Fail> {
@@ -98,10 +52,10 @@ fn refuses_words(rt: HostRuntime) -> Result<(), Fail> {
         "plain f --domain=boxes",
     ];
     for line in lines {
-        let ran = run(rt.alloc(), line, "f", ROW_1)?;
+        let ran = ran_over(rt.alloc(), line, &[("f", ROW_1)])?;
         assert_eq!(rt; ran.status, 2, "at {line}");
-        assert_eq!(rt; ran.out.taken.as_slice(), b"".as_slice(), "at {line}");
-        assert_eq!(rt; ran.err.taken.as_slice(), USAGE, "at {line}");
+        assert_eq!(rt; ran.out.as_slice(), b"".as_slice(), "at {line}");
+        assert_eq!(rt; ran.err.as_slice(), USAGE.as_bytes(), "at {line}");
     }
     Ok(())
 }
@@ -173,10 +127,10 @@ fn refuses_files(rt: HostRuntime) -> Result<(), Fail> {
         ),
     ];
     for (line, content, status, fault) in cases {
-        let ran = run(rt.alloc(), line, "f", content)?;
+        let ran = ran_over(rt.alloc(), line, &[("f", content)])?;
         assert_eq!(rt; ran.status, status);
-        assert_eq!(rt; ran.out.taken.as_slice(), b"".as_slice());
-        assert_eq!(rt; ran.err.taken.as_slice(), fault);
+        assert_eq!(rt; ran.out.as_slice(), b"".as_slice());
+        assert_eq!(rt; ran.err.as_slice(), fault);
     }
     Ok(())
 }
@@ -273,13 +227,13 @@ fn reports(rt: HostRuntime) -> Result<(), Fail> {
         ("plain f", b"/* \xff */ int main(void) { }\n", 0, none),
     ];
     for (line, content, status, report) in cases {
-        let ran = run(rt.alloc(), line, "f", content)?;
-        assert_eq!(rt; ran.err.taken.as_slice(), b"".as_slice(), "at {line}");
-        assert_eq!(rt; ran.out.taken.as_slice(), report, "at {line}");
+        let ran = ran_over(rt.alloc(), line, &[("f", content)])?;
+        assert_eq!(rt; ran.err.as_slice(), b"".as_slice(), "at {line}");
+        assert_eq!(rt; ran.out.as_slice(), report, "at {line}");
         assert_eq!(rt; ran.status, status, "at {line}");
     }
-    let dash = run(rt.alloc(), "plain -", "-", ROW_1)?;
-    assert_eq!(rt; dash.out.taken.as_slice(), none);
+    let dash = ran_over(rt.alloc(), "plain -", &[("-", ROW_1)])?;
+    assert_eq!(rt; dash.out.as_slice(), none);
     assert_eq!(rt; dash.status, 0);
     Ok(())
 }
@@ -344,8 +298,8 @@ fn keeps_limits(rt: HostRuntime) -> Result<(), Fail> {
         ),
     ];
     for (content, status, fault) in &cases {
-        let ran = run(alloc, "plain f", "f", content.as_bytes())?;
-        assert_eq!(rt; ran.err.taken.as_slice(), fault.as_bytes());
+        let ran = ran_over(alloc, "plain f", &[("f", content.as_bytes())])?;
+        assert_eq!(rt; ran.err.as_slice(), fault.as_bytes());
         assert_eq!(rt; ran.status, *status);
     }
     Ok(())
@@ -355,9 +309,9 @@ fn keeps_limits(rt: HostRuntime) -> Result<(), Fail> {
 fn tells_a_write_fault(rt: HostRuntime) -> Result<(), Fail> {
     let alloc = rt.alloc();
     let words = words_of(alloc, "plain f")?;
-    let mut files = one_file(alloc, "f", ROW_1)?;
+    let mut files = memory_files(alloc, &[("f", ROW_1)])?;
     let mut out = MemorySink::new(alloc, 100, 4, vec![in alloc; 2u64]?)?;
-    let mut err = ample_sink(alloc)?;
+    let mut err = MemorySink::new(alloc, 1000, 1000, Vec::new(alloc))?;
     let answered = famlint(alloc, words.as_slice(), &mut files, &mut out, &mut err);
     assert_eq!(rt; answered, 7);
     assert_eq!(rt; out.taken.as_slice(), b"alar".as_slice());
@@ -369,8 +323,8 @@ fn tells_a_write_fault(rt: HostRuntime) -> Result<(), Fail> {
 fn a_failing_error_stream_keeps_the_status(rt: HostRuntime) -> Result<(), Fail> {
     let alloc = rt.alloc();
     let words = words_of(alloc, "plain")?;
-    let mut files = one_file(alloc, "f", ROW_1)?;
-    let mut out = ample_sink(alloc)?;
+    let mut files = memory_files(alloc, &[("f", ROW_1)])?;
+    let mut out = MemorySink::new(alloc, 1000, 1000, Vec::new(alloc))?;
     let mut err = MemorySink::new(alloc, 1000, 6, vec![in alloc; 2u64]?)?;
     let answered = famlint(alloc, words.as_slice(), &mut files, &mut out, &mut err);
     assert_eq!(rt; answered, 2);

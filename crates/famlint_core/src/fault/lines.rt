@@ -5,6 +5,7 @@ ghost use Rattle.std.specs.Option.{option_copied};
 ghost use Rattle.std.specs.Prelude.{◌≡◌, ◌++◌, string_bytes, IfOk};
 ghost use Rattle.famlint_core.specs.Faults as specs;
 
+use certificate_reader::CertificateFault;
 use fam_outer::{ConditionFault, FileCode, NoMemory, Place, Text};
 use feature_model::{ConfigFault, ModelFault};
 use std::alloc::Global;
@@ -157,5 +158,17 @@ pub fn config_line(alloc: Global, fault: ConfigFault, name: &[u8]) -> Result<Tex
         ConfigFault::Twice(word) => numbered(alloc, "configuration: K3 at word ", word),
         ConfigFault::OutOfRange(word) => numbered(alloc, "configuration: K4 at word ", word),
         ConfigFault::NotValid => line(alloc, "configuration: K5\n"),
+    }
+}
+
+/// The line of a certificate's fault.
+pub fn certificate_line(alloc: Global, fault: CertificateFault) -> Result<Text, NoMemory>
+    ensures { IfOk result (λ text. text ≡ specs.certificate_line fault) }
+{
+    match fault {
+        CertificateFault::TooLong => line(alloc, "certificate: E1\n"),
+        CertificateFault::Header => line(alloc, "certificate: E2\n"),
+        CertificateFault::Line(number) => numbered(alloc, "certificate: E3 at line ", number),
+        CertificateFault::Test(number) => numbered(alloc, "certificate: E4 at line ", number),
     }
 }

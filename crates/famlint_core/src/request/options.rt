@@ -5,7 +5,7 @@ ghost use Rattle.std.specs.Prelude.{◌≡◌};
 ghost use Rattle.famlint_core.specs.Requests as specs;
 
 use crate::request::Analysis;
-use command_words::{Arguments, Chosen, Given};
+use command_words::{Arguments, Chosen, Domain, Given};
 use plain_analysis::Options;
 
 /// The commands.
@@ -18,6 +18,8 @@ pub enum Command {
     Analyse,
     Invariants,
     Generate,
+    Certify,
+    Check,
     Advise,
     Features,
 }
@@ -35,6 +37,8 @@ impl Command {
             "analyse" => Some(Command::Analyse),
             "invariants" => Some(Command::Invariants),
             "generate" => Some(Command::Generate),
+            "certify" => Some(Command::Certify),
+            "check" => Some(Command::Check),
             "advise" => Some(Command::Advise),
             "features" => Some(Command::Features),
             _ => None,
@@ -59,7 +63,15 @@ impl Command {
                 steps: false,
                 inputs: false,
             },
-            Command::Project | Command::Features => Given {
+            Command::Certify => Given {
+                domain: false,
+                delay: true,
+                narrow: true,
+                overflow: true,
+                steps: false,
+                inputs: false,
+            },
+            Command::Project | Command::Check | Command::Features => Given {
                 domain: false,
                 delay: false,
                 narrow: false,
@@ -109,5 +121,15 @@ pub fn analysis_of(chosen: Chosen) -> Analysis
             narrow: chosen.narrow,
             mode: chosen.overflow,
         },
+    }
+}
+
+/// How programs are analysed by intervals.
+pub fn interval_analysis(chosen: Chosen) -> Analysis
+    ensures { result ≡ specs.interval_analysis chosen }
+{
+    Analysis {
+        domain: Domain::Interval,
+        options: analysis_of(chosen).options,
     }
 }

@@ -8,7 +8,7 @@ ghost use Rattle.command_words.specs.Arguments.{texts_of, Reads};
 ghost use Rattle.famlint_core.specs.Requests as specs;
 ghost use Rattle.famlint_core.specs.Requests.{reading, IsWithinRanges, HaveInts};
 
-use crate::request::options::{Command, analysis_of, suits};
+use crate::request::options::{Command, analysis_of, interval_analysis, suits};
 use crate::request::{Analysis, FamilyTask, Request, SettingWords, VariantTask};
 use command_words::{Arguments, Settings, Usage, Word, WordsRefusal, number_up_to, read_words};
 use fam_outer::NoMemory;
@@ -96,6 +96,21 @@ fn generate_request(analysis: Analysis, words: &[Word]) -> Result<Request, Words
     }
 }
 
+/// What `check` asks for with these words.
+fn check_request(alloc: Global, words: &[Word]) -> Result<Request, WordsRefusal>
+    ensures answer { Reads (specs.check_request words.now) result }
+    ensures ranges { IfOk result (λ request. IsWithinRanges request) }
+{
+    match words {
+        [model, file, certificate] => Ok(Request::Check {
+            model: Word::from_str(alloc, model.as_str())?,
+            file: Word::from_str(alloc, file.as_str())?,
+            certificate: Word::from_str(alloc, certificate.as_str())?,
+        }),
+        _ => Err(WordsRefusal::Fault(Usage)),
+    }
+}
+
 /// What `advise` asks for with these words.
 fn advice_request(
     alloc: Global,
@@ -165,6 +180,11 @@ fn request_for(
         Command::Analyse => family_request(alloc, analysis, FamilyTask::Alarms, words),
         Command::Invariants => family_request(alloc, analysis, FamilyTask::Invariants, words),
         Command::Generate => generate_request(analysis, words),
+        Command::Certify => {
+            let analysis = interval_analysis(settings.chosen);
+            family_request(alloc, analysis, FamilyTask::Certificate, words)
+        }
+        Command::Check => check_request(alloc, words),
         Command::Advise => advice_request(alloc, analysis, words),
         Command::Features => features_request(alloc, words),
     }

@@ -1,4 +1,4 @@
-//! What is asked of all variants of a family at once: `analyse` and `invariants`.
+//! What is asked of all variants of a family at once: `analyse`, `invariants` and `certify`.
 #![tactic(auto)]
 
 ghost use Rattle.std.specs.Prelude.{◌≡◌, ◌≤◌, ◌++◌, ℕ, List, [], ◌∷◌, Some, IfOk, length, map};
@@ -18,6 +18,7 @@ ghost use Rattle.famlint_core.specs.ProductLines.{IsLoadedFor, IsUsableLine};
 use crate::fault::{Done, Stop};
 use crate::product_line::{ProductLine, load_product_line};
 use crate::request::{Analysis, FamilyTask};
+use crate::work::certify::certificate_of;
 use alarm_report::{
     FamilyAlarm, FamilyAlarms, FamilyInvariant, alarm_text, alarms_of, invariant_text,
     invariants_of,
@@ -146,6 +147,7 @@ fn sizes_before<L: Leaf>(
 fn text_for<L: Leaf>(
     alloc: Global,
     line: &ProductLine,
+    options: &Options,
     task: FamilyTask,
     prepared: &Prepared,
     findings: &FamilyFindings<L>,
@@ -156,14 +158,23 @@ fn text_for<L: Leaf>(
     requires tested { AreTested line.now findings.now }
     requires fit { All (λ (a : FamilyAlarm). AreLiterals
         (length line.now.model.features) a.region.literals) alarms.now }
-    ensures { (o : Options) → IsFound L.value L.meaning o line.now findings.now
-        → IfOk result (λ text. IsGoodText L.meaning o task line.now alarms.now text) }
+    ensures { IsFound L.value L.meaning options.now line.now findings.now
+        → IfOk result (λ text. IsGoodText L.meaning options.now task line.now alarms.now text) }
 {
-    let told = alarm_text(alloc, line.model.features.items(), alarms)?;
+    let features = line.model.features.items();
     match task {
-        FamilyTask::Alarms => Ok(told),
-        FamilyTask::Invariants => invariants_before(alloc, line, prepared, findings, &told),
-        FamilyTask::Sizes => sizes_before(alloc, line, findings, &told),
+        FamilyTask::Alarms => alarm_text(alloc, features, alarms),
+        FamilyTask::Invariants => {
+            let told = alarm_text(alloc, features, alarms)?;
+            invariants_before(alloc, line, prepared, findings, &told)
+        }
+        FamilyTask::Certificate => {
+            certificate_of(alloc, line, options, prepared, findings, alarms)
+        }
+        FamilyTask::Sizes => {
+            let told = alarm_text(alloc, features, alarms)?;
+            sizes_before(alloc, line, findings, &told)
+        }
     }
 }
 
@@ -183,7 +194,7 @@ fn report_on<L: Leaf>(
     let prepared = Prepared::new(alloc, &line.model)?;
     let found = alarms_in(alloc, line, &prepared, &findings)?;
     let alarms = found.items();
-    let text = text_for(alloc, line, task, &prepared, &findings, alarms)?;
+    let text = text_for(alloc, line, options, task, &prepared, &findings, alarms)?;
     Ok(Done {
         text,
         status: family_status(alarms),
@@ -211,7 +222,7 @@ pub(super) fn report_by(
     }
 }
 
-/// The work of `analyse` and `invariants`.
+/// The work of `analyse`, `invariants` and `certify`.
 pub fn family<F: Files>(
     alloc: Global,
     model: &Word,

@@ -1,6 +1,6 @@
 use Rattle.std.proofs.Common.{subst, sym}
 use Rattle.std.specs.Prelude.{IfOk, Ok}
-use Rattle.famlint_core.specs.Answers.{IsTold, Answers, Promised}
+use Rattle.famlint_core.specs.Answers.{IsTold, IsLoaded, Answers, Promised}
 use Rattle.famlint_core.specs.Loads.{Comes}
 use Rattle.famlint_core.proofs.work.work.Goals as goal
 
@@ -53,3 +53,20 @@ pub returns-in_ok-generate-in-Generate-clause-promise : goal.returns-in_ok-gener
 returns-in_ok-generate-in-Generate-clause-promise g c = λ told is_told.
     let done = c.in_ok-generate-in-Generate.field-0 in
     subst (λ r. Promised r told done.status done.text) (sym c.in-Generate.is) c.in_ok-generate-in-Generate.ensures.promise
+
+pub returns-in-Check-clause-answer : goal.returns-in-Check-clause-answer
+returns-in-Check-clause-answer g c = λ told is_told.
+    let content = g.F.Files.content c.args.files.now in
+    subst (λ r. IsTold r content told → Comes (Answers r told) c.check.result) (sym c.in-Check.is) (λ t. c.check.ensures.answer told t.0 t.1 t.2) is_told
+
+pub returns-in-Check-clause-promise : goal.returns-in-Check-clause-promise
+returns-in-Check-clause-promise g c = λ told is_told.
+    let content = g.F.Files.content c.args.files.now in
+    subst (λ r. IsTold r content told → IfOk c.check.result (λ done. Promised r told done.status done.text)) (sym c.in-Check.is)
+    (λ t. c.check.ensures.promise told t.0 t.1 t.2) is_told
+
+pub returns-in-Check-clause-order : goal.returns-in-Check-clause-order
+returns-in-Check-clause-order g c = λ told is_told fault.
+    let content = g.F.Files.content c.args.files.now in
+    let failed = g.F.Files.failed c.check.new.files in
+    subst (λ r. IsTold r content told → IsLoaded r told failed) (sym c.in-Check.is) (λ t. c.check.ensures.order told.model told.file t.0 t.1 fault) is_told

@@ -11,7 +11,7 @@ returns-clause-answer g c =
     let alarms = c.items-alarms.result.now in
     let found = c.in_ok-findings.ensures.found in
     let good = subst (AreGoodAlarms M o l) (sym c.items-alarms.ensures) (c.in_ok-found.ensures.good o found) in
-    done_as M o c.args.task l alarms c.in_ok-text.text c.family_status.result good (c.in_ok-text.ensures o found) c.family_status.ensures
+    done_as M o c.args.task l alarms c.in_ok-text.text c.family_status.result good (c.in_ok-text.ensures found) c.family_status.ensures
 
 pub returns-clause-promise : goal.returns-clause-promise
 returns-clause-promise g c =
@@ -21,4 +21,4 @@ returns-clause-promise g c =
     let alarms = c.items-alarms.result.now in
     let found = c.in_ok-findings.ensures.found in
     let good = subst (AreGoodAlarms M o l) (sym c.items-alarms.ensures) (c.in_ok-found.ensures.good o found) in
-    promised_as M o c.args.task l alarms c.in_ok-text.text c.family_status.result good (c.in_ok-text.ensures o found) c.family_status.ensures
+    promised_as M o c.args.task l alarms c.in_ok-text.text c.family_status.result good (c.in_ok-text.ensures found) c.family_status.ensures

@@ -5,20 +5,24 @@ use Rattle.famlint_core.specs.FamilyReports.{sizes_text}
 use Rattle.famlint_core.specs.Found.{AreInvariantsBefore, IsGoodText}
 use Rattle.famlint_core.proofs.work.family.text_for.Goals as goal
 
-pub returns-in-Invariants : goal.returns-in-Invariants
-returns-in-Invariants g c = λ o found.
+pub returns-in_ok-told-in-Invariants : goal.returns-in_ok-told-in-Invariants
+returns-in_ok-told-in-Invariants g c = λ found.
     let M = g.L.Leaf.meaning in
+    let o = c.args.options.now in
     let l = c.args.line.now in
     let alarms = c.args.alarms.now in
-    let told : c.in_ok-told.told ≡ alarm_text l.model.features alarms = c.in_ok-told.ensures ∙ ap (λ fs. alarm_text fs alarms) c.items.ensures in
+    let told : c.in_ok-told-in-Invariants.told ≡ alarm_text l.model.features alarms =
+    c.in_ok-told-in-Invariants.ensures ∙ ap (λ fs. alarm_text fs alarms) c.items-features.ensures in
     let before = subst (λ t. IfOk c.invariants_before.result (λ text. AreInvariantsBefore M o l t text)) told (c.invariants_before.ensures o found) in
     subst (λ task. IfOk c.invariants_before.result (λ text. IsGoodText M o task l alarms text)) (sym c.in-Invariants.is) before
 
-pub returns-in-Sizes : goal.returns-in-Sizes
-returns-in-Sizes g c = λ o found.
+pub returns-in_ok-told-in-Sizes : goal.returns-in_ok-told-in-Sizes
+returns-in_ok-told-in-Sizes g c = λ found.
     let M = g.L.Leaf.meaning in
+    let o = c.args.options.now in
     let l = c.args.line.now in
     let alarms = c.args.alarms.now in
-    let told : c.in_ok-told.told ≡ alarm_text l.model.features alarms = c.in_ok-told.ensures ∙ ap (λ fs. alarm_text fs alarms) c.items.ensures in
+    let told : c.in_ok-told-in-Sizes.told ≡ alarm_text l.model.features alarms =
+    c.in_ok-told-in-Sizes.ensures ∙ ap (λ fs. alarm_text fs alarms) c.items-features.ensures in
     let behind = subst (λ t. IfOk c.sizes_before.result (λ text. text ≡ sizes_text l ++ t)) told (c.sizes_before.ensures o found) in
     subst (λ task. IfOk c.sizes_before.result (λ text. IsGoodText M o task l alarms text)) (sym c.in-Sizes.is) behind

@@ -2,10 +2,10 @@
 
 ghost use Rattle.std.specs.Prelude.{◌≤◌};
 
-use crate::cases::{FILES, USAGE, gives, words_of};
-use crate::two_files::{compares, run_over, two_files};
+use crate::comparing::{compares, gives, two_files};
 use fam_outer::{MemorySink, NoMemory};
 use famlint_core::famlint;
+use famlint_core_cases::{USAGE, content_of, memory_files, ran_over, words_of};
 use std::alloc::Global;
 use std::process::Abort;
 use std::test::Fail;
@@ -198,16 +198,6 @@ fn other_words_are_refused(rt: HostRuntime) -> Result<(), Fail> {
     Ok(())
 }
 
-/// The content of a path.
-fn content_of(path: &str) -> &'static [u8] {
-    for (known, content) in FILES {
-        if known == path {
-            return content.as_bytes();
-        }
-    }
-    b""
-}
-
 #[test]
 fn a_long_model_is_refused(rt: HostRuntime) -> Result<(), Fail> {
     let alloc = rt.alloc();
@@ -215,12 +205,12 @@ fn a_long_model_is_refused(rt: HostRuntime) -> Result<(), Fail> {
     for _ in 0..65537u32 {
         model.push(b' ')?;
     }
-    let contents = (model.as_slice(), content_of("f8"));
+    let contents = two_files(model.as_slice(), content_of("f8"));
     compares(
         &rt,
         alloc,
         "analyse m f",
-        contents,
+        &contents,
         (3, b"", b"model: M8\n"),
     )
 }
@@ -253,20 +243,26 @@ fn thirty_switches(rt: HostRuntime) -> Result<(), Fail> {
     let alloc = rt.alloc();
     let model = switches(alloc, 30)?;
     let file = counting(alloc, 30)?;
-    let contents = (model.as_slice(), file.as_slice());
+    let contents = two_files(model.as_slice(), file.as_slice());
     compares(
         &rt,
         alloc,
         "analyse m f",
-        contents,
+        &contents,
         (0, b"alarms: 0\n", b""),
     )?;
-    let ran = run_over(alloc, "invariants m f", contents.0, contents.1).map_err(|_| "memory")?;
+    let ran = ran_over(alloc, "invariants m f", &contents).map_err(|_| "memory")?;
     assert_eq!(rt; ran.status, 0);
     assert!(rt; ran.out.ends_with(b"\n123:1: if 1: x in [0,0]\nalarms: 0\n"));
     let many = switches(alloc, 33)?;
-    let refused = (many.as_slice(), file.as_slice());
-    compares(&rt, alloc, "analyse m f", refused, (3, b"", b"model: M6\n"))
+    let refused = two_files(many.as_slice(), file.as_slice());
+    compares(
+        &rt,
+        alloc,
+        "analyse m f",
+        &refused,
+        (3, b"", b"model: M6\n"),
+    )
 }
 
 /// As many tests of `N` in groups of their own.
@@ -297,30 +293,30 @@ fn limits_of_groups(rt: HostRuntime) -> Result<(), Fail> {
     let alloc = rt.alloc();
     let model = b"{\"features\":[{\"name\":\"N\",\"min\":0,\"max\":100}]}\n".as_slice();
     let most = tested(alloc, 64)?;
-    let contents = (model, most.as_slice());
+    let contents = two_files(model, most.as_slice());
     compares(
         &rt,
         alloc,
         "analyse m f",
-        contents,
+        &contents,
         (0, b"alarms: 0\n", b""),
     )?;
     let more = tested(alloc, 65)?;
-    let contents = (model, more.as_slice());
+    let contents = two_files(model, more.as_slice());
     compares(
         &rt,
         alloc,
         "analyse m f",
-        contents,
+        &contents,
         (4, b"", b"file: F9 at 130:1\n"),
     )?;
     let deep = nested(alloc, 65)?;
-    let contents = (content_of("ma"), deep.as_slice());
+    let contents = two_files(content_of("ma"), deep.as_slice());
     compares(
         &rt,
         alloc,
         "analyse m f",
-        contents,
+        &contents,
         (4, b"", b"file: F16 at 66:1\n"),
     )
 }
@@ -361,7 +357,7 @@ fn cut_files_are_refused(rt: HostRuntime) -> Result<(), Fail> {
         &rt,
         alloc,
         "analyse m f",
-        (model, b""),
+        &two_files(model, b""),
         (4, b"", told.as_slice()),
     )?;
     for byte in whole {
@@ -369,12 +365,12 @@ fn cut_files_are_refused(rt: HostRuntime) -> Result<(), Fail> {
         if *byte == b'\n' && line < 39 {
             line += 1;
             let told = told_of_cut(alloc, line)?;
-            let contents = (model, cut.as_slice());
+            let contents = two_files(model, cut.as_slice());
             compares(
                 &rt,
                 alloc,
                 "analyse m f",
-                contents,
+                &contents,
                 (4, b"", told.as_slice()),
             )?;
             if line == 39 {
@@ -397,7 +393,8 @@ fn writes_fail(
 {
     let (outs, errs) = failing;
     let words = words_of(alloc, "analyse m f").map_err(|_| "memory")?;
-    let mut files = two_files(alloc, content_of("ma"), content_of("f8")).map_err(|_| "memory")?;
+    let contents = two_files(content_of("ma"), content_of("f8"));
+    let mut files = memory_files(alloc, &contents).map_err(|_| "memory")?;
     let mut out = MemorySink::new(alloc, 1000, most, outs).map_err(|_| "memory")?;
     let mut err = MemorySink::new(alloc, 1000, 1000, errs).map_err(|_| "memory")?;
     let status = famlint(alloc, &words, &mut files, &mut out, &mut err);

@@ -1,17 +1,15 @@
-//! The models and files of the tests, and how a command over them is compared.
+//! The models and files of the tests.
 
-use fam_outer::{CallNumbers, Entries, MemoryFiles, MemorySink, NoMemory, Text};
-use famlint_core::famlint;
+use crate::running::{Ran, ran_with, text_files};
+use fam_outer::NoMemory;
 use std::alloc::Global;
-use std::process::Abort;
-use std::test::Fail;
 
 /// The line where the words are refused.
-pub(crate) const USAGE: &str =
+pub const USAGE: &str =
     "usage: famlint plain FILE, project MODEL FILE SETTINGS, variant MODEL FILE SETTINGS, run MODEL FILE SETTINGS, analyse MODEL FILE, invariants MODEL FILE, generate NUMBER, certify MODEL FILE, check MODEL FILE CERTIFICATE, advise MODEL FILE SETTINGS, features MODEL\n";
 
 /// The models and files of the tests, each under its path.
-pub(crate) const FILES: [(&str, &str); 38] = [
+pub const FILES: [(&str, &str); 38] = [
     ("m0", "{\"features\":[]}\n"),
     ("ma", "{\"features\":[{\"name\":\"A\"}]}\n"),
     (
@@ -130,48 +128,18 @@ pub(crate) const FILES: [(&str, &str); 38] = [
     ),
 ];
 
-/// The files in memory, of which the calls with these numbers fail.
-pub(crate) fn files(alloc: Global, failing: Vec<u64>) -> Result<MemoryFiles, NoMemory> {
-    let mut entries = Vec::new(alloc);
-    for (path, content) in FILES {
-        let path = Text::from_bytes(alloc, path.as_bytes())?;
-        let content = Text::from_bytes(alloc, content.as_bytes())?;
-        entries.push((path, content))?;
+/// The content of a path.
+pub fn content_of(path: &str) -> &'static [u8] {
+    for (known, content) in FILES {
+        if known == path {
+            return content.as_bytes();
+        }
     }
-    Ok(MemoryFiles {
-        entries: Entries::from_vec(entries),
-        failing: CallNumbers::from_vec(failing),
-        calls: 0,
-        faults: 0,
-        failed: None,
-    })
+    b""
 }
 
-/// The words of a line.
-pub(crate) fn words_of(alloc: Global, line: &str) -> Result<Vec<String>, NoMemory> {
-    let mut words = Vec::new(alloc);
-    for word in line.split_whitespace() {
-        words.push(String::from_str(alloc, word)?)?;
-    }
-    Ok(words)
-}
-
-/// Runs the words of a line, and compares the status, the output and the line on `err`.
-pub(crate) fn gives(
-    rt: &impl Abort,
-    alloc: Global,
-    line: &str,
-    failing: Vec<u64>,
-    wanted: (u8, &str, &str),
-) -> Result<(), Fail> {
-    let words = words_of(alloc, line).map_err(|_| "memory")?;
-    let mut files = files(alloc, failing).map_err(|_| "memory")?;
-    let mut out = MemorySink::new(alloc, 10000, 10000, Vec::new(alloc)).map_err(|_| "memory")?;
-    let mut err = MemorySink::new(alloc, 10000, 10000, Vec::new(alloc)).map_err(|_| "memory")?;
-    let status = famlint(alloc, &words, &mut files, &mut out, &mut err);
-    let (expected, output, told) = wanted;
-    assert_eq!(rt; status, expected, "at {line}");
-    assert_eq!(rt; out.taken.as_slice(), output.as_bytes(), "at {line}");
-    assert_eq!(rt; err.taken.as_slice(), told.as_bytes(), "at {line}");
-    Ok(())
+/// Runs the words of a line over the models and files of the tests, of which the loads with these numbers fail.
+pub fn ran_over_cases(alloc: Global, line: &str, failing: Vec<u64>) -> Result<Ran, NoMemory> {
+    let mut files = text_files(alloc, &FILES, failing)?;
+    ran_with(alloc, line, &mut files)
 }

@@ -1,8 +1,7 @@
 //! `advise` and `features` over files in memory.
 
-use crate::cases::{USAGE, gives, words_of};
-use fam_outer::{CallNumbers, Entries, MemoryFiles, MemorySink, Text};
-use famlint_core::famlint;
+use crate::comparing::{compares, gives, two_files};
+use famlint_core_cases::USAGE;
 use std::alloc::Global;
 use std::test::Fail;
 
@@ -110,33 +109,10 @@ fn thirty(alloc: Global) -> Result<(String, String, String), Fail> {
 fn thirty_switches_with_alarms_on_six(rt: HostRuntime) -> Result<(), Fail> {
     let alloc = rt.alloc();
     let (model, file, line) = thirty(alloc)?;
-    let entries = vec![in alloc;
-        (
-            Text::from_bytes(alloc, b"m")?,
-            Text::from_bytes(alloc, model.as_bytes())?
-        ),
-        (
-            Text::from_bytes(alloc, b"f")?,
-            Text::from_bytes(alloc, file.as_bytes())?
-        ),
-    ]?;
-    let mut files = MemoryFiles {
-        entries: Entries::from_vec(entries),
-        failing: CallNumbers::from_vec(Vec::new(alloc)),
-        calls: 0,
-        faults: 0,
-        failed: None,
-    };
-    let words = words_of(alloc, line.as_str())?;
-    let mut out = MemorySink::new(alloc, 10000, 10000, Vec::new(alloc))?;
-    let mut err = MemorySink::new(alloc, 10000, 10000, Vec::new(alloc))?;
-    let status = famlint(alloc, &words, &mut files, &mut out, &mut err);
-    assert_eq!(rt; status, 0);
-    assert_eq!(rt;
-        out.taken.as_slice(),
-        b"advice: F1=1 F2=1 F3=1 F4=1 F5=0 F6=1 F7=1 F8=1 F9=1 F10=0 F11=1 F12=1 F13=1 F14=1 F15=0 F16=1 F17=1 F18=1 F19=1 F20=0 F21=1 F22=1 F23=1 F24=1 F25=0 F26=1 F27=1 F28=1 F29=1 F30=0; changed 6\n".as_slice()
-    );
-    Ok(())
+    let contents = two_files(model.as_bytes(), file.as_bytes());
+    let told =
+        b"advice: F1=1 F2=1 F3=1 F4=1 F5=0 F6=1 F7=1 F8=1 F9=1 F10=0 F11=1 F12=1 F13=1 F14=1 F15=0 F16=1 F17=1 F18=1 F19=1 F20=0 F21=1 F22=1 F23=1 F24=1 F25=0 F26=1 F27=1 F28=1 F29=1 F30=0; changed 6\n".as_slice();
+    compares(&rt, alloc, line.as_str(), &contents, (0, told, b""))
 }
 
 #[test]

@@ -1,0 +1,331 @@
+-- What `certify` writes is answered yes by `check`.
+use Rattle.std.proofs.Common.{◌≡◌, ◌≢◌, ◌⊎◌, ℕ, ℤ, Bool, true, false, not, ◌||◌, List, ◌++◌, map, refl, sym, ap, subst, ◌∙◌, inl, inr, nat_eq}
+use Rattle.std.proofs.lemmas.Bool.{eqb-true, eqb-false}
+use Rattle.std.proofs.lemmas.List.Elements.{All-weaker}
+use Rattle.std.specs.Prelude.{Option, Some, None, Result, Ok, Err, if◌then◌else◌}
+use Rattle.fam_outer.specs.declared.faults.FileCode.{FileCode}
+use Rattle.fam_outer.specs.declared.faults.Place.{Place}
+use Rattle.fam_outer.specs.declared.refusal.Refusal.{Refusal}
+use Rattle.fam_outer.specs.declared.refusal.Refusal.TheVariants as refusals
+use Rattle.c_tree.specs.declared.tree.Kind.{Kind}
+use Rattle.c_tree.specs.Project.{projected_program}
+use Rattle.c_tree.specs.Tree.{Whole}
+use Rattle.c_tree.specs.View.{whole}
+use Rattle.linear_atoms.specs.declared.atoms.Atom.{Atom}
+use Rattle.linear_atoms.specs.declared.atoms.Feature.{Feature}
+use Rattle.cpp_conditions.specs.declared.formulas.Formula.{Formula}
+use Rattle.cpp_conditions.specs.declared.models.Model.{Model}
+use Rattle.cpp_conditions.specs.Distinct.{AreAtomsOf}
+use Rattle.cpp_conditions.specs.Numbering.{vector_at}
+use Rattle.cpp_conditions.specs.Validity.{Plain, plain, IsValid}
+use Rattle.cpp_conditions.specs.View.{formula}
+use Rattle.cpp_conditions.proofs.Collected.{one_list}
+use Rattle.cpp_lines.specs.Sections.{Told, TextIsRead}
+use Rattle.feature_model.specs.declared.faults.ModelFault.{ModelFault}
+use Rattle.feature_model.specs.declared.faults.ModelFault.TheVariants as model_faults
+use Rattle.feature_model.specs.Features.{AreDistinct, AreNamed, feature, fault_of}
+use Rattle.feature_model.specs.Models.{Ends, IsReadAs}
+use Rattle.feature_model.specs.Models as models
+use Rattle.feature_model.specs.Shapes.{Outline}
+use Rattle.feature_model.specs.Stages.{◌>>=◌, unless, told_from}
+use Rattle.feature_model.specs.Stages as stages
+use Rattle.feature_model.proofs.Judging.{named_so, distinct_so}
+use Rattle.atom_solver.proofs.Ordered.{valid_plausible}
+use Rattle.c_parser.specs.declared.family.Family.{Family}
+use Rattle.c_parser.specs.FamilyReading.{IsFamilyOf}
+use Rattle.c_parser.specs.Variants.{AreSameFamily}
+use Rattle.c_parser.proofs.KeptTexts.{TextsAreReadOnce, same_blanked}
+use Rattle.leaf_domain.specs.Leaves.{LeafMeaning}
+use Rattle.interval_leaf.specs.Intervals.{intervals}
+use Rattle.plain_analysis.specs.declared.options.Options.{Options}
+use Rattle.plain_analysis.specs.Places.{alarm_by}
+use Rattle.lifted_analysis.specs.Lines.{given_heads}
+use Rattle.lifted_analysis.specs.Promises.{truths_of}
+use Rattle.lifted_analysis.specs.Turns.{turns_by, inductive_in}
+use Rattle.certificate_reader.specs.declared.certificates.Certificate.{Certificate}
+use Rattle.certificate_reader.specs.declared.certificates.CertificateFault.{CertificateFault}
+use Rattle.certificate_reader.specs.Certificates as reader
+use Rattle.certificate_reader.specs.Regions.{literal_of}
+use Rattle.invariant_certificate.specs.declared.verdicts.Verdict.{Verdict}
+use Rattle.invariant_certificate.specs.declared.verdicts.Verdict.TheVariants.{Yes, NotInductive, Unlisted}
+use Rattle.invariant_certificate.specs.Failing.{HoldsAlways, AllHold, IsFirstFailing}
+use Rattle.invariant_certificate.specs.Passes.{is_inductive, is_covered, is_listed}
+use Rattle.invariant_certificate.specs.Verdicts.{IsVerdict}
+use Rattle.certificate_laws.specs.Certified.{IsWrittenOf, IsReadAndAccepted, WrittenAnalysesAreAccepted}
+use Rattle.certificate_laws.specs.Laws.{AreNames, FamiliesAreOfFiles}
+use Rattle.famlint_core.specs.declared.fault.Done.{Done}
+use Rattle.famlint_core.specs.declared.fault.Fault.{Fault}
+use Rattle.famlint_core.specs.declared.fault.Fault.TheVariants as fault
+use Rattle.famlint_core.specs.declared.product_line.ProductLine.{ProductLine}
+use Rattle.famlint_core.specs.declared.request.FamilyTask.TheVariants as task
+use Rattle.famlint_core.specs.declared.request.Request.{Request}
+use Rattle.famlint_core.specs.declared.request.Request.TheVariants as request
+use Rattle.famlint_core.specs.declared.request.Role.{Role}
+use Rattle.famlint_core.specs.Answers.{Contents, Answers, AnswersCheck, AsksOfCertified}
+use Rattle.famlint_core.specs.Checked.{IsCertificateFor, IsCheckDone, IsCheckRefused, IsCertified, IsYes, verdict_status}
+use Rattle.famlint_core.specs.Checked as checked
+use Rattle.famlint_core.specs.Endings.{EndsWith, status_at}
+use Rattle.famlint_core.specs.FamilyReports.{IsFamilyDone}
+use Rattle.famlint_core.specs.Loads.{IsModel}
+use Rattle.famlint_core.specs.ProductLines.{IsProductLine}
+use Rattle.famlint_core.proofs.VariantOnce.{VariantLaws, same_line_model, no_line_refusal}
+
+-- what laws of lower crates say
+pub record CertifiedLaws : Type 0 where
+  pub once : VariantLaws
+  pub texts : TextsAreReadOnce
+  pub files : FamiliesAreOfFiles
+  pub written : WrittenAnalysesAreAccepted
+
+-- ---- the features of a model that was read
+
+record HaveEntries (features : List Feature) : Type 0 where
+  outline : Outline
+  sound : fault_of outline.entries ≡ None
+  are : features ≡ map feature outline.entries
+
+abbrev told_ok : stages.Told → Result stages.Told ModelFault
+told_ok t = Ok t
+
+abbrev told_err : ModelFault → Result stages.Told ModelFault
+told_err f = Err f
+
+same_told : (s t : stages.Told) → told_ok s ≡ told_ok t → s ≡ t
+same_told s t e = let k : told_ok s ≡ told_ok t = e in cc
+
+not_told : (f : ModelFault) (t : stages.Told) → told_err f ≡ told_ok t → ⊥
+not_told f t e = let k : told_err f ≡ told_ok t = e in cc
+
+by_fault : (o : Outline) (t : stages.Told) (f : Option ModelFault) → fault_of o.entries ≡ f → unless f (record { features = map feature o.entries; texts = o.texts }) ≡ Ok t → HaveEntries t.features
+by_fault o t None e h =
+    let made : stages.Told = record { features = map feature o.entries; texts = o.texts } in
+    record { outline = o; sound = e; are = ap (λ (x : stages.Told). x.features) (sym (same_told made t h)) }
+by_fault o t (Some f) e h = absurd (not_told f t h)
+
+by_size : (o : Outline) (t : stages.Told) (b : Bool) → ((if b then Err model_faults.TooMany else Ok o) >>= stages.told) ≡ Ok t → HaveEntries t.features
+by_size o t true h = absurd (not_told model_faults.TooMany t h)
+by_size o t false h = by_fault o t (fault_of o.entries) refl h
+
+by_outline : (r : Result Outline ModelFault) (t : stages.Told) → (r >>= told_from) ≡ Ok t → HaveEntries t.features
+by_outline (Ok o) t h = by_size o t _ h
+by_outline (Err f) t h = absurd (not_told f t h)
+
+abbrev read_ok : Plain → Result Plain ModelFault
+read_ok a = Ok a
+
+abbrev read_err : ModelFault → Result Plain ModelFault
+read_err f = Err f
+
+same_read : (a b : Plain) → read_ok a ≡ read_ok b → a ≡ b
+same_read a b e = let k : read_ok a ≡ read_ok b = e in cc
+
+not_read : (f : ModelFault) (a : Plain) → read_err f ≡ read_ok a → ⊥
+not_read f a e = let k : read_err f ≡ read_ok a = e in cc
+
+ended_same : (model a : Plain) (end : Result Plain ModelFault) → Ends model end → end ≡ Ok a → model ≡ a
+ended_same model a _ (models.too_many_tests more) e = absurd (not_read model_faults.TooManyTests a e)
+ended_same model a _ (models.void few none) e = absurd (not_read model_faults.Void a e)
+ended_same model a _ (models.accepted few values valid) e = same_read model a e
+
+have_entries : (bytes : List ℕ) (a : Plain) (r : Result Plain ModelFault) → IsReadAs bytes r → r ≡ Ok a → HaveEntries a.features
+have_entries bytes a _ (models.untold f e) h = absurd (not_read f a h)
+have_entries bytes a _ (models.refused t f e constraints) h = absurd (not_read f a h)
+have_entries bytes a _ (models.said model end says ends) h =
+    subst (λ (x : Plain). HaveEntries x.features) (ended_same model a end ends h)
+    (by_outline (stages.outlined bytes) (record { features = model.features; texts = says.texts }) says.told)
+
+model_entries : (bytes : List ℕ) (model : Model) → IsModel bytes (Ok model) → HaveEntries model.features
+model_entries bytes model h = have_entries bytes (plain model) (Ok (plain model)) h refl
+
+are_named : (features : List Feature) → HaveEntries features → AreNamed features
+are_named features h = named_so h.outline.entries h.outline.entries h.outline.entries features refl refl (sym h.sound) h.are
+
+are_distinct : (features : List Feature) → HaveEntries features → AreDistinct features
+are_distinct features h = distinct_so h.outline.entries h.outline.entries h.outline.entries features refl refl (sym h.sound) h.are
+
+-- ---- two product lines of the same bytes
+
+record AreSameLines (k l : ProductLine) : Type 0 where
+  model : plain k.model ≡ plain l.model
+  code : whole k.family.code ≡ whole l.family.code
+  atoms : k.family.atoms ≡ l.family.atoms
+  truths : (values : List ℤ) → truths_of k.family.conditions (vector_at k.family.atoms values) ≡ truths_of l.family.conditions (vector_at l.family.atoms values)
+
+abbrev lines_ok : Told → Result Told (FileCode × Place)
+lines_ok t = Ok t
+
+same_lines : (s t : Told) → lines_ok s ≡ lines_ok t → s ≡ t
+same_lines s t e = let k : lines_ok s ≡ lines_ok t = e in cc
+
+-- the atoms are those of the constraints and of the conditions of the text
+same_atoms : TextsAreReadOnce → (a b : Model) (bytes : List ℕ) (f g : Family) → plain a ≡ plain b → IsFamilyOf a bytes f → IsFamilyOf b bytes g → f.atoms ≡ g.atoms
+same_atoms once a b bytes f g e o p =
+    let blanked = same_blanked bytes o.are.items.blanked p.are.items.blanked o.are.items.without_comments p.are.items.without_comments in
+    let read : TextIsRead (plain b) p.are.items.blanked (Ok o.are.told) =
+    subst (λ (m : Plain). TextIsRead m p.are.items.blanked (Ok o.are.told)) e (subst (λ (z : List ℕ). TextIsRead (plain a) z (Ok o.are.told)) blanked o.are.items.read) in
+    let told : o.are.told ≡ p.are.told = same_lines o.are.told p.are.told (once (plain b) p.are.items.blanked (Ok o.are.told) (Ok p.are.told) read p.are.items.read) in
+    let mine : AreAtomsOf ((plain b).constraints ++ p.are.told.conditions) f.atoms =
+    subst (λ (t : Told). AreAtomsOf ((plain b).constraints ++ t.conditions) f.atoms) told
+    (subst (λ (m : Plain). AreAtomsOf (m.constraints ++ o.are.told.conditions) f.atoms) e o.are.conditions.atoms_are) in
+    one_list ((plain b).constraints ++ p.are.told.conditions) f.atoms g.atoms mine p.are.conditions.atoms_are
+
+are_same : CertifiedLaws → (m f : List ℕ) (k l : ProductLine) → IsProductLine m f k → IsProductLine m f l → AreSameLines k l
+are_same laws m f k l h i =
+    let e : plain k.model ≡ plain l.model = same_line_model laws.once m f k l h i in
+    let family : AreSameFamily k.family l.family = laws.once.families k.model l.model f k.family l.family e h.family i.family in
+    record { model = e; code = family.code; atoms = same_atoms laws.texts k.model l.model f k.family l.family e h.family i.family; truths = family.truths }
+
+-- ---- the same reading and the same verdict
+
+read_over : (k l : ProductLine) (bytes : List ℕ) (result : Result Certificate (Refusal CertificateFault)) → AreSameLines k l
+    → reader.Answers (literal_of k.model.features k.family.atoms) (whole k.family.code).names bytes result
+    → reader.Answers (literal_of l.model.features l.family.atoms) (whole l.family.code).names bytes result
+read_over k l bytes result e h =
+    subst (λ (p : Whole). reader.Answers (literal_of l.model.features l.family.atoms) p.names bytes result) e.code
+    (subst (λ (atoms : List Atom). reader.Answers (literal_of l.model.features atoms) (whole k.family.code).names bytes result) e.atoms
+    (subst (λ (m : Plain). reader.Answers (literal_of m.features k.family.atoms) (whole k.family.code).names bytes result) e.model h))
+
+module _ {X : Type 0} (a b : Model) (e : plain a ≡ plain b) (holds says : X → List ℤ → Bool) (same : (x : X) (values : List ℤ) → holds x values ≡ says x values) where
+  always : (x : X) → HoldsAlways a (holds x) → HoldsAlways b (says x)
+  always x h = λ values valid. sym (same x values) ∙ h values (subst (λ (m : Plain). IsValid m values) (sym e) valid)
+
+  all_always : (xs : List X) → AllHold a holds xs → AllHold b says xs
+  all_always xs h = All-weaker (λ x. HoldsAlways a (holds x)) (λ x. HoldsAlways b (says x)) always xs h
+
+  first_failing : (xs : List X) (x : X) (values : List ℤ) → IsFirstFailing a holds xs x values → IsFirstFailing b says xs x values
+  first_failing xs x values h = record {
+    before = h.before;
+    after = h.after;
+    there = h.there;
+    earlier = all_always h.before h.earlier;
+    least = record {
+      valid = subst (λ (m : Plain). IsValid m values) e h.least.valid;
+      met = ap not (sym (same x values)) ∙ h.least.met;
+      first = λ others valid met. h.least.first others (subst (λ (m : Plain). IsValid m others) (sym e) valid) (ap not (same x others) ∙ met);
+    };
+  }
+
+module _ (M : LeafMeaning) (a b : Model) (e : plain a ≡ plain b) (p : Whole) (cs ds : List Formula) (atoms : List Atom)
+    (truths : (values : List ℤ) → truths_of cs (vector_at atoms values) ≡ truths_of ds (vector_at atoms values)) (c : Certificate) where
+  same_inductive : (x : Place) (values : List ℤ) → is_inductive M p cs atoms c x values ≡ is_inductive M p ds atoms c x values
+  same_inductive x values =
+      ap (λ (t : List Bool). let q = projected_program t p in
+      inductive_in M (turns_by M c.mode (given_heads M c.loops.items (vector_at atoms values) (M.start q.start)) q.body (M.start q.start)) x) (truths values)
+
+  same_covered : (at : Place × Kind) (values : List ℤ) → is_covered M p cs atoms c at values ≡ is_covered M p ds atoms c at values
+  same_covered at values =
+      ap (λ (t : List Bool). let q = projected_program t p in
+      not (alarm_by M c.mode (given_heads M c.loops.items (vector_at atoms values) (M.start q.start)) q (M.start q.start) at.0 at.1)
+      || is_listed c.alarms.items at (vector_at atoms values)) (truths values)
+
+  same_verdict : (verdict : Verdict) → IsVerdict M a p cs atoms c verdict → IsVerdict M b p ds atoms c verdict
+  same_verdict Yes h = (
+    all_always a b e (is_inductive M p cs atoms c) (is_inductive M p ds atoms c) same_inductive _ h.0,
+    all_always a b e (is_covered M p cs atoms c) (is_covered M p ds atoms c) same_covered _ h.1,
+  )
+  same_verdict (NotInductive place config) h = first_failing a b e (is_inductive M p cs atoms c) (is_inductive M p ds atoms c) same_inductive _ place config.values h
+  same_verdict (Unlisted place kind config) h = (
+    all_always a b e (is_inductive M p cs atoms c) (is_inductive M p ds atoms c) same_inductive _ h.0,
+    first_failing a b e (is_covered M p cs atoms c) (is_covered M p ds atoms c) same_covered _ (place, kind) config.values h.1,
+  )
+
+verdict_over : (k l : ProductLine) (c : Certificate) (verdict : Verdict) → AreSameLines k l
+    → IsVerdict intervals k.model (whole k.family.code) k.family.conditions k.family.atoms c verdict
+    → IsVerdict intervals l.model (whole l.family.code) l.family.conditions l.family.atoms c verdict
+verdict_over k l c verdict e h =
+    let truths : (values : List ℤ) → truths_of k.family.conditions (vector_at l.family.atoms values) ≡ truths_of l.family.conditions (vector_at l.family.atoms values) =
+    λ values. subst (λ (atoms : List Atom). truths_of k.family.conditions (vector_at atoms values) ≡ truths_of l.family.conditions (vector_at l.family.atoms values)) e.atoms (e.truths values) in
+    same_verdict intervals k.model l.model e.model (whole l.family.code) k.family.conditions l.family.conditions l.family.atoms truths c verdict
+    (subst (λ (atoms : List Atom). IsVerdict intervals k.model (whole l.family.code) k.family.conditions atoms c verdict) e.atoms
+    (subst (λ (p : Whole). IsVerdict intervals k.model p k.family.conditions k.family.atoms c verdict) e.code h))
+
+-- ---- what is certified is written of an analysis
+
+written_of : (o : Options) (l : ProductLine) (done : Done) (bytes : List ℕ) → IsFamilyDone intervals o task.Certificate l done → bytes ≡ done.text
+    → IsWrittenOf o l.model (whole l.family.code) l.family.conditions l.family.atoms bytes
+written_of o l done bytes (loops, alarms, a, b, e) text = record {
+  places = a.trees;
+  stops = b.trees;
+  invariants = loops;
+  alarms = alarms;
+  leaves_are = record { plausible = a.plausible; valid = valid_plausible l.model l.family.atoms (formula a.plausible) a.plausible_is; keys = a.keys; are = a.are };
+  stops_are = record { plausible = b.plausible; valid = valid_plausible l.model l.family.atoms (formula b.plausible) b.plausible_is; keys = b.keys; are = b.are };
+  loops_are = a.regions;
+  alarms_are = b.regions;
+  text = text ∙ ap (λ (d : Done). d.text) e;
+}
+
+module _ (laws : CertifiedLaws) (m f bytes : List ℕ) (h : IsCertified m f bytes) where
+  abbrev l : ProductLine
+  l = h.line
+
+  names : AreNames l.model l.family.atoms (whole l.family.code).names
+  names =
+      let entries = model_entries m l.model h.line_is.model in
+      record {
+        named = are_named l.model.features entries;
+        distinct = are_distinct l.model.features entries;
+        well = h.line_is.usable.atoms;
+        lines = (laws.files l.model f l.family h.line_is.family).lines;
+      }
+
+  read_accepted : (k : ProductLine) (result : Result Certificate (Refusal CertificateFault)) → IsProductLine m f k
+      → reader.Answers (literal_of k.model.features k.family.atoms) (whole k.family.code).names bytes result
+      → IsReadAndAccepted l.model (whole l.family.code) l.family.conditions l.family.atoms result
+  read_accepted k result line answers =
+      laws.written h.options l.model (whole l.family.code) l.family.conditions l.family.atoms bytes result h.line_is.usable.program
+      (laws.files l.model f l.family h.line_is.family).placed names (written_of h.options l h.done bytes h.done_is h.text) h.short
+      (read_over k l bytes result (are_same laws m f k l line h.line_is) answers)
+
+  status_yes : (k : ProductLine) (done : Done) → IsProductLine m f k → IsCheckDone k bytes done → done.status ≡ 0
+  status_yes k done line d =
+      d.status
+      ∙ ap verdict_status (read_accepted k (Ok d.certificate) line d.is d.verdict (verdict_over k l d.certificate d.verdict (are_same laws m f k l line h.line_is) d.verdict_is))
+
+  not_refused : (k : ProductLine) (given : Fault) → IsProductLine m f k → IsCertificateFor k bytes (Err given) → ⊥
+  not_refused k (fault.Certificate given) line i = read_accepted k (Err (refusals.Fault given)) line i
+  not_refused k (fault.Model given) line i = i
+  not_refused k (fault.File code place example) line i = i
+  not_refused k (fault.Settings given name) line i = i
+
+  never : (given : Fault) → IsCheckRefused m f bytes given → ⊥
+  never given (checked.no_product_line i) = no_line_refusal laws.once m f l given h.line_is i
+  never given (checked.no_certificate k line i) = not_refused k given line i
+
+pub certified_yes : CertifiedLaws → (told : Contents) (answer : Result Done Fault) → IsCertified told.model told.file told.certificate → AnswersCheck told answer → IsYes answer
+certified_yes laws told (Ok done) h (k, line, d) = status_yes laws told.model told.file told.certificate h k done line d
+certified_yes laws told (Err given) h i = never laws told.model told.file told.certificate h given i
+
+-- ---- the request
+
+abbrev SaysYes : Type 0
+SaysYes = (told : Contents) (answer : Result Done Fault) → IsCertified told.model told.file told.certificate → AnswersCheck told answer → IsYes answer
+
+asked_yes : SaysYes → (r : Request) (told : Contents) (answer : Result Done Fault) → AsksOfCertified r told → Answers r told answer → IsYes answer
+asked_yes law (request.Check model file certificate) told answer asked h = law told answer asked h
+asked_yes law (request.Plain file analysis) told answer asked h = absurd asked
+asked_yes law (request.Variant model file settings t) told answer asked h = absurd asked
+asked_yes law (request.Family model file analysis t) told answer asked h = absurd asked
+asked_yes law (request.Generate number analysis) told answer asked h = absurd asked
+asked_yes law (request.Advice model file settings analysis) told answer asked h = absurd asked
+asked_yes law (request.Features model) told answer asked h = absurd asked
+
+yes_zero : (answer : Result Done Fault) → IsYes answer → status_at answer ≡ 0
+yes_zero (Ok done) h = h
+yes_zero (Err given) h = absurd h
+
+by_yes : (status : ℕ) (answer : Result Done Fault) → IsYes answer → (status ≡ 6 → ⊥) → (status ≡ 7 → ⊥) → (status ≢ 6 → status ≢ 7 → status ≢ 8 → status ≡ status_at answer)
+    → (status ≡ 0) ⊎ (status ≡ 8)
+by_yes status answer is six seven exact = elim (nat_eq status 8) as (λ b. nat_eq status 8 ≡ b → (status ≡ 0) ⊎ (status ≡ 8)) [
+  | true ↦ λ e. inr (eqb-true status 8 e)
+  | false ↦ λ e. inl (exact six seven (eqb-false status 8 e) ∙ yes_zero answer is)
+] refl
+
+-- what is certified is answered yes
+pub certified : SaysYes → (r : Request) (told : Contents) (role : Role) (status : ℕ) (out out' err err' : Option (List ℕ)) (errs errs' : ℕ) → AsksOfCertified r told
+    → EndsWith (Answers r told) role status out out' err err' errs errs'
+    → (status ≡ 6 → ⊥) → (status ≡ 7 → ⊥) → (status ≡ 0) ⊎ (status ≡ 8)
+certified law r told role status out out' err err' errs errs' asked (inl read) six seven = absurd (six read)
+certified law r told role status out out' err err' errs errs' asked (inr (inl memory)) six seven = inr memory
+certified law r told role status out out' err err' errs errs' asked (inr (inr (answer, answers, ends))) six seven =
+    by_yes status answer (asked_yes law r told answer asked answers) six seven ends.exact
