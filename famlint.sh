@@ -13,7 +13,8 @@ echo "famlint.sh: an unproved quick run; to prove and build the program: cd $top
 paths_of() {
     case $1 in
     plain | features) echo 1 ;;
-    analyse | invariants | project | variant | run | advise) echo 2 ;;
+    analyse | invariants | certify | project | variant | run | advise) echo 2 ;;
+    check) echo 3 ;;
     *) echo 0 ;;
     esac
 }

@@ -17,7 +17,7 @@ pair() {
 }
 
 cd "$here"
-files=(*.c refused/*.c {,refused/}families/*.{c,json})
+files=(*.c refused/*.c {,refused/}families/*.{c,json,certificate})
 outputs=(*.expected refused/*.expected {,refused/}families/*.expected)
 # the tests know each file by its name alone
 twice=$(basename -a "${files[@]}" "${outputs[@]}" | sort | uniq -d)
