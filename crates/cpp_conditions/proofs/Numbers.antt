@@ -1,7 +1,8 @@
 -- A condition and the same with numbers have one truth.
-use Rattle.std.proofs.Common.{◌≡◌, ℕ, zero, suc, ◌<◌, ◌+◌, ℤ, true, false, not, ◌&&◌, ◌||◌, List, [], ◌∷◌, length, get_or, slice_get, Some, sym, ap, subst, ◌∙◌, arith, nat_eq, inl, inr}
-use Rattle.std.proofs.lemmas.Bool.{false≢true}
+use Rattle.std.proofs.Common.{◌≡◌, ℕ, zero, suc, ◌<◌, ltb, ◌+◌, ℤ, true, false, not, ◌&&◌, ◌||◌, List, [], ◌∷◌, length, get_or, slice_get, Option, None, Some, IfSome, refl, sym, ap, subst, ◌∙◌, arith, nat_eq, inl, inr}
+use Rattle.std.proofs.lemmas.Bool.{false≢true, ltb-true}
 use Rattle.std.specs.Bool.{Decides}
+use Rattle.std.specs.Option.{is_some}
 use Rattle.std.specs.Ordering.{int_eq}
 use Rattle.std.specs.Cmp.Lexicographic.{pointwise_decides}
 use Rattle.std.proofs.lemmas.Bool.Decides.{Decides-like, Decides-and, Decides-eqb, Decides-int_eq}
@@ -63,3 +64,20 @@ later_place atoms behind b a r e h m k =
     let n : IsAmong a (b ∷ behind) = subst (IsAmong a) e m in
     let s : 1 + r ≡ suc r = omega arith in
     ap (λ x. slice_get x (1 + r)) e ∙ ap (slice_get (b ∷ behind)) s ∙ later_by behind b a r h n k
+
+got_there : (atoms : List Atom) (n : ℕ) (b : Atom) → n < length atoms → slice_get atoms n ≡ Some (get_or atoms n b)
+got_there [] n b l = absurd (omega arith)
+got_there (c ∷ cs) zero b l = refl
+got_there (c ∷ cs) (suc n) b l = got_there cs n b (omega arith)
+
+pub stood_there : (atoms : List Atom) (n : ℕ) (b a : Atom) → true ≡ ltb n (length atoms) → b ≡ get_or atoms n b → (same_terms b.terms a.terms && int_eq b.bound a.bound) ≡ true → slice_get atoms n ≡ Some a
+stood_there atoms n b a l e h = got_there atoms n b (ltb-true n (length atoms) (sym l)) ∙ ap Some (sym e) ∙ ap Some ((atom_decides b a).0 h)
+
+pub among_at : (atoms : List Atom) (n : ℕ) (a : Atom) → slice_get atoms n ≡ Some a → IsAmong a atoms
+among_at [] n a e = cc
+among_at (b ∷ bs) zero a e = let f : b ≡ a = cc in inl f
+among_at (b ∷ bs) (suc n) a e = inr (among_at bs n a e)
+
+pub stood_among : (atoms : List Atom) (a : Atom) (place : Option ℕ) → is_some place ≡ true → IfSome place (λ n. slice_get atoms n ≡ Some a) → IsAmong a atoms
+stood_among atoms a None e h = absurd (false≢true e)
+stood_among atoms a (Some n) e h = among_at atoms n a h

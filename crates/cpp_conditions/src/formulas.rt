@@ -7,6 +7,7 @@ ghost use Rattle.cpp_conditions.specs.Propositions.{Not, And, Or, IsBelow, true_
 ghost use Rattle.cpp_conditions.specs.View.{proposition, formula};
 
 use crate::conditions::Condition;
+use crate::expected::expected_place;
 use fam_outer::NoMemory;
 use linear_atoms::Atom;
 use linear_atoms::slices::cut;
@@ -83,7 +84,7 @@ pub fn either(alloc: Global, left: Formula, right: Formula) -> Result<Formula, N
     Ok(Formula::Or(Box::new(alloc, left)?, Box::new(alloc, right)?))
 }
 
-/// The number of an atom in a list that has it.
+/// The first place of an atom in a list that has it.
 fn place(atoms: &[Atom], atom: &Atom) -> u32
     requires { length atoms.now < 2 ^ 32 }
     ensures place { IsAmong atom.now atoms.now → slice_get atoms.now result ≡ Some atom.now }
@@ -101,6 +102,17 @@ fn place(atoms: &[Atom], atom: &Atom) -> u32
     }
 }
 
+/// The number of an atom in a list that has it.
+fn number_of(atoms: &[Atom], atom: &Atom) -> u32
+    requires { length atoms.now < 2 ^ 32 }
+    ensures { IsAmong atom.now atoms.now → slice_get atoms.now result ≡ Some atom.now }
+{
+    match expected_place(atoms, atom) {
+        Some(number) => number as u32,
+        None => place(atoms, atom),
+    }
+}
+
 /// The condition with the numbers of its atoms in the list.
 fn numbered(alloc: Global, condition: &Condition, atoms: &[Atom]) -> Result<Formula, NoMemory>
     requires among { AreAmong atoms.now (proposition condition.now) }
@@ -109,7 +121,7 @@ fn numbered(alloc: Global, condition: &Condition, atoms: &[Atom]) -> Result<Form
 {
     match condition {
         Condition::Const(truth) => Ok(Formula::Const(*truth)),
-        Condition::Test(atom) => Ok(Formula::Test(place(atoms, atom))),
+        Condition::Test(atom) => Ok(Formula::Test(number_of(atoms, atom))),
         Condition::Not(inner) => {
             let inner = numbered(alloc, inner, atoms)?;
             negation(alloc, inner)

@@ -4,6 +4,7 @@
 mod comparing;
 pub mod conditions;
 pub mod distinct;
+mod expected;
 mod expressions;
 mod forming;
 pub mod formulas;
@@ -11,7 +12,7 @@ mod judging;
 pub mod laws;
 pub mod models;
 mod names;
-mod operators;
+pub mod operators;
 pub mod reading;
 mod stop;
 mod tokens;

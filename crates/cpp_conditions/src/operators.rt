@@ -6,7 +6,7 @@ ghost use Rattle.cpp_conditions.specs.Grammar.{tighter};
 
 /// An operator between two operands: `*`, `+`, `-`, `<`, `<=`, `>`, `>=`, `==`, `!=`, `&&` and `||`.
 #[derive(Clone, Copy, Debug, PartialEq, Eq)]
-pub(crate) enum Operator {
+pub enum Operator {
     Times,
     Plus,
     Minus,
@@ -22,7 +22,7 @@ pub(crate) enum Operator {
 
 /// An operator in front of its operand: `+`, `-` and `!`.
 #[derive(Clone, Copy, Debug, PartialEq, Eq)]
-pub(crate) enum Prefix {
+pub enum Prefix {
     Positive,
     Negative,
     Inverse,

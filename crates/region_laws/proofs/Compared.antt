@@ -13,7 +13,8 @@ use Rattle.linear_atoms.specs.Forms.{sum_at}
 use Rattle.linear_atoms.specs.Texts.{name_at, boolean_at, terms_text, is_switch, literal_by, literal_text}
 use Rattle.cpp_conditions.specs.Expressions.{before, bit}
 use Rattle.feature_model.specs.Features.{AreDistinct, AreNamed, HaveSwitches}
-use Rattle.region_laws.proofs.Marks.{at_most, at_least, inverse}
+use Rattle.cpp_conditions.specs.declared.operators.Operator.TheVariants.{AtMost, AtLeast}
+use Rattle.cpp_conditions.specs.declared.operators.Prefix.TheVariants.{Inverse}
 use Rattle.region_laws.proofs.Named.{switch_at}
 use Rattle.region_laws.proofs.Spelling.{IsTold, any, numbers, looser, with_value, with_text, told_name, told_inverse, told_integer, told_both, at_least_mark, at_most_mark}
 use Rattle.region_laws.proofs.Summed.{AreTerms, are_terms, told_terms}
@@ -37,7 +38,7 @@ between_ends (pos (suc zero)) low high = refl
 between_ends (pos (suc (suc n))) low high = absurd (omega (arith, ints))
 between_ends (negsuc n) low high = absurd (omega (arith, ints))
 
-inverse_bit : (b : Bool) → before inverse (bit b) ≡ bit (not b)
+inverse_bit : (b : Bool) → before Inverse (bit b) ≡ bit (not b)
 inverse_bit true = refl
 inverse_bit false = refl
 
@@ -75,7 +76,7 @@ module _ {features : List Feature} (named : AreNamed features) (distinct : AreDi
       with_value (λ values. bit (not (int_le (pos 1) (sum_at ((n, pos 1) ∷ []) values))))
       (λ values within.
       let ends = switch_at features values n switches within lt boolean in
-      ap (before inverse) (between_ends (slice_index_or values n (pos 0)) ends.0 ends.1) ∙ inverse_bit (int_le (pos 1) (sum_at ((n, pos 1) ∷ []) values)))
+      ap (before Inverse) (between_ends (slice_index_or values n (pos 0)) ends.0 ends.1) ∙ inverse_bit (int_le (pos 1) (sum_at ((n, pos 1) ∷ []) values)))
       (told_inverse features n named distinct lt)
 
   told_compared : (ts : List (ℕ × ℤ)) (bound : ℤ) (positive : Bool) → IsAtom (length features) (record { terms = ts; bound = bound })
@@ -85,14 +86,14 @@ module _ {features : List Feature} (named : AreNamed features) (distinct : AreDi
       let number = looser (looser (told_integer features bound (bound_small bound atom.bounded))) in
       let text = terms_text true features ts in
       with_text ((text ++ codes " >= ") ++ signed_decimal bound) (sym (append_assoc text (codes " >= ") (signed_decimal bound)))
-      (told_both features at_least true true false (λ e. absurd (false≢true e)) (codes " >= ") text (signed_decimal bound) (λ values. sum_at ts values) (λ values. bound) at_least_mark terms number (numbers (terms.number refl) (number.number refl)))
+      (told_both features AtLeast true true false (λ e. absurd (false≢true e)) (codes " >= ") text (signed_decimal bound) (λ values. sum_at ts values) (λ values. bound) at_least_mark terms number (numbers (terms.number refl) (number.number refl)))
   told_compared ts bound false atom =
       let terms = looser (told_terms named distinct ts atom.positive (are_terms (length features) ts atom.below atom.small)) in
       let number = looser (looser (told_integer features (bound -ℤ pos 1) (less_small bound atom.bounded))) in
       let text = terms_text true features ts in
       with_text ((text ++ codes " <= ") ++ signed_decimal (bound -ℤ pos 1)) (sym (append_assoc text (codes " <= ") (signed_decimal (bound -ℤ pos 1))))
       (with_value (λ values. bit (not (int_le bound (sum_at ts values)))) (λ values within. ap bit (below_bound bound (sum_at ts values)))
-      (told_both features at_most true true false (λ e. absurd (false≢true e)) (codes " <= ") text (signed_decimal (bound -ℤ pos 1)) (λ values. sum_at ts values) (λ values. bound -ℤ pos 1) at_most_mark terms number (numbers (terms.number refl) (number.number refl))))
+      (told_both features AtMost true true false (λ e. absurd (false≢true e)) (codes " <= ") text (signed_decimal (bound -ℤ pos 1)) (λ values. sum_at ts values) (λ values. bound -ℤ pos 1) at_most_mark terms number (numbers (terms.number refl) (number.number refl))))
 
   told_by : (ts : List (ℕ × ℤ)) (bound : ℤ) (positive switch : Bool) → IsAtom (length features) (record { terms = ts; bound = bound }) → is_switch features ts bound ≡ switch → Tells features ts bound positive switch
   told_by ts bound positive false atom e = told_compared ts bound positive atom

@@ -19,12 +19,12 @@ use Rattle.cpp_conditions.proofs.Once.{has_value, spelled_once}
 use Rattle.atom_solver.specs.Solutions.{all_hold}
 use Rattle.alarm_report.specs.Texts.{region_text}
 use Rattle.feature_model.specs.Features.{AreDistinct, AreNamed, HaveSwitches}
-use Rattle.region_laws.proofs.Marks.{both}
+use Rattle.cpp_conditions.specs.declared.operators.Operator.TheVariants.{Both}
 use Rattle.region_laws.proofs.Spelling.{IsTold, any, looser, with_value, with_text, told_one, told_both, both_mark, c_spells}
 use Rattle.region_laws.specs.Spelled.{SpellsRegion, IsOfSize}
 use Rattle.region_laws.proofs.Compared.{told_literal}
 
-both_bits : (a b : Bool) → between both (bit a) (bit b) ≡ bit (a && b)
+both_bits : (a b : Bool) → between Both (bit a) (bit b) ≡ bit (a && b)
 both_bits true true = refl
 both_bits true false = refl
 both_bits false b = refl
@@ -79,7 +79,7 @@ module _ {features : List Feature} (named : AreNamed features) (distinct : AreDi
       let own = literal_text features l in
       let two : IsTold features 5 false (text ++ (codes " && " ++ own)) (λ values. bit (f values && literal_holds l values)) =
       with_value (λ values. bit (f values && literal_holds l values)) (λ values within. both_bits (f values) (literal_holds l values))
-      (told_both features both false false false (λ e. absurd (false≢true e)) (codes " && ") text own (λ values. bit (f values)) (λ values. bit (literal_holds l values)) both_mark t (looser one) refl) in
+      (told_both features Both false false false (λ e. absurd (false≢true e)) (codes " && ") text own (λ values. bit (f values)) (λ values. bit (literal_holds l values)) both_mark t (looser one) refl) in
       with_text (text ++ ((codes " && " ++ own) ++ behind features ls)) (append_assoc text (codes " && " ++ own) (behind features ls))
       (with_value (λ values. bit (f values && (literal_holds l values && all_hold ls values))) (λ values within. ap bit (and_assoc (f values) (literal_holds l values) (all_hold ls values)))
       (told_behind (text ++ (codes " && " ++ own)) (λ values. f values && literal_holds l values) ls are.1 two))

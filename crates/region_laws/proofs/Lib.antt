@@ -1,4 +1,3 @@
-pub mod Marks
 pub mod Named
 pub mod Numerals
 pub mod Spelling

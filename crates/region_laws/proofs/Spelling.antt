@@ -13,7 +13,9 @@ use Rattle.cpp_conditions.specs.Grammar as grammar
 use Rattle.cpp_conditions.specs.Tokens.{Token, Digits, Word, Bang, Oper, Twice, SpellsTokens, StopsAt, NoPair, is_first, is_word, is_identifier, pair_of}
 use Rattle.cpp_conditions.specs.Tokens as tokens
 use Rattle.feature_model.specs.Features.{AreDistinct, AreNamed}
-use Rattle.region_laws.proofs.Marks.{Operator, times, plus, minus, at_least, at_most, both, differs, inverse, negative}
+use Rattle.cpp_conditions.specs.declared.operators.Operator.{Operator}
+use Rattle.cpp_conditions.specs.declared.operators.Operator.TheVariants.{Times, Plus, Minus, AtLeast, AtMost, Both, Differs}
+use Rattle.cpp_conditions.specs.declared.operators.Prefix.TheVariants.{Inverse, Negative}
 use Rattle.region_laws.proofs.Named.{IsNamed, is_named, value_of_name}
 use Rattle.region_laws.proofs.Numerals.{number_token, alphanumeric_stops, minus_apart}
 
@@ -92,10 +94,10 @@ told_one features = record {
 pub told_integer : (features : List Feature) (z : ℤ) → unsigned_abs z < 2 ^ 64 → IsTold features 0 true (signed_decimal z) (λ values. z)
 told_integer features (pos n) lt = told_natural features n lt
 told_integer features (negsuc n) lt = record {
-  tokens = Oper minus ∷ Digits (suc n) ∷ [];
-  tree = Unary negative (Number (suc n));
-  read = λ rest us stops s. tokens.single 45 (Oper minus) refl (minus_apart (suc n) rest lt) (number_token (suc n) rest us lt stops s);
-  spells = grammar.prefix negative (grammar.number (suc n));
+  tokens = Oper Minus ∷ Digits (suc n) ∷ [];
+  tree = Unary Negative (Number (suc n));
+  read = λ rest us stops s. tokens.single 45 (Oper Minus) refl (minus_apart (suc n) rest lt) (number_token (suc n) rest us lt stops s);
+  spells = grammar.prefix Negative (grammar.number (suc n));
   value_is = λ values within. refl;
   allowed = refl;
   linear = refl;
@@ -113,19 +115,19 @@ and_left false b e = e
 
 bang_apart : (name rest : List ℕ) → is_identifier name ≡ true → NoPair 33 (name ++ rest)
 bang_apart [] rest h = absurd cc
-bang_apart (b ∷ bs) rest h = ap (λ x. if x then Some (Oper differs) else None) (first_no_equals b (and_left (is_first b) _ h))
+bang_apart (b ∷ bs) rest h = ap (λ x. if x then Some (Oper Differs) else None) (first_no_equals b (and_left (is_first b) _ h))
 
 pub told_inverse : (features : List Feature) (n : ℕ) → AreNamed features → AreDistinct features → n < length features
-    → IsTold features 0 false (codes "!" ++ name_at features n) (λ values. before inverse (slice_index_or values n (pos 0)))
+    → IsTold features 0 false (codes "!" ++ name_at features n) (λ values. before Inverse (slice_index_or values n (pos 0)))
 told_inverse features n named distinct lt =
     let name = name_at features n in
     let h = is_named features n named lt in
     record {
       tokens = Bang ∷ Word name ∷ [];
-      tree = Unary inverse (Name name);
+      tree = Unary Inverse (Name name);
       read = λ rest us stops s. tokens.single 33 Bang refl (bang_apart name rest h.identifier) (word_token_read name rest us h stops s);
-      spells = grammar.prefix inverse (grammar.name name);
-      value_is = λ values within. ap (before inverse) (value_of_name features values n distinct lt);
+      spells = grammar.prefix Inverse (grammar.name name);
+      value_is = λ values within. ap (before Inverse) (value_of_name features values n distinct lt);
       allowed = h.free;
       linear = refl;
       number = λ e. absurd (false≢true e);
@@ -142,23 +144,23 @@ star_apart : (rest : List ℕ) → NoPair 42 rest
 star_apart [] = tt
 star_apart (b ∷ bs) = refl
 
-pub times_mark : IsMark times (codes "*")
-times_mark = record { stops = λ rest. refl; read = λ rest us s. tokens.single 42 (Oper times) refl (star_apart rest) s }
+pub times_mark : IsMark Times (codes "*")
+times_mark = record { stops = λ rest. refl; read = λ rest us s. tokens.single 42 (Oper Times) refl (star_apart rest) s }
 
-pub plus_mark : IsMark plus (codes " + ")
-plus_mark = record { stops = λ rest. refl; read = λ rest us s. tokens.space 32 refl (tokens.single 43 (Oper plus) refl refl (tokens.space 32 refl s)) }
+pub plus_mark : IsMark Plus (codes " + ")
+plus_mark = record { stops = λ rest. refl; read = λ rest us s. tokens.space 32 refl (tokens.single 43 (Oper Plus) refl refl (tokens.space 32 refl s)) }
 
-pub minus_mark : IsMark minus (codes " - ")
-minus_mark = record { stops = λ rest. refl; read = λ rest us s. tokens.space 32 refl (tokens.single 45 (Oper minus) refl refl (tokens.space 32 refl s)) }
+pub minus_mark : IsMark Minus (codes " - ")
+minus_mark = record { stops = λ rest. refl; read = λ rest us s. tokens.space 32 refl (tokens.single 45 (Oper Minus) refl refl (tokens.space 32 refl s)) }
 
-pub at_least_mark : IsMark at_least (codes " >= ")
-at_least_mark = record { stops = λ rest. refl; read = λ rest us s. tokens.space 32 refl (tokens.pair 62 61 (Oper at_least) refl (tokens.space 32 refl s)) }
+pub at_least_mark : IsMark AtLeast (codes " >= ")
+at_least_mark = record { stops = λ rest. refl; read = λ rest us s. tokens.space 32 refl (tokens.pair 62 61 (Oper AtLeast) refl (tokens.space 32 refl s)) }
 
-pub at_most_mark : IsMark at_most (codes " <= ")
-at_most_mark = record { stops = λ rest. refl; read = λ rest us s. tokens.space 32 refl (tokens.pair 60 61 (Oper at_most) refl (tokens.space 32 refl s)) }
+pub at_most_mark : IsMark AtMost (codes " <= ")
+at_most_mark = record { stops = λ rest. refl; read = λ rest us s. tokens.space 32 refl (tokens.pair 60 61 (Oper AtMost) refl (tokens.space 32 refl s)) }
 
-pub both_mark : IsMark both (codes " && ")
-both_mark = record { stops = λ rest. refl; read = λ rest us s. tokens.space 32 refl (tokens.pair 38 38 (Oper both) refl (tokens.space 32 refl s)) }
+pub both_mark : IsMark Both (codes " && ")
+both_mark = record { stops = λ rest. refl; read = λ rest us s. tokens.space 32 refl (tokens.pair 38 38 (Oper Both) refl (tokens.space 32 refl s)) }
 
 neither : (a b : Bool) → a ≡ false → b ≡ false → (a || b) ≡ false
 neither a b e f = ap (λ x. x || b) e ∙ f
@@ -195,7 +197,7 @@ told_both features op p q r gives mark a b f g m t u suits = record {
 
 -- a number times a feature
 pub times_suits : (features : List Feature) (m n : ℕ) (small : m < 2 ^ 64) (named : AreNamed features) (distinct : AreDistinct features) (lt : n < length features)
-    → Suits features times (looser (told_natural features m small)).tree (told_name features n named distinct lt).tree
+    → Suits features Times (looser (told_natural features m small)).tree (told_name features n named distinct lt).tree
 unfolding looser told_natural told_name
 times_suits features m n small named distinct lt = refl
 

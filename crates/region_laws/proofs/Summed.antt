@@ -9,7 +9,7 @@ use Rattle.linear_atoms.specs.Atoms.{AreBelow, LeadsPositive}
 use Rattle.linear_atoms.specs.Forms.{are_small, sum_at}
 use Rattle.linear_atoms.specs.Texts.{name_at, sign_text, sized_text, terms_text}
 use Rattle.feature_model.specs.Features.{AreDistinct, AreNamed}
-use Rattle.region_laws.proofs.Marks.{times, plus, minus}
+use Rattle.cpp_conditions.specs.declared.operators.Operator.TheVariants.{Times, Plus, Minus}
 use Rattle.region_laws.proofs.Spelling.{IsTold, looser, with_value, with_text, told_name, told_natural, told_both, numbers, times_suits, times_mark, plus_mark, minus_mark}
 
 -- each term's feature is there, and its coefficient is small
@@ -55,7 +55,7 @@ module _ {features : List Feature} (named : AreNamed features) (distinct : AreDi
       let name = name_at features n in
       let own : IsTold features 1 true name (λ values. slice_index_or values n (pos 0)) = looser (told_name features n named distinct lt) in
       let product : IsTold features 1 true (decimal (unsigned_abs a) ++ (codes "*" ++ name)) (λ values. pos (unsigned_abs a) *ℤ slice_index_or values n (pos 0)) =
-      told_both features times true true true (λ e. refl) (codes "*") (decimal (unsigned_abs a)) name _ _ times_mark (looser (told_natural features (unsigned_abs a) small)) (told_name features n named distinct lt) (times_suits features (unsigned_abs a) n small named distinct lt) in
+      told_both features Times true true true (λ e. refl) (codes "*") (decimal (unsigned_abs a)) name _ _ times_mark (looser (told_natural features (unsigned_abs a) small)) (told_name features n named distinct lt) (times_suits features (unsigned_abs a) n small named distinct lt) in
       elim (nat_eq (unsigned_abs a) 1) as (λ b. nat_eq (unsigned_abs a) 1 ≡ b → IsTold features 1 true ((if b then [] else decimal (unsigned_abs a) ++ codes "*") ++ name) (λ values. pos (unsigned_abs a) *ℤ slice_index_or values n (pos 0))) [
         | true ↦ λ e. with_value (λ values. pos (unsigned_abs a) *ℤ slice_index_or values n (pos 0))
             (λ values within. times_one (slice_index_or values n (pos 0)) ∙ ap (λ m. pos m *ℤ slice_index_or values n (pos 0)) (sym ((Decides-eqb (unsigned_abs a) 1).0 e))) own
@@ -69,12 +69,12 @@ module _ {features : List Feature} (named : AreNamed features) (distinct : AreDi
       let one = told_sized n (pos k) lt small in
       let sized = sized_text (pos k) (name_at features n) in
       with_text (text ++ (sign_text false (pos k) ++ sized)) (ap (λ b. text ++ ((if b then codes " - " else codes " + ") ++ sized)) (sym (no_less k)))
-      (told_both features plus true true true (λ e. refl) (codes " + ") text sized of (λ values. pos k *ℤ slice_index_or values n (pos 0)) plus_mark t one (numbers (t.number refl) (one.number refl)))
+      (told_both features Plus true true true (λ e. refl) (codes " + ") text sized of (λ values. pos k *ℤ slice_index_or values n (pos 0)) plus_mark t one (numbers (t.number refl) (one.number refl)))
   told_more text of n (negsuc k) lt small t =
       let one = told_sized n (negsuc k) lt small in
       let sized = sized_text (negsuc k) (name_at features n) in
       with_value (λ values. of values +ℤ (negsuc k *ℤ slice_index_or values n (pos 0))) (λ values within. less_times (of values) (slice_index_or values n (pos 0)) k)
-      (told_both features minus true true true (λ e. refl) (codes " - ") text sized of (λ values. pos (suc k) *ℤ slice_index_or values n (pos 0)) minus_mark t one (numbers (t.number refl) (one.number refl)))
+      (told_both features Minus true true true (λ e. refl) (codes " - ") text sized of (λ values. pos (suc k) *ℤ slice_index_or values n (pos 0)) minus_mark t one (numbers (t.number refl) (one.number refl)))
 
   -- a sum and the terms behind it
   told_rest : (text : List ℕ) (of : List ℤ → ℤ) (ts : List (ℕ × ℤ)) → AreTerms (length features) ts → IsTold features 2 true text of
