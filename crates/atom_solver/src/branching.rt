@@ -11,10 +11,11 @@ ghost use Rattle.atom_solver.specs.Spans.{ranges};
 ghost use Rattle.atom_solver.specs.Clauses.{IsVoid, KeepsAll};
 ghost use Rattle.atom_solver.specs.Truths.{Knows};
 
+use crate::choosing::choice;
 use crate::clauses::{add_clauses, places_at, places_of, propagate_from};
 use crate::cycles::{Edge, edges_of, start_values};
 use crate::end_forms::ends_of;
-use crate::guesses::{preferred, put_known, serve};
+use crate::guesses::Guesses;
 use crate::refuting::is_clash;
 use crate::truths::{has_truth, learn, propagate};
 use cpp_conditions::Formula;
@@ -25,84 +26,8 @@ use std::alloc::Global;
 /// How many choices are made at most for a box.
 pub(crate) const MOST_TURNS: u32 = 8_000;
 
-/// What truths leave to decide of a formula: nothing, or so many tests, and one of these.
-#[derive(Clone, Copy)]
-enum Left {
-    Decided(bool),
-    Open { test: u32, count: usize },
-}
-
-/// Whether nothing is left but this truth.
-fn is_decided(left: Left, truth: bool) -> bool {
-    match left {
-        Left::Decided(value) => value == truth,
-        Left::Open { test: _, count: _ } => false,
-    }
-}
-
-/// What is left of two formulas of which a certain truth of one would decide, where the second has not that truth.
-fn joined(first: Left, second: Left, deciding: bool) -> Left {
-    match (first, second) {
-        (Left::Decided(truth), other) => { if truth == deciding { first } else { other } }
-        (open, Left::Decided(_truth)) => open,
-        (Left::Open { test: _, count }, Left::Open { test, count: more }) => Left::Open {
-            test,
-            count: count.saturating_add(more),
-        },
-    }
-}
-
-/// What is left of a formula.
-fn left_of(part: &Formula, known: &[Option<bool>]) -> Left {
-    match part {
-        Formula::Const(truth) => Left::Decided(*truth),
-        Formula::Test(number) => match known.get(*number as usize) {
-            Some(Some(truth)) => Left::Decided(*truth),
-            _ => Left::Open {
-                test: *number,
-                count: 1,
-            },
-        },
-        Formula::Not(inner) => match left_of(inner, known) {
-            Left::Decided(truth) => Left::Decided(!truth),
-            open => open,
-        },
-        Formula::And(left, right) => {
-            let second = left_of(right, known);
-            if is_decided(second, false) {
-                second
-            } else {
-                joined(left_of(left, known), second, false)
-            }
-        }
-        Formula::Or(left, right) => {
-            let second = left_of(right, known);
-            if is_decided(second, true) {
-                second
-            } else {
-                joined(left_of(left, known), second, true)
-            }
-        }
-    }
-}
-
-/// Of formulas that are not decided, a test of one with the fewest tests.
-fn narrowest(clauses: &[Formula], known: &[Option<bool>]) -> Option<u32> {
-    let mut found = None;
-    let mut fewest = usize::MAX;
-    for clause in clauses {
-        if let Left::Open { test, count } = left_of(clause, known) {
-            if count < fewest {
-                found = Some(test);
-                fewest = count;
-            }
-            if count <= 2 {
-                return found;
-            }
-        }
-    }
-    found
-}
+/// How few choices are made for a box at least.
+pub(crate) const FEWEST_TURNS: u32 = 16;
 
 /// The truths that are known, and one more.
 fn with_truth(
@@ -182,7 +107,7 @@ fn is_refuted(
     from: &Start<'_>,
     known: &mut [Option<bool>],
     turns: u32,
-    found: &mut [Option<bool>],
+    guesses: &mut Guesses,
 ) -> Result<(bool, u32), NoMemory>
     requires { AreRising case.now.ends.now }
     ensures { IfOk result (λ answer. answer.0 ≡ true
@@ -192,8 +117,8 @@ fn is_refuted(
     if is_void(alloc, case, from.places, &mut lowered, known)? {
         return Ok((true, turns));
     }
-    let Some(number) = narrowest(case.clauses, known) else {
-        put_known(known, found);
+    let number = choice(alloc, case.clauses, case.edges, known, guesses)?;
+    let Some(number) = number else {
         return Ok((false, turns));
     };
     if turns == 0 {
@@ -203,14 +128,14 @@ fn is_refuted(
         places: places_at(case.naming, number as usize),
         lowered: &lowered,
     };
-    let first = preferred(found, number);
+    let first = guesses.preferred(number);
     let mut one = with_truth(alloc, known, number, first)?;
-    let (is_out, rest) = is_refuted(alloc, case, &from, &mut one, turns - 1, found)?;
+    let (is_out, rest) = is_refuted(alloc, case, &from, &mut one, turns - 1, guesses)?;
     if !is_out {
         return Ok((false, rest));
     }
     let mut other = with_truth(alloc, known, number, !first)?;
-    is_refuted(alloc, case, &from, &mut other, rest.min(turns - 1), found)
+    is_refuted(alloc, case, &from, &mut other, rest.min(turns - 1), guesses)
 }
 
 /// Adds the truths that atoms have at each configuration of a box, from a place on.
@@ -292,7 +217,7 @@ fn is_untrue_where(
     asked: &Formula,
     known: &mut [Option<bool>],
     turns: u32,
-    found: &mut [Option<bool>],
+    guesses: &mut Guesses,
 ) -> Result<(bool, u32), NoMemory>
     requires { AreRanges (ranges spans.now) }
     ensures { IfOk result (λ answer. answer.0 ≡ true → (values : List ℤ) → IsWithin (ranges spans.now) values
@@ -301,7 +226,7 @@ fn is_untrue_where(
 {
     let ends = ends_of(alloc, spans, atoms)?;
     let edges = edges_of(alloc, &ends, atoms)?;
-    if serve(alloc, asked, &edges, known, found)? {
+    if guesses.serve(alloc, asked, &edges, known)? {
         return Ok((false, turns));
     }
     propagate(atoms, order, asked, known, atoms.len());
@@ -325,7 +250,7 @@ fn is_untrue_where(
         places: &[],
         lowered: &lowered,
     };
-    let answer = is_refuted(alloc, &case, &from, known, turns, found)?;
+    let answer = is_refuted(alloc, &case, &from, known, turns, guesses)?;
     Ok(answer)
 }
 
@@ -338,7 +263,7 @@ pub(crate) fn is_untrue(
     order: &[u32],
     asked: &Formula,
     turns: u32,
-    found: &mut [Option<bool>],
+    guesses: &mut Guesses,
 ) -> Result<(bool, u32), NoMemory>
     requires atoms { AreAtoms (length spans.now) atoms.now }
     requires ranges { AreRanges (ranges spans.now) }
@@ -346,6 +271,8 @@ pub(crate) fn is_untrue(
         → true_on (vector_at atoms.now values) (formula asked.now) ≡ true → ⊥) }
 {
     let mut known = known_within(alloc, spans, atoms)?;
-    let answer = is_untrue_where(alloc, spans, atoms, order, asked, &mut known, turns, found)?;
+    let answer = is_untrue_where(
+        alloc, spans, atoms, order, asked, &mut known, turns, guesses,
+    )?;
     Ok(answer)
 }

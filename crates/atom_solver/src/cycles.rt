@@ -153,7 +153,7 @@ fn edges_with(
     edges: &[Edge],
     known: &[Option<bool>],
 ) -> Result<Vec<Edge>, NoMemory> {
-    let mut made = Vec::new(alloc);
+    let mut made = Vec::with_capacity(alloc, edges.len())?;
     for edge in edges {
         if is_there(*edge, known) {
             made.push(*edge)?;

@@ -1,7 +1,7 @@
 //! Features that nothing undecided on a box names: their least value serves.
 #![tactic(auto)]
 
-ghost use Rattle.std.specs.Prelude.{◌≡◌, ◌<◌, ℤ, List, true, length, IfOk};
+ghost use Rattle.std.specs.Prelude.{◌≡◌, ◌<◌, ℤ, List, Some, None, true, length, IfOk};
 ghost use Rattle.linear_atoms.specs.Atoms.{AreRanges};
 ghost use Rattle.cpp_conditions.specs.Propositions.{IsFit, true_at};
 ghost use Rattle.cpp_conditions.specs.Validity.{AreFit};
@@ -11,7 +11,9 @@ ghost use Rattle.atom_solver.specs.Spans.{ranges, meets, IsKnown};
 
 use crate::deciding::{both, either, negation};
 use crate::ends::range_at;
+use crate::labels::is_marked;
 use crate::narrowing::narrowed;
+use crate::undecided::undecided_within;
 use cpp_conditions::Condition;
 use fam_outer::NoMemory;
 use linear_atoms::Span;
@@ -58,6 +60,29 @@ struct Seen {
     is_free: bool,
 }
 
+impl Seen {
+    /// A truth that a condition has at each configuration: it hangs on no feature.
+    fn decided(truth: bool) -> Seen
+        ensures truth { result.truth ≡ Some truth }
+    {
+        Seen {
+            truth: Some(truth),
+            is_free: true,
+        }
+    }
+
+    /// No truth is known.
+    fn undecided(is_free: bool) -> Seen
+        ensures truth { result.truth ≡ None }
+        ensures free { result.is_free ≡ is_free }
+    {
+        Seen {
+            truth: None,
+            is_free,
+        }
+    }
+}
+
 /// What a box says of a condition, each part of it looked at once. What is decided hangs on no feature.
 #[tactic(auto, using(crate::proofs::Freed::known_same))]
 fn look(condition: &Condition, spans: &[Span], place: usize) -> Seen
@@ -68,19 +93,10 @@ fn look(condition: &Condition, spans: &[Span], place: usize) -> Seen
         (λ (values : List ℤ). true_at values (proposition condition.now)) }
 {
     match condition {
-        Condition::Const(truth) => Seen {
-            truth: Some(*truth),
-            is_free: true,
-        },
+        Condition::Const(truth) => Seen::decided(*truth),
         Condition::Test(atom) => match atom.decided_within(spans) {
-            Some(truth) => Seen {
-                truth: Some(truth),
-                is_free: true,
-            },
-            None => Seen {
-                truth: None,
-                is_free: is_unread(atom.terms.items(), place),
-            },
+            Some(truth) => Seen::decided(truth),
+            None => Seen::undecided(is_unread(atom.terms.items(), place)),
         },
         Condition::Not(inner) => {
             let inner = look(inner, spans, place);
@@ -93,28 +109,16 @@ fn look(condition: &Condition, spans: &[Span], place: usize) -> Seen
             let left = look(left, spans, place);
             let right = look(right, spans, place);
             match both(left.truth, right.truth) {
-                Some(truth) => Seen {
-                    truth: Some(truth),
-                    is_free: true,
-                },
-                None => Seen {
-                    truth: None,
-                    is_free: left.is_free && right.is_free,
-                },
+                Some(truth) => Seen::decided(truth),
+                None => Seen::undecided(left.is_free && right.is_free),
             }
         }
         Condition::Or(left, right) => {
             let left = look(left, spans, place);
             let right = look(right, spans, place);
             match either(left.truth, right.truth) {
-                Some(truth) => Seen {
-                    truth: Some(truth),
-                    is_free: true,
-                },
-                None => Seen {
-                    truth: None,
-                    is_free: left.is_free && right.is_free,
-                },
+                Some(truth) => Seen::decided(truth),
+                None => Seen::undecided(left.is_free && right.is_free),
             }
         }
     }
@@ -162,8 +166,15 @@ fn low_alone(span: Span) -> Span
     }
 }
 
-/// Leaves a feature only its least value where no condition that is undecided names it.
-fn pin(spans: &mut [Span], place: usize, constraints: &[Condition], wanted: &Condition)
+/// Leaves a feature only its least value where no condition that is undecided names it. Of features that are marked this is not
+/// asked.
+fn pin(
+    spans: &mut [Span],
+    place: usize,
+    constraints: &[Condition],
+    wanted: &Condition,
+    named: &[bool],
+)
     requires place { place < length spans.old }
     requires constraints { AreFit (length spans.old) constraints.now }
     requires wanted { IsFit (length spans.old) (proposition wanted.now) }
@@ -171,7 +182,7 @@ fn pin(spans: &mut [Span], place: usize, constraints: &[Condition], wanted: &Con
     ensures { Serves (meets constraints.now (proposition wanted.now)) spans.old spans.new }
 {
     let span = range_at(spans, place);
-    if span.low >= span.high {
+    if span.low >= span.high || is_marked(named, place) {
         return;
     }
     if are_free(spans, place, constraints, wanted) {
@@ -180,7 +191,13 @@ fn pin(spans: &mut [Span], place: usize, constraints: &[Condition], wanted: &Con
 }
 
 /// The same for each feature from a place on.
-fn pin_from(spans: &mut [Span], place: usize, constraints: &[Condition], wanted: &Condition)
+fn pin_from(
+    spans: &mut [Span],
+    place: usize,
+    constraints: &[Condition],
+    wanted: &Condition,
+    named: &[bool],
+)
     requires constraints { AreFit (length spans.old) constraints.now }
     requires wanted { IsFit (length spans.old) (proposition wanted.now) }
     requires ranges { AreRanges (ranges spans.old) }
@@ -189,25 +206,48 @@ fn pin_from(spans: &mut [Span], place: usize, constraints: &[Condition], wanted:
     if place >= spans.len() {
         return;
     }
-    pin(spans, place, constraints, wanted);
-    pin_from(spans, place + 1, constraints, wanted);
+    pin(spans, place, constraints, wanted, named);
+    pin_from(spans, place + 1, constraints, wanted, named);
 }
 
-/// The box narrowed by bounds, with the least value alone of each feature that nothing undecided names.
+/// A box, and for each feature the places of the constraints that name it, but for those that are decided on the box; None where they
+/// are as before.
+#[derive(Drop)]
+pub(crate) struct SmallerBox {
+    pub(crate) spans: Vec<Span>,
+    pub(crate) naming: Option<Vec<Vec<usize>>>,
+}
+
+impl SmallerBox {
+    /// The places of the constraints that name each feature.
+    pub(crate) fn naming_or<'a>(&'a self, before: &'a [Vec<usize>]) -> &'a [Vec<usize>] {
+        match &self.naming {
+            None => before,
+            Some(naming) => naming.as_slice(),
+        }
+    }
+}
+
+/// The box narrowed by bounds, with the least value alone of each feature that nothing undecided names. It is advised which
+/// constraints name each feature and are undecided.
 pub(crate) fn reduced(
     alloc: Global,
     spans: &[Span],
     constraints: &[Condition],
     naming: &[Vec<usize>],
     wanted: &Condition,
-) -> Result<Vec<Span>, NoMemory>
+) -> Result<SmallerBox, NoMemory>
     requires constraints { AreFit (length spans.now) constraints.now }
     requires wanted { IsFit (length spans.now) (proposition wanted.now) }
     requires ranges { AreRanges (ranges spans.now) }
     ensures { IfOk result (λ made. Serves
-        (meets constraints.now (proposition wanted.now)) spans.now made.items) }
+        (meets constraints.now (proposition wanted.now)) spans.now made.spans.items) }
 {
     let mut inner = narrowed(alloc, spans, constraints, naming, wanted)?;
-    pin_from(&mut inner, 0, constraints, wanted);
-    Ok(inner)
+    let undecided = undecided_within(alloc, &inner, constraints, naming, wanted)?;
+    pin_from(&mut inner, 0, constraints, wanted, &undecided.named);
+    Ok(SmallerBox {
+        spans: inner,
+        naming: Some(undecided.naming),
+    })
 }

@@ -1,48 +1,138 @@
-//! Truths of tests that may make a question true: those at the least values of a box, and then those that were found last. They are
-//! advice alone.
+//! Guesses that a search takes from box to box: the truth to try first of each test, and values at which all is true, once some are
+//! found. They are advice alone.
 #![tactic(auto)]
 
 use crate::cycles::{Edge, cycle, start_values};
 use crate::truths::has_truth;
+use crate::witnesses::{is_inside, truths_at, values_for};
 use cpp_conditions::Formula;
 use fam_outer::NoMemory;
 use linear_atoms::{Atom, Span};
 use std::alloc::Global;
 
-/// The sum of terms at the least values of a box.
-fn low_sum(terms: &[(u32, i64)], spans: &[Span]) -> i64 {
-    let mut sum: i64 = 0;
-    for (number, coefficient) in terms {
-        if let Some(span) = spans.get(*number as usize) {
-            sum = sum.saturating_add(coefficient.saturating_mul(span.low));
+/// The truth to try first of each test: at first that at the least values of a box, and then the one that was found last. The
+/// truths that were found last and not refuted, as far as they are needed. Values at which all that is asked is true; none
+/// before some are found.
+#[derive(Drop)]
+pub(crate) struct Guesses {
+    truths: Vec<Option<bool>>,
+    needed: Vec<Option<bool>>,
+    values: Vec<i64>,
+}
+
+impl Guesses {
+    /// The truths of atoms at the least values of a box.
+    pub(crate) fn at_lows(
+        alloc: Global,
+        spans: &[Span],
+        atoms: &[Atom],
+    ) -> Result<Guesses, NoMemory> {
+        let mut lows = Vec::new(alloc);
+        for span in spans {
+            lows.push(span.low)?;
+        }
+        let truths = truths_at(alloc, atoms, &lows)?;
+        Ok(Guesses {
+            truths,
+            needed: vec![in alloc; None; atoms.len()]?,
+            values: Vec::new(alloc),
+        })
+    }
+
+    /// The truth to try first of a test.
+    pub(crate) fn preferred(&self, number: u32) -> bool {
+        match self.truths.get(number as usize) {
+            Some(Some(truth)) => *truth,
+            _ => true,
         }
     }
-    sum
-}
 
-/// The truths of atoms at the least values of a box.
-pub(crate) fn low_truths(
-    alloc: Global,
-    spans: &[Span],
-    atoms: &[Atom],
-) -> Result<Vec<Option<bool>>, NoMemory> {
-    let mut made = Vec::new(alloc);
-    for atom in atoms {
-        made.push(Some(low_sum(atom.terms.items(), spans) >= atom.bound))?;
+    /// Keeps truths that nothing refuted.
+    pub(crate) fn keep(&mut self, known: &[Option<bool>]) {
+        put_known(known, &mut self.truths);
+        forget(&mut self.needed);
+        put_known(known, &mut self.needed);
     }
-    Ok(made)
-}
 
-/// The truth to try first of a test.
-pub(crate) fn preferred(found: &[Option<bool>], number: u32) -> bool {
-    match found.get(number as usize) {
-        Some(Some(truth)) => *truth,
-        _ => true,
+    /// The truths to try first, with those that are known in their place.
+    pub(crate) fn with_known(
+        &self,
+        alloc: Global,
+        known: &[Option<bool>],
+    ) -> Result<Vec<Option<bool>>, NoMemory> {
+        let mut truths = Vec::from_slice(alloc, &self.truths)?;
+        put_known(known, &mut truths);
+        Ok(truths)
+    }
+
+    /// Keeps truths, unless a cycle of edges refutes them. It answers whether they are kept.
+    pub(crate) fn keep_unless_cycle(
+        &mut self,
+        alloc: Global,
+        edges: &[Edge],
+        truths: &[Option<bool>],
+    ) -> Result<bool, NoMemory> {
+        let mut lowered = start_values(alloc, edges)?;
+        let places = cycle(alloc, edges, truths, &mut lowered)?;
+        if !places.is_empty() {
+            return Ok(false);
+        }
+        self.keep(truths);
+        Ok(true)
+    }
+
+    /// Whether the truths serve still: with those that are known in their place they make the formula true, and no cycle of edges
+    /// refutes them. Then they are kept.
+    pub(crate) fn serve(
+        &mut self,
+        alloc: Global,
+        asked: &Formula,
+        edges: &[Edge],
+        known: &[Option<bool>],
+    ) -> Result<bool, NoMemory> {
+        let truths = self.with_known(alloc, known)?;
+        Ok(has_truth(asked, true, &truths) && self.keep_unless_cycle(alloc, edges, &truths)?)
+    }
+
+    /// Looks for values in a box at which all that is asked is true, by the truths that were kept. Where none are found, those that
+    /// were found before are kept.
+    pub(crate) fn find_values(
+        &mut self,
+        alloc: Global,
+        spans: &[Span],
+        atoms: &[Atom],
+        asked: &Formula,
+    ) -> Result<(), NoMemory> {
+        if let Some(values) = values_for(alloc, spans, atoms, &self.needed, asked)? {
+            self.values = values;
+        }
+        Ok(())
+    }
+
+    /// Values in the box at which all that is asked is true; none where none are known.
+    pub(crate) fn values_in(&self, spans: &[Span]) -> &[i64] {
+        if is_inside(&self.values, spans) {
+            self.values.as_slice()
+        } else {
+            &[]
+        }
+    }
+
+    /// Puts the values at the ends of a smaller box of the same solutions where they are not in it: only features that change no truth
+    /// are.
+    pub(crate) fn bring_in(&mut self, spans: &[Span]) {
+        let mut place: usize = 0;
+        for span in spans {
+            if place < self.values.len() {
+                self.values[place] = self.values[place].max(span.low).min(span.high);
+            }
+            place = place.saturating_add(1);
+        }
     }
 }
 
 /// Puts the truths that are known in the place of others.
-pub(crate) fn put_known(known: &[Option<bool>], truths: &mut [Option<bool>]) {
+fn put_known(known: &[Option<bool>], truths: &mut [Option<bool>]) {
     let mut place: usize = 0;
     for truth in known {
         if truth.is_some() && place < truths.len() {
@@ -52,21 +142,9 @@ pub(crate) fn put_known(known: &[Option<bool>], truths: &mut [Option<bool>]) {
     }
 }
 
-/// Whether the truths serve still: with those that are known in their place they make the formula true, and no cycle of edges
-/// refutes them.
-pub(crate) fn serve(
-    alloc: Global,
-    asked: &Formula,
-    edges: &[Edge],
-    known: &[Option<bool>],
-    found: &[Option<bool>],
-) -> Result<bool, NoMemory> {
-    let mut truths = Vec::from_slice(alloc, found)?;
-    put_known(known, &mut truths);
-    if !has_truth(asked, true, &truths) {
-        return Ok(false);
+/// Leaves nothing known.
+fn forget(truths: &mut [Option<bool>]) {
+    for place in 0..truths.len() {
+        truths[place] = None;
     }
-    let mut lowered = start_values(alloc, edges)?;
-    let places = cycle(alloc, edges, &truths, &mut lowered)?;
-    Ok(places.is_empty())
 }

@@ -7,14 +7,14 @@ use linear_atoms::Atom;
 use std::alloc::Global;
 
 /// Marks a place, if there is one.
-fn mark(marks: &mut [bool], place: usize) {
+pub(crate) fn mark(marks: &mut [bool], place: usize) {
     if place < marks.len() {
         marks[place] = true;
     }
 }
 
 /// Whether a place is marked.
-fn is_marked(marks: &[bool], place: usize) -> bool {
+pub(crate) fn is_marked(marks: &[bool], place: usize) -> bool {
     match marks.get(place) {
         None => false,
         Some(mark) => *mark,

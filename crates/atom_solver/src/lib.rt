@@ -2,6 +2,7 @@
 #![tactic(auto)]
 
 mod branching;
+mod choosing;
 mod clashing;
 mod clauses;
 mod cycles;
@@ -24,7 +25,9 @@ mod searching;
 pub mod solving;
 mod spans;
 mod truths;
+mod undecided;
 mod wanted;
+mod witnesses;
 
 pub use plausibility::plausible;
 pub use prepared::Prepared;

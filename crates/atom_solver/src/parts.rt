@@ -11,7 +11,7 @@ ghost use Rattle.atom_solver.specs.Spans.{ranges, meets, FindsIn};
 ghost use Rattle.atom_solver.specs.Truths.{StandsForAll};
 
 use crate::branching::MOST_TURNS;
-use crate::guesses::low_truths;
+use crate::guesses::Guesses;
 use crate::labels::{marks_by, naming_of};
 use crate::numbering::{Question, numbered};
 use crate::parting::{part_of, with_values};
@@ -32,7 +32,7 @@ fn first_of(
     conditions: &[Condition],
     question: &Question,
     naming: &[Vec<usize>],
-    found: &mut [Option<bool>],
+    guesses: &mut Guesses,
 ) -> Result<Option<Config>, NoMemory>
     requires fit { AreFit (length spans.now) conditions.now }
     requires ranges { AreRanges (ranges spans.now) }
@@ -45,13 +45,20 @@ fn first_of(
     }
     let sought = Sought {
         constraints: conditions,
-        naming,
         wanted: &every,
         atoms: &question.atoms,
         order: &question.order,
         asked: &question.asked,
     };
-    search(alloc, spans, &sought, MOST_TURNS, CutPlace::LowEnd, found)
+    search(
+        alloc,
+        spans,
+        &sought,
+        naming,
+        MOST_TURNS,
+        CutPlace::LowEnd,
+        guesses,
+    )
 }
 
 /// The first configuration of the box at which conditions are true.
@@ -67,8 +74,8 @@ fn first_alone(
     let question = numbered(alloc, conditions)?;
     let named = marks_by(alloc, spans.len(), conditions)?;
     let naming = naming_of(alloc, spans.len(), &named)?;
-    let mut found = low_truths(alloc, spans, &question.atoms)?;
-    first_of(alloc, spans, conditions, &question, &naming, &mut found)
+    let mut guesses = Guesses::at_lows(alloc, spans, &question.atoms)?;
+    first_of(alloc, spans, conditions, &question, &naming, &mut guesses)
 }
 
 /// The box with the first values of a part alone; None where it has no solution.
@@ -139,7 +146,7 @@ pub(crate) fn first_by_parts(
     question: &Question,
     naming: &[Vec<usize>],
     parts: &[Vec<bool>],
-    found: &mut [Option<bool>],
+    guesses: &mut Guesses,
 ) -> Result<Option<Config>, NoMemory>
     requires fit { AreFit (length spans.now) conditions.now }
     requires ranges { AreRanges (ranges spans.now) }
@@ -148,7 +155,7 @@ pub(crate) fn first_by_parts(
 {
     match all_solved(alloc, spans, conditions, parts)? {
         None => Ok(None),
-        Some(inner) => match first_of(alloc, &inner, conditions, question, naming, found)? {
+        Some(inner) => match first_of(alloc, &inner, conditions, question, naming, guesses)? {
             None => Ok(None),
             Some(config) => Ok(Some(config)),
         },

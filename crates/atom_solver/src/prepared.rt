@@ -10,8 +10,8 @@ ghost use Rattle.cpp_conditions.specs.View.{formula, proposition};
 ghost use Rattle.atom_solver.specs.Narrowing.{HasAllValid};
 ghost use Rattle.atom_solver.specs.Solutions.{Finds, IsImplied, all_hold};
 
-use crate::branching::{MOST_TURNS, is_untrue};
-use crate::guesses::low_truths;
+use crate::branching::{FEWEST_TURNS, is_untrue};
+use crate::guesses::Guesses;
 use crate::labels::{labels_of, marks_by, naming_of, parts_of, untouched};
 use crate::narrowing::narrowed;
 use crate::numbering::{Question, numbered};
@@ -55,14 +55,14 @@ impl<'a> marker::Model for Prepared<'a> {
     ghost invariant = { λ prepared. IsPrepared prepared.model.now prepared.spans.items prepared.question.atoms.items (formula prepared.question.asked) prepared.least };
 }
 
-/// The box of all valid configurations that bounds leave of the ranges of a model. Where there is none, bounds are not
-/// asked: they may take long to show it. Truths that were found are tried first.
+/// The box of all valid configurations that bounds leave of the ranges of a model. Where few choices of truths show that there is none,
+/// bounds are not asked: they may take long to show it.
 fn valid_box(
     alloc: Global,
     model: &Model,
     question: &Question,
     naming: &[Vec<usize>],
-    found: &mut [Option<bool>],
+    guesses: &mut Guesses,
 ) -> Result<Vec<Span>, NoMemory>
     requires constraints { AreFit (length model.now.features) model.now.constraints }
     requires ranges { AreRanges model.now.features }
@@ -76,14 +76,17 @@ fn valid_box(
         &question.atoms,
         &question.order,
         &question.asked,
-        MOST_TURNS,
-        found,
+        FEWEST_TURNS,
+        guesses,
     )?;
     if is_out {
         return Ok(whole);
     }
+    guesses.find_values(alloc, &whole, &question.atoms, &question.asked)?;
     let every = Condition::Const(true);
-    narrowed(alloc, &whole, model.constraints.items(), naming, &every)
+    let made = narrowed(alloc, &whole, model.constraints.items(), naming, &every)?;
+    guesses.bring_in(&made);
+    Ok(made)
 }
 
 impl<'a> Prepared<'a> {
@@ -102,8 +105,8 @@ impl<'a> Prepared<'a> {
         let named = marks_by(alloc, count, constraints)?;
         let naming = naming_of(alloc, count, &named)?;
         let whole = spans_of(alloc, model.features.items())?;
-        let mut found = low_truths(alloc, &whole, &question.atoms)?;
-        let spans = valid_box(alloc, model, &question, &naming, &mut found)?;
+        let mut guesses = Guesses::at_lows(alloc, &whole, &question.atoms)?;
+        let spans = valid_box(alloc, model, &question, &naming, &mut guesses)?;
         let labels = labels_of(alloc, count, &named)?;
         let parts = parts_of(alloc, &labels, &named)?;
         let least = first_by_parts(
@@ -113,7 +116,7 @@ impl<'a> Prepared<'a> {
             &question,
             &naming,
             &parts,
-            &mut found,
+            &mut guesses,
         )?;
         Ok(Prepared {
             model,

@@ -165,7 +165,7 @@ pub(crate) fn has_truth(part: &Formula, truth: bool, known: &[Option<bool>]) -> 
         }
         Formula::Or(left, right) => {
             if truth {
-                has_truth(left, true, known) || has_truth(right, true, known)
+                has_truth(right, true, known) || has_truth(left, true, known)
             } else {
                 has_truth(right, false, known) && has_truth(left, false, known)
             }

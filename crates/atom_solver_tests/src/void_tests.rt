@@ -277,6 +277,22 @@ fn rings_are_refuted_in_the_search(rt: HostRuntime) -> Result<(), Fail> {
     Ok(())
 }
 
+/// The first feature can't exceed the second at 0, so the third exceeds the fourth; then the second exceeds the fifth, and it is so
+/// far from the fourth.
+#[test]
+fn least_solutions_of_choices_are_found(rt: HostRuntime) -> Result<(), Fail> {
+    let alloc = rt.alloc();
+    for (least_gap, values) in [(1, (0, 1, 1, 0, 0)), (5, (0, 1, 7, 6, 0))] {
+        let first = either(alloc, exceeds(alloc, 0, 1)?, exceeds(alloc, 2, 3)?)?;
+        let denied = negation(alloc, exceeds(alloc, 2, 3)?)?;
+        let second = either(alloc, denied, exceeds(alloc, 1, 4)?)?;
+        let third = apart(alloc, 1, 3, least_gap)?;
+        let model = wide(alloc, vec![in alloc; first, second, third]?)?;
+        assert!(rt; five(least(alloc, &model, &[])?) == Some(values));
+    }
+    Ok(())
+}
+
 /// Three values of 0 to 2^20 that are pairwise at least 2^19 apart are the ends and the middle, and no three are further
 /// apart: a cycle of differences shows it with the ends of the ranges.
 #[test]

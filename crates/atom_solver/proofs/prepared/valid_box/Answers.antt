@@ -21,4 +21,4 @@ returns-then-is_out c =
 
 pub narrowed-requires-clause-ranges : goal.narrowed-requires-clause-ranges
 narrowed-requires-clause-ranges c =
-    box_is c.args.model.now.features c.deref-4.result.now (c.deref-4.ensures.value ∙ c.in_ok-whole.ensures ∙ ap (map span_of) c.items.ensures) c.requires.ranges
+    box_is c.args.model.now.features c.deref-6.result.now (c.deref-6.ensures.value ∙ c.in_ok-whole.ensures ∙ ap (map span_of) c.items.ensures) c.requires.ranges
