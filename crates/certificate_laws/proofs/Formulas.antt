@@ -1,7 +1,6 @@
 -- What the formula of a region's text says.
 use Rattle.std.proofs.Common.{◌≡◌, ◌≢◌, ℕ, zero, suc, ◌+◌, ℤ, Bool, true, false, not, ◌&&◌, true≢false, List, [], ◌∷◌, ◌⊎◌, inl, inr, length, map, refl, sym, ap, ap₂, subst, ◌∙◌, arith}
-use Rattle.std.proofs.lemmas.Bool.Decides.{Decides-eqb}
-use Rattle.std.specs.Prelude.{nat_eq, if◌then◌else◌, filter, slice_get, slice_index_or, Option, Some, None}
+use Rattle.std.specs.Prelude.{if◌then◌else◌, filter, slice_get, slice_index_or, Option, Some, None}
 use Rattle.std.specs.Str.{bytes_eq}
 use Rattle.std.proofs.lemmas.Slice.Eq.{bytes_eq-Decides}
 use Rattle.linear_atoms.specs.declared.atoms.Atom.{Atom}
@@ -14,7 +13,8 @@ use Rattle.cpp_conditions.specs.Propositions.{Proposition, true_on}
 use Rattle.atom_solver.specs.Solutions.{all_hold}
 use Rattle.alarm_report.specs.Texts.{region_text}
 use Rattle.certificate_reader.specs.declared.literals.Numbered.{Numbered}
-use Rattle.certificate_reader.specs.Regions.{numbered, spelling, literal_from, literal_of, test_of, all_of, is_same, same_bool, distinct, IsMeant, IsStrange}
+use Rattle.certificate_reader.specs.Regions.{numbered, spelling, literal_from, literal_of, test_of, all_of, is_same, distinct, IsMeant, IsStrange}
+use Rattle.certificate_reader.proofs.Pieces.{same_is}
 use Rattle.certificate_laws.proofs.Naming.{HaveNames}
 use Rattle.certificate_laws.proofs.Writable.{AreOver}
 use Rattle.certificate_laws.proofs.Literals.{by_truth, one_literal}
@@ -126,22 +126,6 @@ and_true a b e = ap (λ x. x && b) e
 
 and_false : (a b : Bool) → a ≡ false → (a && b) ≡ false
 and_false a b e = ap (λ x. x && b) e
-
-and_parts : (a b : Bool) → (a && b) ≡ true → (a ≡ true) × (b ≡ true)
-and_parts true b e = (refl, e)
-and_parts false b e = absurd (true≢false (sym e))
-
-same_bools : (a b : Bool) → same_bool a b ≡ true → a ≡ b
-same_bools true b e = sym e
-same_bools false true e = absurd (true≢false (sym e))
-same_bools false false e = refl
-
-same_is : (a b : Numbered) → is_same a b ≡ true → a ≡ b
-same_is a b e =
-    let parts = and_parts (nat_eq a.number b.number) (same_bool a.positive b.positive) e in
-    let n = (Decides-eqb a.number b.number).0 parts.0 in
-    let p = same_bools a.positive b.positive parts.1 in
-    λ i. record { number = n i; positive = p i }
 
 abbrev others : Numbered → List Numbered → List Numbered
 others l ls = filter (λ m. not (is_same l m)) ls

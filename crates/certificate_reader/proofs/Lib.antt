@@ -1,6 +1,7 @@
 pub mod Bounded
 pub mod Certified
 pub mod Digits
+pub mod Loops
 pub mod Pieces
 pub mod Placing
 pub mod Ranging

@@ -31,7 +31,7 @@ bool_refl : (a : Bool) → same_bool a a ≡ true
 bool_refl true = refl
 bool_refl false = refl
 
-same_is : (a b : Numbered) → is_same a b ≡ true → a ≡ b
+pub same_is : (a b : Numbered) → is_same a b ≡ true → a ≡ b
 same_is a b e =
     let parts = and_parts (nat_eq a.number b.number) (same_bool a.positive b.positive) e in
     let n = (Decides-eqb a.number b.number).0 parts.0 in

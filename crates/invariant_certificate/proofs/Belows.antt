@@ -11,16 +11,8 @@ use Rattle.lifted_analysis.specs.declared.lines.LoopLine.{LoopLine}
 use Rattle.lifted_analysis.specs.Lines.{AreRegionsBelow}
 use Rattle.lifted_analysis.specs.Promises.{AreBelow}
 use Rattle.decision_tree.proofs.Reduced.{tests_below}
-use Rattle.tree_unify.specs.Formulas.{HasNumber, IsTreeOf}
-
-number_below : (n k : ℕ) (p : Proposition ℕ) → IsBelow n p → HasNumber k p → k < n
-number_below n k (Const b) h w = absurd w
-number_below n k (Test m) h w = subst (λ (j : ℕ). j < n) (sym w) h
-number_below n k (Not p) h w = number_below n k p h w
-number_below n k (And p q) h (inl w) = number_below n k p h.0 w
-number_below n k (And p q) h (inr w) = number_below n k q h.1 w
-number_below n k (Or p q) h (inl w) = number_below n k p h.0 w
-number_below n k (Or p q) h (inr w) = number_below n k q h.1 w
+use Rattle.tree_unify.specs.Formulas.{IsTreeOf}
+use Rattle.lifted_analysis.proofs.ConditionLemmas.{number_below}
 
 pub tests_under : (count : ℕ) (p : Proposition ℕ) (t : Plain Bool) → IsBelow count p → IsTreeOf p t → TestsBelow count t
 tests_under count p t h w = tests_below count t (λ k x. number_below count k p h (w.tests k x))

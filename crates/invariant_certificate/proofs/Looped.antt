@@ -13,18 +13,8 @@ use Rattle.leaf_domain.specs.Leaves.{LeafValue, LeafMeaning}
 use Rattle.leaf_domain.specs.Transfer.{assumed, assigned, forgotten}
 use Rattle.plain_analysis.specs.Statements.{Heads, passed}
 use Rattle.lifted_analysis.specs.Turns.{Turn, turns_by, loop_places}
+use Rattle.certificate_reader.proofs.Loops.{loops_followed}
 use Rattle.invariant_certificate.proofs.Sublists.{Within, none, takes, skips, empty, both, at_left, at_right}
-
-loops_followed : (a b : Code) → loop_places (followed a b) ≡ loop_places a ++ loop_places b
-loops_followed Done b = refl
-loops_followed (Assign place target value rest) b = loops_followed rest b
-loops_followed (Input place target rest) b = loops_followed rest b
-loops_followed (Assert place test rest) b = loops_followed rest b
-loops_followed (If place test p q rest) b = simp (loops_followed rest b, append_assoc)
-loops_followed (While place test body rest) b = simp (loops_followed rest b, append_assoc)
-loops_followed (Block place body rest) b = simp (loops_followed rest b, append_assoc)
-loops_followed (Skip place rest) b = loops_followed rest b
-loops_followed (Cond number p q rest) b = simp (loops_followed rest b, append_assoc)
 
 -- one of two sides
 side : (f : Code → List Place) (b : Bool) (p q : Code) (ps qs : List Place) → Within (f p) ps → Within (f q) qs → Within (f (cond b p q)) (ps ++ qs)
