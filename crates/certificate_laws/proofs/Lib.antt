@@ -15,6 +15,7 @@ pub mod Features
 pub mod Intervals
 pub mod Spelled
 pub mod Programs
+pub mod Families
 pub mod AcceptedLists
 pub mod AcceptedPasses
 pub mod AcceptedTurns

@@ -1,5 +1,5 @@
 -- What holds of certificates.
-use Rattle.std.specs.Prelude.{◌≡◌, ⊤, ℕ, ◌≤◌, List, length, Result, Ok, Err}
+use Rattle.std.specs.Prelude.{◌≡◌, ⊤, ℕ, ◌≤◌, List, length, map, Result, Ok, Err}
 use Rattle.std.specs.List.{All}
 use Rattle.fam_outer.specs.declared.faults.Place.{Place}
 use Rattle.fam_outer.specs.declared.refusal.Refusal.{Refusal}
@@ -7,14 +7,19 @@ use Rattle.fam_outer.specs.declared.refusal.Refusal.TheVariants.{NoMemory, Fault
 use Rattle.c_tree.specs.declared.tree.Mode.{Mode}
 use Rattle.c_tree.specs.Places.{program_places}
 use Rattle.c_tree.specs.View.{whole}
+use Rattle.c_tree.specs.Whole.{IsProgram}
 use Rattle.c_parser.specs.declared.family.Family.{Family}
 use Rattle.c_parser.specs.FamilyReading.{IsFamilyOf}
 use Rattle.linear_atoms.specs.declared.atoms.Atom.{Atom}
 use Rattle.linear_atoms.specs.Atoms.{AreAtoms}
+use Rattle.cpp_conditions.specs.declared.formulas.Formula.{Formula}
 use Rattle.cpp_conditions.specs.declared.models.Model.{Model}
 use Rattle.feature_model.specs.Features.{AreDistinct, AreNamed}
 use Rattle.leaf_domain.specs.Leaves.{LeafMeaning}
 use Rattle.interval_leaf.specs.Intervals.{intervals}
+use Rattle.lifted_analysis.specs.Canon.{IsTreeOf}
+use Rattle.lifted_analysis.specs.Promises.{leaf_at, stop_at, by_kind}
+use Rattle.plain_analysis.specs.declared.options.Options.{Options}
 use Rattle.alarm_report.specs.declared.alarms.FamilyAlarm.{FamilyAlarm}
 use Rattle.alarm_report.specs.Alarms.{StopTree, AreAlarms}
 use Rattle.alarm_report.specs.Invariants.{LeafTree, Invariant, AreInvariants}
@@ -23,6 +28,7 @@ use Rattle.certificate_reader.specs.declared.certificates.CertificateFault.{Cert
 use Rattle.certificate_reader.specs.Certificates.{Answers, most_bytes}
 use Rattle.certificate_reader.specs.Lines.{IsPlace}
 use Rattle.certificate_reader.specs.Regions.{literal_of}
+use Rattle.certificate_text.specs.Loops.{trees_at}
 use Rattle.certificate_text.specs.Texts.{certificate_text}
 use Rattle.certificate_laws.specs.ReadBack.{IsReadBack}
 use Rattle.certificate_laws.specs.Written.{IsOneLine, IsLoopTree, IsAlarmTree}
@@ -70,3 +76,40 @@ CertificatesAreReadBack =
     (model : Model) (atoms : List Atom) (names : List (List ℕ)) (mode : Mode) (is : List Invariant) (alarms : List FamilyAlarm) (bytes : List ℕ) (result : Result Certificate (Refusal CertificateFault)) → AreNames model atoms names
     → AreOfTrees model atoms names is alarms → bytes ≡ certificate_text intervals model.features names mode is alarms → length bytes ≤ most_bytes
     → Answers (literal_of model.features atoms) names bytes result → AnswersBack intervals model atoms names mode is alarms result
+
+-- ---- certificates of families
+
+-- a model and a family over it
+pub record IsFamilyOver (model : Model) (text : List ℕ) (f : Family) : Type 0 where
+  pub named : AreNamed model.features
+  pub distinct : AreDistinct model.features
+  pub atoms : AreAtoms (length model.features) f.atoms
+  pub program : IsProgram (whole f.code)
+  pub spelled : IsFamilyOf model text f
+
+-- the tree has the leaf at its place in the analysis of each vector's program
+abbrev pub IsLeafTree : Options → Family → Formula → LeafTree → Type 0
+IsLeafTree o f plausible t = IsTreeOf (length f.atoms) (leaf_at intervals o (whole f.code) f.conditions plausible t.place) t.tree
+
+-- the tree is true where that analysis has an alarm of its kind at its place
+abbrev pub IsStopTree : Options → Family → Formula → StopTree → Type 0
+IsStopTree o f plausible t = IsTreeOf (length f.atoms) (stop_at intervals o (whole f.code) f.conditions plausible (t.place, t.kind)) t.tree
+
+-- the invariants of the loops at these places, and the alarms, of an analysis of a family
+pub record AreOfAnalysis (model : Model) (o : Options) (f : Family) (loops : List Place) (is : List Invariant) (alarms : List FamilyAlarm) : Type 0 where
+  pub plausible : Formula
+  pub places : List LeafTree
+  pub stops : List StopTree
+  pub places_are : map (λ (t : LeafTree). t.place) places ≡ program_places (whole f.code)
+  pub stops_are : map (λ (t : StopTree). (t.place, t.kind)) stops ≡ by_kind (program_places (whole f.code))
+  pub leaf_trees : All (IsLeafTree o f plausible) places
+  pub stop_trees : All (IsStopTree o f plausible) stops
+  pub invariants_are : AreInvariants model f.atoms (trees_at loops places) is
+  pub alarms_are : AreAlarms model f.atoms stops alarms
+
+-- the certificate of a family is read back
+abbrev pub FamilyCertificatesAreReadBack : Type 0
+FamilyCertificatesAreReadBack =
+    (model : Model) (text : List ℕ) (f : Family) (o : Options) (loops : List Place) (mode : Mode) (is : List Invariant) (alarms : List FamilyAlarm) (bytes : List ℕ) (result : Result Certificate (Refusal CertificateFault))
+    → IsFamilyOver model text f → AreOfAnalysis model o f loops is alarms → bytes ≡ certificate_text intervals model.features (whole f.code).names mode is alarms → length bytes ≤ most_bytes
+    → Answers (literal_of model.features f.atoms) (whole f.code).names bytes result → AnswersBack intervals model f.atoms (whole f.code).names mode is alarms result

@@ -4,7 +4,7 @@
 ghost use Rattle.interval_leaf.specs.Intervals.{intervals};
 ghost use Rattle.certificate_laws.specs.Accepted.{AreToldByBounds, AreBelowJoins, AnalysesAreAccepted};
 ghost use Rattle.certificate_laws.specs.Certified.{WrittenAnalysesAreAccepted};
-ghost use Rattle.certificate_laws.specs.Laws.{FamiliesAreOfFiles, CertificatesAreReadBack};
+ghost use Rattle.certificate_laws.specs.Laws.{FamiliesAreOfFiles, CertificatesAreReadBack, FamilyCertificatesAreReadBack};
 
 use interval_leaf::IntervalLeaf;
 use leaf_domain::{Leaf, transfer_is_sound};
@@ -22,6 +22,13 @@ pub fn families_are_of_files()
 pub fn certificates_are_read_back()
     ensures { CertificatesAreReadBack }
 {}
+
+/// The same of a family that was read over an accepted model, and of the trees of an analysis of it.
+pub fn family_certificates_are_read_back()
+    ensures { FamilyCertificatesAreReadBack }
+{
+    transfer_is_sound::<IntervalLeaf>();
+}
 
 /// A check answers yes of a certificate that says the invariants of the loops and the alarms of an analysis by the same
 /// kind of leaf: it has no other verdict. It holds of each kind whose leaves are what their bounds say, and in which what
