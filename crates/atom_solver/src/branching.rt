@@ -12,10 +12,11 @@ ghost use Rattle.atom_solver.specs.Clauses.{IsVoid, KeepsAll};
 ghost use Rattle.atom_solver.specs.Truths.{Knows};
 
 use crate::choosing::choice;
-use crate::clauses::{add_clauses, places_at, places_of, propagate_from};
-use crate::cycles::{Edge, edges_of, start_values};
+use crate::clauses::{add_clauses, all_places, places_at, places_of, propagate_from};
+use crate::cycles::Lowered;
+use crate::edges::{Edges, values_at_lows};
 use crate::end_forms::ends_of;
-use crate::guesses::Guesses;
+use crate::guesses::{Guesses, tests_anew};
 use crate::refuting::is_clash;
 use crate::truths::{has_truth, learn, propagate};
 use cpp_conditions::Formula;
@@ -45,34 +46,35 @@ fn with_truth(
 }
 
 /// What is asked of truths: which forms are at least 0, the atoms whose truths they are, and the formulas that must be true. Of the
-/// choice of truths it is advised in which order atoms of equal terms stand, which of the formulas name each test, and which
-/// edges the forms of atoms and the ends of ranges are.
+/// choice of truths it is advised in which order atoms of equal terms stand, which of the formulas each truth of a test does not help
+/// to be true, and which edges the forms of atoms and the ends of ranges are.
 #[derive(Clone, Copy)]
-struct Case<'a> {
+pub(crate) struct Case<'a> {
     ends: &'a [Linear],
     atoms: &'a [Atom],
-    clauses: &'a [Formula],
+    pub(crate) clauses: &'a [Formula],
     order: &'a [u32],
-    naming: &'a [Vec<usize>],
-    edges: &'a [Edge],
+    pub(crate) naming: &'a [Vec<usize>],
+    pub(crate) edges: &'a Edges,
 }
 
-/// Where a choice begins: the places of the formulas that are looked at first, and values of the nodes of the edges, which may
-/// be those found with fewer truths.
+/// Where a choice begins: the places of the formulas that are looked at first; and what was found with fewer truths: these, the
+/// places of the formulas that they and the guessed ones don't make true, and values of the nodes that their edges allow.
 #[derive(Clone, Copy)]
-struct Start<'a> {
+pub(crate) struct Start<'a> {
     places: &'a [usize],
-    lowered: &'a [i64],
+    pub(crate) known: &'a [Option<bool>],
+    pub(crate) untrue: &'a [usize],
+    values: &'a [i64],
 }
 
-/// Whether the truths that are known, and those that follow, make a formula false or clash. Values of the nodes are lowered
-/// meanwhile.
+/// Whether the truths that are known, and those that follow, make a formula false or clash.
 #[tactic(auto, using(crate::proofs::Claused::void_denied, crate::proofs::Claused::void_clash))]
 fn is_void(
     alloc: Global,
     case: &Case<'_>,
-    places: &[usize],
-    lowered: &mut [i64],
+    from: &Start<'_>,
+    lowered: &mut Lowered,
     known: &mut [Option<bool>],
 ) -> Result<bool, NoMemory>
     requires { AreRising case.now.ends.now }
@@ -87,13 +89,14 @@ fn is_void(
         case.order,
         case.clauses,
         case.naming,
-        places,
+        from.places,
         known,
         rounds,
     )? {
         return Ok(true);
     }
-    if is_clash(alloc, case.ends, atoms, case.edges, known, lowered)? {
+    let tests = tests_anew(alloc, from.known, known)?;
+    if is_clash(alloc, case.ends, atoms, case.edges, &tests, known, lowered)? {
         return Ok(true);
     }
     Ok(false)
@@ -113,27 +116,33 @@ fn is_refuted(
     ensures { IfOk result (λ answer. answer.0 ≡ true
         → IsVoid case.now.ends.now case.now.atoms.now known.old case.now.clauses.now) }
 {
-    let mut lowered = Vec::from_slice(alloc, from.lowered)?;
-    if is_void(alloc, case, from.places, &mut lowered, known)? {
+    let mut lowered = Lowered::from_values(alloc, from.values)?;
+    if is_void(alloc, case, from, &mut lowered, known)? {
         return Ok((true, turns));
     }
-    let number = choice(alloc, case.clauses, case.edges, known, guesses)?;
-    let Some(number) = number else {
+    let next = choice(alloc, case, from, lowered.values(), known, guesses)?;
+    let Some(number) = next.test else {
         return Ok((false, turns));
     };
     if turns == 0 {
         return Ok((false, 0));
     }
+    let first = guesses.preferred(number as usize);
     let from = Start {
-        places: places_at(case.naming, number as usize),
-        lowered: &lowered,
+        places: places_at(case.naming, number as usize, first),
+        known,
+        untrue: &next.untrue,
+        values: lowered.values(),
     };
-    let first = guesses.preferred(number);
     let mut one = with_truth(alloc, known, number, first)?;
     let (is_out, rest) = is_refuted(alloc, case, &from, &mut one, turns - 1, guesses)?;
     if !is_out {
         return Ok((false, rest));
     }
+    let from = Start {
+        places: places_at(case.naming, number as usize, !first),
+        ..from
+    };
     let mut other = with_truth(alloc, known, number, !first)?;
     is_refuted(alloc, case, &from, &mut other, rest.min(turns - 1), guesses)
 }
@@ -225,8 +234,9 @@ fn is_untrue_where(
         → true_on (vector_at atoms.now values) (formula asked.now) ≡ true → ⊥) }
 {
     let ends = ends_of(alloc, spans, atoms)?;
-    let edges = edges_of(alloc, &ends, atoms)?;
-    if guesses.serve(alloc, asked, &edges, known)? {
+    let edges = Edges::new(alloc, spans.len(), &ends, atoms)?;
+    let lows = values_at_lows(alloc, spans)?;
+    if guesses.serve(alloc, asked, &edges, known, &lows)? {
         return Ok((false, turns));
     }
     propagate(atoms, order, asked, known, atoms.len());
@@ -237,7 +247,7 @@ fn is_untrue_where(
     add_clauses(alloc, asked, known, &mut clauses)?;
     let order = sharing(alloc, atoms, order)?;
     let naming = places_of(alloc, atoms.len(), &clauses)?;
-    let lowered = start_values(alloc, &edges)?;
+    let untrue = all_places(alloc, clauses.len())?;
     let case = Case {
         ends: &ends,
         atoms,
@@ -248,7 +258,9 @@ fn is_untrue_where(
     };
     let from = Start {
         places: &[],
-        lowered: &lowered,
+        known: &[],
+        untrue: &untrue,
+        values: &lows,
     };
     let answer = is_refuted(alloc, &case, &from, known, turns, guesses)?;
     Ok(answer)

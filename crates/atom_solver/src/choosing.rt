@@ -1,9 +1,12 @@
 //! Which test is tried both ways next. It is advice alone.
 #![tactic(auto)]
 
-use crate::cycles::Edge;
-use crate::guesses::Guesses;
+use crate::branching::{Case, Start};
+use crate::clauses::{all_places, places_at};
+use crate::guesses::{Guesses, tests_anew};
+use crate::labels::is_marked;
 use crate::truths::has_truth;
+use crate::undecided::mark_all;
 use cpp_conditions::Formula;
 use fam_outer::NoMemory;
 use std::alloc::Global;
@@ -69,44 +72,97 @@ fn left_of(part: &Formula, known: &[Option<bool>]) -> Left {
     }
 }
 
-/// Of formulas that some truths don't make true, a test that is not decided, of one with the fewest of these.
-fn narrowest(clauses: &[Formula], known: &[Option<bool>], truths: &[Option<bool>]) -> Option<u32> {
+/// Of formulas at some places a test that is not decided, of one with the fewest of these.
+fn narrowest(clauses: &[Formula], places: &[usize], known: &[Option<bool>]) -> Option<u32> {
     let mut found = None;
     let mut fewest = usize::MAX;
-    for clause in clauses {
-        if has_truth(clause, true, truths) {
-            continue;
-        }
-        if let Left::Open { test, count } = left_of(clause, known) {
-            if count < fewest {
-                found = Some(test);
-                fewest = count;
-            }
-            if count <= 2 {
-                return found;
+    for place in places {
+        if let Some(clause) = clauses.get(*place) {
+            if let Left::Open { test, count } = left_of(clause, known) {
+                if count < fewest {
+                    found = Some(test);
+                    fewest = count;
+                }
+                if count <= 2 {
+                    return found;
+                }
             }
         }
     }
     found
 }
 
+/// Marks the formulas that tests don't help to be true, of tests whose truths, which are known, are not those that were guessed.
+fn mark_changed(
+    naming: &[Vec<usize>],
+    tests: &[usize],
+    known: &[Option<bool>],
+    guesses: &Guesses,
+    marks: &mut [bool],
+) {
+    for test in tests {
+        if let Some(Some(truth)) = known.get(*test) {
+            if guesses.preferred(*test) != *truth {
+                mark_all(places_at(naming, *test, *truth), marks);
+            }
+        }
+    }
+}
+
+/// The places that are marked, of formulas that some truths don't make true.
+fn untrue_places(
+    alloc: Global,
+    clauses: &[Formula],
+    marks: &[bool],
+    truths: &[Option<bool>],
+) -> Result<Vec<usize>, NoMemory> {
+    let mut made = Vec::new(alloc);
+    let mut place: usize = 0;
+    for clause in clauses {
+        if is_marked(marks, place) && !has_truth(clause, true, truths) {
+            made.push(place)?;
+        }
+        place = place.saturating_add(1);
+    }
+    Ok(made)
+}
+
+/// What is tried next: a test, if there is one, and the places of the formulas that the guessed truths don't make true.
+#[derive(Drop)]
+pub(crate) struct Next {
+    pub(crate) test: Option<u32>,
+    pub(crate) untrue: Vec<usize>,
+}
+
 /// The test to try next: of a formula that the guessed truths don't make true, if there is one. Where they make all true and no cycle
 /// refutes them there is none, and they are kept; nor where those that are known make all true.
 pub(crate) fn choice(
     alloc: Global,
-    clauses: &[Formula],
-    edges: &[Edge],
+    case: &Case<'_>,
+    from: &Start<'_>,
+    values: &[i64],
     known: &[Option<bool>],
     guesses: &mut Guesses,
-) -> Result<Option<u32>, NoMemory> {
+) -> Result<Next, NoMemory> {
     let truths = guesses.with_known(alloc, known)?;
-    let found = narrowest(clauses, known, &truths);
-    if found.is_some() || guesses.keep_unless_cycle(alloc, edges, &truths)? {
-        return Ok(found);
+    let mut marks = vec![in alloc; false; case.clauses.len()]?;
+    mark_all(from.untrue, &mut marks);
+    let tests = tests_anew(alloc, from.known, known)?;
+    mark_changed(case.naming, &tests, known, guesses, &mut marks);
+    let untrue = untrue_places(alloc, case.clauses, &marks, &truths)?;
+    let test = narrowest(case.clauses, &untrue, known);
+    if test.is_some() {
+        return Ok(Next { test, untrue });
     }
-    let found = narrowest(clauses, known, known);
-    if found.is_none() {
+    let tests = tests_anew(alloc, known, &truths)?;
+    let places = guesses.keep_unless_cycle(alloc, case.edges, &tests, &truths, values)?;
+    if places.is_empty() {
+        return Ok(Next { test: None, untrue });
+    }
+    let all = all_places(alloc, case.clauses.len())?;
+    let test = narrowest(case.clauses, &all, known);
+    if test.is_none() {
         guesses.keep(known);
     }
-    Ok(found)
+    Ok(Next { test, untrue })
 }

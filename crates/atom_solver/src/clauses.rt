@@ -60,55 +60,80 @@ pub(crate) fn add_clauses(
     }
 }
 
-/// Adds a place to those of each test of a formula.
-fn add_place(part: &Formula, place: usize, naming: &mut [Vec<usize>]) -> Result<(), NoMemory> {
+/// Where the places of the formulas stand that a test does not help to be true where it has a truth.
+fn slot(number: usize, truth: bool) -> usize {
+    let first = number.saturating_mul(2);
+    if truth {
+        first.saturating_add(1)
+    } else {
+        first
+    }
+}
+
+/// Adds the place of a formula that is to have a truth to those of each of its tests, with the truth that does not help.
+fn add_place(
+    part: &Formula,
+    truth: bool,
+    place: usize,
+    naming: &mut [Vec<usize>],
+) -> Result<(), NoMemory> {
     match part {
         Formula::Const(_truth) => Ok(()),
         Formula::Test(number) => {
-            if (*number as usize) < naming.len() {
-                naming[*number as usize].push(place)?;
+            let slot = slot(*number as usize, !truth);
+            if slot < naming.len() {
+                naming[slot].push(place)?;
             }
             Ok(())
         }
-        Formula::Not(inner) => add_place(inner, place, naming),
+        Formula::Not(inner) => add_place(inner, !truth, place, naming),
         Formula::And(left, right) => {
-            add_place(left, place, naming)?;
-            add_place(right, place, naming)
+            add_place(left, truth, place, naming)?;
+            add_place(right, truth, place, naming)
         }
         Formula::Or(left, right) => {
-            add_place(left, place, naming)?;
-            add_place(right, place, naming)
+            add_place(left, truth, place, naming)?;
+            add_place(right, truth, place, naming)
         }
     }
 }
 
-/// For each of so many tests the places of the formulas that name it.
+/// For each of so many tests, and for each truth of it, the places of the formulas that it does not help to be true.
 pub(crate) fn places_of(
     alloc: Global,
     count: usize,
     clauses: &[Formula],
 ) -> Result<Vec<Vec<usize>>, NoMemory> {
     let mut naming = Vec::new(alloc);
-    for _test in 0..count {
+    for _slot in 0..count.saturating_mul(2) {
         naming.push(Vec::new(alloc))?;
     }
     let mut place: usize = 0;
     for clause in clauses {
-        add_place(clause, place, &mut naming)?;
+        add_place(clause, true, place, &mut naming)?;
         place = place.saturating_add(1);
     }
     Ok(naming)
 }
 
-/// The places of the formulas that name a test.
-pub(crate) fn places_at(naming: &[Vec<usize>], number: usize) -> &[usize] {
-    match naming.get(number) {
+/// So many places.
+pub(crate) fn all_places(alloc: Global, count: usize) -> Result<Vec<usize>, NoMemory> {
+    let mut made = Vec::with_capacity(alloc, count)?;
+    for place in 0..count {
+        made.push(place)?;
+    }
+    Ok(made)
+}
+
+/// The places of the formulas that a test does not help to be true where it has a truth.
+pub(crate) fn places_at(naming: &[Vec<usize>], number: usize, truth: bool) -> &[usize] {
+    match naming.get(slot(number, truth)) {
         None => &[],
         Some(places) => places.as_slice(),
     }
 }
 
-/// The places of the formulas that name a test whose truth was not known before.
+/// The places of the formulas that a test does not help to be true whose truth was not known before.
 fn places_anew(
     alloc: Global,
     naming: &[Vec<usize>],
@@ -118,10 +143,8 @@ fn places_anew(
     let mut made = Vec::new(alloc);
     let mut number: usize = 0;
     for truth in known {
-        if let Some(None) = before.get(number) {
-            if truth.is_some() {
-                made.extend_from_slice(places_at(naming, number))?;
-            }
+        if let (Some(None), Some(truth)) = (before.get(number), truth) {
+            made.extend_from_slice(places_at(naming, number, *truth))?;
         }
         number = number.saturating_add(1);
     }

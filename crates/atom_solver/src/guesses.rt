@@ -2,7 +2,8 @@
 //! found. They are advice alone.
 #![tactic(auto)]
 
-use crate::cycles::{Edge, cycle, start_values};
+use crate::cycles::Lowered;
+use crate::edges::Edges;
 use crate::truths::has_truth;
 use crate::witnesses::{is_inside, truths_at, values_for};
 use cpp_conditions::Formula;
@@ -40,8 +41,8 @@ impl Guesses {
     }
 
     /// The truth to try first of a test.
-    pub(crate) fn preferred(&self, number: u32) -> bool {
-        match self.truths.get(number as usize) {
+    pub(crate) fn preferred(&self, number: usize) -> bool {
+        match self.truths.get(number) {
             Some(Some(truth)) => *truth,
             _ => true,
         }
@@ -65,37 +66,45 @@ impl Guesses {
         Ok(truths)
     }
 
-    /// Keeps truths, unless a cycle of edges refutes them. It answers whether they are kept.
+    /// Keeps truths, unless a cycle of edges refutes them. It answers the places of the forms on the cycle; none where they are kept.
+    /// The values are allowed by all edges but those of some tests.
     pub(crate) fn keep_unless_cycle(
         &mut self,
         alloc: Global,
-        edges: &[Edge],
+        edges: &Edges,
+        tests: &[usize],
         truths: &[Option<bool>],
-    ) -> Result<bool, NoMemory> {
-        let mut lowered = start_values(alloc, edges)?;
-        let places = cycle(alloc, edges, truths, &mut lowered)?;
-        if !places.is_empty() {
-            return Ok(false);
+        values: &[i64],
+    ) -> Result<Vec<usize>, NoMemory> {
+        let mut lowered = Lowered::from_values(alloc, values)?;
+        let places = lowered.cycle(alloc, edges, tests, truths)?;
+        if places.is_empty() {
+            self.keep(truths);
         }
-        self.keep(truths);
-        Ok(true)
+        Ok(places)
     }
 
     /// Whether the truths serve still: with those that are known in their place they make the formula true, and no cycle of edges
-    /// refutes them. Then they are kept.
+    /// refutes them. Then they are kept. The values are allowed by the edges of no test.
     pub(crate) fn serve(
         &mut self,
         alloc: Global,
         asked: &Formula,
-        edges: &[Edge],
+        edges: &Edges,
         known: &[Option<bool>],
+        values: &[i64],
     ) -> Result<bool, NoMemory> {
         let truths = self.with_known(alloc, known)?;
-        Ok(has_truth(asked, true, &truths) && self.keep_unless_cycle(alloc, edges, &truths)?)
+        if !has_truth(asked, true, &truths) {
+            return Ok(false);
+        }
+        let tests = tests_anew(alloc, &[], &truths)?;
+        let places = self.keep_unless_cycle(alloc, edges, &tests, &truths, values)?;
+        Ok(places.is_empty())
     }
 
     /// Looks for values in a box at which all that is asked is true, by the truths that were kept. Where none are found, those that
-    /// were found before are kept.
+    /// were found before are kept. A constant asks for no values: it may stand for more tests than are numbered.
     pub(crate) fn find_values(
         &mut self,
         alloc: Global,
@@ -103,6 +112,9 @@ impl Guesses {
         atoms: &[Atom],
         asked: &Formula,
     ) -> Result<(), NoMemory> {
+        if let Formula::Const(_truth) = asked {
+            return Ok(());
+        }
         if let Some(values) = values_for(alloc, spans, atoms, &self.needed, asked)? {
             self.values = values;
         }
@@ -128,6 +140,31 @@ impl Guesses {
             }
             place = place.saturating_add(1);
         }
+    }
+}
+
+/// The tests whose truths are known, and were not before.
+pub(crate) fn tests_anew(
+    alloc: Global,
+    before: &[Option<bool>],
+    known: &[Option<bool>],
+) -> Result<Vec<usize>, NoMemory> {
+    let mut made = Vec::new(alloc);
+    let mut number: usize = 0;
+    for truth in known {
+        if truth.is_some() && !is_known(before, number) {
+            made.push(number)?;
+        }
+        number = number.saturating_add(1);
+    }
+    Ok(made)
+}
+
+/// Whether the truth of a test is known.
+fn is_known(known: &[Option<bool>], number: usize) -> bool {
+    match known.get(number) {
+        None => false,
+        Some(truth) => truth.is_some(),
     }
 }
 

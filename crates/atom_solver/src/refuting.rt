@@ -10,7 +10,8 @@ ghost use Rattle.cpp_conditions.specs.Numbering.{vector_at};
 ghost use Rattle.atom_solver.specs.Facts.{AreMet, AreRising, IsMixed, IsSum};
 ghost use Rattle.atom_solver.specs.Truths.{Knows, IsMoreWhere};
 
-use crate::cycles::{Edge, cycle};
+use crate::cycles::Lowered;
+use crate::edges::Edges;
 use crate::end_forms::{add_ends, copies};
 use crate::facts::{gather_all, known_form, number, times};
 use cpp_conditions::Condition;
@@ -345,21 +346,22 @@ fn adds_up(
 }
 
 /// Whether no values give the atoms the truths that are known where further forms are at least 0, by the sum of a cycle of
-/// their forms. Values of the nodes of the edges are lowered meanwhile.
+/// their forms. It is advised at which values of the edges' nodes to begin: all edges but those of some tests allow them.
 #[tactic(auto, using(crate::proofs::Refuted::from_zero))]
 pub(crate) fn is_clash(
     alloc: Global,
     ends: &[Linear],
     atoms: &[Atom],
-    edges: &[Edge],
+    edges: &Edges,
+    tests: &[usize],
     known: &[Option<bool>],
-    lowered: &mut [i64],
+    lowered: &mut Lowered,
 ) -> Result<bool, NoMemory>
     requires { AreRising ends.now }
     ensures { IfOk result (λ answer. answer ≡ true → (values : List ℤ) → AreMet values ends.now
         → Knows known.now (vector_at atoms.now values) → ⊥) }
 {
-    let places = cycle(alloc, edges, known, lowered)?;
+    let places = lowered.cycle(alloc, edges, tests, known)?;
     match number(alloc, 0)? {
         None => Ok(false),
         Some(zero) => adds_up(alloc, &zero, ends, atoms, known, &places),

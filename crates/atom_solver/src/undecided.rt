@@ -81,14 +81,18 @@ fn add_undecided(
 }
 
 /// Marks places.
-fn mark_all(places: &[usize], marks: &mut [bool]) {
+pub(crate) fn mark_all(places: &[usize], marks: &mut [bool]) {
     for place in places {
         mark(marks, *place);
     }
 }
 
 /// For each of so many constraints whether one of the lists has its place.
-fn marked(alloc: Global, count: usize, naming: &[Vec<usize>]) -> Result<Vec<bool>, NoMemory> {
+pub(crate) fn marked(
+    alloc: Global,
+    count: usize,
+    naming: &[Vec<usize>],
+) -> Result<Vec<bool>, NoMemory> {
     let mut marks = vec![in alloc; false; count]?;
     for places in naming {
         mark_all(places, &mut marks);

@@ -15,10 +15,10 @@ returns t c =
     let new = c.is_void.new.known in
     let n = c.in-Some.number in
     let truth = c.preferred-first.result in
-    let one = c.deref_mut-2.result.now in
-    let other = c.deref_mut-3.result.now in
-    let f : (v : List Bool) → Knows new v → get_or v n false ≡ truth → Knows one v = λ v k e. subst (λ x. Knows x v) (sym c.deref_mut-2.ensures.value) (c.in_ok-one.ensures v k e) in
-    let g : (v : List Bool) → Knows new v → get_or v n false ≡ not truth → Knows other v = λ v k e. subst (λ x. Knows x v) (sym c.deref_mut-3.ensures.value) (c.in_ok-other.ensures v k e) in
+    let one = c.deref_mut.result.now in
+    let other = c.deref_mut-2.result.now in
+    let f : (v : List Bool) → Knows new v → get_or v n false ≡ truth → Knows one v = λ v k e. subst (λ x. Knows x v) (sym c.deref_mut.ensures.value) (c.in_ok-one.ensures v k e) in
+    let g : (v : List Bool) → Knows new v → get_or v n false ≡ not truth → Knows other v = λ v k e. subst (λ x. Knows x v) (sym c.deref_mut-2.ensures.value) (c.in_ok-other.ensures v k e) in
     IfOk-weaker c.is_refuted-2.result (λ (answer : Bool × ℕ). answer.0 ≡ true → IsVoid ends atoms other fs) (λ (answer : Bool × ℕ). answer.0 ≡ true → IsVoid ends atoms old fs)
     (λ answer k done. void_both ends atoms old new one other fs n truth c.is_void.ensures.knows f g (c.in_ok-is_out.ensures c.if-not-is_out.false) (k done))
     c.is_refuted-2.ensures

@@ -11,9 +11,9 @@ returns c done =
     let fs = ranges c.args.spans.now in
     let new = c.propagate.new.known in
     let p = formula c.args.asked.now in
-    let ends = c.deref-5.result.now in
-    let clauses = c.deref-6.result.now in
-    let a : AddsClauses new p c.new-clauses.result.items clauses = subst (λ x. AddsClauses new p c.new-clauses.result.items x) (sym c.deref-6.ensures.value) c.in_ok-add_clauses.ensures in
+    let ends = c.deref-4.result.now in
+    let clauses = c.deref-5.result.now in
+    let a : AddsClauses new p c.new-clauses.result.items clauses = subst (λ x. AddsClauses new p c.new-clauses.result.items x) (sym c.deref-5.ensures.value) c.in_ok-add_clauses.ensures in
     untrue_clauses fs ends c.args.atoms.now c.args.known.now new p clauses c.propagate.ensures
     (subst (λ x. AddsClauses new p x clauses) c.new-clauses.ensures.items a)
-    (subst (λ x. AreMetWithin fs x) (sym c.deref-5.ensures.value) c.in_ok-ends.ensures) (c.in_ok-answer.ensures done)
+    (subst (λ x. AreMetWithin fs x) (sym c.deref-4.ensures.value) c.in_ok-ends.ensures) (c.in_ok-answer.ensures done)
