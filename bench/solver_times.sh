@@ -1,7 +1,7 @@
 #!/usr/bin/env bash
 # Builds and runs solver_times.txt as a program over feature_model, in a temporary repository, and prints a line a case: the
-# times of reading a model, of finding its least valid configuration, and of asking a prepared model once more. Turns of the
-# search are not counted. No gate runs this.
+# times of reading a model, of finding its least valid configuration, of preparing it, and of asking what was prepared once more.
+# Turns of the search are not counted. No gate runs this.
 set -euo pipefail
 bench=$(cd "$(dirname "$0")" && pwd)
 top=$(dirname "$bench")
