@@ -7,14 +7,12 @@ ghost use Rattle.linear_atoms.specs.Atoms.{AreAtoms, AreRanges};
 ghost use Rattle.cpp_conditions.specs.Validity.{AreFit};
 ghost use Rattle.decision_tree.specs.Plain.{TestsBelow};
 ghost use Rattle.decision_tree.specs.View.{plain};
-ghost use Rattle.alarm_report.specs.Regions.{IsRegionOf, AreRegions, Covers};
+ghost use Rattle.alarm_report.specs.Regions.{AreRegions, Covers};
 ghost use Rattle.alarm_report.specs.Adding.{Adds};
 ghost use Rattle.alarm_report.specs.Known.{AreKnown};
 
-use crate::dropping::standing;
 use crate::known::{Known, region_known};
-use crate::literals::literals_of;
-use crate::region::{Literals, Region, Regions};
+use crate::region::{Region, Regions};
 use atom_solver::Prepared;
 use cpp_conditions::Model;
 use decision_tree::laws::vectors_take_one_path;
@@ -22,34 +20,6 @@ use decision_tree::{Path, Tree};
 use fam_outer::NoMemory;
 use linear_atoms::Atom;
 use std::alloc::Global;
-
-/// The region of a path: its literals without those that the others still standing imply, from the first to the last, and the
-/// least valid configuration that meets them. None where no valid configuration meets the path. The only refusal is want of
-/// memory.
-///
-/// The atoms are well formed over the features of the model, and the numbers of the turns' tests are below their count.
-pub fn region_of(
-    alloc: Global,
-    prepared: &Prepared,
-    atoms: &[Atom],
-    turns: &[(u32, bool)],
-) -> Result<Option<Region>, NoMemory>
-    requires atoms { AreAtoms (length prepared.now.features) atoms.now }
-    requires tests { All (λ turn. turn.0 < length atoms.now) turns.now }
-    ensures { IfOk result (λ region. IsRegionOf prepared.now atoms.now turns.now region) }
-{
-    let literals = literals_of(alloc, atoms, turns)?;
-    match prepared.least(alloc, &literals)? {
-        None => Ok(None),
-        Some(example) => {
-            let left = standing(alloc, prepared, literals)?;
-            Ok(Some(Region {
-                literals: Literals::from_vec(left),
-                example,
-            }))
-        }
-    }
-}
 
 /// Adds the region of a path to true, if some valid configuration meets it.
 fn push_region(

@@ -10,7 +10,7 @@ ghost use Rattle.linear_atoms.specs.Atoms.{AreAtoms};
 ghost use Rattle.alarm_report.specs.Known.{AreKnown, has_turns, same_turns};
 ghost use Rattle.alarm_report.specs.Regions.{IsRegionOf};
 
-use crate::finding::region_of;
+use crate::path_region::region_of;
 use crate::region::Region;
 use atom_solver::Prepared;
 use fam_outer::NoMemory;

@@ -11,6 +11,7 @@ ghost use Rattle.atom_solver.specs.Spans.{ranges};
 ghost use Rattle.atom_solver.specs.Clauses.{IsVoid, KeepsAll};
 ghost use Rattle.atom_solver.specs.Truths.{Knows};
 
+use crate::cases::{Case, Start};
 use crate::choosing::choice;
 use crate::clauses::{add_clauses, all_places, places_at, places_of, propagate_from};
 use crate::cycles::Lowered;
@@ -43,29 +44,6 @@ fn with_truth(
     let mut made = Vec::from_slice(alloc, known)?;
     learn(&mut made, number, truth);
     Ok(made)
-}
-
-/// What is asked of truths: which forms are at least 0, the atoms whose truths they are, and the formulas that must be true. Of the
-/// choice of truths it is advised in which order atoms of equal terms stand, which of the formulas each truth of a test does not help
-/// to be true, and which edges the forms of atoms and the ends of ranges are.
-#[derive(Clone, Copy)]
-pub(crate) struct Case<'a> {
-    ends: &'a [Linear],
-    atoms: &'a [Atom],
-    pub(crate) clauses: &'a [Formula],
-    order: &'a [u32],
-    pub(crate) naming: &'a [Vec<usize>],
-    pub(crate) edges: &'a Edges,
-}
-
-/// Where a choice begins: the places of the formulas that are looked at first; and what was found with fewer truths: these, the
-/// places of the formulas that they and the guessed ones don't make true, and values of the nodes that their edges allow.
-#[derive(Clone, Copy)]
-pub(crate) struct Start<'a> {
-    places: &'a [usize],
-    pub(crate) known: &'a [Option<bool>],
-    pub(crate) untrue: &'a [usize],
-    values: &'a [i64],
 }
 
 /// Whether the truths that are known, and those that follow, make a formula false or clash.

@@ -1,7 +1,7 @@
 //! Which test is tried both ways next. It is advice alone.
 #![tactic(auto)]
 
-use crate::branching::{Case, Start};
+use crate::cases::{Case, Start};
 use crate::clauses::{all_places, places_at};
 use crate::guesses::{Guesses, tests_anew};
 use crate::labels::is_marked;

@@ -7,9 +7,8 @@ ghost use Rattle.linear_atoms.specs.Atoms.{AreRanges};
 ghost use Rattle.atom_solver.specs.Facts.{AddsWithin, AreMetWithin, IsLine, IsMetWithin};
 ghost use Rattle.atom_solver.specs.Spans.{ranges};
 
-use crate::ends::range_at;
-use crate::facts::{number, term};
-use crate::refuting::sum;
+use crate::facts::{number, sum, term};
+use crate::range_ends::range_at;
 use fam_outer::NoMemory;
 use linear_atoms::slices::cut;
 use linear_atoms::{Atom, Linear, Span};

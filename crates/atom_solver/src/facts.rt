@@ -6,10 +6,9 @@ ghost use Rattle.std.specs.Prelude.{◌≡◌, FitsSigned, pos, neg_ℤ, ◌-ℤ
 ghost use Rattle.linear_atoms.specs.Forms.{IsRising};
 ghost use Rattle.cpp_conditions.specs.Propositions.{Test};
 ghost use Rattle.cpp_conditions.specs.View.{proposition};
-ghost use Rattle.atom_solver.specs.Facts.{IsTimes, IsNumber, IsTerm, IsMore, IsFact, Adds, AddsAll};
+ghost use Rattle.atom_solver.specs.Facts.{IsTimes, IsNumber, IsTerm, IsMore, IsFact, IsSum, Adds, AddsAll};
 ghost use Rattle.atom_solver.specs.Truths.{IsKnownFact};
 
-use crate::refuting::sum;
 use cpp_conditions::Condition;
 use fam_outer::NoMemory;
 use linear_atoms::slices::cut;
@@ -24,6 +23,20 @@ fn cut_term(terms: &[(u32, i64)]) -> Option<(u32, i64, &[(u32, i64)])>
     match terms {
         [] => None,
         [(number, coefficient), behind @ ..] => Some((*number, *coefficient, behind)),
+    }
+}
+
+/// The sum of two forms; None where a number becomes too large.
+#[tactic(auto, using(crate::proofs::Refuted::sum_is))]
+pub(crate) fn sum(alloc: Global, left: &Linear, right: &Linear) -> Result<Option<Linear>, NoMemory>
+    requires left { IsRising left.now.terms }
+    requires right { IsRising right.now.terms }
+    ensures { IfOk result (λ made. MatchOption made (Unit {0}) (λ f. IsSum left.now right.now f)) }
+{
+    match left.add(alloc, right) {
+        Ok(made) => Ok(Some(made)),
+        Err(LinearFault::TooLarge) => Ok(None),
+        Err(LinearFault::NoMemory) => Err(NoMemory),
     }
 }
 

@@ -10,9 +10,9 @@ ghost use Rattle.atom_solver.specs.Free.{put, IsUnread, IsSame, Serves};
 ghost use Rattle.atom_solver.specs.Spans.{ranges, meets, IsKnown};
 
 use crate::deciding::{both, either, negation};
-use crate::ends::range_at;
 use crate::labels::is_marked;
 use crate::narrowing::narrowed;
+use crate::range_ends::range_at;
 use crate::undecided::undecided_within;
 use cpp_conditions::Condition;
 use fam_outer::NoMemory;

@@ -2,6 +2,7 @@
 #![tactic(auto)]
 
 mod branching;
+mod cases;
 mod choosing;
 mod clashing;
 mod clauses;
@@ -9,7 +10,6 @@ mod cycles;
 mod deciding;
 mod edges;
 mod end_forms;
-mod ends;
 mod facts;
 mod freeing;
 mod guesses;
@@ -21,6 +21,7 @@ mod parts;
 pub mod plausibility;
 mod points;
 pub mod prepared;
+mod range_ends;
 mod refuting;
 mod searching;
 pub mod solving;

@@ -9,7 +9,6 @@ ghost use Rattle.atom_solver.specs.Free.{Serves};
 ghost use Rattle.atom_solver.specs.Parts.{IsSumOf, IsTruthOf, IsPart, fixed};
 ghost use Rattle.atom_solver.specs.Spans.{ranges, meets, FindsIn};
 
-use crate::spans;
 use cpp_conditions::Condition;
 use cpp_conditions::conditions::{both, either, negation};
 use fam_outer::NoMemory;
@@ -180,7 +179,7 @@ fn add_fixed(
                 made.extend_from_slice(spans)?;
                 Ok(())
             }
-            Some((value, later)) => match spans::cut(spans) {
+            Some((value, later)) => match fam_outer::cut(spans) {
                 None => Ok(()),
                 Some((span, behind)) => {
                     made.push(range_of(*mark, *value, span))?;

@@ -7,32 +7,18 @@ ghost use Rattle.linear_atoms.specs.Forms.{IsRising, form_at};
 ghost use Rattle.cpp_conditions.specs.View.{proposition};
 ghost use Rattle.atom_solver.specs.Spans.{meets, ranges};
 ghost use Rattle.cpp_conditions.specs.Numbering.{vector_at};
-ghost use Rattle.atom_solver.specs.Facts.{AreMet, AreRising, IsMixed, IsSum};
+ghost use Rattle.atom_solver.specs.Facts.{AreMet, AreRising, IsMixed};
 ghost use Rattle.atom_solver.specs.Truths.{Knows, IsMoreWhere};
 
 use crate::cycles::Lowered;
 use crate::edges::Edges;
 use crate::end_forms::{add_ends, copies};
-use crate::facts::{gather_all, known_form, number, times};
+use crate::facts::{gather_all, known_form, number, sum, times};
 use cpp_conditions::Condition;
 use fam_outer::NoMemory;
 use linear_atoms::slices::cut;
 use linear_atoms::{Atom, Linear, LinearFault, Span};
 use std::alloc::Global;
-
-/// The sum of two forms; None where a number becomes too large.
-#[tactic(auto, using(crate::proofs::Refuted::sum_is))]
-pub(crate) fn sum(alloc: Global, left: &Linear, right: &Linear) -> Result<Option<Linear>, NoMemory>
-    requires left { IsRising left.now.terms }
-    requires right { IsRising right.now.terms }
-    ensures { IfOk result (λ made. MatchOption made (Unit {0}) (λ f. IsSum left.now right.now f)) }
-{
-    match left.add(alloc, right) {
-        Ok(made) => Ok(Some(made)),
-        Err(LinearFault::TooLarge) => Ok(None),
-        Err(LinearFault::NoMemory) => Err(NoMemory),
-    }
-}
 
 /// Whether the form is a number below 0.
 #[tactic(auto, using(crate::proofs::Refuted::negative))]

@@ -10,7 +10,7 @@ ghost use Rattle.cpp_conditions.specs.View.{proposition};
 use atom_solver::{Prepared, least};
 use cpp_conditions::conditions::{both, either, negation};
 use cpp_conditions::{Condition, Conditions, Features, Model};
-use fam_outer::Text;
+use fam_outer::{Text, MOST_VALUE};
 use linear_atoms::{Atom, Config, Feature, Linear, Literal};
 use std::alloc::Global;
 use std::test::Fail;
@@ -23,7 +23,7 @@ fn before(
     mut others: Vec<Feature>,
 ) -> Result<Vec<Feature>, Fail>
     requires some { pos 0 ≤ℤ high }
-    requires high { unsigned_abs high ≤ 1048576 }
+    requires high { unsigned_abs high ≤ MOST_VALUE }
     requires ranges { AreRanges others.items }
     ensures ranges { IfOk result (λ made. AreRanges made.items) }
     ensures count { IfOk result (λ made. length made.items ≡ count + length others.items) }
@@ -70,7 +70,7 @@ fn differ(alloc: Global, free: u32, left: u32, right: u32) -> Result<Condition, 
 fn three(alloc: Global, free: u32, high: i64) -> Result<Model, Fail>
     requires few { free ≤ 20 }
     requires some { pos 0 ≤ℤ high }
-    requires high { unsigned_abs high ≤ 1048576 }
+    requires high { unsigned_abs high ≤ MOST_VALUE }
     ensures count { IfOk result (λ made. length made.features ≡ free + 3) }
     ensures ranges { IfOk result (λ made. AreRanges made.features) }
     ensures fit { IfOk result (λ made. AreFit (free + 3) made.constraints) }
@@ -145,7 +145,7 @@ fn reaches(alloc: Global, left: u32, right: u32) -> Result<Condition, Fail>
 fn exceeds_by(alloc: Global, left: u32, right: u32, least: i64) -> Result<Condition, Fail>
     requires order { left < right }
     requires right { right < 5 }
-    requires least { unsigned_abs least ≤ 1048576 }
+    requires least { unsigned_abs least ≤ MOST_VALUE }
     ensures { IfOk result (λ made. IsFit 5 (proposition made)) }
 {
     let form = difference(alloc, left, right)?;
@@ -326,7 +326,7 @@ fn sums_with_ends_of_ranges_are_refuted(rt: HostRuntime) -> Result<(), Fail> {
 /// Two features of 0 to 2^20 that differ, and three of 0 to a number that differ pairwise.
 fn two_parts(alloc: Global, high: i64) -> Result<Model, Fail>
     requires some { pos 0 ≤ℤ high }
-    requires high { unsigned_abs high ≤ 1048576 }
+    requires high { unsigned_abs high ≤ MOST_VALUE }
     ensures count { IfOk result (λ made. length made.features ≡ 5) }
     ensures ranges { IfOk result (λ made. AreRanges made.features) }
     ensures fit { IfOk result (λ made. AreFit 5 made.constraints) }

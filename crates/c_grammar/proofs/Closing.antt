@@ -1,13 +1,13 @@
 -- Whatever is open can be closed.
 use Rattle.std.proofs.Common.{◌≡◌, ℕ, ℤ, pos, neg_ℤ, suc, List, [], ◌∷◌, Ok, refl, ◌∙◌}
 use Rattle.fam_outer.specs.declared.faults.Place.{Place}
-use Rattle.c_tree.specs.declared.tree.Declared.{Declared}
+use Rattle.c_tree.specs.declared.lists.Declared.{Declared}
 use Rattle.c_tree.specs.Tree.{Term, Var, Binary, Code, Done, Assign, Input, Assert, If, While, Block, Skip, Cond, followed}
 use Rattle.c_grammar.specs.declared.items.Sign.TheVariants as signs
 use Rattle.c_grammar.specs.declared.items.Item.{Item}
 use Rattle.c_grammar.specs.Grammar.{at, tighter, applied, updated, File, file_of}
 use Rattle.c_grammar.specs.Ahead.{Loose, NoElse}
-use Rattle.c_grammar.specs.Machine.{Tailing, Another, Final, Frame, Paren, Pre, Left, Stack, Top, Braces, Yes, No, ThenOf, ElseOf, LoopOf, Use, ToAssign, ToUpdate, ToAssert, ToChoose, ToLoop, Sections, Outermost, InPart, InLast, Aim, ToPrototype, ToMain, State, Outside, AfterStatic, AfterExtern, AfterInt, AfterExternInt, Declaring, Bare, Starting, Negating, Started, Parameters, InParameters, AfterVoid, AfterParameters, Ready, Ended, Wants, Has, Named, Opens, InputOpens, InputCloses, Finishing, Returning, Returned, Closing, Over, with_declared, linked, run}
+use Rattle.c_grammar.specs.Machine.{Tailing, Another, Final, Frame, Paren, Pre, Left, Stack, Top, Braces, Yes, No, ThenOf, ElseOf, LoopOf, Use, ToAssign, ToUpdate, ToAssert, ToChoose, ToLoop, Sections, Outermost, InPart, InLast, Aim, ToPrototype, ToMain, ReadingState, Outside, AfterStatic, AfterExtern, AfterInt, AfterExternInt, Declaring, Bare, Starting, Negating, Started, Parameters, InParameters, AfterVoid, AfterParameters, Ready, Ended, Wants, Has, Named, Opens, InputOpens, InputCloses, Finishing, Returning, Returned, Closing, Over, with_declared, linked, run}
 use Rattle.c_grammar.proofs.Complete.{pre_absorbs, left_absorbs, loop_absorbs, else_absorbs, then_absorbs}
 
 pub nowhere : Place
@@ -42,7 +42,7 @@ closes (ThenOf p e outer) c = let h = closes outer (If p e c Done Done) in (h.0,
 closes (ElseOf p e first outer) c = let h = closes outer (If p e first c Done) in (h.0, else_absorbs p e first outer c (closers outer) ∙ h.1)
 closes (LoopOf p e outer) c = let h = closes outer (While p e c Done) in (h.0, loop_absorbs p e outer c (closers outer) ∙ h.1)
 
-record CanEnd (state : State) : Type 0 where
+record CanEnd (state : ReadingState) : Type 0 where
   pub tail : List Item
   pub made : File
   pub reads : run state tail ≡ Ok made
@@ -64,7 +64,7 @@ ends_expr (Pre v ∷ fs) u e = let h = ends_expr fs u (applied v e) in record { 
 ends_expr (Left op a ∷ fs) u e = let h = ends_expr fs u (Binary op a e) in record { tail = h.tail; made = h.made; reads = left_absorbs op a fs u e h.tail (h.tight (suc (tighter op))) ∙ h.reads; tight = h.tight }
 
 -- the rest of a file from where a declaration may begin
-abbrev Rest : State → Type 0
+abbrev Rest : ReadingState → Type 0
 Rest state = (tail : List Item) × (made : File) × (run state tail ≡ Ok made)
 
 after_declarations : (secs : Sections) (ds : List Declared) → Rest (Outside secs ds)
@@ -88,7 +88,7 @@ after_declarator : (x : ℕ) (n : ℤ) (secs : Sections) (ds : List Declared) �
 unfolding run
 after_declarator x n secs ds = let h = after_declarations secs (with_declared secs ds x n) in (at nowhere signs.Semicolon ∷ h.0, h.1, h.2)
 
-pub completes : (state : State) → (tail : List Item) × (made : File) × (run state tail ≡ Ok made)
+pub completes : (state : ReadingState) → (tail : List Item) × (made : File) × (run state tail ≡ Ok made)
 unfolding run after_declarator
 completes (Outside secs ds) = after_declarations secs ds
 completes (AfterStatic secs ds) = let h = after_declarator 0 (pos 0) secs ds in (at nowhere signs.Int ∷ at nowhere (signs.Name 0) ∷ h.0, h.1, h.2)

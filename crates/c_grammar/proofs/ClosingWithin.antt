@@ -1,13 +1,13 @@
 -- Whatever is open within the limits can be closed within them: the text that closes it opens nothing more, and has no
 -- operator.
 use Rattle.std.proofs.Common.{◌≡◌, ℕ, ℤ, pos, neg_ℤ, suc, ◌≤◌, List, [], ◌∷◌, Ok, refl, subst, ◌∙◌, arith}
-use Rattle.c_tree.specs.declared.tree.Declared.{Declared}
+use Rattle.c_tree.specs.declared.lists.Declared.{Declared}
 use Rattle.c_tree.specs.Tree.{Term, Var, Binary, Code, Done, Assign, Input, Assert, If, While, Block, Skip, Cond, followed}
 use Rattle.c_grammar.specs.declared.items.Sign.TheVariants as signs
 use Rattle.c_grammar.specs.declared.items.Item.{Item}
 use Rattle.c_grammar.specs.Grammar.{at, tighter, applied, updated, File, file_of}
 use Rattle.c_grammar.specs.Ahead.{Loose, NoElse}
-use Rattle.c_grammar.specs.Machine.{Tailing, Another, Final, Frame, Paren, Pre, Left, Stack, Top, Braces, Yes, No, ThenOf, ElseOf, LoopOf, Use, ToAssign, ToUpdate, ToAssert, ToChoose, ToLoop, Sections, Outermost, InPart, InLast, Aim, ToPrototype, ToMain, State, Outside, AfterStatic, AfterExtern, AfterInt, AfterExternInt, Declaring, Bare, Starting, Negating, Started, Parameters, InParameters, AfterVoid, AfterParameters, Ready, Ended, Wants, Has, Named, Opens, InputOpens, InputCloses, Finishing, Returning, Returned, Closing, Over, with_declared, linked}
+use Rattle.c_grammar.specs.Machine.{Tailing, Another, Final, Frame, Paren, Pre, Left, Stack, Top, Braces, Yes, No, ThenOf, ElseOf, LoopOf, Use, ToAssign, ToUpdate, ToAssert, ToChoose, ToLoop, Sections, Outermost, InPart, InLast, Aim, ToPrototype, ToMain, ReadingState, Outside, AfterStatic, AfterExtern, AfterInt, AfterExternInt, Declaring, Bare, Starting, Negating, Started, Parameters, InParameters, AfterVoid, AfterParameters, Ready, Ended, Wants, Has, Named, Opens, InputOpens, InputCloses, Finishing, Returning, Returned, Closing, Over, with_declared, linked}
 use Rattle.c_grammar.specs.Deep.{guarded}
 use Rattle.c_grammar.proofs.Complete.{pre_step, left_step, loop_step, else_step, then_step}
 use Rattle.c_grammar.proofs.Closing.{nowhere, closers, closers_no_else}
@@ -29,7 +29,7 @@ closes (LoopOf p e outer) c n =
     let h = closes outer (While p e c Done) n in
     (h.0, same_within (Ended (LoopOf p e outer) c) (Ended outer (While p e c Done)) n refl refl refl (closers outer) (λ x y is. loop_step p e outer c x.place x.sign) ∙ h.1)
 
-record CanEnd (state : State) (n : ℕ) : Type 0 where
+record CanEnd (state : ReadingState) (n : ℕ) : Type 0 where
   pub tail : List Item
   pub made : File
   pub reads : guarded state n tail ≡ Ok made
@@ -69,7 +69,7 @@ ends_expr (Left op a ∷ fs) u e n few =
     record { tail = h.tail; made = h.made; reads = same_within (Has (Left op a ∷ fs) u e) (Has fs u (Binary op a e)) n refl refl refl h.tail (λ x y is. left_step op a fs u e x.sign (subst (Loose (suc (tighter op))) is (h.tight (suc (tighter op))))) ∙ h.reads; tight = h.tight }
 
 -- the rest of a file within the limits
-abbrev pub Rest : State → ℕ → Type 0
+abbrev pub Rest : ReadingState → ℕ → Type 0
 Rest state n = (tail : List Item) × (made : File) × (guarded state n tail ≡ Ok made)
 
 after_declarations : (secs : Sections) (ds : List Declared) (n : ℕ) → Rest (Outside secs ds) n
@@ -94,7 +94,7 @@ unfolding guarded
 after_declarator x i secs ds n = let h = after_declarations secs (with_declared secs ds x i) 0 in (at nowhere signs.Semicolon ∷ h.0, h.1, h.2)
 
 -- each state that is reached within the limits goes on to a file within them
-pub goes_on_within : (state : State) (n : ℕ) → n ≤ 64 → Rest state n
+pub goes_on_within : (state : ReadingState) (n : ℕ) → n ≤ 64 → Rest state n
 unfolding guarded after_declarator
 goes_on_within (Outside secs ds) n few = after_declarations secs ds n
 goes_on_within (AfterStatic secs ds) n few = let h = after_declarator 0 (pos 0) secs ds 0 in (at nowhere signs.Int ∷ at nowhere (signs.Name 0) ∷ h.0, h.1, h.2)

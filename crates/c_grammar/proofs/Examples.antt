@@ -3,7 +3,7 @@ use Rattle.std.proofs.Common.{◌≡◌, ℕ, pos, negsuc, zero, suc, ◌+◌, B
 use Rattle.fam_outer.specs.declared.faults.Place.{Place}
 use Rattle.c_tree.specs.declared.tree.Op.{Op}
 use Rattle.c_tree.specs.declared.tree.Op.TheVariants.{Add, Sub, Mul, Div, Rem, Lt, Le, Gt, Ge, Eq, Ne, And, Or}
-use Rattle.c_tree.specs.declared.tree.Guard.{Guard}
+use Rattle.c_tree.specs.declared.lists.Guard.{Guard}
 use Rattle.c_tree.specs.Tree.{Number, Var, Neg, Not, Binary, Done, Assign, Input, Assert, If, Block, Skip, Cond}
 use Rattle.c_grammar.specs.declared.items.Item.{Item}
 use Rattle.c_grammar.specs.declared.items.Sign.{Sign}

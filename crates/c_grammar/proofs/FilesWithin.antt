@@ -3,14 +3,14 @@ use Rattle.std.proofs.Common.{◌≡◌, ℕ, ℤ, pos, neg_ℤ, suc, ◌+◌, �
 use Rattle.std.proofs.lemmas.List.{append-nil, length-append}
 use Rattle.fam_outer.specs.declared.faults.Place.{Place}
 use Rattle.c_tree.specs.declared.tree.Op.TheVariants.{Sub}
-use Rattle.c_tree.specs.declared.tree.Guard.{Guard}
-use Rattle.c_tree.specs.declared.tree.Declared.{Declared}
+use Rattle.c_tree.specs.declared.lists.Guard.{Guard}
+use Rattle.c_tree.specs.declared.lists.Declared.{Declared}
 use Rattle.c_tree.specs.Tree.{Code, Done, Skip, followed}
 use Rattle.c_grammar.specs.declared.items.Sign.{Sign}
 use Rattle.c_grammar.specs.declared.items.Sign.TheVariants as signs
 use Rattle.c_grammar.specs.declared.items.Item.{Item}
 use Rattle.c_grammar.specs.Grammar.{at, Optional, absent, present, Declarator, bare, positive, negative, with_true, with_false, declared, Part, Outer, Vars, Later, Returns, no_return, return, Gap, Gaps, GapRest, File, file_of}
-use Rattle.c_grammar.specs.Machine.{Tailing, Another, Final, Top, Sections, Outermost, InPart, InLast, guards_of, Aim, ToPrototype, ToMain, State, Outside, AfterStatic, AfterExtern, AfterInt, AfterExternInt, Declaring, Bare, Starting, Negating, Started, Parameters, InParameters, AfterVoid, AfterParameters, Ready, Returning, Returned, Closing, Over, with_declared, step, start}
+use Rattle.c_grammar.specs.Machine.{Tailing, Another, Final, Top, Sections, Outermost, InPart, InLast, guards_of, Aim, ToPrototype, ToMain, ReadingState, Outside, AfterStatic, AfterExtern, AfterInt, AfterExternInt, Declaring, Bare, Starting, Negating, Started, Parameters, InParameters, AfterVoid, AfterParameters, Ready, Returning, Returned, Closing, Over, with_declared, step, start}
 use Rattle.c_grammar.specs.Deep.{opens_more, tail_depth, guarded}
 use Rattle.c_grammar.specs.Within.{DeclaresIn, nothing, variables, prototype, section, last_var, next_var, end_part, else_part, elif_part, EmptyIn, no_more, empty_section, empty_end, empty_else, empty_elif, BodyWithin, body, MainWithin, main, FormsWithin, file}
 use Rattle.c_grammar.proofs.Complete.{followed-none}
@@ -50,7 +50,7 @@ prototyped p q secs es w (present r t) =
     ∙ token (AfterExternInt secs es) (Parameters (ToPrototype secs es)) q signs.Input 0 w refl refl refl
 
 -- behind a declarator
-pub declarator : {us : List Item} {x : ℕ} {n : ℤ} (secs : Sections) (es : List Declared) (p : Place) (s : Sign) (next : State) (w : List Item) → step (Started x n secs es) p s ≡ Some next → step (Bare x secs es) p s ≡ step (Started x (pos 0) secs es) p s → opens_more s ≡ false → Declarator us x n
+pub declarator : {us : List Item} {x : ℕ} {n : ℤ} (secs : Sections) (es : List Declared) (p : Place) (s : Sign) (next : ReadingState) (w : List Item) → step (Started x n secs es) p s ≡ Some next → step (Bare x secs es) p s ≡ step (Started x (pos 0) secs es) p s → opens_more s ≡ false → Declarator us x n
     → guarded (Declaring secs es) 0 (us ++ at p s ∷ w) ≡ guarded next 0 w
 declarator secs es p s next w is same plain (bare q x) = token (Declaring secs es) (Bare x secs es) q (signs.Name x) 0 (at p s ∷ w) refl refl refl ∙ token (Bare x secs es) next p s 0 w (same ∙ is) plain refl
 declarator secs es p s next w is same plain (positive q r z x n) =

@@ -4,8 +4,8 @@ use Rattle.std.specs.List.{All}
 use Rattle.std.proofs.lemmas.List.Elements.{All-append, All-cons, All-nil}
 use Rattle.std.proofs.lemmas.Int.{ints}
 use Rattle.fam_outer.specs.declared.faults.Place.{Place}
-use Rattle.c_tree.specs.declared.tree.Guard.{Guard}
-use Rattle.c_tree.specs.declared.tree.Declared.{Declared}
+use Rattle.c_tree.specs.declared.lists.Guard.{Guard}
+use Rattle.c_tree.specs.declared.lists.Declared.{Declared}
 use Rattle.c_tree.specs.Tree.{Term, Code, Done, Assign, Input, Assert, If, While, Block, Skip, Cond, followed}
 use Rattle.c_tree.specs.Value.{IsInt}
 use Rattle.c_tree.specs.Fit.{IsTermOf, IsCodeOf, IsPlain}

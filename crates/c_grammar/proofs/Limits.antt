@@ -6,14 +6,14 @@ use Rattle.std.proofs.lemmas.Bool.{cases_lt, leb-false}
 use Rattle.fam_outer.specs.declared.faults.Place.{Place}
 use Rattle.c_tree.specs.declared.tree.Op.{Op}
 use Rattle.c_tree.specs.declared.tree.Op.TheVariants.{Add, Sub}
-use Rattle.c_tree.specs.declared.tree.Declared.{Declared}
+use Rattle.c_tree.specs.declared.lists.Declared.{Declared}
 use Rattle.c_tree.specs.Tree.{Term, Neg, Not, Binary, Code, Done, Assign, Input, Assert, If, While, Block, Skip, Cond, followed}
 use Rattle.c_tree.specs.Whole.{operators, nesting, IsSmall}
 use Rattle.c_grammar.specs.declared.items.Sign.{Sign}
 use Rattle.c_grammar.specs.declared.items.Sign.TheVariants as signs
 use Rattle.c_grammar.specs.declared.items.Item.{Item}
 use Rattle.c_grammar.specs.Grammar.{tighter, Positive, Negative, Inverse, File}
-use Rattle.c_grammar.specs.Machine.{Frame, Paren, Pre, Left, Stack, Top, Braces, Yes, No, ThenOf, ElseOf, LoopOf, Use, ToAssign, ToUpdate, ToAssert, ToChoose, ToLoop, Sections, Outermost, InPart, InLast, Aim, ToPrototype, ToMain, Tailing, Another, State, Outside, AfterStatic, AfterExtern, AfterInt, AfterExternInt, Declaring, Bare, Starting, Negating, Started, Parameters, InParameters, AfterVoid, AfterParameters, Ready, Ended, Wants, Has, Named, Opens, InputOpens, InputCloses, Finishing, Returning, Returned, Closing, Over, settle, input_of, want, tested, closed_by, assigned, ended_by, have, folded, else_of, linked, opened, braced, returned, next_part, last_part, group_end, begin, on, named, at_open, at_close, at_semicolon, at_int, at_input, next_condition, last_section, section_end, outside, declaring, main_of, after_int, started, is_bare, starting, negating, in_parameters, after_parameters, returning, closing, over, step, finish, start}
+use Rattle.c_grammar.specs.Machine.{Frame, Paren, Pre, Left, Stack, Top, Braces, Yes, No, ThenOf, ElseOf, LoopOf, Use, ToAssign, ToUpdate, ToAssert, ToChoose, ToLoop, Sections, Outermost, InPart, InLast, Aim, ToPrototype, ToMain, Tailing, Another, ReadingState, Outside, AfterStatic, AfterExtern, AfterInt, AfterExternInt, Declaring, Bare, Starting, Negating, Started, Parameters, InParameters, AfterVoid, AfterParameters, Ready, Ended, Wants, Has, Named, Opens, InputOpens, InputCloses, Finishing, Returning, Returned, Closing, Over, settle, input_of, want, tested, closed_by, assigned, ended_by, have, folded, else_of, linked, opened, braced, returned, next_part, last_part, group_end, begin, on, named, at_open, at_close, at_semicolon, at_int, at_input, next_condition, last_section, section_end, outside, declaring, main_of, after_int, started, is_bare, starting, negating, in_parameters, after_parameters, returning, closing, over, step, finish, start}
 use Rattle.c_grammar.specs.Deep.{depth, opens_more, is_nested, counted, is_long, is_deep, Fault, ended, went, guarded}
 
 max_parts : (a b k m : ℕ) → max a b + k ≤ m → (a + k ≤ m) × (b + k ≤ m)
@@ -117,7 +117,7 @@ UseFits (ToAssert p outer) = Fits outer
 UseFits (ToChoose p outer) = (suc (depth outer) ≤ 64) × Fits outer
 UseFits (ToLoop p outer) = (suc (depth outer) ≤ 64) × Fits outer
 
-StateFits : State → ℕ → Type 0
+StateFits : ReadingState → ℕ → Type 0
 StateFits (Ready outer) k = Fits outer
 StateFits (Ended outer c) k = Fits outer × Fine (depth outer) c
 StateFits (Wants fs u) k = UseFits u × (weight fs ≤ k) × (k ≤ 64)
@@ -283,15 +283,15 @@ named_fits q x outer signs.PlusPlus h = (h, (depth_fits outer h, (omega arith, t
 named_fits q x outer signs.MinusMinus h = (h, (depth_fits outer h, (omega arith, tt)))
 named_fits q x outer _ h = tt
 
-open_fits : (next : State) (s : Sign) → StateFits next 0 → IfSome (at_open next s) (λ n. StateFits n 0)
+open_fits : (next : ReadingState) (s : Sign) → StateFits next 0 → IfSome (at_open next s) (λ n. StateFits n 0)
 open_fits next signs.Open h = h
 open_fits next _ h = tt
 
-close_fits : (next : State) (s : Sign) → StateFits next 0 → IfSome (at_close next s) (λ n. StateFits n 0)
+close_fits : (next : ReadingState) (s : Sign) → StateFits next 0 → IfSome (at_close next s) (λ n. StateFits n 0)
 close_fits next signs.Close h = h
 close_fits next _ h = tt
 
-semicolon_fits : (next : State) (s : Sign) → StateFits next 0 → IfSome (at_semicolon next s) (λ n. StateFits n 0)
+semicolon_fits : (next : ReadingState) (s : Sign) → StateFits next 0 → IfSome (at_semicolon next s) (λ n. StateFits n 0)
 semicolon_fits next signs.Semicolon h = h
 semicolon_fits next _ h = tt
 
@@ -325,11 +325,11 @@ outside_fits secs ds signs.GroupElse = last_section_fits secs ds
 outside_fits secs ds signs.GroupEnd = section_end_fits secs ds
 outside_fits secs ds _ = tt
 
-int_fits : (next : State) (s : Sign) → StateFits next 0 → IfSome (at_int next s) (λ n. StateFits n 0)
+int_fits : (next : ReadingState) (s : Sign) → StateFits next 0 → IfSome (at_int next s) (λ n. StateFits n 0)
 int_fits next signs.Int h = h
 int_fits next _ h = tt
 
-at_input_fits : (next : State) (s : Sign) → StateFits next 0 → IfSome (at_input next s) (λ n. StateFits n 0)
+at_input_fits : (next : ReadingState) (s : Sign) → StateFits next 0 → IfSome (at_input next s) (λ n. StateFits n 0)
 at_input_fits next signs.Input h = h
 at_input_fits next _ h = tt
 
@@ -402,7 +402,7 @@ over_fits f (Another k ∷ parts) signs.GroupElse h = h
 over_fits f (part ∷ parts) signs.GroupEnd h = h
 over_fits f _ _ h = tt
 
-step_fits : (state : State) (p : Place) (s : Sign) (k : ℕ) → is_nested state s ≡ false → is_long state s k ≡ false → StateFits state k → IfSome (step state p s) (λ next. StateFits next (counted state s k))
+step_fits : (state : ReadingState) (p : Place) (s : Sign) (k : ℕ) → is_nested state s ≡ false → is_long state s k ≡ false → StateFits state k → IfSome (step state p s) (λ next. StateFits next (counted state s k))
 unfolding StateFits UseFits weight
 step_fits (Outside secs ds) p s k d l h = outside_fits secs ds s
 step_fits (AfterStatic secs ds) p s k d l h = int_fits (Declaring secs ds) s tt
@@ -441,18 +441,18 @@ neither false b h = (refl, h)
 IsFine : Result File Fault → Type 0
 IsFine r = IfOk r (λ f. Fine 0 f.body)
 
-finish_fits : (state : State) (k : ℕ) → StateFits state k → IsFine (ended (finish state))
+finish_fits : (state : ReadingState) (k : ℕ) → StateFits state k → IsFine (ended (finish state))
 unfolding StateFits IsFine
 finish_fits (Over f []) k h = h
 finish_fits _ k h = tt
 
-went_fits : (o : Option State) (deep : Bool) (state : State) (s : Sign) (k : ℕ) (go : State → Result File Fault) (n : ℕ) → is_deep state s k ≡ deep → (is_deep state s k ≡ false → IfSome o (λ next. StateFits next (counted state s k))) → ((next : State) → StateFits next (counted state s k) → IsFine (go next)) → IsFine (went o deep go n)
+went_fits : (o : Option ReadingState) (deep : Bool) (state : ReadingState) (s : Sign) (k : ℕ) (go : ReadingState → Result File Fault) (n : ℕ) → is_deep state s k ≡ deep → (is_deep state s k ≡ false → IfSome o (λ next. StateFits next (counted state s k))) → ((next : ReadingState) → StateFits next (counted state s k) → IsFine (go next)) → IsFine (went o deep go n)
 unfolding IsFine
 went_fits None deep state s k go n is h rec = tt
 went_fits (Some next) true state s k go n is h rec = tt
 went_fits (Some next) false state s k go n is h rec = rec next (h is)
 
-within : (ts : List Item) (state : State) (k : ℕ) → StateFits state k → IsFine (guarded state k ts)
+within : (ts : List Item) (state : ReadingState) (k : ℕ) → StateFits state k → IsFine (guarded state k ts)
 unfolding guarded
 within [] state k h = finish_fits state k h
 within (x ∷ ts) state k h =

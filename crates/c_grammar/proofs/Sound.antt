@@ -6,13 +6,13 @@ use Rattle.fam_outer.specs.declared.faults.Place.{Place}
 use Rattle.c_grammar.specs.declared.items.Sign.{Sign}
 use Rattle.c_grammar.specs.declared.items.Item.{Item}
 use Rattle.c_grammar.specs.Grammar.{at, no_more, File, file_of, Forms, file}
-use Rattle.c_grammar.specs.Machine.{Outermost, State, Outside, AfterStatic, AfterExtern, AfterInt, AfterExternInt, Declaring, Bare, Starting, Negating, Started, Parameters, InParameters, AfterVoid, AfterParameters, Ready, Ended, Wants, Has, Named, Opens, InputOpens, InputCloses, Finishing, Returning, Returned, Closing, Over, step, finish, at_end, moved, run, start}
+use Rattle.c_grammar.specs.Machine.{Outermost, ReadingState, Outside, AfterStatic, AfterExtern, AfterInt, AfterExternInt, Declaring, Bare, Starting, Negating, Started, Parameters, InParameters, AfterVoid, AfterParameters, Ready, Ended, Wants, Has, Named, Opens, InputOpens, InputCloses, Finishing, Returning, Returned, Closing, Over, step, finish, at_end, moved, run, start}
 use Rattle.c_grammar.proofs.Standing.{Tail, Stands}
 use Rattle.c_grammar.proofs.SoundExpressions.{want_keeps, have_keeps}
 use Rattle.c_grammar.proofs.SoundStatements.{begin_keeps, on_keeps, named_keeps, opens_keeps, input_opens_keeps, input_closes_keeps, finishing_keeps}
 use Rattle.c_grammar.proofs.SoundFiles.{outside_keeps, static_keeps, extern_keeps, int_keeps, extern_int_keeps, declaring_keeps, bare_keeps, starting_keeps, negating_keeps, started_keeps, parameters_keeps, in_parameters_keeps, void_keeps, after_parameters_keeps, returning_keeps, return_end_keeps, closing_keeps, over_keeps}
 
-keeps : (state : State) (p : Place) (s : Sign) (a : List Item) → Stands state a → IfSome (step state p s) (λ next. Stands next (a ++ at p s ∷ []))
+keeps : (state : ReadingState) (p : Place) (s : Sign) (a : List Item) → Stands state a → IfSome (step state p s) (λ next. Stands next (a ++ at p s ∷ []))
 keeps (Outside secs ds) p s a r = outside_keeps secs ds p s a r
 keeps (AfterStatic secs ds) p s a r = static_keeps secs ds p s a r
 keeps (AfterExtern secs ds) p s a r = extern_keeps secs ds p s a r
@@ -41,11 +41,11 @@ keeps (Returned ds made) p s a r = return_end_keeps ds made p s a r
 keeps (Closing ds made) p s a r = closing_keeps ds made p s a r
 keeps (Over f parts) p s a r = over_keeps f parts p s a r
 
-finishes : (state : State) (a : List Item) → Stands state a → IfOk (at_end (finish state)) (λ made. Forms a made)
+finishes : (state : ReadingState) (a : List Item) → Stands state a → IfOk (at_end (finish state)) (λ made. Forms a made)
 finishes (Over f []) a r = subst (λ (y : List Item). Forms y f) (append-nil a) (r [] no_more)
 finishes _ a r = tt
 
-sound : (state : State) (ts a : List Item) → Stands state a → IfOk (run state ts) (λ made. Forms (a ++ ts) made)
+sound : (state : ReadingState) (ts a : List Item) → Stands state a → IfOk (run state ts) (λ made. Forms (a ++ ts) made)
 unfolding run
 sound state [] a r = subst (λ (y : List Item). IfOk (at_end (finish state)) (λ made. Forms y made)) (sym (append-nil a)) (finishes state a r)
 sound state (x ∷ ts) a r = elim (step state x.place x.sign) as (λ o. IfSome o (λ next. Stands next (a ++ x ∷ [])) → IfOk (moved o (λ next. run next ts) (suc (length ts))) (λ made. Forms (a ++ x ∷ ts) made)) [

@@ -9,7 +9,7 @@ use Rattle.c_grammar.specs.declared.items.Item.{Item}
 use Rattle.c_grammar.specs.Ahead.{IsLooser, Loose, IsList, NoElse}
 use Rattle.c_grammar.specs.Grammar.{at, tighter, Prefix, Positive, Negative, Inverse, prefix_sign, applied, Expresses, number, name, group, prefix, loose, binary, update_sign, count_sign, updated, Shape, Listed, Stated, Chained, Writes, File}
 use Rattle.c_grammar.specs.Grammar as plain
-use Rattle.c_grammar.specs.Machine.{Frame, Paren, Pre, Left, room, Stack, Braces, Yes, No, ThenOf, ElseOf, LoopOf, Use, ToAssign, ToUpdate, ToAssert, ToChoose, ToLoop, State, Ready, Ended, Wants, Has, Named, Opens, folded, step}
+use Rattle.c_grammar.specs.Machine.{Frame, Paren, Pre, Left, room, Stack, Braces, Yes, No, ThenOf, ElseOf, LoopOf, Use, ToAssign, ToUpdate, ToAssert, ToChoose, ToLoop, ReadingState, Ready, Ended, Wants, Has, Named, Opens, folded, step}
 use Rattle.c_grammar.specs.Deep.{depth, opens_more, around, counted, is_deep, is_nested, is_long, Fault, went, guarded}
 use Rattle.c_grammar.specs.Within.{operators_in, more_by, Full, WritesIn, none, more, choice, ends, otherwise, elif, assign, input, update, count, assert, skip, block, while, if_then, if_else}
 use Rattle.c_grammar.proofs.Complete.{Free, free_of, no_else, chain_no_else, looser, settled, folded-list}
@@ -18,14 +18,14 @@ use Rattle.c_grammar.proofs.StatesWithin.{token, opens_in, group_in, folds_in, d
 
 -- ---- an item that is read
 
-never_deep : (o : Option State) (go : State → Result File Fault) (n : ℕ) (f : File) → went o true go n ≡ Ok f → ⊥
+never_deep : (o : Option ReadingState) (go : ReadingState → Result File Fault) (n : ℕ) (f : File) → went o true go n ≡ Ok f → ⊥
 never_deep None go n f h = absurd cc
 never_deep (Some state) go n f h = absurd cc
 
-not_deep : (state : State) (n : ℕ) (x : Item) (w : List Item) (f : File) → guarded state n (x ∷ w) ≡ Ok f → is_deep state x.sign n ≡ false
+not_deep : (state : ReadingState) (n : ℕ) (x : Item) (w : List Item) (f : File) → guarded state n (x ∷ w) ≡ Ok f → is_deep state x.sign n ≡ false
 unfolding guarded
 not_deep state n x w f h =
-    let go : State → Result File Fault = λ next. guarded next (counted state x.sign n) w in
+    let go : ReadingState → Result File Fault = λ next. guarded next (counted state x.sign n) w in
     elim (is_deep state x.sign n) as (λ d. went (step state x.place x.sign) d go (suc (length w)) ≡ Ok f → d ≡ false) [
       | true ↦ λ e. absurd (never_deep (step state x.place x.sign) go (suc (length w)) f e)
       | false ↦ λ e. refl
@@ -36,14 +36,14 @@ and_right true b e h = h
 and_right false b e h = absurd cc
 
 -- one that opens more has fewer than 64 around it
-pub opens_few : (state : State) (n : ℕ) (x : Item) (w : List Item) (f : File) → opens_more x.sign ≡ true → guarded state n (x ∷ w) ≡ Ok f → suc (around state) ≤ 64
+pub opens_few : (state : ReadingState) (n : ℕ) (x : Item) (w : List Item) (f : File) → opens_more x.sign ≡ true → guarded state n (x ∷ w) ≡ Ok f → suc (around state) ≤ 64
 opens_few state n x w f o h =
     let d = (or_parts (is_nested state x.sign) (is_long state x.sign n) (not_deep state n x w f h)).0 in
     let e : nat_le 64 (around state) ≡ false = and_right (opens_more x.sign) (nat_le 64 (around state)) o d in
     leb-false 64 (around state) e
 
 -- there are at most 64 operators with it
-pub not_long : (state : State) (n m : ℕ) (x : Item) (w : List Item) (f : File) → counted state x.sign n ≡ m → guarded state n (x ∷ w) ≡ Ok f → m ≤ 64
+pub not_long : (state : ReadingState) (n m : ℕ) (x : Item) (w : List Item) (f : File) → counted state x.sign n ≡ m → guarded state n (x ∷ w) ≡ Ok f → m ≤ 64
 not_long state n m x w f c h =
     let d = (or_parts (is_nested state x.sign) (is_long state x.sign n) (not_deep state n x w f h)).1 in
     let lt = leb-false 65 (counted state x.sign n) d in

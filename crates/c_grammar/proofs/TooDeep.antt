@@ -3,7 +3,7 @@ use Rattle.std.proofs.Common.{◌≡◌, ℕ, suc, ◌≤◌, Bool, true, false,
 use Rattle.std.proofs.lemmas.Bool.{leb-false, or_parts}
 use Rattle.c_grammar.specs.declared.items.Item.{Item}
 use Rattle.c_grammar.specs.Grammar.{File}
-use Rattle.c_grammar.specs.Machine.{State, step, finish, moved, run, start}
+use Rattle.c_grammar.specs.Machine.{ReadingState, step, finish, moved, run, start}
 use Rattle.c_grammar.specs.Deep.{counted, is_deep, is_nested, is_long, Fault, Wrong, Deep, ended, went, guarded}
 use Rattle.c_grammar.specs.Laws.{ReadsWithin, StopsWrong, StopsDeep}
 use Rattle.c_grammar.specs.Within.{FormsWithin}
@@ -41,31 +41,31 @@ forms_within items f h = forms_back f (ok_forms items f (subst (λ (r : Result F
 
 -- ---- one item
 
-counted_few : (state : State) (x : Item) (n : ℕ) → is_deep state x.sign n ≡ false → counted state x.sign n ≤ 64
+counted_few : (state : ReadingState) (x : Item) (n : ℕ) → is_deep state x.sign n ≡ false → counted state x.sign n ≤ 64
 counted_few state x n h = let lt = leb-false 65 (counted state x.sign n) (or_parts (is_nested state x.sign) (is_long state x.sign n) h).1 in omega (arith, lt)
 
-moves_on : (state next : State) (n : ℕ) (x : Item) (w : List Item) → step state x.place x.sign ≡ Some next → is_deep state x.sign n ≡ false → guarded state n (x ∷ w) ≡ guarded next (counted state x.sign n) w
+moves_on : (state next : ReadingState) (n : ℕ) (x : Item) (w : List Item) → step state x.place x.sign ≡ Some next → is_deep state x.sign n ≡ false → guarded state n (x ∷ w) ≡ guarded next (counted state x.sign n) w
 unfolding guarded
 moves_on state next n x w is shallow =
-    ap (λ (o : Option State). went o (is_deep state x.sign n) (λ k. guarded k (counted state x.sign n) w) (suc (length w))) is
+    ap (λ (o : Option ReadingState). went o (is_deep state x.sign n) (λ k. guarded k (counted state x.sign n) w) (suc (length w))) is
     ∙ ap (λ (d : Bool). went (Some next) d (λ k. guarded k (counted state x.sign n) w) (suc (length w))) shallow
 
-stops_deep : (state next : State) (n : ℕ) (x : Item) (w : List Item) → step state x.place x.sign ≡ Some next → is_deep state x.sign n ≡ true → guarded state n (x ∷ w) ≡ deep (suc (length w))
+stops_deep : (state next : ReadingState) (n : ℕ) (x : Item) (w : List Item) → step state x.place x.sign ≡ Some next → is_deep state x.sign n ≡ true → guarded state n (x ∷ w) ≡ deep (suc (length w))
 unfolding guarded
 stops_deep state next n x w is at =
-    ap (λ (o : Option State). went o (is_deep state x.sign n) (λ k. guarded k (counted state x.sign n) w) (suc (length w))) is
+    ap (λ (o : Option ReadingState). went o (is_deep state x.sign n) (λ k. guarded k (counted state x.sign n) w) (suc (length w))) is
     ∙ ap (λ (d : Bool). went (Some next) d (λ k. guarded k (counted state x.sign n) w) (suc (length w))) at
 
 -- ---- the first item that is too deep
 
 -- the items so far lead to a state within the limits
-abbrev pub LeadsWithin : List Item → State → ℕ → Type 0
+abbrev pub LeadsWithin : List Item → ReadingState → ℕ → Type 0
 LeadsWithin a state n = (w : List Item) → guarded start 0 (a ++ w) ≡ guarded state n w
 
-leads_further : (a : List Item) (x : Item) (state next : State) (n : ℕ) → LeadsWithin a state n → step state x.place x.sign ≡ Some next → is_deep state x.sign n ≡ false → LeadsWithin (a ++ x ∷ []) next (counted state x.sign n)
+leads_further : (a : List Item) (x : Item) (state next : ReadingState) (n : ℕ) → LeadsWithin a state n → step state x.place x.sign ≡ Some next → is_deep state x.sign n ≡ false → LeadsWithin (a ++ x ∷ []) next (counted state x.sign n)
 leads_further a x state next n leads is shallow w = ap (guarded start 0) (append_assoc a (x ∷ []) w) ∙ leads (x ∷ w) ∙ moves_on state next n x w is shallow
 
-too_deep : (a : List Item) (x : Item) (ts : List Item) (state next : State) (n m : ℕ) → n ≤ 64 → Leads a state → LeadsWithin a state n → step state x.place x.sign ≡ Some next → is_deep state x.sign n ≡ true → deep (suc (length ts)) ≡ deep m → IsTooDeep (a ++ x ∷ ts) m
+too_deep : (a : List Item) (x : Item) (ts : List Item) (state next : ReadingState) (n m : ℕ) → n ≤ 64 → Leads a state → LeadsWithin a state n → step state x.place x.sign ≡ Some next → is_deep state x.sign n ≡ true → deep (suc (length ts)) ≡ deep m → IsTooDeep (a ++ x ∷ ts) m
 unfolding run
 too_deep a x ts state next n m few leads within is at h =
     let c = goes_on_within state n few in
@@ -81,7 +81,7 @@ too_deep a x ts state next n m few leads within is at h =
       goes_on = forms_within (a ++ c.0) c.1 (within c.0 ∙ c.2);
       some = d.0;
       other = d.1;
-      continues = ok_forms (a ++ x ∷ d.0) d.1 (leads (x ∷ d.0) ∙ ap (λ (o : Option State). moved o (λ k. run k d.0) (suc (length d.0))) is ∙ d.2);
+      continues = ok_forms (a ++ x ∷ d.0) d.1 (leads (x ∷ d.0) ∙ ap (λ (o : Option ReadingState). moved o (λ k. run k d.0) (suc (length d.0))) is ∙ d.2);
       stops = λ more f s. not_both f (suc (length more)) (guarded start 0 (a ++ x ∷ more)) (read_within (a ++ x ∷ more) f s) (within (x ∷ more) ∙ stops_deep state next n x more is at);
     }
 
@@ -89,14 +89,14 @@ no_deep_end : (o : Option File) (m : ℕ) → ended o ≡ deep m → ⊥
 no_deep_end None m h = absurd cc
 no_deep_end (Some f) m h = absurd cc
 
-no_deep_wrong : (d : Bool) (go : State → Result File Fault) (n m : ℕ) → went None d go n ≡ deep m → ⊥
+no_deep_wrong : (d : Bool) (go : ReadingState → Result File Fault) (n m : ℕ) → went None d go n ≡ deep m → ⊥
 no_deep_wrong d go n m h = absurd cc
 
-first_deep : (ts a : List Item) (state : State) (n m : ℕ) → n ≤ 64 → Leads a state → LeadsWithin a state n → guarded state n ts ≡ deep m → IsTooDeep (a ++ ts) m
+first_deep : (ts a : List Item) (state : ReadingState) (n m : ℕ) → n ≤ 64 → Leads a state → LeadsWithin a state n → guarded state n ts ≡ deep m → IsTooDeep (a ++ ts) m
 unfolding guarded
 first_deep [] a state n m few leads within h = absurd (no_deep_end (finish state) m h)
 first_deep (x ∷ ts) a state n m few leads within h =
-    let go : State → Result File Fault = λ k. guarded k (counted state x.sign n) ts in
+    let go : ReadingState → Result File Fault = λ k. guarded k (counted state x.sign n) ts in
     elim (step state x.place x.sign) as (λ o. step state x.place x.sign ≡ o → went o (is_deep state x.sign n) go (suc (length ts)) ≡ deep m → IsTooDeep (a ++ x ∷ ts) m) [
       | None ↦ λ is e. absurd (no_deep_wrong (is_deep state x.sign n) go (suc (length ts)) m e)
       | Some next ↦ λ is e. elim (is_deep state x.sign n) as (λ d. is_deep state x.sign n ≡ d → went (Some next) d go (suc (length ts)) ≡ deep m → IsTooDeep (a ++ x ∷ ts) m) [
@@ -110,24 +110,24 @@ is_too_deep items n h = first_deep items [] start 0 n (omega arith) (λ w. refl)
 
 -- ---- only there
 
-record Reached (from : State) (n : ℕ) (ts : List Item) : Type 0 where
-  pub state : State
+record Reached (from : ReadingState) (n : ℕ) (ts : List Item) : Type 0 where
+  pub state : ReadingState
   pub count : ℕ
   pub few : count ≤ 64
   pub leads : (w : List Item) → run from (ts ++ w) ≡ run state w
   pub within : (w : List Item) → guarded from n (ts ++ w) ≡ guarded state count w
 
-no_wrong_ok : (d : Bool) (go : State → Result File Fault) (n : ℕ) (f : File) → went None d go n ≡ Ok f → ⊥
+no_wrong_ok : (d : Bool) (go : ReadingState → Result File Fault) (n : ℕ) (f : File) → went None d go n ≡ Ok f → ⊥
 no_wrong_ok d go n f h = absurd cc
 
-no_deep_ok : (next : State) (go : State → Result File Fault) (n : ℕ) (f : File) → went (Some next) true go n ≡ Ok f → ⊥
+no_deep_ok : (next : ReadingState) (go : ReadingState → Result File Fault) (n : ℕ) (f : File) → went (Some next) true go n ≡ Ok f → ⊥
 no_deep_ok next go n f h = absurd cc
 
-reaches : (from : State) (n : ℕ) (ts w : List Item) (f : File) → n ≤ 64 → guarded from n (ts ++ w) ≡ Ok f → Reached from n ts
+reaches : (from : ReadingState) (n : ℕ) (ts w : List Item) (f : File) → n ≤ 64 → guarded from n (ts ++ w) ≡ Ok f → Reached from n ts
 unfolding run guarded
 reaches from n [] w f few h = record { state = from; count = n; few = few; leads = λ v. refl; within = λ v. refl }
 reaches from n (x ∷ ts) w f few h =
-    let go : State → Result File Fault = λ k. guarded k (counted from x.sign n) (ts ++ w) in
+    let go : ReadingState → Result File Fault = λ k. guarded k (counted from x.sign n) (ts ++ w) in
     elim (step from x.place x.sign) as (λ o. step from x.place x.sign ≡ o → went o (is_deep from x.sign n) go (suc (length (ts ++ w))) ≡ Ok f → Reached from n (x ∷ ts)) [
       | None ↦ λ is e. absurd (no_wrong_ok (is_deep from x.sign n) go (suc (length (ts ++ w))) f e)
       | Some next ↦ λ is e. elim (is_deep from x.sign n) as (λ d. is_deep from x.sign n ≡ d → went (Some next) d go (suc (length (ts ++ w))) ≡ Ok f → Reached from n (x ∷ ts)) [
@@ -138,13 +138,13 @@ reaches from n (x ∷ ts) w f few h =
               state = r.state;
               count = r.count;
               few = r.few;
-              leads = λ v. ap (λ (o : Option State). moved o (λ s. run s (ts ++ v)) (suc (length (ts ++ v)))) is ∙ r.leads v;
+              leads = λ v. ap (λ (o : Option ReadingState). moved o (λ s. run s (ts ++ v)) (suc (length (ts ++ v)))) is ∙ r.leads v;
               within = λ v. moves_on from next n x (ts ++ v) is at ∙ r.within v;
             }
       ] refl e
     ] refl h
 
-no_stop_ok : (go : State → Result File ℕ) (n : ℕ) (f : File) → moved None go n ≡ Ok f → ⊥
+no_stop_ok : (go : ReadingState → Result File ℕ) (n : ℕ) (f : File) → moved None go n ≡ Ok f → ⊥
 no_stop_ok go n f h = absurd cc
 
 pub deep_found : (items : List Item) (n : ℕ) → IsTooDeep items n → guarded start 0 items ≡ deep n
@@ -153,7 +153,7 @@ deep_found items n h =
     let r = reaches start 0 h.before h.tail h.made (omega arith) (read_within (h.before ++ h.tail) h.made h.goes_on) in
     let x = h.item in
     let some : run r.state (x ∷ h.some) ≡ Ok h.other = sym (r.leads (x ∷ h.some)) ∙ is_read (h.before ++ x ∷ h.some) h.other h.continues in
-    let go : State → Result File ℕ = λ k. run k h.some in
+    let go : ReadingState → Result File ℕ = λ k. run k h.some in
     elim (step r.state x.place x.sign) as (λ o. step r.state x.place x.sign ≡ o → moved o go (suc (length h.some)) ≡ Ok h.other → guarded start 0 items ≡ deep n) [
       | None ↦ λ is e. absurd (no_stop_ok go (suc (length h.some)) h.other e)
       | Some next ↦ λ is e. elim (is_deep r.state x.sign r.count) as (λ d. is_deep r.state x.sign r.count ≡ d → guarded start 0 items ≡ deep n) [

@@ -5,7 +5,7 @@ use Rattle.c_grammar.specs.declared.items.Sign.{Sign}
 use Rattle.c_grammar.specs.declared.items.Sign.TheVariants as signs
 use Rattle.c_grammar.specs.declared.items.Item.{Item}
 use Rattle.c_grammar.specs.Grammar.{File}
-use Rattle.c_grammar.specs.Machine.{Stack, Top, Braces, Yes, No, ThenOf, ElseOf, LoopOf, Sections, guards_of, Tailing, Another, Final, State, Outside, Ready, Ended, Wants, Has, Over, step, finish, folded}
+use Rattle.c_grammar.specs.Machine.{Stack, Top, Braces, Yes, No, ThenOf, ElseOf, LoopOf, Sections, guards_of, Tailing, Another, Final, ReadingState, Outside, Ready, Ended, Wants, Has, Over, step, finish, folded}
 
 -- ---- statements and groups
 
@@ -29,7 +29,7 @@ tail_depth [] = 0
 tail_depth (Another k ∷ parts) = k + tail_depth parts
 tail_depth (Final k ∷ parts) = k + tail_depth parts
 
-abbrev pub around : State → ℕ
+abbrev pub around : ReadingState → ℕ
 around (Outside secs ds) = section_depth secs
 around (Ready outer) = depth outer
 around (Ended outer c) = depth (folded outer c)
@@ -46,7 +46,7 @@ opens_more (signs.GroupElif n) = true
 opens_more _ = false
 
 -- the brace of `main` is no block
-abbrev pub is_nested : State → Sign → Bool
+abbrev pub is_nested : ReadingState → Sign → Bool
 is_nested state s = opens_more s && nat_le 64 (around state)
 
 -- ---- operators and parentheses
@@ -58,21 +58,21 @@ is_operator signs.Open = true
 is_operator _ = false
 
 -- the item belongs to an expression
-abbrev pub in_expression : State → Bool
+abbrev pub in_expression : ReadingState → Bool
 in_expression (Wants fs u) = true
 in_expression (Has fs u e) = true
 in_expression _ = false
 
 -- how many operators and opening parentheses the expression has, with this item
-abbrev pub counted : State → Sign → ℕ → ℕ
+abbrev pub counted : ReadingState → Sign → ℕ → ℕ
 counted state s count = if in_expression state then (if is_operator s then suc count else count) else 0
 
-abbrev pub is_long : State → Sign → ℕ → Bool
+abbrev pub is_long : ReadingState → Sign → ℕ → Bool
 is_long state s count = nat_le 65 (counted state s count)
 
 -- ---- the run
 
-abbrev pub is_deep : State → Sign → ℕ → Bool
+abbrev pub is_deep : ReadingState → Sign → ℕ → Bool
 is_deep state s count = is_nested state s || is_long state s count
 
 -- the item can't be taken, or too much is open at it; so many items are left from it on
@@ -84,12 +84,12 @@ abbrev pub ended : Option File → Result File Fault
 ended None = Err (Wrong 0)
 ended (Some f) = Ok f
 
-abbrev pub went : Option State → Bool → (State → Result File Fault) → ℕ → Result File Fault
+abbrev pub went : Option ReadingState → Bool → (ReadingState → Result File Fault) → ℕ → Result File Fault
 went None deep go n = Err (Wrong n)
 went (Some state) true go n = Err (Deep n)
 went (Some state) false go n = go state
 
 -- the run, with a count of the operators and parentheses of the expression so far
-unfoldable pub guarded : State → ℕ → List Item → Result File Fault
+unfoldable pub guarded : ReadingState → ℕ → List Item → Result File Fault
 guarded state count [] = ended (finish state)
 guarded state count (x ∷ ts) = went (step state x.place x.sign) (is_deep state x.sign count) (λ next. guarded next (counted state x.sign count) ts) (suc (length ts))

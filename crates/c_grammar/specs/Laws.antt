@@ -3,7 +3,7 @@ use Rattle.std.specs.Prelude.{◌≡◌, ◌↔◌, ℕ, List, [], ◌∷◌, �
 use Rattle.c_tree.specs.Tree.{Whole}
 use Rattle.c_grammar.specs.declared.items.Item.{Item}
 use Rattle.c_grammar.specs.Grammar.{File, Forms, Spells, whole_of}
-use Rattle.c_grammar.specs.Machine.{State, step, finish, run, start}
+use Rattle.c_grammar.specs.Machine.{ReadingState, step, finish, run, start}
 use Rattle.c_grammar.specs.Deep.{Deep, Wrong, guarded}
 use Rattle.c_grammar.specs.Within.{FormsWithin}
 use Rattle.c_grammar.specs.Faults.{IsWrong, IsTooDeep, NothingDeep}
@@ -18,11 +18,11 @@ abbrev pub read : List (List ℕ) → List Item → Result Whole ℕ
 read names items = program_in names items (run start items)
 
 -- the state after these items, where each of them can be taken
-abbrev pub on_with : Option State → (State → Option State) → Option State
+abbrev pub on_with : Option ReadingState → (ReadingState → Option ReadingState) → Option ReadingState
 on_with None go = None
 on_with (Some state) go = go state
 
-abbrev pub after : State → List Item → Option State
+abbrev pub after : ReadingState → List Item → Option ReadingState
 after state [] = Some state
 after state (x ∷ ts) = on_with (step state x.place x.sign) (λ next. after next ts)
 
@@ -42,7 +42,7 @@ Sound = (names : List (List ℕ)) (items : List Item) (p : Whole) → read names
 
 -- each state that the machine may come to has a text that ends the file
 abbrev pub Completes : Type 0
-Completes = (state : State) → (tail : List Item) × (made : File) × (run state tail ≡ Ok made)
+Completes = (state : ReadingState) → (tail : List Item) × (made : File) × (run state tail ≡ Ok made)
 
 -- the machine stops at the first wrong item, or at the end where no file ends there
 abbrev pub FindsWrong : Type 0
@@ -54,15 +54,15 @@ WrongIsFound = (names : List (List ℕ)) (items : List Item) (n : ℕ) → IsWro
 
 -- after items that lead to a state no file goes on with an item that the state can't take
 abbrev pub StepsDecide : Type 0
-StepsDecide = (before : List Item) (state : State) (x : Item) → after start before ≡ Some state → step state x.place x.sign ≡ None → (more : List Item) (f : File) → Forms (before ++ x ∷ more) f → ⊥
+StepsDecide = (before : List Item) (state : ReadingState) (x : Item) → after start before ≡ Some state → step state x.place x.sign ≡ None → (more : List Item) (f : File) → Forms (before ++ x ∷ more) f → ⊥
 
 -- items that lead to a state go on to some file
 abbrev pub StepsGoOn : Type 0
-StepsGoOn = (before : List Item) (state : State) → after start before ≡ Some state → (tail : List Item) × (f : File) × Forms (before ++ tail) f
+StepsGoOn = (before : List Item) (state : ReadingState) → after start before ≡ Some state → (tail : List Item) × (f : File) × Forms (before ++ tail) f
 
 -- a list of items that leads to a state is a file only where the state is final
 abbrev pub EndsDecide : Type 0
-EndsDecide = (items : List Item) (state : State) → after start items ≡ Some state → finish state ≡ None → (f : File) → Forms items f → ⊥
+EndsDecide = (items : List Item) (state : ReadingState) → after start items ≡ Some state → finish state ≡ None → (f : File) → Forms items f → ⊥
 
 -- what is read within the limits is a file within them, and each such file is read
 abbrev pub ReadsWithin : Type 0

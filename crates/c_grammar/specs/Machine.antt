@@ -3,8 +3,8 @@ use Rattle.std.specs.Prelude.{ℕ, ℤ, pos, neg_ℤ, suc, nat_lt, List, [], ◌
 use Rattle.fam_outer.specs.declared.faults.Place.{Place}
 use Rattle.c_tree.specs.declared.tree.Op.{Op}
 use Rattle.c_tree.specs.declared.tree.Op.TheVariants.{Add, Sub}
-use Rattle.c_tree.specs.declared.tree.Guard.{Guard}
-use Rattle.c_tree.specs.declared.tree.Declared.{Declared}
+use Rattle.c_tree.specs.declared.lists.Guard.{Guard}
+use Rattle.c_tree.specs.declared.lists.Declared.{Declared}
 use Rattle.c_tree.specs.Tree.{Term, Number, Var, Binary, Code, Done, Assign, Input, Assert, If, While, Block, Skip, Cond, followed}
 use Rattle.c_grammar.specs.declared.items.Sign.{Sign}
 use Rattle.c_grammar.specs.declared.items.Sign.TheVariants as signs
@@ -65,42 +65,42 @@ pub data Tailing : Type 0 where
   Another : (k : ℕ) → Tailing
   Final : (k : ℕ) → Tailing
 
-pub data State : Type 0 where
+pub data ReadingState : Type 0 where
   -- a declaration may begin, after these declarators
-  Outside : (secs : Sections) (ds : List Declared) → State
-  AfterStatic : (secs : Sections) (ds : List Declared) → State
-  AfterExtern : (secs : Sections) (ds : List Declared) → State
-  AfterInt : (secs : Sections) (ds : List Declared) → State
-  AfterExternInt : (secs : Sections) (ds : List Declared) → State
+  Outside : (secs : Sections) (ds : List Declared) → ReadingState
+  AfterStatic : (secs : Sections) (ds : List Declared) → ReadingState
+  AfterExtern : (secs : Sections) (ds : List Declared) → ReadingState
+  AfterInt : (secs : Sections) (ds : List Declared) → ReadingState
+  AfterExternInt : (secs : Sections) (ds : List Declared) → ReadingState
   -- a declarator comes
-  Declaring : (secs : Sections) (ds : List Declared) → State
-  Bare : (x : ℕ) (secs : Sections) (ds : List Declared) → State
-  Starting : (x : ℕ) (secs : Sections) (ds : List Declared) → State
-  Negating : (x : ℕ) (secs : Sections) (ds : List Declared) → State
-  Started : (x : ℕ) (n : ℤ) (secs : Sections) (ds : List Declared) → State
+  Declaring : (secs : Sections) (ds : List Declared) → ReadingState
+  Bare : (x : ℕ) (secs : Sections) (ds : List Declared) → ReadingState
+  Starting : (x : ℕ) (secs : Sections) (ds : List Declared) → ReadingState
+  Negating : (x : ℕ) (secs : Sections) (ds : List Declared) → ReadingState
+  Started : (x : ℕ) (n : ℤ) (secs : Sections) (ds : List Declared) → ReadingState
   -- parentheses after the name of a function: before them, in them, after `void`, and behind them
-  Parameters : (aim : Aim) → State
-  InParameters : (aim : Aim) → State
-  AfterVoid : (aim : Aim) → State
-  AfterParameters : (aim : Aim) → State
+  Parameters : (aim : Aim) → ReadingState
+  InParameters : (aim : Aim) → ReadingState
+  AfterVoid : (aim : Aim) → ReadingState
+  AfterParameters : (aim : Aim) → ReadingState
   -- a statement may begin
-  Ready : (outer : Stack) → State
+  Ready : (outer : Stack) → ReadingState
   -- a statement has ended; an `else` may come
-  Ended : (outer : Stack) (c : Code) → State
-  Wants : (fs : List Frame) (u : Use) → State
-  Has : (fs : List Frame) (u : Use) (e : Term) → State
-  Named : (p : Place) (x : ℕ) (outer : Stack) → State
-  Opens : (u : Use) → State
-  InputOpens : (p : Place) (x : ℕ) (outer : Stack) → State
-  InputCloses : (p : Place) (x : ℕ) (outer : Stack) → State
+  Ended : (outer : Stack) (c : Code) → ReadingState
+  Wants : (fs : List Frame) (u : Use) → ReadingState
+  Has : (fs : List Frame) (u : Use) (e : Term) → ReadingState
+  Named : (p : Place) (x : ℕ) (outer : Stack) → ReadingState
+  Opens : (u : Use) → ReadingState
+  InputOpens : (p : Place) (x : ℕ) (outer : Stack) → ReadingState
+  InputCloses : (p : Place) (x : ℕ) (outer : Stack) → ReadingState
   -- a semicolon ends the statement
-  Finishing : (outer : Stack) (c : Code) → State
+  Finishing : (outer : Stack) (c : Code) → ReadingState
   -- the end of `main`: after `return`, after its number, and before the closing brace
-  Returning : (p : Place) (ds : List Declared) (made : Code) → State
-  Returned : (ds : List Declared) (made : Code) → State
-  Closing : (ds : List Declared) (made : Code) → State
+  Returning : (p : Place) (ds : List Declared) (made : Code) → ReadingState
+  Returned : (ds : List Declared) (made : Code) → ReadingState
+  Closing : (ds : List Declared) (made : Code) → ReadingState
   -- `main` is closed; the groups that are open
-  Over : (f : File) (parts : List Tailing) → State
+  Over : (f : File) (parts : List Tailing) → ReadingState
 
 -- ---- expressions
 
@@ -116,11 +116,11 @@ prefix_of Add = Some Positive
 prefix_of Sub = Some Negative
 prefix_of _ = None
 
-abbrev pub input_of : List Frame → Use → Option State
+abbrev pub input_of : List Frame → Use → Option ReadingState
 input_of [] (ToAssign p x outer) = Some (InputOpens p x outer)
 input_of _ _ = None
 
-abbrev pub want : List Frame → Use → Sign → Option State
+abbrev pub want : List Frame → Use → Sign → Option ReadingState
 want fs u (signs.Number n) = Some (Has fs u (Number n))
 want fs u (signs.Name x) = Some (Has fs u (Var x))
 want fs u signs.Open = Some (Wants (Paren ∷ fs) u)
@@ -129,31 +129,31 @@ want fs u (signs.Oper op) = option_map (λ v. Wants (Pre v ∷ fs) u) (prefix_of
 want fs u signs.Input = input_of fs u
 want fs u _ = None
 
-abbrev pub tested : Use → Term → Option State
+abbrev pub tested : Use → Term → Option ReadingState
 tested (ToAssign p x outer) e = None
 tested (ToUpdate p x u outer) e = None
 tested (ToAssert p outer) e = Some (Finishing outer (Assert p e Done))
 tested (ToChoose p outer) e = Some (Ready (ThenOf p e outer))
 tested (ToLoop p outer) e = Some (Ready (LoopOf p e outer))
 
-abbrev pub closed_by : List Frame → Use → Term → Option State
+abbrev pub closed_by : List Frame → Use → Term → Option ReadingState
 closed_by [] u e = tested u e
 closed_by (Paren ∷ fs) u e = Some (Has fs u e)
 closed_by (Pre v ∷ fs) u e = None
 closed_by (Left op a ∷ fs) u e = None
 
-abbrev pub assigned : Use → Term → Option State
+abbrev pub assigned : Use → Term → Option ReadingState
 assigned (ToAssign p x outer) e = Some (Ended outer (Assign p x e Done))
 assigned (ToUpdate p x u outer) e = Some (Ended outer (updated p x u e))
 assigned (ToAssert p outer) e = None
 assigned (ToChoose p outer) e = None
 assigned (ToLoop p outer) e = None
 
-abbrev pub ended_by : List Frame → Use → Term → Option State
+abbrev pub ended_by : List Frame → Use → Term → Option ReadingState
 ended_by [] u e = assigned u e
 ended_by (f ∷ fs) u e = None
 
-abbrev pub have : List Frame → Use → Term → Sign → Option State
+abbrev pub have : List Frame → Use → Term → Sign → Option ReadingState
 have fs u e signs.Close = closed_by (settle 6 fs e).0 u (settle 6 fs e).1
 have fs u e (signs.Oper op) = Some (Wants (Left op (settle (suc (tighter op)) fs e).1 ∷ (settle (suc (tighter op)) fs e).0) u)
 have fs u e signs.Semicolon = ended_by (settle 6 fs e).0 u (settle 6 fs e).1
@@ -172,7 +172,7 @@ folded (ElseOf p e first outer) c = folded outer (If p e first c Done)
 folded (LoopOf p e outer) c = folded outer (While p e c Done)
 
 -- the nearest `if` that an `else` may belong to
-abbrev pub else_of : Stack → Code → Option State
+abbrev pub else_of : Stack → Code → Option ReadingState
 else_of (Top ds made) c = None
 else_of (Braces p made outer) c = None
 else_of (Yes links n made outer) c = None
@@ -186,7 +186,7 @@ abbrev pub linked : List (ℕ × Code) → Code → Code
 linked [] c = c
 linked (l ∷ links) c = linked links (Cond l.0 l.1 c Done)
 
-abbrev pub opened : ℕ → Stack → Option State
+abbrev pub opened : ℕ → Stack → Option ReadingState
 opened n (Top ds made) = Some (Ready (Yes [] n Done (Top ds made)))
 opened n (Braces p made outer) = Some (Ready (Yes [] n Done (Braces p made outer)))
 opened n (Yes links m made outer) = Some (Ready (Yes [] n Done (Yes links m made outer)))
@@ -195,29 +195,29 @@ opened n (ThenOf p e outer) = None
 opened n (ElseOf p e first outer) = None
 opened n (LoopOf p e outer) = None
 
-abbrev pub braced : Stack → Place → Option State
+abbrev pub braced : Stack → Place → Option ReadingState
 braced (Braces p made outer) q = Some (Ended outer (Block p made Done))
 braced (Top ds made) q = Some (Over (file_of ds made q) [])
 braced _ q = None
 
-abbrev pub returned : Stack → Place → Option State
+abbrev pub returned : Stack → Place → Option ReadingState
 returned (Top ds made) p = Some (Returning p ds made)
 returned _ p = None
 
-abbrev pub next_part : ℕ → Stack → Option State
+abbrev pub next_part : ℕ → Stack → Option ReadingState
 next_part m (Yes links n made outer) = Some (Ready (Yes ((n, made) ∷ links) m Done outer))
 next_part m _ = None
 
-abbrev pub last_part : Stack → Option State
+abbrev pub last_part : Stack → Option ReadingState
 last_part (Yes links n made outer) = Some (Ready (No links n made Done outer))
 last_part _ = None
 
-abbrev pub group_end : Stack → Option State
+abbrev pub group_end : Stack → Option ReadingState
 group_end (Yes links n made outer) = Some (Ended outer (linked links (Cond n made Done Done)))
 group_end (No links n first made outer) = Some (Ended outer (linked links (Cond n first made Done)))
 group_end _ = None
 
-abbrev pub begin : Stack → Place → Sign → Option State
+abbrev pub begin : Stack → Place → Sign → Option ReadingState
 begin outer p (signs.Name x) = Some (Named p x outer)
 begin outer p signs.Semicolon = Some (Ended outer (Skip p Done))
 begin outer p signs.LeftBrace = Some (Ready (Braces p Done outer))
@@ -232,11 +232,11 @@ begin outer p signs.GroupElse = last_part outer
 begin outer p signs.GroupEnd = group_end outer
 begin outer p _ = None
 
-abbrev pub on : Stack → Code → Place → Sign → Option State
+abbrev pub on : Stack → Code → Place → Sign → Option ReadingState
 on outer c p signs.Else = else_of outer c
 on outer c p s = begin (folded outer c) p s
 
-abbrev pub named : Place → ℕ → Stack → Sign → Option State
+abbrev pub named : Place → ℕ → Stack → Sign → Option ReadingState
 named p x outer signs.Equals = Some (Wants [] (ToAssign p x outer))
 named p x outer signs.PlusEquals = Some (Wants [] (ToUpdate p x Raise outer))
 named p x outer signs.MinusEquals = Some (Wants [] (ToUpdate p x Lower outer))
@@ -245,44 +245,44 @@ named p x outer signs.MinusMinus = Some (Finishing outer (updated p x Lower (Num
 named p x outer _ = None
 
 -- the state, where it is this sign
-abbrev pub at_open : State → Sign → Option State
+abbrev pub at_open : ReadingState → Sign → Option ReadingState
 at_open next signs.Open = Some next
 at_open next _ = None
 
-abbrev pub at_close : State → Sign → Option State
+abbrev pub at_close : ReadingState → Sign → Option ReadingState
 at_close next signs.Close = Some next
 at_close next _ = None
 
-abbrev pub at_semicolon : State → Sign → Option State
+abbrev pub at_semicolon : ReadingState → Sign → Option ReadingState
 at_semicolon next signs.Semicolon = Some next
 at_semicolon next _ = None
 
-abbrev pub at_int : State → Sign → Option State
+abbrev pub at_int : ReadingState → Sign → Option ReadingState
 at_int next signs.Int = Some next
 at_int next _ = None
 
-abbrev pub at_input : State → Sign → Option State
+abbrev pub at_input : ReadingState → Sign → Option ReadingState
 at_input next signs.Input = Some next
 at_input next _ = None
 
 -- ---- declarations
 
-abbrev pub next_condition : ℕ → Sections → List Declared → Option State
+abbrev pub next_condition : ℕ → Sections → List Declared → Option ReadingState
 next_condition m Outermost ds = None
 next_condition m (InPart gs n outer) ds = Some (Outside (InPart (with_false gs n) m outer) ds)
 next_condition m (InLast gs outer) ds = None
 
-abbrev pub last_section : Sections → List Declared → Option State
+abbrev pub last_section : Sections → List Declared → Option ReadingState
 last_section Outermost ds = None
 last_section (InPart gs n outer) ds = Some (Outside (InLast (with_false gs n) outer) ds)
 last_section (InLast gs outer) ds = None
 
-abbrev pub section_end : Sections → List Declared → Option State
+abbrev pub section_end : Sections → List Declared → Option ReadingState
 section_end Outermost ds = None
 section_end (InPart gs n outer) ds = Some (Outside outer ds)
 section_end (InLast gs outer) ds = Some (Outside outer ds)
 
-abbrev pub outside : Sections → List Declared → Sign → Option State
+abbrev pub outside : Sections → List Declared → Sign → Option ReadingState
 outside secs ds signs.Static = Some (AfterStatic secs ds)
 outside secs ds signs.Extern = Some (AfterExtern secs ds)
 outside secs ds signs.Int = Some (AfterInt secs ds)
@@ -292,16 +292,16 @@ outside secs ds signs.GroupElse = last_section secs ds
 outside secs ds signs.GroupEnd = section_end secs ds
 outside secs ds _ = None
 
-abbrev pub declaring : Sections → List Declared → Sign → Option State
+abbrev pub declaring : Sections → List Declared → Sign → Option ReadingState
 declaring secs ds (signs.Name x) = Some (Bare x secs ds)
 declaring secs ds _ = None
 
 -- `main` stands outside every group
-abbrev pub main_of : Sections → List Declared → Option State
+abbrev pub main_of : Sections → List Declared → Option ReadingState
 main_of Outermost ds = Some (Parameters (ToMain ds))
 main_of _ ds = None
 
-abbrev pub after_int : Sections → List Declared → Sign → Option State
+abbrev pub after_int : Sections → List Declared → Sign → Option ReadingState
 after_int secs ds (signs.Name x) = Some (Bare x secs ds)
 after_int secs ds signs.Input = Some (Parameters (ToPrototype secs ds))
 after_int secs ds signs.Main = main_of secs ds
@@ -311,45 +311,45 @@ after_int secs ds _ = None
 abbrev pub with_declared : Sections → List Declared → ℕ → ℤ → List Declared
 with_declared secs ds x n = ds ++ declared x n (guards_of secs) ∷ []
 
-abbrev pub started : ℕ → ℤ → Sections → List Declared → Sign → Option State
+abbrev pub started : ℕ → ℤ → Sections → List Declared → Sign → Option ReadingState
 started x n secs ds signs.Comma = Some (Declaring secs (with_declared secs ds x n))
 started x n secs ds signs.Semicolon = Some (Outside secs (with_declared secs ds x n))
 started x n secs ds _ = None
 
-abbrev pub is_bare : ℕ → Sections → List Declared → Sign → Option State
+abbrev pub is_bare : ℕ → Sections → List Declared → Sign → Option ReadingState
 is_bare x secs ds signs.Equals = Some (Starting x secs ds)
 is_bare x secs ds s = started x (pos 0) secs ds s
 
-abbrev pub starting : ℕ → Sections → List Declared → Sign → Option State
+abbrev pub starting : ℕ → Sections → List Declared → Sign → Option ReadingState
 starting x secs ds (signs.Number n) = Some (Started x n secs ds)
 starting x secs ds (signs.Oper Sub) = Some (Negating x secs ds)
 starting x secs ds _ = None
 
-abbrev pub negating : ℕ → Sections → List Declared → Sign → Option State
+abbrev pub negating : ℕ → Sections → List Declared → Sign → Option ReadingState
 negating x secs ds (signs.Number n) = Some (Started x (neg_ℤ n) secs ds)
 negating x secs ds _ = None
 
-abbrev pub in_parameters : Aim → Sign → Option State
+abbrev pub in_parameters : Aim → Sign → Option ReadingState
 in_parameters aim signs.Void = Some (AfterVoid aim)
 in_parameters aim signs.Close = Some (AfterParameters aim)
 in_parameters aim _ = None
 
-abbrev pub after_parameters : Aim → Sign → Option State
+abbrev pub after_parameters : Aim → Sign → Option ReadingState
 after_parameters (ToPrototype secs ds) signs.Semicolon = Some (Outside secs ds)
 after_parameters (ToMain ds) signs.LeftBrace = Some (Ready (Top ds Done))
 after_parameters _ _ = None
 
 -- ---- the end of a file
 
-abbrev pub returning : Place → List Declared → Code → Sign → Option State
+abbrev pub returning : Place → List Declared → Code → Sign → Option ReadingState
 returning p ds made (signs.Number n) = Some (Returned ds (followed made (Skip p Done)))
 returning p ds made _ = None
 
-abbrev pub closing : List Declared → Code → Place → Sign → Option State
+abbrev pub closing : List Declared → Code → Place → Sign → Option ReadingState
 closing ds made p signs.RightBrace = Some (Over (file_of ds made p) [])
 closing ds made p _ = None
 
-abbrev pub over : File → List Tailing → Sign → Option State
+abbrev pub over : File → List Tailing → Sign → Option ReadingState
 over f parts (signs.GroupIf n) = Some (Over f (Another 1 ∷ parts))
 over f (Another k ∷ parts) (signs.GroupElif n) = Some (Over f (Another (suc k) ∷ parts))
 over f (Another k ∷ parts) signs.GroupElse = Some (Over f (Final k ∷ parts))
@@ -359,7 +359,7 @@ over f _ _ = None
 -- ---- the machine
 
 -- what an item leads to, where the state can take it
-abbrev pub step : State → Place → Sign → Option State
+abbrev pub step : ReadingState → Place → Sign → Option ReadingState
 step (Outside secs ds) p s = outside secs ds s
 step (AfterStatic secs ds) p s = at_int (Declaring secs ds) s
 step (AfterExtern secs ds) p s = at_int (AfterExternInt secs ds) s
@@ -389,7 +389,7 @@ step (Closing ds made) p s = closing ds made p s
 step (Over f parts) p s = over f parts s
 
 -- the file, where it may end here
-abbrev pub finish : State → Option File
+abbrev pub finish : ReadingState → Option File
 finish (Over f []) = Some f
 finish _ = None
 
@@ -397,14 +397,14 @@ abbrev pub at_end : Option File → Result File ℕ
 at_end None = Err 0
 at_end (Some f) = Ok f
 
-abbrev pub moved : Option State → (State → Result File ℕ) → ℕ → Result File ℕ
+abbrev pub moved : Option ReadingState → (ReadingState → Result File ℕ) → ℕ → Result File ℕ
 moved None go n = Err n
 moved (Some state) go n = go state
 
 -- the file, or how many items there are from the wrong one on
-unfoldable pub run : State → List Item → Result File ℕ
+unfoldable pub run : ReadingState → List Item → Result File ℕ
 run state [] = at_end (finish state)
 run state (x ∷ ts) = moved (step state x.place x.sign) (λ next. run next ts) (suc (length ts))
 
-abbrev pub start : State
+abbrev pub start : ReadingState
 start = Outside Outermost []

@@ -9,7 +9,7 @@ use Rattle.c_grammar.specs.declared.items.Item.{Item}
 use Rattle.c_grammar.specs.Facts.{AreRising, IsBeforeItems}
 use Rattle.cpp_lines.specs.declared.line.Line.{Line}
 use Rattle.cpp_lines.specs.Lines.{AreCounted}
-use Rattle.c_parser.specs.Families.{stands_in, stands_above, group_sign, or_directive, items_of_line, by_line}
+use Rattle.c_parser.specs.FamilyItems.{stands_in, stands_above, group_sign, or_directive, items_of_line, by_line}
 
 -- what stands behind a place stands in its line or below
 lower : (m n : ℕ) → nat_lt m n ≡ true → m ≤ n

@@ -17,7 +17,7 @@ use Rattle.cpp_lines.specs.Directives.{begins_directive}
 use Rattle.cpp_lines.specs.Lines.{pieces, is_code, AreLinesFrom}
 use Rattle.cpp_lines.proofs.CodeLines.{code_piece}
 use Rattle.cpp_lines.proofs.Coding.{not_none, last_piece, next_piece}
-use Rattle.c_parser.specs.Families.{group_sign}
+use Rattle.c_parser.specs.FamilyItems.{group_sign}
 use Rattle.c_parser.proofs.LineItems.{HaveSameLength}
 use Rattle.c_parser.proofs.Occurring.{AreBlank}
 use Rattle.c_parser.proofs.TokenLines.{alone_of, alone}

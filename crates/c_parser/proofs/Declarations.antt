@@ -1,7 +1,7 @@
 -- The names that items declare before `main` are the targets of the declarators that the grammar finds.
 use Rattle.std.proofs.Common.{◌≡◌, ℕ, List, [], ◌∷◌, ◌++◌, refl, ap, sym, ◌∙◌, append_assoc, append-nil}
 use Rattle.std.specs.Prelude.{ℤ}
-use Rattle.c_tree.specs.declared.tree.Declared.{Declared}
+use Rattle.c_tree.specs.declared.lists.Declared.{Declared}
 use Rattle.c_tree.specs.Tree.{Code}
 use Rattle.fam_outer.specs.declared.faults.Place.{Place}
 use Rattle.c_grammar.specs.declared.items.Item.{Item}

@@ -11,13 +11,13 @@ use Rattle.c_tree.specs.Tree.{Whole}
 use Rattle.c_grammar.specs.declared.items.Item.{Item}
 use Rattle.c_grammar.specs.Facts.{Conditioned}
 use Rattle.c_grammar.specs.Within.{WithinIsFile}
-use Rattle.c_parser.specs.declared.families.Conditions.{Conditions}
+use Rattle.c_parser.specs.declared.family_items.Conditions.{Conditions}
 use Rattle.c_parser.specs.declared.numbering.Numbered.{Numbered}
 use Rattle.c_parser.specs.Items.{Listed}
-use Rattle.c_parser.specs.Families.{HasItems, by_line, has}
-use Rattle.c_parser.specs.FamilyReading.{IsListedFamily, families_over, setting_of}
+use Rattle.c_parser.specs.FamilyItems.{HasItems, by_line, has}
+use Rattle.c_parser.specs.FamilyReading.{IsListedFamily, families_over, context_of}
 use Rattle.c_parser.specs.FamilyStages.{AreProperConditions}
-use Rattle.c_parser.specs.Phases.{IsAccepted}
+use Rattle.c_parser.specs.Phases.{IsAcceptedFile}
 use Rattle.c_parser.specs.Reading.{items_of_code}
 use Rattle.c_parser.specs.Stages.{IsSpelledBy, list, listed_in}
 use Rattle.c_parser.proofs.FewNames.{few_names}
@@ -45,11 +45,11 @@ listed_family model bytes text code s tokens items b r e t i = record {
 abbrev pub NamesOccur : Type 0
 NamesOccur = (model : Plain) (bytes : List ℕ) (told : Told) (l : Listed) (x : ℕ) → HasItems model bytes told l → x < length l.names → has x l.items ≡ true
 
-pub sixteen_names : NamesOccur → (model : Model) (bytes : List ℕ) (known : Conditions) (p : Whole) → IsAccepted (families_over model) bytes known p → length p.names ≤ 16
+pub sixteen_names : NamesOccur → (model : Model) (bytes : List ℕ) (known : Conditions) (p : Whole) → IsAcceptedFile (families_over model) bytes known p → length p.names ≤ 16
 sixteen_names occur model bytes known p o =
     let l = o.listed in
     subst (λ (ns : List (List ℕ)). length ns ≤ 16) (sym (ap (λ (w : Whole). w.names) o.spelled.is))
-    (few_names (setting_of model known.atoms known.formulas o.listed.names) l.items (length l.names) o.names (λ x lt. occur (plain model) bytes o.are.told l x o.are.items lt))
+    (few_names (context_of model known.atoms known.formulas o.listed.names) l.items (length l.names) o.names (λ x lt. occur (plain model) bytes o.are.told l x o.are.items lt))
 
 pub conditioned : Conditioned → WithinIsFile → (features : ℕ) (p : Whole) (known : Conditions) → IsSpelledBy (AreProperConditions features) p known → IsConditioned (length known.formulas) p
 conditioned law is_file features p known h = law (length known.formulas) h.listed.names h.listed.items p h.has.numbered (is_file h.listed.names h.listed.items p h.spelled)

@@ -16,7 +16,7 @@ use Rattle.cpp_lines.specs.declared.line.LineKind.{LineKind}
 use Rattle.cpp_lines.specs.declared.line.LineKind.TheVariants as kinds
 use Rattle.cpp_lines.specs.Lines.{AreCounted}
 use Rattle.cpp_lines.specs.Sections.{IsNumberedBelow, AreNumberedBelow}
-use Rattle.c_parser.specs.Families.{stands_in, group_sign, or_directive, items_of_line, by_line}
+use Rattle.c_parser.specs.FamilyItems.{stands_in, group_sign, or_directive, items_of_line, by_line}
 
 -- ---- fit
 

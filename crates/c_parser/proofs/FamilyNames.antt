@@ -15,7 +15,7 @@ use Rattle.c_tokens.specs.declared.token.Token.{Token}
 use Rattle.c_tokens.specs.Reading.{tokens_of}
 use Rattle.c_grammar.specs.declared.items.Item.{Item}
 use Rattle.c_grammar.specs.Grammar.{at}
-use Rattle.c_parser.specs.Families.{HasItems, has, by_line}
+use Rattle.c_parser.specs.FamilyItems.{HasItems, has, by_line}
 use Rattle.c_parser.specs.Items.{Listed, names_from, items_over}
 use Rattle.c_parser.proofs.CodePieces.{OneReading, lines_blank, same_length}
 use Rattle.c_parser.proofs.Lexical.{TokenLaws}

@@ -15,10 +15,10 @@ use Rattle.c_tree.specs.View.{whole}
 use Rattle.c_grammar.specs.Within.{SpellsWithin}
 use Rattle.family_names.specs.Laws.{NamesAreJudgedOnce}
 use Rattle.family_names.specs.Names.{IsFirstNameFault}
-use Rattle.c_parser.specs.declared.families.Conditions.{Conditions}
+use Rattle.c_parser.specs.declared.family_items.Conditions.{Conditions}
 use Rattle.c_parser.specs.declared.family.Family.{Family}
-use Rattle.c_parser.specs.Families.{HasItems, HasEarlyFault, family_listed}
-use Rattle.c_parser.specs.FamilyReading.{IsFamilyOf, IsFamilyRefused, IsListedFamily, conditions_of, families_over, setting_of}
+use Rattle.c_parser.specs.FamilyItems.{HasItems, HasEarlyFault, family_listed}
+use Rattle.c_parser.specs.FamilyReading.{IsFamilyOf, IsFamilyRefused, IsListedFamily, conditions_of, families_over, context_of}
 use Rattle.c_parser.specs.Items.{Listed}
 use Rattle.c_parser.specs.Phases.{HasDeep, HasNameFault, HasWrong, wrong_code}
 use Rattle.c_parser.specs.Reading.{items_of_code}
@@ -79,11 +79,11 @@ record HaveFirstFault (model : Model) (told : Told) (l : Listed) (fault : Option
   atoms : List Atom
   conditions : List Formula
   are : AreConditionsOf (plain model) told.conditions atoms conditions
-  is : IsFirstNameFault (setting_of model atoms conditions l.names) l.items fault
+  is : IsFirstNameFault (context_of model atoms conditions l.names) l.items fault
 
 named_once : NamesAreJudgedOnce → (a b : Model) → plain a ≡ plain b → (told : Told) (l : Listed) (f g : Option (FileCode × Place)) → HaveFirstFault a told l f → HaveFirstFault b told l g → f ≡ g
 named_once judged a b e told l f g h k =
-    judged (setting_of a h.atoms h.conditions l.names) (setting_of b k.atoms k.conditions l.names) l.items f g
+    judged (context_of a h.atoms h.conditions l.names) (context_of b k.atoms k.conditions l.names) l.items f g
     (record { models = e; names = refl; truths = λ values. h.are.truths values ∙ sym (k.are.truths values) }) h.is k.is
 
 -- what items come to: behind a program the names are judged

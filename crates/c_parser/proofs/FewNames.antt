@@ -13,8 +13,8 @@ use Rattle.c_grammar.specs.declared.items.Item.{Item}
 use Rattle.c_grammar.specs.declared.items.Sign.{Sign}
 use Rattle.c_grammar.specs.declared.items.Sign.TheVariants as signs
 use Rattle.family_names.specs.Names as family
-use Rattle.family_names.specs.Names.{is_main, has_main, until_main, name_of, names_of, declared_by, is_among, with_number, each_once, Setting, IsFaultFrom, IsNameFault, IsEither, code_with, new_name_fault, IsThisOr}
-use Rattle.c_parser.specs.Families.{is_name, has}
+use Rattle.family_names.specs.Names.{is_main, has_main, until_main, name_of, names_of, declared_by, is_among, with_number, each_once, NameContext, IsFaultFrom, IsNameFault, IsEither, code_with, new_name_fault, IsThisOr}
+use Rattle.c_parser.specs.FamilyItems.{is_name, has}
 
 -- ---- declared names, one item after another
 
@@ -93,11 +93,11 @@ once_has x seen (d ∷ ds) h = elim (nat_eq x d) as (λ b. nat_eq x d ≡ b → 
 
 -- ---- what no fault says of an item
 
-used : (setting : Setting) (before : List Item) (x : ℕ) → family.IsUseFault setting before x None → is_among x (declared_by before) ≡ true
-used setting before x h = elim (family.is_feature setting x) as (λ a. IsEither a (None ≡ Some FeatureInCode)
-    (IsEither (is_among x (declared_by before)) (family.IsWithFirst setting.model (family.is_missed setting before x) Undeclared None None) (None ≡ Some (Undeclared None))) → is_among x (declared_by before) ≡ true) [
+used : (context : NameContext) (before : List Item) (x : ℕ) → family.IsUseFault context before x None → is_among x (declared_by before) ≡ true
+used context before x h = elim (family.is_feature context x) as (λ a. IsEither a (None ≡ Some FeatureInCode)
+    (IsEither (is_among x (declared_by before)) (family.IsWithFirst context.model (family.is_missed context before x) Undeclared None None) (None ≡ Some (Undeclared None))) → is_among x (declared_by before) ≡ true) [
       | true ↦ λ e. absurd cc
-      | false ↦ λ k. (elim (is_among x (declared_by before)) as (λ b. IsEither b (family.IsWithFirst setting.model (family.is_missed setting before x) Undeclared None None) (None ≡ Some (Undeclared None)) → b ≡ true) [
+      | false ↦ λ k. (elim (is_among x (declared_by before)) as (λ b. IsEither b (family.IsWithFirst context.model (family.is_missed context before x) Undeclared None None) (None ≡ Some (Undeclared None)) → b ≡ true) [
         | true ↦ λ _. refl
         | false ↦ λ e. absurd cc
       ] k)
@@ -154,25 +154,25 @@ silent_step before x e le =
     }
 
 -- a name that is used
-use_step : (setting : Setting) (before : List Item) (x : Item) (n : ℕ) → x.sign ≡ signs.Name n → has_main before ≡ true → family.IsUseFault setting before n None → length (each_once [] (declared_by before)) ≤ 16 → IsFine before x
-use_step setting before x n e m h le =
+use_step : (context : NameContext) (before : List Item) (x : Item) (n : ℕ) → x.sign ≡ signs.Name n → has_main before ≡ true → family.IsUseFault context before n None → length (each_once [] (declared_by before)) ≤ 16 → IsFine before x
+use_step context before x n e m h le =
     let same = declared_same before (x ∷ []) m in
     record {
       few = subst (λ (ns : List ℕ). length (each_once [] ns) ≤ 16) (sym same) le;
       named = λ k i. subst (λ (ns : List ℕ). is_among k ns ≡ true) (sym same)
-          (subst (λ (j : ℕ). is_among j (declared_by before) ≡ true) (sym (is_same k n (ap (is_name k) (sym e) ∙ i))) (used setting before n h));
+          (subst (λ (j : ℕ). is_among j (declared_by before) ≡ true) (sym (is_same k n (ap (is_name k) (sym e) ∙ i))) (used context before n h));
     }
 
 -- a name that is declared
-declaration_step : (setting : Setting) (before : List Item) (x : Item) (n : ℕ) → x.sign ≡ signs.Name n → has_main before ≡ false → family.IsDeclarationFault setting before n None → length (each_once [] (declared_by before)) ≤ 16
+declaration_step : (context : NameContext) (before : List Item) (x : Item) (n : ℕ) → x.sign ≡ signs.Name n → has_main before ≡ false → family.IsDeclarationFault context before n None → length (each_once [] (declared_by before)) ≤ 16
     → IsFine before x
-declaration_step setting before x n e m h le =
+declaration_step context before x n e m h le =
     let one : declared_by (x ∷ []) ≡ n ∷ [] = ap (λ (s : Sign). declared_by (record { place = x.place; sign = s } ∷ [])) e in
     let more : declared_by (before ++ x ∷ []) ≡ declared_by before ++ n ∷ [] = declared_more before (x ∷ []) m ∙ ap (λ (ns : List ℕ). declared_by before ++ ns) one in
-    let fine : new_name_fault setting (each_once [] (declared_by before)) n ≡ None =
-    no_other Twice (new_name_fault setting (each_once [] (declared_by before)) n) h.found h.fault_is in
+    let fine : new_name_fault context (each_once [] (declared_by before)) n ≡ None =
+    no_other Twice (new_name_fault context (each_once [] (declared_by before)) n) h.found h.fault_is in
     let room = room_in n (length (each_once [] (declared_by before))) (is_among n (each_once [] (declared_by before)))
-    (room_if (family.is_feature setting n) (not (is_among n (each_once [] (declared_by before))) && nat_le 16 (length (each_once [] (declared_by before)))) fine) in
+    (room_if (family.is_feature context n) (not (is_among n (each_once [] (declared_by before))) && nat_le 16 (length (each_once [] (declared_by before)))) fine) in
     record {
       few = subst (λ (ns : List ℕ). length (each_once [] ns) ≤ 16) (sym more)
           (subst (λ (ns : List ℕ). length ns ≤ 16) (sym (once_more [] (declared_by before) n)) (with_room n (each_once [] (declared_by before)) le room));
@@ -181,17 +181,17 @@ declaration_step setting before x n e m h le =
           (list_any-append (nat_eq n) (declared_by before) (n ∷ []) ∙ or_right (is_among n (declared_by before)) (nat_eq n n || false) (ap (λ b. b || false) (same_number n))));
     }
 
-name_step : (setting : Setting) (before : List Item) (x : Item) (n : ℕ) → x.sign ≡ signs.Name n → IsNameFault setting before (signs.Name n) None → length (each_once [] (declared_by before)) ≤ 16 → IsFine before x
-name_step setting before x n e h le =
-    elim (has_main before) as (λ b. has_main before ≡ b → IsEither b (family.IsUseFault setting before n None) (family.IsDeclarationFault setting before n None) → IsFine before x) [
-      | true ↦ λ m k. use_step setting before x n e m k le
-      | false ↦ λ m k. declaration_step setting before x n e m k le
+name_step : (context : NameContext) (before : List Item) (x : Item) (n : ℕ) → x.sign ≡ signs.Name n → IsNameFault context before (signs.Name n) None → length (each_once [] (declared_by before)) ≤ 16 → IsFine before x
+name_step context before x n e h le =
+    elim (has_main before) as (λ b. has_main before ≡ b → IsEither b (family.IsUseFault context before n None) (family.IsDeclarationFault context before n None) → IsFine before x) [
+      | true ↦ λ m k. use_step context before x n e m k le
+      | false ↦ λ m k. declaration_step context before x n e m k le
     ] refl h
 
-pub step : (setting : Setting) (before : List Item) (x : Item) → IsNameFault setting before x.sign None → length (each_once [] (declared_by before)) ≤ 16 → IsFine before x
-step setting before x h le = elim (names_this x.sign) [
+pub step : (context : NameContext) (before : List Item) (x : Item) → IsNameFault context before x.sign None → length (each_once [] (declared_by before)) ≤ 16 → IsFine before x
+step context before x h le = elim (names_this x.sign) [
   | inl e ↦ silent_step before x e le
-  | inr e ↦ name_step setting before x e.0 e.1 (subst (λ (s : Sign). IsNameFault setting before s None) e.1 h) le
+  | inr e ↦ name_step context before x e.0 e.1 (subst (λ (s : Sign). IsNameFault context before s None) e.1 h) le
 ]
 
 -- ---- all items
@@ -219,15 +219,15 @@ pub later_of : (code : Option FileCode) (place : Place) (later : Type 0) → IsT
 later_of None place later h = (refl, h)
 later_of (Some code) place later h = absurd cc
 
-walk : (setting : Setting) (before xs : List Item) → IsFaultFrom setting before xs None → length (each_once [] (declared_by before)) ≤ 16 → AreFine before xs
-walk setting before [] h le = record {
+walk : (context : NameContext) (before xs : List Item) → IsFaultFrom context before xs None → length (each_once [] (declared_by before)) ≤ 16 → AreFine before xs
+walk context before [] h le = record {
   few = subst (λ (ys : List Item). length (each_once [] (declared_by ys)) ≤ 16) (sym (append-nil before)) le;
   named = λ n k. absurd cc;
 }
-walk setting before (x ∷ xs) h le =
-    let l = later_of h.0 x.place (IsFaultFrom setting (before ++ x ∷ []) xs None) h.2 in
-    let f = step setting before x (subst (λ (c : Option FileCode). IsNameFault setting before x.sign c) l.0 h.1) le in
-    all_steps before x xs f (walk setting (before ++ x ∷ []) xs l.1 f.few)
+walk context before (x ∷ xs) h le =
+    let l = later_of h.0 x.place (IsFaultFrom context (before ++ x ∷ []) xs None) h.2 in
+    let f = step context before x (subst (λ (c : Option FileCode). IsNameFault context before x.sign c) l.0 h.1) le in
+    all_steps before x xs f (walk context (before ++ x ∷ []) xs l.1 f.few)
 
 -- ---- so many numbers, each among a list
 
@@ -268,7 +268,7 @@ at_least (suc n) ys h =
     omega (arith, one_less n ys there, at_least n (without n ys) (λ x lt. others_stay n x ys (below_differs x n lt) (h x (omega (arith, lt)))))
 
 -- a family of which each name occurs and none has a fault has at most 16 names
-pub few_names : (setting : Setting) (items : List Item) (count : ℕ) → family.IsFirstNameFault setting items None → ((x : ℕ) → x < count → has x items ≡ true) → count ≤ 16
-few_names setting items count h occur =
-    let f = walk setting [] items h (omega arith) in
+pub few_names : (context : NameContext) (items : List Item) (count : ℕ) → family.IsFirstNameFault context items None → ((x : ℕ) → x < count → has x items ≡ true) → count ≤ 16
+few_names context items count h occur =
+    let f = walk context [] items h (omega arith) in
     omega (arith, at_least count (each_once [] (declared_by items)) (λ x lt. once_has x [] (declared_by items) (f.named x (occur x lt))), f.few)

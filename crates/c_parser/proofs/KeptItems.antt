@@ -28,7 +28,7 @@ use Rattle.c_grammar.specs.Facts.{IsFit, AreFit}
 use Rattle.c_grammar.specs.Grammar.{is_group, has_groups}
 use Rattle.c_grammar.specs.Kept.{directive_of, kept_from}
 use Rattle.c_grammar.proofs.Keeping.{all_stay, all_go}
-use Rattle.c_parser.specs.Families.{group_sign, or_directive}
+use Rattle.c_parser.specs.FamilyItems.{group_sign, or_directive}
 use Rattle.c_parser.specs.Items.{word_sign, sign_of, names_with_word, names_with, lexeme_in, names_from, items_over}
 use Rattle.c_parser.specs.Signs.{keyword_of, sign_in, marks}
 use Rattle.c_parser.proofs.CodePieces.{OneReading, no_tokens, blank_line, turned}

@@ -21,7 +21,7 @@ use Rattle.c_grammar.specs.declared.items.Sign.TheVariants as signs
 use Rattle.c_grammar.specs.Grammar.{is_group}
 use Rattle.c_grammar.specs.Kept.{directive_of, kept_from, kept}
 use Rattle.family_names.specs.Names as family
-use Rattle.family_names.specs.Names.{Setting, truths_at, is_main, has_main, until_main, name_of, names_of, declared_by, declared_at, is_among, each_once, sections_behind, is_kept, is_missed, is_met_again, is_feature, new_name_fault, IsWithFirst, IsEither, IsNameFault, IsFaultFrom, IsUseFault, IsDeclarationFault, code_with}
+use Rattle.family_names.specs.Names.{NameContext, truths_at, is_main, has_main, until_main, name_of, names_of, declared_by, declared_at, is_among, each_once, sections_behind, is_kept, is_missed, is_met_again, is_feature, new_name_fault, IsWithFirst, IsEither, IsNameFault, IsFaultFrom, IsUseFault, IsDeclarationFault, code_with}
 use Rattle.c_parser.specs.Names as alone
 use Rattle.c_parser.proofs.FewNames.{IsFine, step, declared_same, declared_more, silent_same, silent_one, names_this, without, one_less, others_stay, once_has, later_of, is_same, neither, same_number}
 
@@ -173,12 +173,12 @@ nowhere model holds code other values w v =
     let none : Finds model holds None = subst (λ (o : Option Config). Finds model holds o) (first_none code other w.found w.fault_is) w.finds in
     none values v
 
-not_missed : (setting : Setting) (before : List Item) (n : ℕ) (values : List ℤ) → IsUseFault setting before n None → IsValid (plain setting.model) values → is_missed setting before n values ≡ false
-not_missed setting before n values h v =
-    elim (is_feature setting n) as (λ a. IsEither a (None ≡ Some FeatureInCode) (IsEither (is_among n (declared_by before)) (IsWithFirst setting.model (is_missed setting before n) Undeclared None None) (None ≡ Some (Undeclared None))) → is_missed setting before n values ≡ false) [
+not_missed : (context : NameContext) (before : List Item) (n : ℕ) (values : List ℤ) → IsUseFault context before n None → IsValid (plain context.model) values → is_missed context before n values ≡ false
+not_missed context before n values h v =
+    elim (is_feature context n) as (λ a. IsEither a (None ≡ Some FeatureInCode) (IsEither (is_among n (declared_by before)) (IsWithFirst context.model (is_missed context before n) Undeclared None None) (None ≡ Some (Undeclared None))) → is_missed context before n values ≡ false) [
       | true ↦ λ e. absurd cc
-      | false ↦ λ k. (elim (is_among n (declared_by before)) as (λ b. IsEither b (IsWithFirst setting.model (is_missed setting before n) Undeclared None None) (None ≡ Some (Undeclared None)) → is_missed setting before n values ≡ false) [
-        | true ↦ λ w. nowhere setting.model (is_missed setting before n) Undeclared None values w v
+      | false ↦ λ k. (elim (is_among n (declared_by before)) as (λ b. IsEither b (IsWithFirst context.model (is_missed context before n) Undeclared None None) (None ≡ Some (Undeclared None)) → is_missed context before n values ≡ false) [
+        | true ↦ λ w. nowhere context.model (is_missed context before n) Undeclared None values w v
         | false ↦ λ e. absurd cc
       ] k)
     ] h
@@ -188,18 +188,18 @@ not_false true e = refl
 not_false false e = absurd cc
 
 -- a name that stays is declared by what stays before it
-declared_before : (setting : Setting) (before : List Item) (n : ℕ) (values : List ℤ) → IsUseFault setting before n None → IsValid (plain setting.model) values → is_kept (truths_at setting values) before ≡ true
-    → is_among n (declared_at (truths_at setting values) before) ≡ true
-declared_before setting before n values h v k =
-    not_false (is_among n (declared_at (truths_at setting values) before))
-    (sym (ap (λ (b : Bool). b && not (is_among n (declared_at (truths_at setting values) before))) k) ∙ not_missed setting before n values h v)
+declared_before : (context : NameContext) (before : List Item) (n : ℕ) (values : List ℤ) → IsUseFault context before n None → IsValid (plain context.model) values → is_kept (truths_at context values) before ≡ true
+    → is_among n (declared_at (truths_at context values) before) ≡ true
+declared_before context before n values h v k =
+    not_false (is_among n (declared_at (truths_at context values) before))
+    (sym (ap (λ (b : Bool). b && not (is_among n (declared_at (truths_at context values) before))) k) ∙ not_missed context before n values h v)
 
 -- and a declaration that stays is the first one
-not_declared_before : (setting : Setting) (before : List Item) (n : ℕ) (values : List ℤ) → IsDeclarationFault setting before n None → IsValid (plain setting.model) values → is_kept (truths_at setting values) before ≡ true
-    → is_among n (declared_at (truths_at setting values) before) ≡ false
-not_declared_before setting before n values h v k =
-    sym (ap (λ (b : Bool). b && is_among n (declared_at (truths_at setting values) before)) k)
-    ∙ nowhere setting.model (is_met_again setting before n) Twice (new_name_fault setting (each_once [] (declared_by before)) n) values h v
+not_declared_before : (context : NameContext) (before : List Item) (n : ℕ) (values : List ℤ) → IsDeclarationFault context before n None → IsValid (plain context.model) values → is_kept (truths_at context values) before ≡ true
+    → is_among n (declared_at (truths_at context values) before) ≡ false
+not_declared_before context before n values h v k =
+    sym (ap (λ (b : Bool). b && is_among n (declared_at (truths_at context values) before)) k)
+    ∙ nowhere context.model (is_met_again context before n) Twice (new_name_fault context (each_once [] (declared_by before)) n) values h v
 
 -- ---- one item more
 
@@ -243,15 +243,15 @@ use_fine truths before n m h k =
     ∙ ap (λ (ns : List ℕ). alone.use_fault ns n) (declared_alone (kept truths before) ∙ declared_kept truths before m)
     ∙ ap (λ (b : Bool). if b then None else Some (Undeclared None)) k
 
-use_next : (setting : Setting) (values : List ℤ) (before : List Item) (x : Item) (n : ℕ) → x.sign ≡ signs.Name n → IsValid (plain setting.model) values → MainStays (truths_at setting values) [] before → has_main before ≡ true
-    → IsUseFault setting before n None → IsFine before x → AreJudged (truths_at setting values) before → IsJudgedNext (truths_at setting values) before x
-use_next setting values before x n e v m h u f j =
-    let truths = truths_at setting values in
+use_next : (context : NameContext) (values : List ℤ) (before : List Item) (x : Item) (n : ℕ) → x.sign ≡ signs.Name n → IsValid (plain context.model) values → MainStays (truths_at context values) [] before → has_main before ≡ true
+    → IsUseFault context before n None → IsFine before x → AreJudged (truths_at context values) before → IsJudgedNext (truths_at context values) before x
+use_next context values before x n e v m h u f j =
+    let truths = truths_at context values in
     let main : has_main (kept truths before) ≡ true = has_main_kept truths [] before m ∙ h in
     record {
       judged = record { different = subst AreDifferent (sym (same_declared truths before x (stays_next truths before x) (declared_same (kept truths before) (x ∷ []) main) refl)) j.different; few = f.few };
       fine = λ k. ap (alone.name_fault (kept truths before)) e
-          ∙ use_fine truths before n m h (declared_before setting before n values u v (and_right (not (is_group x.sign)) (is_kept truths before) k));
+          ∙ use_fine truths before n m h (declared_before context before n values u v (and_right (not (is_group x.sign)) (is_kept truths before) k));
     }
 
 -- what stays declares no more names than there are
@@ -278,29 +278,29 @@ record IsNew (truths : List Bool) (before : List Item) (x : Item) (n : ℕ) : Ty
   different : AreDifferent (declared_by (kept truths (before ++ x ∷ [])))
   more : length (declared_by (kept truths (before ++ x ∷ []))) ≡ length (declared_by (kept truths before)) + 1
 
-is_new : (setting : Setting) (values : List ℤ) (before : List Item) (x : Item) (n : ℕ) → x.sign ≡ signs.Name n → IsValid (plain setting.model) values → MainStays (truths_at setting values) [] before → has_main before ≡ false
-    → IsDeclarationFault setting before n None → AreDifferent (declared_by (kept (truths_at setting values) before)) → stays_next (truths_at setting values) before x ≡ true → IsNew (truths_at setting values) before x n
-is_new setting values before x n e v m h u d k =
-    let truths = truths_at setting values in
+is_new : (context : NameContext) (values : List ℤ) (before : List Item) (x : Item) (n : ℕ) → x.sign ≡ signs.Name n → IsValid (plain context.model) values → MainStays (truths_at context values) [] before → has_main before ≡ false
+    → IsDeclarationFault context before n None → AreDifferent (declared_by (kept (truths_at context values) before)) → stays_next (truths_at context values) before x ≡ true → IsNew (truths_at context values) before x n
+is_new context values before x n e v m h u d k =
+    let truths = truths_at context values in
     let main : has_main (kept truths before) ≡ false = has_main_kept truths [] before m ∙ h in
     let one : declared_by (x ∷ []) ≡ n ∷ [] = ap (λ (s : Sign). declared_by (record { place = x.place; sign = s } ∷ [])) e in
     let are : declared_by (kept truths (before ++ x ∷ [])) ≡ declared_by (kept truths before) ++ n ∷ [] =
     ap declared_by (kept_next truths before x true k) ∙ declared_more (kept truths before) (x ∷ []) main ∙ ap (λ (ns : List ℕ). declared_by (kept truths before) ++ ns) one in
     let new : is_among n (declared_by (kept truths before)) ≡ false =
-    ap (is_among n) (declared_kept truths before m) ∙ not_declared_before setting before n values u v (and_right (not (is_group x.sign)) (is_kept truths before) k) in
+    ap (is_among n) (declared_kept truths before m) ∙ not_declared_before context before n values u v (and_right (not (is_group x.sign)) (is_kept truths before) k) in
     record {
       new = new;
       different = subst AreDifferent (sym are) (different_last (declared_by (kept truths before)) n d new);
       more = ap length are ∙ length-append (declared_by (kept truths before)) (n ∷ []);
     }
 
-declaration_next : (setting : Setting) (values : List ℤ) (before : List Item) (x : Item) (n : ℕ) → x.sign ≡ signs.Name n → IsValid (plain setting.model) values → MainStays (truths_at setting values) [] before
-    → MainStays (truths_at setting values) [] (before ++ x ∷ []) → has_main before ≡ false → IsDeclarationFault setting before n None → IsFine before x → AreJudged (truths_at setting values) before
-    → IsJudgedNext (truths_at setting values) before x
-declaration_next setting values before x n e v m later h u f j =
-    let truths = truths_at setting values in
+declaration_next : (context : NameContext) (values : List ℤ) (before : List Item) (x : Item) (n : ℕ) → x.sign ≡ signs.Name n → IsValid (plain context.model) values → MainStays (truths_at context values) [] before
+    → MainStays (truths_at context values) [] (before ++ x ∷ []) → has_main before ≡ false → IsDeclarationFault context before n None → IsFine before x → AreJudged (truths_at context values) before
+    → IsJudgedNext (truths_at context values) before x
+declaration_next context values before x n e v m later h u f j =
+    let truths = truths_at context values in
     elim (stays_next truths before x) as (λ b. stays_next truths before x ≡ b → IsJudgedNext truths before x) [
-      | true ↦ λ k. (let i = is_new setting values before x n e v m h u j.different k in
+      | true ↦ λ k. (let i = is_new context values before x n e v m h u j.different k in
           record {
             judged = record { different = i.different; few = f.few };
             fine = λ _. ap (alone.name_fault (kept truths before)) e
@@ -313,16 +313,16 @@ declaration_next setting values before x n e v m later h u f j =
       }
     ] refl
 
-next : (setting : Setting) (values : List ℤ) (before : List Item) (x : Item) → IsValid (plain setting.model) values → MainStays (truths_at setting values) [] before → MainStays (truths_at setting values) [] (before ++ x ∷ [])
-    → IsNameFault setting before x.sign None → AreJudged (truths_at setting values) before → IsJudgedNext (truths_at setting values) before x
-next setting values before x v m later h j =
-    let f = step setting before x h j.few in
+next : (context : NameContext) (values : List ℤ) (before : List Item) (x : Item) → IsValid (plain context.model) values → MainStays (truths_at context values) [] before → MainStays (truths_at context values) [] (before ++ x ∷ [])
+    → IsNameFault context before x.sign None → AreJudged (truths_at context values) before → IsJudgedNext (truths_at context values) before x
+next context values before x v m later h j =
+    let f = step context before x h j.few in
     elim (names_this x.sign) [
-      | inl e ↦ silent_next (truths_at setting values) before x e f j
-      | inr e ↦ elim (has_main before) as (λ b. has_main before ≡ b → IsEither b (IsUseFault setting before e.0 None) (IsDeclarationFault setting before e.0 None) → IsJudgedNext (truths_at setting values) before x) [
-        | true ↦ λ k u. use_next setting values before x e.0 e.1 v m k u f j
-        | false ↦ λ k u. declaration_next setting values before x e.0 e.1 v m later k u f j
-      ] refl (subst (λ (s : Sign). IsNameFault setting before s None) e.1 h)
+      | inl e ↦ silent_next (truths_at context values) before x e f j
+      | inr e ↦ elim (has_main before) as (λ b. has_main before ≡ b → IsEither b (IsUseFault context before e.0 None) (IsDeclarationFault context before e.0 None) → IsJudgedNext (truths_at context values) before x) [
+        | true ↦ λ k u. use_next context values before x e.0 e.1 v m k u f j
+        | false ↦ λ k u. declaration_next context values before x e.0 e.1 v m later k u f j
+      ] refl (subst (λ (s : Sign). IsNameFault context before s None) e.1 h)
     ]
 
 -- ---- all items
@@ -330,18 +330,18 @@ next setting values before x v m later h j =
 no_fault_first : (o : Option FileCode) (place : Place) (later : Option (FileCode × Place)) → o ≡ None → later ≡ None → or_later (option_map (λ code. (code, place)) o) later ≡ None
 no_fault_first o place later e h = ap (λ (c : Option FileCode). or_later (option_map (λ code. (code, place)) c) later) e ∙ h
 
-walk : (setting : Setting) (values : List ℤ) (before xs : List Item) → IsFaultFrom setting before xs None → IsValid (plain setting.model) values → MainStays (truths_at setting values) [] (before ++ xs) → AreJudged (truths_at setting values) before
-    → alone.name_fault_from (kept (truths_at setting values) before) (kept_from (truths_at setting values) (sections_behind (truths_at setting values) [] before) xs) ≡ None
-walk setting values before [] h v m j = refl
-walk setting values before (x ∷ xs) h v m j =
-    let truths = truths_at setting values in
+walk : (context : NameContext) (values : List ℤ) (before xs : List Item) → IsFaultFrom context before xs None → IsValid (plain context.model) values → MainStays (truths_at context values) [] (before ++ xs) → AreJudged (truths_at context values) before
+    → alone.name_fault_from (kept (truths_at context values) before) (kept_from (truths_at context values) (sections_behind (truths_at context values) [] before) xs) ≡ None
+walk context values before [] h v m j = refl
+walk context values before (x ∷ xs) h v m j =
+    let truths = truths_at context values in
     let sections = sections_behind truths [] before in
     let more = kept_from truths (sections_after truths (sections_behind truths [] before) (directive_of x.sign)) xs in
-    let l = later_of h.0 x.place (IsFaultFrom setting (before ++ x ∷ []) xs None) h.2 in
+    let l = later_of h.0 x.place (IsFaultFrom context (before ++ x ∷ []) xs None) h.2 in
     let all : MainStays truths [] ((before ++ x ∷ []) ++ xs) = subst (MainStays truths []) (sym (append_assoc before (x ∷ []) xs)) m in
-    let here = next setting values before x v (stays_before truths [] before (x ∷ xs) m) (stays_before truths [] (before ++ x ∷ []) xs all) (subst (λ (c : Option FileCode). IsNameFault setting before x.sign c) l.0 h.1) j in
+    let here = next context values before x v (stays_before truths [] before (x ∷ xs) m) (stays_before truths [] (before ++ x ∷ []) xs all) (subst (λ (c : Option FileCode). IsNameFault context before x.sign c) l.0 h.1) j in
     let rest : alone.name_fault_from (kept truths (before ++ x ∷ [])) more ≡ None =
-    subst (λ (ss : List Section). alone.name_fault_from (kept truths (before ++ x ∷ [])) (kept_from truths ss xs) ≡ None) (behind_more truths [] before (x ∷ [])) (walk setting values (before ++ x ∷ []) xs l.1 v all here.judged) in
+    subst (λ (ss : List Section). alone.name_fault_from (kept truths (before ++ x ∷ [])) (kept_from truths ss xs) ≡ None) (behind_more truths [] before (x ∷ [])) (walk context values (before ++ x ∷ []) xs l.1 v all here.judged) in
     elim (stays_next truths before x) as (λ b. stays_next truths before x ≡ b → alone.name_fault_from (kept truths before) (cond b (x ∷ more) more) ≡ None) [
       | true ↦ λ k. no_fault_first (alone.name_fault (kept truths before) x.sign) x.place (alone.name_fault_from (kept truths before ++ x ∷ []) more) (here.fine k)
           (ap (λ (w : List Item). alone.name_fault_from w more) (sym (kept_next truths before x true k)) ∙ rest)
@@ -349,7 +349,7 @@ walk setting values before (x ∷ xs) h v m j =
     ] refl
 
 -- the items that stay at a valid configuration have no fault of a name
-pub kept_fine : (setting : Setting) (items : List Item) (values : List ℤ) → family.IsFirstNameFault setting items None → IsValid (plain setting.model) values → MainStays (truths_at setting values) [] items
-    → alone.first_name_fault (kept (truths_at setting values) items) ≡ None
+pub kept_fine : (context : NameContext) (items : List Item) (values : List ℤ) → family.IsFirstNameFault context items None → IsValid (plain context.model) values → MainStays (truths_at context values) [] items
+    → alone.first_name_fault (kept (truths_at context values) items) ≡ None
 unfolding alone.first_name_fault
-kept_fine setting items values h v m = walk setting values [] items h v m (record { different = tt; few = omega arith })
+kept_fine context items values h v m = walk context values [] items h v m (record { different = tt; few = omega arith })

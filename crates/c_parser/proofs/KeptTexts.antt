@@ -18,7 +18,7 @@ use Rattle.c_tokens.specs.Reading.{tokens_of}
 use Rattle.c_grammar.specs.declared.items.Item.{Item}
 use Rattle.c_grammar.specs.Facts.{AreFit}
 use Rattle.c_grammar.specs.Kept.{kept}
-use Rattle.c_parser.specs.Families.{HasItems}
+use Rattle.c_parser.specs.FamilyItems.{HasItems}
 use Rattle.c_parser.specs.Items.{Listed, listed, names_from, items_over}
 use Rattle.c_parser.specs.Reading.{code_of_blanked, code_of_file, items_of_code, items_of}
 use Rattle.c_parser.proofs.CodePieces.{OneReading}

@@ -15,7 +15,7 @@ use Rattle.c_grammar.specs.declared.items.Item.{Item}
 use Rattle.cpp_lines.specs.declared.line.Line.{Line}
 use Rattle.cpp_lines.specs.Lines.{AreCounted}
 use Rattle.cpp_lines.proofs.CodeLines.{AreLines}
-use Rattle.c_parser.specs.Families.{stands_in, group_sign, or_directive, by_line}
+use Rattle.c_parser.specs.FamilyItems.{stands_in, group_sign, or_directive, by_line}
 use Rattle.c_parser.specs.Items.{items_over}
 use Rattle.c_parser.proofs.ByLine.{none_in, lines_same}
 use Rattle.c_parser.proofs.FamilyFacts.{AreOn, AreFrom, from_on, from_both}

@@ -6,7 +6,7 @@ use Rattle.std.proofs.lemmas.List.Folds.{list_any-append}
 use Rattle.fam_outer.specs.declared.faults.Place.{Place}
 use Rattle.cpp_groups.specs.declared.section.Section.{Section}
 use Rattle.cpp_groups.specs.Kept.{all_kept, sections_after}
-use Rattle.c_tree.specs.declared.tree.Declared.{Declared}
+use Rattle.c_tree.specs.declared.lists.Declared.{Declared}
 use Rattle.c_tree.specs.Tree.{Code}
 use Rattle.c_grammar.specs.declared.items.Item.{Item}
 use Rattle.c_grammar.specs.declared.items.Sign.TheVariants as signs

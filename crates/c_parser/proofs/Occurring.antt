@@ -12,7 +12,7 @@ use Rattle.c_grammar.specs.declared.items.Sign.{Sign}
 use Rattle.c_grammar.specs.declared.items.Sign.TheVariants as signs
 use Rattle.cpp_lines.specs.declared.line.Line.{Line}
 use Rattle.c_parser.specs.Signs.{keyword_of}
-use Rattle.c_parser.specs.Families.{group_sign, or_directive, is_name, has}
+use Rattle.c_parser.specs.FamilyItems.{group_sign, or_directive, is_name, has}
 use Rattle.c_parser.specs.Items.{number_in, with_name, word_sign, names_with_word, sign_of, names_with, names_from, lexeme_in}
 use Rattle.c_parser.specs.Signing.{items_from}
 use Rattle.c_parser.proofs.Growing.{with_token}

@@ -21,7 +21,7 @@ use Rattle.c_parser.specs.Items.{Listed, listed, names_from}
 use Rattle.c_parser.specs.Names.{declared_by, first_name_fault, name_fault_from}
 use Rattle.c_parser.specs.Signing.{IsListed}
 use Rattle.c_parser.specs.Stages.{IsSpelledBy, list, listed_in}
-use Rattle.c_parser.specs.Reading.{ReadsOver, IsReadOver, DeclaresAmong, AreAmong, items_of, items_of_code, code_of_file}
+use Rattle.c_parser.specs.Reading.{IsPlainReadOver, IsReadOver, DeclaresAmong, AreAmong, items_of, items_of_code, code_of_file}
 use Rattle.c_parser.proofs.Stepwise.{all_over}
 use Rattle.c_parser.proofs.Declared.{names_from_declared, names_from_given}
 
@@ -72,7 +72,7 @@ all_declared code ts none =
     (ap declared_by (sym (all_over code [] ts)) ∙ n.all, n.at_most)
 
 -- over no given names, a program has those that its file declares
-pub names_declared : (bytes : List ℕ) (p : Whole) → (a : ReadsOver [] bytes (Ok p)) → AreAll a.listed
+pub names_declared : (bytes : List ℕ) (p : Whole) → (a : IsPlainReadOver [] bytes (Ok p)) → AreAll a.listed
 names_declared bytes p a =
     let s = stands_for [] bytes a.listed a.are in
     subst AreAll (sym s.is) (all_declared s.code s.tokens (subst (λ (m : Listed). first_name_fault m.items ≡ None) s.is a.names))
@@ -84,14 +84,14 @@ given_stay code names ts none among =
     (subst (AreAmong names) (sym (all_over code names ts)) among)
 
 -- over given names, among which are all that its file declares, a program has these
-pub names_given : (given : List (List ℕ)) (bytes : List ℕ) (p : Whole) → DeclaresAmong given bytes → (a : ReadsOver given bytes (Ok p)) → a.listed.names ≡ given
+pub names_given : (given : List (List ℕ)) (bytes : List ℕ) (p : Whole) → DeclaresAmong given bytes → (a : IsPlainReadOver given bytes (Ok p)) → a.listed.names ≡ given
 names_given given bytes p among a =
     let s = stands_for given bytes a.listed a.are in
     subst (λ (m : Listed). m.names ≡ given) (sym s.is) (given_stay s.code given s.tokens (subst (λ (m : Listed). first_name_fault m.items ≡ None) s.is a.names) (subst (λ (m : Listed). AreAmong given m.items) s.is (among a.listed a.are)))
 
 -- ---- a program with at most 16 names is well formed
 
-pub few_declared : (bytes : List ℕ) (p : Whole) → ReadsOver [] bytes (Ok p) → length p.names ≤ 16
+pub few_declared : (bytes : List ℕ) (p : Whole) → IsPlainReadOver [] bytes (Ok p) → length p.names ≤ 16
 few_declared bytes p a = subst (λ (ns : List (List ℕ)). length ns ≤ 16) (sym (ap (λ (w : Whole). w.names) a.spelled.is)) (names_declared bytes p a).1
 
 abbrev FormedIfFew : Program → Type 0

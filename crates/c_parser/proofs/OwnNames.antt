@@ -18,7 +18,7 @@ use Rattle.std.specs.Prelude.{Option, Some, None}
 use Rattle.c_parser.specs.Signs.{keyword_of}
 use Rattle.c_parser.specs.Items.{Listed, with_name, names_with_word, names_with, names_from, lexeme_in, AreNewBehind, AreDistinct}
 use Rattle.c_parser.specs.Names.{targets, names_at, each_once}
-use Rattle.c_parser.specs.Reading.{ReadsOver, IsReadOver, AreDeclaredNames}
+use Rattle.c_parser.specs.Reading.{IsPlainReadOver, IsReadOver, AreDeclaredNames}
 use Rattle.c_parser.proofs.Declarations.{declared_forms}
 use Rattle.c_parser.proofs.Overs.{names_declared, stands_for}
 
@@ -67,7 +67,7 @@ all_at front (n ∷ ns) k e =
 abbrev IsDistinct : Listed → Type 0
 IsDistinct l = AreDistinct l.names
 
-pub own_declared : WithinIsFile → (bytes : List ℕ) (p : Whole) → ReadsOver [] bytes (Ok p) → AreDeclaredNames [] bytes p.names
+pub own_declared : WithinIsFile → (bytes : List ℕ) (p : Whole) → IsPlainReadOver [] bytes (Ok p) → AreDeclaredNames [] bytes p.names
 own_declared is_file bytes p a =
     let l = a.listed in
     let s = stands_for [] bytes a.listed a.are in

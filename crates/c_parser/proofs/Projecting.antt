@@ -19,7 +19,7 @@ use Rattle.c_grammar.specs.Facts.{IsFit, AreFit}
 use Rattle.c_grammar.specs.Kept.{kept}
 use Rattle.c_grammar.specs.Within.{SpellsWithin, KeepsWithin, WithinIsFile}
 use Rattle.c_parser.specs.declared.family.Family.{Family}
-use Rattle.c_parser.specs.FamilyReading.{IsFamilyOf, setting_of}
+use Rattle.c_parser.specs.FamilyReading.{IsFamilyOf, context_of}
 use Rattle.c_parser.specs.Items.{Listed, AreDistinct}
 use Rattle.c_parser.specs.Names.{is_main, name_of, declared_by}
 use Rattle.c_parser.specs.Reading.{items_of, AreAmong}
@@ -117,7 +117,7 @@ read laws keeps are_plain is_file model bytes text f values o v q =
       listed = record { names = names_in f; items = kept (truths_in f values) l.items };
       are = t.are;
       spelled = t.spelled;
-      names = kept_fine (setting_of model f.atoms f.conditions l.names) l.items values o.names v (main_stays (truths_in f values) forms);
+      names = kept_fine (context_of model f.atoms f.conditions l.names) l.items values o.names v (main_stays (truths_in f values) forms);
     }
 
 -- ---- an accepted family is not refused by its lines

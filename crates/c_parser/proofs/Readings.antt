@@ -21,7 +21,7 @@ use Rattle.c_parser.specs.Items.{Listed}
 use Rattle.c_parser.specs.Names.{first_name_fault}
 use Rattle.cpp_lines.specs.Whole.{file_place}
 use Rattle.c_parser.specs.Phases.{HasDeep, HasNameFault, HasWrong, place_with, wrong_code}
-use Rattle.c_parser.specs.Reading.{plain_files, ReadsOver, code_of_file, items_of}
+use Rattle.c_parser.specs.Reading.{plain_files, IsPlainReadOver, code_of_file, items_of}
 
 -- the laws of the grammar that are used here
 pub record GrammarLaws : Type 0 where
@@ -113,7 +113,7 @@ refused_answer laws given l end fault (inr (inl w)) =
     ap (λ (x : Answer). and_then x (with_names (first_name_fault l.items))) (deep_spelled laws (wrong_code l.items) l end w.position w.deep) ∙ ap (λ (f : FileCode × Place). Err f) (sym w.is)
 refused_answer laws given l end fault (inr (inr w)) = named laws l end w.program (Some fault) w.spelled w.names
 
-is_answer : GrammarLaws → (given : List (List ℕ)) (bytes : List ℕ) (r : Answer) → ReadsOver given bytes r → answer given bytes ≡ r
+is_answer : GrammarLaws → (given : List (List ℕ)) (bytes : List ℕ) (r : Answer) → IsPlainReadOver given bytes r → answer given bytes ≡ r
 is_answer laws given bytes (Ok p) a =
     ap (λ (x : Result Listed (FileCode × Place)). and_then x (λ l. answer_over l (end_place bytes))) a.are ∙ named laws a.listed (end_place bytes) p None a.spelled a.names
 is_answer laws given bytes (Err fault) (inl is) = ap (λ (x : Result Listed (FileCode × Place)). and_then x (λ l. answer_over l (end_place bytes))) is
@@ -121,7 +121,7 @@ is_answer laws given bytes (Err fault) (inr h) =
     ap (λ (x : Result Listed (FileCode × Place)). and_then x (λ l. answer_over l (end_place bytes))) h.are ∙ refused_answer laws given h.listed (end_place bytes) fault h.is
 
 -- a file is read in one way
-pub reads_once : GrammarLaws → (given : List (List ℕ)) (bytes : List ℕ) (r s : Answer) → ReadsOver given bytes r → ReadsOver given bytes s → r ≡ s
+pub reads_once : GrammarLaws → (given : List (List ℕ)) (bytes : List ℕ) (r s : Answer) → IsPlainReadOver given bytes r → IsPlainReadOver given bytes s → r ≡ s
 reads_once laws given bytes r s h k = sym (is_answer laws given bytes r h) ∙ is_answer laws given bytes s k
 
 -- ---- each file is read
@@ -157,19 +157,19 @@ by_machine laws given l end (Err (limits.Deep k)) e =
       })),
     )
 
-judged_reads : (given : List (List ℕ)) (bytes : List ℕ) (l : Listed) → items_of given bytes ≡ Ok l → (r : Answer) → IsJudged given l (end_place bytes) r → ReadsOver given bytes r
+judged_reads : (given : List (List ℕ)) (bytes : List ℕ) (l : Listed) → items_of given bytes ≡ Ok l → (r : Answer) → IsJudged given l (end_place bytes) r → IsPlainReadOver given bytes r
 judged_reads given bytes l is (Ok p) j = record { listed = l; are = is; spelled = j.0; names = j.1 }
 judged_reads given bytes l is (Err fault) j = inr (record { listed = l; known = tt; are = is; is = j })
 
-by_items : GrammarLaws → (given : List (List ℕ)) (bytes : List ℕ) (x : Result Listed (FileCode × Place)) → items_of given bytes ≡ x → (r : Answer) × ReadsOver given bytes r
+by_items : GrammarLaws → (given : List (List ℕ)) (bytes : List ℕ) (x : Result Listed (FileCode × Place)) → items_of given bytes ≡ x → (r : Answer) × IsPlainReadOver given bytes r
 by_items laws given bytes (Ok l) is = let j = by_machine laws given l (end_place bytes) (guarded start 0 l.items) refl in (j.0, judged_reads given bytes l is j.0 j.1)
 by_items laws given bytes (Err fault) is = (Err fault, inl is)
 
 -- each file is read
-pub reads_any : GrammarLaws → (given : List (List ℕ)) (bytes : List ℕ) → (r : Answer) × ReadsOver given bytes r
+pub reads_any : GrammarLaws → (given : List (List ℕ)) (bytes : List ℕ) → (r : Answer) × IsPlainReadOver given bytes r
 reads_any laws given bytes = by_items laws given bytes (items_of given bytes) refl
 
 -- a file of more bytes is refused whole
-pub reads_too_long : (given : List (List ℕ)) (bytes : List ℕ) → file_bytes < length bytes → ReadsOver given bytes (Err (TooLong, file_place))
+pub reads_too_long : (given : List (List ℕ)) (bytes : List ℕ) → file_bytes < length bytes → IsPlainReadOver given bytes (Err (TooLong, file_place))
 unfolding items_of code_of_file
 reads_too_long given bytes h = inl (rw (lt-ltb file_bytes (length bytes) h) refl)

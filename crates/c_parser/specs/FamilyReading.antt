@@ -10,12 +10,12 @@ use Rattle.cpp_conditions.specs.declared.models.Model.{Model}
 use Rattle.cpp_conditions.specs.Validity.{Plain, plain}
 use Rattle.cpp_lines.specs.Sections.{Told, AreConditionsOf}
 use Rattle.c_tree.specs.View.{whole}
-use Rattle.family_names.specs.Names.{Setting, IsFirstNameFault}
-use Rattle.c_parser.specs.declared.families.Conditions.{Conditions}
+use Rattle.family_names.specs.Names.{NameContext, IsFirstNameFault}
+use Rattle.c_parser.specs.declared.family_items.Conditions.{Conditions}
 use Rattle.c_parser.specs.declared.family.Family.{Family}
-use Rattle.c_parser.specs.Families.{HasItems, HasEarlyFault}
+use Rattle.c_parser.specs.FamilyItems.{HasItems, HasEarlyFault}
 use Rattle.c_parser.specs.Items.{Listed}
-use Rattle.c_parser.specs.Phases.{FileMeaning, IsAccepted, IsRefused}
+use Rattle.c_parser.specs.Phases.{FileMeaning, IsAcceptedFile, IsRefusedFile}
 
 -- the names and items of a file with groups, and its conditions with their atoms
 pub record IsListedFamily (model : Plain) (bytes : List ℕ) (l : Listed) (known : Conditions) : Type 0 where
@@ -23,15 +23,15 @@ pub record IsListedFamily (model : Plain) (bytes : List ℕ) (l : Listed) (known
   pub items : HasItems model bytes told l
   pub conditions : AreConditionsOf model told.conditions known.atoms known.formulas
 
-abbrev pub setting_of : Model → List Atom → List Formula → List (List ℕ) → Setting
-setting_of model atoms conditions names = record { model = model; atoms = atoms; conditions = conditions; names = names }
+abbrev pub context_of : Model → List Atom → List Formula → List (List ℕ) → NameContext
+context_of model atoms conditions names = record { model = model; atoms = atoms; conditions = conditions; names = names }
 
 -- files with groups over a model; their conditions are known besides
 abbrev pub families_over : Model → FileMeaning Conditions
 families_over model = record {
   refused = HasEarlyFault (plain model);
   listed = IsListedFamily (plain model);
-  named = λ l known fault. IsFirstNameFault (setting_of model known.atoms known.formulas l.names) l.items fault;
+  named = λ l known fault. IsFirstNameFault (context_of model known.atoms known.formulas l.names) l.items fault;
 }
 
 abbrev pub conditions_of : Family → Conditions
@@ -39,11 +39,11 @@ conditions_of f = record { formulas = f.conditions; atoms = f.atoms }
 
 -- the bytes are read as this family
 abbrev pub IsFamilyOf : Model → List ℕ → Family → Type 0
-IsFamilyOf model bytes f = IsAccepted (families_over model) bytes (conditions_of f) (whole f.code)
+IsFamilyOf model bytes f = IsAcceptedFile (families_over model) bytes (conditions_of f) (whole f.code)
 
 -- the bytes have this fault: one of an earlier phase, or else of their items
 abbrev pub IsFamilyRefused : Model → List ℕ → FileCode × Place → Type 0
-IsFamilyRefused model bytes fault = IsRefused (families_over model) bytes fault
+IsFamilyRefused model bytes fault = IsRefusedFile (families_over model) bytes fault
 
 -- what a call that reads a family answers; want of memory is free
 abbrev pub IsFamilyRead : Model → List ℕ → Result Family FileRefusal → Type 0

@@ -5,7 +5,7 @@ use Rattle.linear_atoms.specs.Atoms.{AreAtoms}
 use Rattle.cpp_conditions.specs.Propositions.{IsBelow}
 use Rattle.cpp_conditions.specs.View.{formula}
 use Rattle.c_grammar.specs.Facts as facts
-use Rattle.c_parser.specs.declared.families.Conditions.{Conditions}
+use Rattle.c_parser.specs.declared.family_items.Conditions.{Conditions}
 use Rattle.c_parser.specs.Items.{Listed}
 
 -- conditions that a solver may be given, among them all those of the items

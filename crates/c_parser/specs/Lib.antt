@@ -6,7 +6,7 @@ pub mod Phases
 pub mod Reading
 pub mod Judging
 pub mod Stages
-pub mod Families
+pub mod FamilyItems
 pub mod FamilyStages
 pub mod FamilyReading
 pub mod Variants

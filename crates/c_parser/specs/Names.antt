@@ -9,7 +9,7 @@ use Rattle.c_grammar.specs.declared.items.Item.{Item}
 use Rattle.c_grammar.specs.declared.items.Sign.{Sign}
 use Rattle.c_grammar.specs.declared.items.Sign.TheVariants as signs
 use Rattle.cpp_lines.specs.Faults.{or_later}
-use Rattle.c_tree.specs.declared.tree.Declared.{Declared}
+use Rattle.c_tree.specs.declared.lists.Declared.{Declared}
 use Rattle.c_parser.specs.Items.{with_name}
 
 abbrev pub is_main : Sign → Bool

@@ -75,7 +75,7 @@ pub record HasDeep (l : Listed) (end : Place) (fault : FileCode × Place) : Type
 -- ---- all phases
 
 -- the items of the bytes spell the program within the limits, and no name has a fault
-pub record IsAccepted {K : Type 0} (kind : FileMeaning K) (bytes : List ℕ) (known : K) (p : Whole) : Type 0 where
+pub record IsAcceptedFile {K : Type 0} (kind : FileMeaning K) (bytes : List ℕ) (known : K) (p : Whole) : Type 0 where
   pub listed : Listed
   pub are : kind.listed bytes listed known
   pub spelled : SpellsWithin listed.names p listed.items
@@ -95,11 +95,11 @@ pub record HasItemFault {K : Type 0} (kind : FileMeaning K) (bytes : List ℕ) (
   pub is : HasWrong listed (end_place bytes) fault ⊎ (HasDeep listed (end_place bytes) fault ⊎ HasNameFault kind listed known fault)
 
 -- the bytes have this fault: one of a phase before the grammar, or else of their items
-abbrev pub IsRefused : {K : Type 0} → FileMeaning K → List ℕ → FileCode × Place → Type 0
-IsRefused kind bytes fault = kind.refused bytes fault ⊎ HasItemFault kind bytes fault
+abbrev pub IsRefusedFile : {K : Type 0} → FileMeaning K → List ℕ → FileCode × Place → Type 0
+IsRefusedFile kind bytes fault = kind.refused bytes fault ⊎ HasItemFault kind bytes fault
 
 -- what a call that reads a file of a kind answers; want of memory is free
 abbrev pub IsReadAs : {K : Type 0} → FileMeaning K → List ℕ → Result (Program × K) FileRefusal → Type 0
-IsReadAs kind bytes (Ok (program, known)) = IsAccepted kind bytes known (whole program)
-IsReadAs kind bytes (Err (refusals.Fault code place)) = IsRefused kind bytes (code, place)
+IsReadAs kind bytes (Ok (program, known)) = IsAcceptedFile kind bytes known (whole program)
+IsReadAs kind bytes (Err (refusals.Fault code place)) = IsRefusedFile kind bytes (code, place)
 IsReadAs kind bytes (Err refusals.NoMemory) = ⊤

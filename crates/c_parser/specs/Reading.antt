@@ -17,7 +17,7 @@ use Rattle.c_grammar.specs.declared.items.Item.{Item}
 use Rattle.c_grammar.specs.Grammar.{File, Forms}
 use Rattle.c_parser.specs.Items.{Listed, listed}
 use Rattle.c_parser.specs.Names.{declared_by, first_name_fault, targets, names_at, each_once}
-use Rattle.c_parser.specs.Phases.{FileMeaning, IsAccepted, IsRefused}
+use Rattle.c_parser.specs.Phases.{FileMeaning, IsAcceptedFile, IsRefusedFile}
 
 -- ---- the phases before the grammar: the length, the comments, the lines, and the tokens of the code
 
@@ -46,13 +46,13 @@ plain_files given = record {
 }
 
 -- what the bytes of a file are read as, where these names are given before its own
-abbrev pub ReadsOver : List (List ℕ) → List ℕ → Result Whole (FileCode × Place) → Type 0
-ReadsOver given bytes (Ok p) = IsAccepted (plain_files given) bytes tt p
-ReadsOver given bytes (Err fault) = IsRefused (plain_files given) bytes fault
+abbrev pub IsPlainReadOver : List (List ℕ) → List ℕ → Result Whole (FileCode × Place) → Type 0
+IsPlainReadOver given bytes (Ok p) = IsAcceptedFile (plain_files given) bytes tt p
+IsPlainReadOver given bytes (Err fault) = IsRefusedFile (plain_files given) bytes fault
 
 -- the same, where none is given
-abbrev pub Reads : List ℕ → Result Whole (FileCode × Place) → Type 0
-Reads bytes answer = ReadsOver [] bytes answer
+abbrev pub IsPlainRead : List ℕ → Result Whole (FileCode × Place) → Type 0
+IsPlainRead bytes answer = IsPlainReadOver [] bytes answer
 
 -- the names that the spelled file declares, each once, in the order of their first declaration, where these names are given
 pub record AreDeclaredNames (given : List (List ℕ)) (bytes : List ℕ) (names : List (List ℕ)) : Type 0 where
@@ -71,8 +71,8 @@ DeclaresAmong given bytes = (l : Listed) → items_of given bytes ≡ Ok l → A
 
 -- what a call that reads a file answers; want of memory is free
 abbrev pub IsReadOver : List (List ℕ) → List ℕ → Result Program FileRefusal → Type 0
-IsReadOver given bytes (Ok program) = ReadsOver given bytes (Ok (whole program))
-IsReadOver given bytes (Err (refusals.Fault code place)) = ReadsOver given bytes (Err (code, place))
+IsReadOver given bytes (Ok program) = IsPlainReadOver given bytes (Ok (whole program))
+IsReadOver given bytes (Err (refusals.Fault code place)) = IsPlainReadOver given bytes (Err (code, place))
 IsReadOver given bytes (Err refusals.NoMemory) = ⊤
 
 abbrev pub IsRead : List ℕ → Result Program FileRefusal → Type 0

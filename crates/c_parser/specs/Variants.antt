@@ -14,7 +14,7 @@ use Rattle.c_grammar.specs.Within.{SpellsWithin}
 use Rattle.c_parser.specs.declared.family.Family.{Family}
 use Rattle.c_parser.specs.FamilyReading.{IsFamilyOf, IsFamilyRefused}
 use Rattle.c_parser.specs.Items.{AreDistinct}
-use Rattle.c_parser.specs.Reading.{items_of, ReadsOver, DeclaresAmong}
+use Rattle.c_parser.specs.Reading.{items_of, IsPlainReadOver, DeclaresAmong}
 
 -- the program of a family where its conditions have these truths
 abbrev pub projection : Family → List Bool → Whole
@@ -47,7 +47,7 @@ VariantsAreTexts = (model : Model) (bytes text : List ℕ) (f : Family) (values 
 -- at every valid configuration it is read as the family's projection over its names
 abbrev pub VariantsAreRead : Type 0
 VariantsAreRead = (model : Model) (bytes text : List ℕ) (f : Family) (values : List ℤ) → IsFamilyOf model bytes f → IsValid (plain model) values → IsPreprocessed (plain model) (truths_at values) bytes text
-    → ReadsOver (names_in f) text (Ok (projection f (truths_in f values)))
+    → IsPlainReadOver (names_in f) text (Ok (projection f (truths_in f values)))
 
 -- an accepted family has no fault of its length, its comments or its lines
 abbrev pub FamiliesHaveTexts : Type 0

@@ -15,7 +15,7 @@ ghost use Rattle.c_tree.specs.Whole.{IsProgram};
 ghost use Rattle.c_grammar.specs.Laws.{AtMostOne};
 ghost use Rattle.c_parser.specs.FamilyReading.{IsFamilyRead};
 
-use crate::families::{Conditions, list_family};
+use crate::family_items::{Conditions, list_family};
 use crate::laws::family_names_occur;
 use crate::numbering::Numbered;
 use crate::phases::{FileKind, read_file};
@@ -26,7 +26,7 @@ use c_tree::{Names, Program};
 use cpp_conditions::Model;
 use cpp_lines::{Atoms, Formulas};
 use fam_outer::{FileCode, FileRefusal, NoMemory, Place};
-use family_names::{Setting, first_name_fault};
+use family_names::{NameContext, first_name_fault};
 use std::alloc::Global;
 
 /// A family: the program of a file with groups, the conditions of its group directives in their order, and the atoms of the
@@ -74,13 +74,13 @@ impl FileKind for FamilyFiles<'_> {
         known: &Conditions,
     ) -> Result<Option<(FileCode, Place)>, NoMemory> {
         let prepared = Prepared::new(alloc, self.model)?;
-        let setting = Setting {
+        let context = NameContext {
             model: &prepared,
             atoms: known.atoms.items(),
             conditions: known.formulas.items(),
             names: names.items(),
         };
-        first_name_fault(alloc, &setting, items)
+        first_name_fault(alloc, &context, items)
     }
 }
 

@@ -11,10 +11,10 @@ ghost use Rattle.c_grammar.specs.declared.items.Item.{Item};
 ghost use Rattle.c_grammar.specs.Grammar.{File, Forms, has_groups};
 ghost use Rattle.cpp_conditions.specs.Validity.{Plain};
 ghost use Rattle.cpp_lines.specs.Sections.{Told};
-ghost use Rattle.c_parser.specs.Families.{HasItems, has};
+ghost use Rattle.c_parser.specs.FamilyItems.{HasItems, has};
 ghost use Rattle.c_parser.specs.Names.{declared_by, targets};
 ghost use Rattle.c_parser.specs.Phases.{wrong_code};
-ghost use Rattle.c_parser.specs.Reading.{Reads, ReadsOver, items_of, AreDeclaredNames};
+ghost use Rattle.c_parser.specs.Reading.{IsPlainRead, IsPlainReadOver, items_of, AreDeclaredNames};
 
 use c_grammar::laws::{reads_within_the_limits, within_the_limits_is_a_file};
 use c_tokens::laws::{lines_are_apart, literals_are_decimal, one_reading, reads_longest_lexemes};
@@ -23,7 +23,7 @@ use fam_outer::places_rise;
 /// A file is read in one way.
 pub fn reads_at_most_once()
     ensures { (given : List (List ℕ)) (bytes : List ℕ) (r s : Result Whole (FileCode × Place))
-        → ReadsOver given bytes r → ReadsOver given bytes s → r ≡ s }
+        → IsPlainReadOver given bytes r → IsPlainReadOver given bytes s → r ≡ s }
 {
     reads_within_the_limits();
 }
@@ -31,7 +31,7 @@ pub fn reads_at_most_once()
 /// Each file is read as a program, or has a refusal.
 pub fn reads_something()
     ensures { (given : List (List ℕ)) (bytes : List ℕ)
-        → (r : Result Whole (FileCode × Place)) × ReadsOver given bytes r }
+        → (r : Result Whole (FileCode × Place)) × IsPlainReadOver given bytes r }
 {
     reads_within_the_limits();
 }
@@ -39,8 +39,8 @@ pub fn reads_something()
 /// The names of a program that is read over no given names are those that its file declares, in the order of their
 /// declarations; there are at most 16.
 pub fn names_are_declared()
-    ensures names { (bytes : List ℕ) (p : Whole) → Reads bytes (Ok p) → AreDeclaredNames [] bytes p.names }
-    ensures few { (bytes : List ℕ) (p : Whole) → Reads bytes (Ok p) → length p.names ≤ 16 }
+    ensures names { (bytes : List ℕ) (p : Whole) → IsPlainRead bytes (Ok p) → AreDeclaredNames [] bytes p.names }
+    ensures few { (bytes : List ℕ) (p : Whole) → IsPlainRead bytes (Ok p) → length p.names ≤ 16 }
 {
     within_the_limits_is_a_file();
 }

@@ -1,8 +1,8 @@
 //! The parser of the C subset: files without groups, and families.
 #![tactic(auto)]
 
-mod families;
 pub mod family;
+mod family_items;
 pub mod laws;
 mod names;
 mod numbering;

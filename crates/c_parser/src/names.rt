@@ -8,11 +8,8 @@ ghost use Rattle.c_grammar.specs.declared.items.Item as items;
 ghost use Rattle.c_parser.specs.Judging.{Declares, IsKnown, Judges};
 
 use c_grammar::{Item, Sign};
-use fam_outer::{FileCode, NoMemory, Place};
+use fam_outer::{FileCode, MOST_NAMES, NoMemory, Place};
 use std::alloc::Global;
-
-/// The greatest number of names.
-const MOST_NAMES: usize = 16;
 
 /// Whether a number is among these.
 fn contains(numbers: &[u32], number: u32) -> bool

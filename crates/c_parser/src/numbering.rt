@@ -9,7 +9,7 @@ use crate::signs::{keyword, mark};
 use c_grammar::{Item, Sign};
 use c_tokens::{Token, TokenKind};
 use c_tree::Names;
-use fam_outer::{NoMemory, Text};
+use fam_outer::{NoMemory, Text, cut};
 use indexmap::IndexSet;
 use std::alloc::Global;
 
@@ -46,16 +46,6 @@ fn sign(
             Some(sign) => Ok(sign),
             None => identifier(alloc, names, lexeme),
         },
-    }
-}
-
-/// The first token and those behind it.
-fn cut(tokens: &[Token]) -> Option<(Token, &[Token])>
-    ensures { MatchOption result (tokens.now ≡ []) (λ x. tokens.now ≡ x.0 ∷ x.1.now) }
-{
-    match tokens {
-        [] => None,
-        [token, behind @ ..] => Some((*token, behind)),
     }
 }
 

@@ -9,18 +9,8 @@ ghost use Rattle.fam_outer.specs.Refusals.{Gives};
 use crate::lexemes::front;
 use crate::token::{Token, Tokens};
 use c_words::is_space;
-use fam_outer::{FILE_BYTES, FileRefusal, Place, place_after};
+use fam_outer::{FILE_BYTES, FileRefusal, Place, cut, place_after};
 use std::alloc::Global;
-
-/// The first byte and those behind it.
-fn cut(bytes: &[u8]) -> Option<(u8, &[u8])>
-    ensures { MatchOption result (bytes.now ≡ []) (λ x. bytes.now ≡ x.0 ∷ x.1.now) }
-{
-    match bytes {
-        [] => None,
-        [b, behind @ ..] => Some((*b, behind)),
-    }
-}
 
 /// The tokens of a text, or its first fault.
 ///

@@ -4,7 +4,7 @@ use Rattle.std.specs.Prelude.{ℤ, unwrap_or}
 use Rattle.std.specs.List.{All}
 use Rattle.std.proofs.lemmas.List.{take_more}
 use Rattle.std.proofs.lemmas.List.Elements.{All-head, All-tail, All-cons}
-use Rattle.c_tree.specs.declared.tree.Declared.{Declared}
+use Rattle.c_tree.specs.declared.lists.Declared.{Declared}
 use Rattle.c_tree.specs.Value.{IsInt}
 use Rattle.c_tree.specs.Whole.{IsDeclaredOf}
 use Rattle.c_tree.specs.Project.{guards_hold, last_value, start_from, projected_start}

@@ -1,8 +1,8 @@
 -- The program of one choice of truths: preprocessing of a tree that was read with its groups (ISO/IEC 9899:2011, 6.10.1).
 use Rattle.std.specs.Prelude.{ℕ, ℤ, ◌<◌, ◌+◌, ◌==◌, ◌&&◌, Bool, false, not, if◌then◌else◌, Option, Some, None, unwrap_or, List, [], ◌∷◌, slice_index_or}
 use Rattle.std.specs.List.{All, list_all}
-use Rattle.c_tree.specs.declared.tree.Declared.{Declared}
-use Rattle.c_tree.specs.declared.tree.Guard.{Guard}
+use Rattle.c_tree.specs.declared.lists.Declared.{Declared}
+use Rattle.c_tree.specs.declared.lists.Guard.{Guard}
 use Rattle.c_tree.specs.Tree.{Code, Done, Assign, Input, Assert, If, While, Block, Skip, Cond, followed, Whole}
 
 -- each choice is replaced by the statements of one side

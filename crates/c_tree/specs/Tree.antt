@@ -1,6 +1,6 @@
 -- Programs as plain trees: what contracts see of expressions, statements and programs, without boxes and capacities.
 use Rattle.std.specs.Prelude.{ℕ, ℤ, List}
-use Rattle.c_tree.specs.declared.tree.Declared.{Declared}
+use Rattle.c_tree.specs.declared.lists.Declared.{Declared}
 use Rattle.c_tree.specs.declared.tree.Op.{Op}
 use Rattle.fam_outer.specs.declared.faults.Place.{Place}
 

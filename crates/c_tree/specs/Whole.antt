@@ -4,7 +4,7 @@ use Rattle.std.specs.List.{All}
 use Rattle.fam_outer.specs.declared.faults.Place.{Place}
 use Rattle.c_tree.specs.Tree.{Term, Number, Var, Neg, Not, Binary, Code, Done, Assign, Input, Assert, If, While, Block, Skip, Cond, Whole}
 use Rattle.c_tree.specs.Value.{IsInt}
-use Rattle.c_tree.specs.declared.tree.Declared.{Declared}
+use Rattle.c_tree.specs.declared.lists.Declared.{Declared}
 use Rattle.c_tree.specs.Fit.{IsCodeOf, IsPlain}
 use Rattle.c_tree.specs.Places.{program_places}
 

@@ -15,9 +15,9 @@ pub mod tree;
 
 pub use all_places::places;
 pub use copies::{copy_expr, copy_list, copy_stmt};
-pub use lists::{Declarations, Guards, Names};
+pub use lists::{Declarations, Declared, Guard, Guards, Names};
 pub use projection::{project, start_values};
-pub use tree::{Declared, Expr, Guard, Kind, Mode, Op, Program, Stmt};
+pub use tree::{Expr, Kind, Mode, Op, Program, Stmt};
 
 #[cfg(test)]
 mod tests;

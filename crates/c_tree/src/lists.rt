@@ -3,7 +3,6 @@
 
 ghost use Rattle.std.specs.Prelude.{◌≡◌, IfOk};
 
-use crate::tree::{Declared, Guard};
 use fam_outer::{NoMemory, Text};
 use std::alloc::Global;
 use std::marker::Model;
@@ -49,6 +48,14 @@ impl Names {
     }
 }
 
+/// What a group asks of the truths of the conditions: that the truth of this number is
+/// `positive`.
+#[derive(Clone, Copy, Debug, PartialEq, Eq)]
+pub struct Guard {
+    pub number: u32,
+    pub positive: bool,
+}
+
 /// The guards of a declarator, those of an outer group before those of an inner one.
 #[derive(Debug, Drop)]
 pub struct Guards {
@@ -57,7 +64,7 @@ pub struct Guards {
 
 impl Model for Guards {
     ghost use Rattle.std.specs.Prelude.{List};
-    ghost use Rattle.c_tree.specs.declared.tree.Guard.{Guard};
+    ghost use Rattle.c_tree.specs.declared.lists.Guard.{Guard};
 
     ghost Value = { List Guard };
 
@@ -88,6 +95,15 @@ impl Guards {
     }
 }
 
+/// A declarator in the code of a family: the variable, its start value, and the guards of the
+/// groups around it.
+#[derive(Debug, Drop)]
+pub struct Declared {
+    pub target: u32,
+    pub value: i64,
+    pub guards: Guards,
+}
+
 /// The declarators of a family, in the order of its text.
 #[derive(Debug, Drop)]
 pub struct Declarations {
@@ -96,7 +112,7 @@ pub struct Declarations {
 
 impl Model for Declarations {
     ghost use Rattle.std.specs.Prelude.{List};
-    ghost use Rattle.c_tree.specs.declared.tree.Declared.{Declared};
+    ghost use Rattle.c_tree.specs.declared.lists.Declared.{Declared};
 
     ghost Value = { List Declared };
 

@@ -8,8 +8,8 @@ ghost use Rattle.c_tree.specs.Whole.{IsProgram, IsPlainProgram};
 ghost use Rattle.c_tree.specs.Project.{projected, projected_start, projected_program, guard_holds, guards_hold, IsConditioned};
 
 use crate::copies::{copy_expr, copy_stmt};
-use crate::lists::{Declarations, Guards};
-use crate::tree::{Declared, Guard, Program, Stmt};
+use crate::lists::{Declarations, Declared, Guard, Guards};
+use crate::tree::{Program, Stmt};
 use fam_outer::{NoMemory, Values};
 use std::alloc::Global;
 

@@ -1,7 +1,7 @@
 //! Expressions, statements and programs.
 #![tactic(auto)]
 
-use crate::lists::{Declarations, Guards, Names};
+use crate::lists::{Declarations, Names};
 use fam_outer::{Place, Values};
 
 /// A binary operator.
@@ -73,23 +73,6 @@ pub enum Stmt {
         yes: Vec<Stmt>,
         no: Vec<Stmt>,
     },
-}
-
-/// What a group asks of the truths of the conditions: that the truth of this number is
-/// `positive`.
-#[derive(Clone, Copy, Debug, PartialEq, Eq)]
-pub struct Guard {
-    pub number: u32,
-    pub positive: bool,
-}
-
-/// A declarator in the code of a family: the variable, its start value, and the guards of the
-/// groups around it.
-#[derive(Debug, Drop)]
-pub struct Declared {
-    pub target: u32,
-    pub value: i64,
-    pub guards: Guards,
 }
 
 /// A program. `start` has one start value for each name, and `end` is the place of the closing

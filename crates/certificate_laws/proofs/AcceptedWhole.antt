@@ -24,7 +24,8 @@ use Rattle.alarm_report.specs.Alarms.{StopTree}
 use Rattle.alarm_report.specs.Invariants.{LeafTree}
 use Rattle.certificate_reader.specs.declared.certificates.Certificate.{Certificate}
 use Rattle.certificate_reader.specs.declared.certificates.CertificateFault.{CertificateFault}
-use Rattle.certificate_reader.specs.Certificates.{Answers, most_bytes}
+use Rattle.fam_outer.specs.Limits.{certificate_bytes}
+use Rattle.certificate_reader.specs.Certificates.{IsCertificateRead}
 use Rattle.certificate_reader.specs.Lines.{IsPlace}
 use Rattle.certificate_reader.specs.Regions.{literal_of}
 use Rattle.certificate_text.specs.Loops.{trees_at}
@@ -63,7 +64,7 @@ joined P Q R f (x ∷ xs) h k = (f x h.0 k.0, joined P Q R f xs h.1 k.1)
 -- ---- the whole way
 
 module _ (transfer : (m : Mode) → TransferAnswers intervals m) (o : Options) (model : Model) (p : Whole) (conditions : List Formula) (atoms : List Atom) (bytes : List ℕ)
-    (program : IsProgram p) (at : All IsPlace (program_places p)) (names : AreNames model atoms p.names) (h : IsWrittenOf o model p conditions atoms bytes) (short : length bytes ≤ most_bytes) where
+    (program : IsProgram p) (at : All IsPlace (program_places p)) (names : AreNames model atoms p.names) (h : IsWrittenOf o model p conditions atoms bytes) (short : length bytes ≤ certificate_bytes) where
   abbrev IsLeafTree : LeafTree → Type 0
   IsLeafTree t = IsTreeOf (length atoms) (λ v. leaf_at intervals o p conditions h.leaves_are.plausible t.place v) t.tree
 
@@ -104,6 +105,6 @@ module _ (transfer : (m : Mode) → TransferAnswers intervals m) (o : Options) (
   accepted (Err NoMemory) k = tt
   accepted (Err (Fault fault)) k = k
 
-  pub read_and_accepted : (result : Result Certificate (Refusal CertificateFault)) → Answers (literal_of model.features atoms) p.names bytes result → IsReadAndAccepted model p conditions atoms result
+  pub read_and_accepted : (result : Result Certificate (Refusal CertificateFault)) → IsCertificateRead (literal_of model.features atoms) p.names bytes result → IsReadAndAccepted model p conditions atoms result
   read_and_accepted result answered =
       accepted result (intervals_are_read_back model atoms p.names o.mode h.invariants h.alarms bytes result names of_trees h.text short answered)

@@ -27,7 +27,8 @@ use Rattle.certificate_reader.specs.declared.certificates.CertificateFault.{Cert
 use Rattle.certificate_reader.specs.declared.certificates.Entry.{Entry}
 use Rattle.certificate_reader.specs.declared.certificates.Entry.TheVariants as entry
 use Rattle.certificate_reader.specs.Bounds.{bounds_text}
-use Rattle.certificate_reader.specs.Certificates.{AreRead, HasFault, IsEntry, AreEntries, loops_of, alarms_of, most_bytes, header, Answers}
+use Rattle.fam_outer.specs.Limits.{certificate_bytes}
+use Rattle.certificate_reader.specs.Certificates.{AreRead, HasFault, IsEntry, AreEntries, loops_of, alarms_of, header, IsCertificateRead}
 use Rattle.certificate_reader.specs.Lines.{Saying, Loop, Alarm, region_of, Says, IsLoopText, IsAlarmLine}
 use Rattle.certificate_reader.specs.Regions.{literal_of, IsMeant, IsStrange}
 use Rattle.certificate_reader.proofs.Shapes.{one_loop, not_both}
@@ -176,7 +177,7 @@ module _ (M : LeafMeaning) (laws : LeafLaws M) (tells : TellsNoForm M) (model : 
       ap (λ t. header mode ++ t) (ap₂ (λ a b. a ++ b) (loops_text is) (alarms_text alarms) ∙ sym (flat_map-append (λ line. line ++ codes "\n") (map loop_body is) (map alarm_body alarms)))
 
   pub read_back : (mode : Mode) (is : List Invariant) (alarms : List FamilyAlarm) (bytes : List ℕ) (result : Result Certificate (Refusal CertificateFault)) → AllByRecursion (IsLoopWritten M atoms names) is
-      → AllByRecursion (IsAlarmWritten atoms) alarms → bytes ≡ certificate_text M model.features names mode is alarms → length bytes ≤ most_bytes → Answers of names bytes result → AnswersBack M model atoms names mode is alarms result
+      → AllByRecursion (IsAlarmWritten atoms) alarms → bytes ≡ certificate_text M model.features names mode is alarms → length bytes ≤ certificate_bytes → IsCertificateRead of names bytes result → AnswersBack M model atoms names mode is alarms result
   read_back mode is alarms bytes (Ok c) h k e short a =
       let text = e ∙ text_is mode is alarms in
       let r = subst (λ t. AreRead of names t c.mode a.lines a.entries []) text a.read in
@@ -190,4 +191,4 @@ module _ (M : LeafMeaning) (laws : LeafLaws M) (tells : TellsNoForm M) (model : 
   read_back mode is alarms bytes (Err NoMemory) h k e short a = tt
   read_back mode is alarms bytes (Err (Fault fault)) h k e short a =
       let text = e ∙ text_is mode is alarms in
-      no_fault of names mode (bodies is alarms) fault (all_known is alarms h k) (subst (λ t. length t ≤ most_bytes) text short) (subst (λ t. HasFault of names t fault) text a)
+      no_fault of names mode (bodies is alarms) fault (all_known is alarms h k) (subst (λ t. length t ≤ certificate_bytes) text short) (subst (λ t. HasFault of names t fault) text a)

@@ -9,7 +9,8 @@ use Rattle.certificate_reader.specs.declared.literals.Numbered.{Numbered}
 use Rattle.certificate_reader.specs.declared.certificates.CertificateFault.{CertificateFault}
 use Rattle.certificate_reader.specs.declared.certificates.CertificateFault.TheVariants.{TooLong, Header, Line, Test}
 use Rattle.certificate_reader.specs.declared.certificates.Entry.{Entry}
-use Rattle.certificate_reader.specs.Certificates.{AreEntries, most_bytes, header, AreRead, IsLeft, HasNoForm, HasNoFormula, HasFault}
+use Rattle.fam_outer.specs.Limits.{certificate_bytes}
+use Rattle.certificate_reader.specs.Certificates.{AreEntries, header, AreRead, IsLeft, HasNoForm, HasNoFormula, HasFault}
 use Rattle.certificate_reader.specs.Cuts.{IsCut, Begins}
 use Rattle.certificate_reader.specs.Lines.{Saying, region_of, Says}
 use Rattle.certificate_reader.specs.Regions.{IsStrange}
@@ -128,7 +129,7 @@ module _ (of : List ℕ → Option Numbered) (names : List (List ℕ)) (mode : M
       h.0.spelled f.2 (subst (λ u. Says names u f.2) same.0 f.4) f.5
 
   -- a text of known lines that is not too long has no fault
-  pub no_fault : (known : List (List ℕ)) (fault : CertificateFault) → AreKnown known → length (whole_text known) ≤ most_bytes → ¬ (HasFault of names (whole_text known) fault)
+  pub no_fault : (known : List (List ℕ)) (fault : CertificateFault) → AreKnown known → length (whole_text known) ≤ certificate_bytes → ¬ (HasFault of names (whole_text known) fault)
   no_fault known TooLong h short f = omega (arith, short, f)
   no_fault known Header h short f = f.1 mode (lines_text known) refl
   no_fault known (Line n) h short f =

@@ -11,7 +11,7 @@ use Rattle.leaf_domain.specs.Leaves.{LeafValue, LeafMeaning, LeafLaws, is_nothin
 use Rattle.leaf_domain.specs.Ranges.{arithmetic_range}
 use Rattle.alarm_report.specs.Texts.{joined}
 use Rattle.alarm_report.specs.LeafTexts.{within_text, variable_items, new_range, item_of, pair_form, pair_items, items_with, all_pairs, items_text, leaf_text}
-use Rattle.certificate_reader.specs.Bounds.{items, bounds_text, IsIntRange, AreBounds}
+use Rattle.certificate_reader.specs.Bounds.{items, bounds_text, IsIntRange, AreIntBounds}
 use Rattle.certificate_reader.specs.Forms.{further}
 use Rattle.certificate_reader.proofs.Ranging.{one_item, bounds_cons, further_cons}
 use Rattle.certificate_laws.specs.ReadBack.{bounds_from, IsBoundsOf}
@@ -66,7 +66,7 @@ module _ (M : LeafMeaning) (none : TellsNoForm M) (v : LeafValue) where
 pub record IsToldBy (M : LeafMeaning) (names : List (List ℕ)) (v : LeafValue) : Type 0 where
   pub bounds : Option (List Range)
   pub text : leaf_text M names v ≡ bounds_text names bounds
-  pub fit : AreBounds names bounds
+  pub fit : AreIntBounds names bounds
   pub are : IsBoundsOf M names v bounds
 
 taken : (n : ℕ) (names : List (List ℕ)) → n ≡ length names → take n names ≡ names
@@ -105,14 +105,14 @@ spaced : (xs ys : List ℕ) → has_space (xs ++ 32 ∷ ys) ≡ true
 spaced [] ys = refl
 spaced (x ∷ xs) ys = ap (λ b. nat_eq 32 x || b) (spaced xs ys) ∙ or_true (nat_eq 32 x)
 
-not_unreachable : (names : List (List ℕ)) (ranges : List Range) → AreBounds names (Some ranges) → bounds_text names (Some ranges) ≡ codes "unreachable" → ⊥
+not_unreachable : (names : List (List ℕ)) (ranges : List Range) → AreIntBounds names (Some ranges) → bounds_text names (Some ranges) ≡ codes "unreachable" → ⊥
 not_unreachable [] ranges h e = let first : 114 ≡ 117 = ap (λ t. get_or t 0 0) e in omega (arith, first)
 not_unreachable (name ∷ names) [] h e = omega (arith, h.0)
 not_unreachable (name ∷ names) (r ∷ ranges) h e =
     let front : bounds_text (name ∷ names) (Some (r ∷ ranges)) ≡ name ++ (within_text r ++ further names ranges) = append_assoc name (within_text r) (further names ranges) in
     true≢false (sym (spaced name _) ∙ ap has_space (sym front ∙ e))
 
-same_further : (names : List (List ℕ)) (qs rs : List Range) → AreBounds names (Some qs) → AreBounds names (Some rs) → further names qs ≡ further names rs → qs ≡ rs
+same_further : (names : List (List ℕ)) (qs rs : List Range) → AreIntBounds names (Some qs) → AreIntBounds names (Some rs) → further names qs ≡ further names rs → qs ≡ rs
 same_further [] [] [] h k e = refl
 same_further [] (q ∷ qs) rs h k e = absurd (omega (arith, h.0))
 same_further [] [] (r ∷ rs) h k e = absurd (omega (arith, k.0))
@@ -126,7 +126,7 @@ same_further (name ∷ names) (q ∷ qs) (r ∷ rs) h k e =
     let rest = same_further names qs rs left.1 right.1 one.1 in
     λ i. one.0 i ∷ rest i
 
-same_ranges : (names : List (List ℕ)) (qs rs : List Range) → AreBounds names (Some qs) → AreBounds names (Some rs) → bounds_text names (Some qs) ≡ bounds_text names (Some rs) → qs ≡ rs
+same_ranges : (names : List (List ℕ)) (qs rs : List Range) → AreIntBounds names (Some qs) → AreIntBounds names (Some rs) → bounds_text names (Some qs) ≡ bounds_text names (Some rs) → qs ≡ rs
 same_ranges [] [] [] h k e = refl
 same_ranges [] (q ∷ qs) rs h k e = absurd (omega (arith, h.0))
 same_ranges [] [] (r ∷ rs) h k e = absurd (omega (arith, k.0))
@@ -139,7 +139,7 @@ same_ranges (name ∷ names) (q ∷ qs) (r ∷ rs) h k e =
     let rest = same_further names qs rs left.1 right.1 one.1 in
     λ i. one.0 i ∷ rest i
 
-pub one_bounds : (names : List (List ℕ)) (b c : Option (List Range)) → AreBounds names b → AreBounds names c → bounds_text names b ≡ bounds_text names c → b ≡ c
+pub one_bounds : (names : List (List ℕ)) (b c : Option (List Range)) → AreIntBounds names b → AreIntBounds names c → bounds_text names b ≡ bounds_text names c → b ≡ c
 one_bounds names None None h k e = refl
 one_bounds names None (Some rs) h k e = absurd (not_unreachable names rs k (sym e))
 one_bounds names (Some qs) None h k e = absurd (not_unreachable names qs h e)

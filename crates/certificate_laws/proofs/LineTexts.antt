@@ -10,7 +10,7 @@ use Rattle.c_tree.specs.Value.{IsInt}
 use Rattle.leaf_domain.specs.declared.range.Range.{Range}
 use Rattle.alarm_report.specs.Texts.{place_text, kind_text}
 use Rattle.alarm_report.specs.LeafTexts.{within_text}
-use Rattle.certificate_reader.specs.Bounds.{bounds_text, IsIntRange, AreBounds}
+use Rattle.certificate_reader.specs.Bounds.{bounds_text, IsIntRange, AreIntBounds}
 use Rattle.certificate_reader.specs.Forms.{further, EndsDigits}
 use Rattle.certificate_reader.specs.Lines.{IsPlace, IsLoopText, IsAlarmLine}
 use Rattle.certificate_reader.proofs.Digits.{small_pos, small_negsuc}
@@ -82,7 +82,7 @@ within_line r h =
     (join_lines (codes " in [" ++ signed_decimal r.low) (codes ",") (join_lines (codes " in [") (signed_decimal r.low) (constant (codes " in [") refl) (signed_line r.low h.int.low)) (constant (codes ",") refl))
     (signed_line r.high h.int.high)) (constant (codes "]") refl)
 
-further_line : (names : List (List ℕ)) (ranges : List Range) → AllByRecursion IsOneLine names → AreBounds names (Some ranges) → IsOneLine (further names ranges)
+further_line : (names : List (List ℕ)) (ranges : List Range) → AllByRecursion IsOneLine names → AreIntBounds names (Some ranges) → IsOneLine (further names ranges)
 further_line [] ranges h k = tt
 further_line (name ∷ names) [] h k = tt
 further_line (name ∷ names) (r ∷ ranges) h k =
@@ -90,7 +90,7 @@ further_line (name ∷ names) (r ∷ ranges) h k =
     join_lines (codes ", " ++ (name ++ within_text r)) (further names ranges)
     (join_lines (codes ", ") (name ++ within_text r) (constant (codes ", ") refl) (join_lines name (within_text r) h.0 (within_line r parts.0))) (further_line names ranges h.1 parts.1)
 
-pub bounds_line : (names : List (List ℕ)) (bounds : Option (List Range)) → AllByRecursion IsOneLine names → AreBounds names bounds → IsOneLine (bounds_text names bounds)
+pub bounds_line : (names : List (List ℕ)) (bounds : Option (List Range)) → AllByRecursion IsOneLine names → AreIntBounds names bounds → IsOneLine (bounds_text names bounds)
 bounds_line names None h k = constant (codes "unreachable") refl
 bounds_line [] (Some ranges) h k = constant (codes "reachable") refl
 bounds_line (name ∷ names) (Some []) h k = tt

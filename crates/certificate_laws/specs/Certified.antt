@@ -17,7 +17,8 @@ use Rattle.alarm_report.specs.Alarms.{StopTree, AreAlarms}
 use Rattle.alarm_report.specs.Invariants.{LeafTree, Invariant, AreInvariants}
 use Rattle.certificate_reader.specs.declared.certificates.Certificate.{Certificate}
 use Rattle.certificate_reader.specs.declared.certificates.CertificateFault.{CertificateFault}
-use Rattle.certificate_reader.specs.Certificates.{Answers, most_bytes}
+use Rattle.fam_outer.specs.Limits.{certificate_bytes}
+use Rattle.certificate_reader.specs.Certificates.{IsCertificateRead}
 use Rattle.certificate_reader.specs.Lines.{IsPlace}
 use Rattle.certificate_reader.specs.Regions.{literal_of}
 use Rattle.certificate_text.specs.Loops.{trees_at}
@@ -51,5 +52,5 @@ IsReadAndAccepted model p conditions atoms (Err (Fault fault)) = ⊥
 abbrev pub WrittenAnalysesAreAccepted : Type 0
 WrittenAnalysesAreAccepted =
     (o : Options) (model : Model) (p : Whole) (conditions : List Formula) (atoms : List Atom) (bytes : List ℕ) (result : Result Certificate (Refusal CertificateFault))
-    → IsProgram p → All IsPlace (program_places p) → AreNames model atoms p.names → IsWrittenOf o model p conditions atoms bytes → length bytes ≤ most_bytes
-    → Answers (literal_of model.features atoms) p.names bytes result → IsReadAndAccepted model p conditions atoms result
+    → IsProgram p → All IsPlace (program_places p) → AreNames model atoms p.names → IsWrittenOf o model p conditions atoms bytes → length bytes ≤ certificate_bytes
+    → IsCertificateRead (literal_of model.features atoms) p.names bytes result → IsReadAndAccepted model p conditions atoms result

@@ -25,7 +25,8 @@ use Rattle.alarm_report.specs.Alarms.{StopTree, AreAlarms}
 use Rattle.alarm_report.specs.Invariants.{LeafTree, Invariant, AreInvariants}
 use Rattle.certificate_reader.specs.declared.certificates.Certificate.{Certificate}
 use Rattle.certificate_reader.specs.declared.certificates.CertificateFault.{CertificateFault}
-use Rattle.certificate_reader.specs.Certificates.{Answers, most_bytes}
+use Rattle.fam_outer.specs.Limits.{certificate_bytes}
+use Rattle.certificate_reader.specs.Certificates.{IsCertificateRead}
 use Rattle.certificate_reader.specs.Lines.{IsPlace}
 use Rattle.certificate_reader.specs.Regions.{literal_of}
 use Rattle.certificate_text.specs.Loops.{trees_at}
@@ -74,8 +75,8 @@ pub record AreOfTrees (model : Model) (atoms : List Atom) (names : List (List �
 abbrev pub CertificatesAreReadBack : Type 0
 CertificatesAreReadBack =
     (model : Model) (atoms : List Atom) (names : List (List ℕ)) (mode : Mode) (is : List Invariant) (alarms : List FamilyAlarm) (bytes : List ℕ) (result : Result Certificate (Refusal CertificateFault)) → AreNames model atoms names
-    → AreOfTrees model atoms names is alarms → bytes ≡ certificate_text intervals model.features names mode is alarms → length bytes ≤ most_bytes
-    → Answers (literal_of model.features atoms) names bytes result → AnswersBack intervals model atoms names mode is alarms result
+    → AreOfTrees model atoms names is alarms → bytes ≡ certificate_text intervals model.features names mode is alarms → length bytes ≤ certificate_bytes
+    → IsCertificateRead (literal_of model.features atoms) names bytes result → AnswersBack intervals model atoms names mode is alarms result
 
 -- ---- certificates of families
 
@@ -111,5 +112,5 @@ pub record AreOfAnalysis (model : Model) (o : Options) (f : Family) (loops : Lis
 abbrev pub FamilyCertificatesAreReadBack : Type 0
 FamilyCertificatesAreReadBack =
     (model : Model) (text : List ℕ) (f : Family) (o : Options) (loops : List Place) (mode : Mode) (is : List Invariant) (alarms : List FamilyAlarm) (bytes : List ℕ) (result : Result Certificate (Refusal CertificateFault))
-    → IsFamilyOver model text f → AreOfAnalysis model o f loops is alarms → bytes ≡ certificate_text intervals model.features (whole f.code).names mode is alarms → length bytes ≤ most_bytes
-    → Answers (literal_of model.features f.atoms) (whole f.code).names bytes result → AnswersBack intervals model f.atoms (whole f.code).names mode is alarms result
+    → IsFamilyOver model text f → AreOfAnalysis model o f loops is alarms → bytes ≡ certificate_text intervals model.features (whole f.code).names mode is alarms → length bytes ≤ certificate_bytes
+    → IsCertificateRead (literal_of model.features f.atoms) (whole f.code).names bytes result → AnswersBack intervals model f.atoms (whole f.code).names mode is alarms result

@@ -16,9 +16,9 @@ use Rattle.certificate_reader.specs.declared.certificates.Certificate.{Certifica
 use Rattle.certificate_reader.specs.declared.certificates.CertificateFault.{CertificateFault}
 use Rattle.certificate_reader.specs.declared.certificates.Entry.{Entry}
 use Rattle.certificate_reader.specs.declared.certificates.Entry.TheVariants.{Loop, Alarm}
-use Rattle.certificate_reader.specs.Bounds.{AreBounds}
+use Rattle.certificate_reader.specs.Bounds.{AreIntBounds}
 use Rattle.certificate_reader.specs.Regions.{numbered, spelling, literal_from, literal_of, all_of, is_same, distinct, IsMeant}
-use Rattle.certificate_reader.specs.Certificates.{AreEntries, loops_of, alarms_of, Answers}
+use Rattle.certificate_reader.specs.Certificates.{AreEntries, loops_of, alarms_of, IsCertificateRead}
 
 -- ---- numbers of literals
 
@@ -100,7 +100,7 @@ alarms_of_below n of g names [] (e ∷ entries) h = absurd h
 alarms_of_below n of g names (line ∷ lines) (Loop l ∷ entries) h = alarms_of_below n of g names lines entries h.1
 alarms_of_below n of g names (line ∷ lines) (Alarm a ∷ entries) h = (meant_below n of g h.0.0 (formula a.region) h.0.2, alarms_of_below n of g names lines entries h.1)
 
-bounds_of_loops : (of : List ℕ → Option Numbered) (names lines : List (List ℕ)) (entries : List Entry) → AreEntries of names lines entries → AllByRecursion (λ (l : LoopLine). AreBounds names l.bounds) (loops_of entries)
+bounds_of_loops : (of : List ℕ → Option Numbered) (names lines : List (List ℕ)) (entries : List Entry) → AreEntries of names lines entries → AllByRecursion (λ (l : LoopLine). AreIntBounds names l.bounds) (loops_of entries)
 bounds_of_loops of names lines [] h = tt
 bounds_of_loops of names [] (e ∷ entries) h = absurd h
 bounds_of_loops of names (line ∷ lines) (Loop l ∷ entries) h = (h.0.1.1, bounds_of_loops of names lines entries h.1)
@@ -108,18 +108,18 @@ bounds_of_loops of names (line ∷ lines) (Alarm a ∷ entries) h = bounds_of_lo
 
 -- ---- answers
 
-pub loops_below : (n : ℕ) (of : List ℕ → Option Numbered) → GivesBelow n of → (names : List (List ℕ)) (bytes : List ℕ) (r : Result Certificate (Refusal CertificateFault)) → Answers of names bytes r
+pub loops_below : (n : ℕ) (of : List ℕ → Option Numbered) → GivesBelow n of → (names : List (List ℕ)) (bytes : List ℕ) (r : Result Certificate (Refusal CertificateFault)) → IsCertificateRead of names bytes r
     → IfOk r (λ c. All (λ (l : LoopLine). IsBelow n (formula l.region)) c.loops.items)
 loops_below n of g names bytes (Ok c) h = subst (All (LoopBelow n)) (sym h.loops) (All-from_recursion (LoopBelow n) (loops_of h.entries) (loops_of_below n of g names h.lines h.entries h.read.said))
 loops_below n of g names bytes (Err e) h = tt
 
-pub alarms_below : (n : ℕ) (of : List ℕ → Option Numbered) → GivesBelow n of → (names : List (List ℕ)) (bytes : List ℕ) (r : Result Certificate (Refusal CertificateFault)) → Answers of names bytes r
+pub alarms_below : (n : ℕ) (of : List ℕ → Option Numbered) → GivesBelow n of → (names : List (List ℕ)) (bytes : List ℕ) (r : Result Certificate (Refusal CertificateFault)) → IsCertificateRead of names bytes r
     → IfOk r (λ c. All (λ (a : AlarmLine). IsBelow n (formula a.region)) c.alarms.items)
 alarms_below n of g names bytes (Ok c) h = subst (All (AlarmBelow n)) (sym h.alarms) (All-from_recursion (AlarmBelow n) (alarms_of h.entries) (alarms_of_below n of g names h.lines h.entries h.read.said))
 alarms_below n of g names bytes (Err e) h = tt
 
-pub all_bounds : (of : List ℕ → Option Numbered) (names : List (List ℕ)) (bytes : List ℕ) (r : Result Certificate (Refusal CertificateFault)) → Answers of names bytes r
-    → IfOk r (λ c. All (λ (l : LoopLine). AreBounds names l.bounds) c.loops.items)
+pub all_bounds : (of : List ℕ → Option Numbered) (names : List (List ℕ)) (bytes : List ℕ) (r : Result Certificate (Refusal CertificateFault)) → IsCertificateRead of names bytes r
+    → IfOk r (λ c. All (λ (l : LoopLine). AreIntBounds names l.bounds) c.loops.items)
 all_bounds of names bytes (Ok c) h =
-    subst (All (λ (l : LoopLine). AreBounds names l.bounds)) (sym h.loops) (All-from_recursion (λ (l : LoopLine). AreBounds names l.bounds) (loops_of h.entries) (bounds_of_loops of names h.lines h.entries h.read.said))
+    subst (All (λ (l : LoopLine). AreIntBounds names l.bounds)) (sym h.loops) (All-from_recursion (λ (l : LoopLine). AreIntBounds names l.bounds) (loops_of h.entries) (bounds_of_loops of names h.lines h.entries h.read.said))
 all_bounds of names bytes (Err e) h = tt

@@ -13,7 +13,7 @@ use Rattle.certificate_reader.specs.declared.certificates.AlarmLine.{AlarmLine}
 use Rattle.certificate_reader.specs.declared.certificates.CertificateFault.TheVariants as faults
 use Rattle.certificate_reader.specs.declared.certificates.Entry.{Entry}
 use Rattle.certificate_reader.specs.declared.certificates.Entry.TheVariants as entry
-use Rattle.certificate_reader.specs.Bounds.{bounds_text, AreBounds}
+use Rattle.certificate_reader.specs.Bounds.{bounds_text, AreIntBounds}
 use Rattle.certificate_reader.specs.Cuts.{IsCut, Begins}
 use Rattle.certificate_reader.specs.Lines.{Loop, Alarm, Says, IsLoopText, IsAlarmLine}
 use Rattle.certificate_reader.specs.Regions.{IsStrange}
@@ -23,14 +23,14 @@ use Rattle.certificate_reader.proofs.Shapes.{no_leaf, no_saying}
 
 -- ---- one line
 
-pub loop_without_leaf : (of : List ℕ → Option Numbered) (names : List (List ℕ)) (n : ℕ) (p : Place) (r l : List ℕ) → ((b : Option (List Range)) → AreBounds names b → l ≢ bounds_text names b)
+pub loop_without_leaf : (of : List ℕ → Option Numbered) (names : List (List ℕ)) (n : ℕ) (p : Place) (r l : List ℕ) → ((b : Option (List Range)) → AreIntBounds names b → l ≢ bounds_text names b)
     → (line : List ℕ) → IsLoopText line p r l → IsLineRead of names line n (Err (Fault (faults.Line n)))
 loop_without_leaf of names n p r l none line a = (refl, no_leaf names line p r l a none)
 
-loop_says : (names : List (List ℕ)) (line : List ℕ) (p : Place) (r l : List ℕ) (b : Option (List Range)) → IsLoopText line p r l → AreBounds names b → l ≡ bounds_text names b → Says names line (Loop p r b)
+loop_says : (names : List (List ℕ)) (line : List ℕ) (p : Place) (r l : List ℕ) (b : Option (List Range)) → IsLoopText line p r l → AreIntBounds names b → l ≡ bounds_text names b → Says names line (Loop p r b)
 loop_says names line p r l b a bounds is = (subst (λ v. IsLoopText line p r v) is a, bounds)
 
-pub strange_loop : (of : List ℕ → Option Numbered) (names : List (List ℕ)) (n : ℕ) (p : Place) (r l : List ℕ) (b : Option (List Range)) → AreBounds names b → l ≡ bounds_text names b → IsStrange of r
+pub strange_loop : (of : List ℕ → Option Numbered) (names : List (List ℕ)) (n : ℕ) (p : Place) (r l : List ℕ) (b : Option (List Range)) → AreIntBounds names b → l ≡ bounds_text names b → IsStrange of r
     → (line : List ℕ) → IsLoopText line p r l → IsLineRead of names line n (Err (Fault (faults.Test n)))
 strange_loop of names n p r l b bounds is strange line a = (refl, (Loop p r b, loop_says names line p r l b a bounds is, strange))
 

@@ -8,7 +8,7 @@ use Rattle.std.proofs.lemmas.List.Elements.{recursion_from_All, All-from_recursi
 use Rattle.c_tree.specs.Value.{IsInt}
 use Rattle.leaf_domain.specs.declared.range.Range.{Range}
 use Rattle.alarm_report.specs.LeafTexts.{within_text}
-use Rattle.certificate_reader.specs.Bounds.{bounds_text, IsIntRange, AreBounds}
+use Rattle.certificate_reader.specs.Bounds.{bounds_text, IsIntRange, AreIntBounds}
 use Rattle.certificate_reader.specs.Forms.{EndsNumber, further}
 use Rattle.certificate_reader.proofs.Digits.{one_signed}
 
@@ -88,31 +88,31 @@ int_range l h low high some = record {
 
 -- ---- items behind the first
 
-pub bounds_cons : (name : List ℕ) (names : List (List ℕ)) (r : Range) (ranges : List Range) → AreBounds (name ∷ names) (Some (r ∷ ranges)) → IsIntRange r × AreBounds names (Some ranges)
+pub bounds_cons : (name : List ℕ) (names : List (List ℕ)) (r : Range) (ranges : List Range) → AreIntBounds (name ∷ names) (Some (r ∷ ranges)) → IsIntRange r × AreIntBounds names (Some ranges)
 bounds_cons name names r ranges h =
     let all = recursion_from_All IsIntRange (r ∷ ranges) h.1 in
     (all.0, (omega (arith, h.0), All-from_recursion IsIntRange ranges all.1))
 
-pub cons_bounds : (name : List ℕ) (names : List (List ℕ)) (r : Range) (ranges : List Range) → IsIntRange r → AreBounds names (Some ranges) → AreBounds (name ∷ names) (Some (r ∷ ranges))
+pub cons_bounds : (name : List ℕ) (names : List (List ℕ)) (r : Range) (ranges : List Range) → IsIntRange r → AreIntBounds names (Some ranges) → AreIntBounds (name ∷ names) (Some (r ∷ ranges))
 cons_bounds name names r ranges h k = (omega (arith, k.0), All-cons IsIntRange r ranges h k.1)
 
 pub further_cons : (name : List ℕ) (names : List (List ℕ)) (r : Range) (ranges : List Range) → further (name ∷ names) (r ∷ ranges) ≡ codes ", " ++ ((name ++ within_text r) ++ further names ranges)
 further_cons name names r ranges = append_assoc (codes ", ") (name ++ within_text r) (further names ranges)
 
-pub no_further_cons : (name : List ℕ) (names : List (List ℕ)) (t : List ℕ) → ((r : Range) (ranges : List Range) → IsIntRange r → AreBounds names (Some ranges) → t ≡ codes ", " ++ ((name ++ within_text r) ++ further names ranges) → ⊥)
-    → (more : List Range) → AreBounds (name ∷ names) (Some more) → t ≡ further (name ∷ names) more → ⊥
+pub no_further_cons : (name : List ℕ) (names : List (List ℕ)) (t : List ℕ) → ((r : Range) (ranges : List Range) → IsIntRange r → AreIntBounds names (Some ranges) → t ≡ codes ", " ++ ((name ++ within_text r) ++ further names ranges) → ⊥)
+    → (more : List Range) → AreIntBounds (name ∷ names) (Some more) → t ≡ further (name ∷ names) more → ⊥
 no_further_cons name names t none [] h e = omega (arith, h.0)
 no_further_cons name names t none (r ∷ ranges) h e =
     let parts = bounds_cons name names r ranges h in none r ranges parts.0 parts.1 (e ∙ further_cons name names r ranges)
 
 pub no_item : (name : List ℕ) (names : List (List ℕ)) (t a : List ℕ) → t ≡ codes ", " ++ a → ((r : Range) (rest : List ℕ) → IsIntRange r → a ≡ (name ++ within_text r) ++ rest → ⊥)
-    → (more : List Range) → AreBounds (name ∷ names) (Some more) → t ≡ further (name ∷ names) more → ⊥
+    → (more : List Range) → AreIntBounds (name ∷ names) (Some more) → t ≡ further (name ∷ names) more → ⊥
 no_item name names t a is none =
     no_further_cons name names t (λ r ranges h k e. none r (further names ranges) h (append_cancel_left (codes ", ") a ((name ++ within_text r) ++ further names ranges) (sym is ∙ e)))
 
 pub no_further : (name : List ℕ) (names : List (List ℕ)) (t a : List ℕ) (q : Range) (u : List ℕ) → t ≡ codes ", " ++ a → a ≡ (name ++ within_text q) ++ u → IsIntRange q
-    → ((more : List Range) → AreBounds names (Some more) → u ≡ further names more → ⊥)
-    → (more : List Range) → AreBounds (name ∷ names) (Some more) → t ≡ further (name ∷ names) more → ⊥
+    → ((more : List Range) → AreIntBounds names (Some more) → u ≡ further names more → ⊥)
+    → (more : List Range) → AreIntBounds (name ∷ names) (Some more) → t ≡ further (name ∷ names) more → ⊥
 no_further name names t a q u is item int none =
     no_further_cons name names t (λ r ranges h k e.
     none ranges k (one_item a name q r u (further names ranges) int h item (append_cancel_left (codes ", ") a ((name ++ within_text r) ++ further names ranges) (sym is ∙ e))).1)
@@ -124,12 +124,12 @@ further_is name names t a q u more is item later =
 -- ---- all items
 
 pub no_first : (name : List ℕ) (names : List (List ℕ)) (t : List ℕ) → ((r : Range) (rest : List ℕ) → IsIntRange r → t ≡ (name ++ within_text r) ++ rest → ⊥)
-    → (ranges : List Range) → AreBounds (name ∷ names) (Some ranges) → t ≡ bounds_text (name ∷ names) (Some ranges) → ⊥
+    → (ranges : List Range) → AreIntBounds (name ∷ names) (Some ranges) → t ≡ bounds_text (name ∷ names) (Some ranges) → ⊥
 no_first name names t none [] h e = omega (arith, h.0)
 no_first name names t none (r ∷ ranges) h e = none r (further names ranges) (bounds_cons name names r ranges h).0 e
 
-pub no_others : (name : List ℕ) (names : List (List ℕ)) (t : List ℕ) (q : Range) (u : List ℕ) → t ≡ (name ++ within_text q) ++ u → IsIntRange q → ((more : List Range) → AreBounds names (Some more) → u ≡ further names more → ⊥)
-    → (ranges : List Range) → AreBounds (name ∷ names) (Some ranges) → t ≡ bounds_text (name ∷ names) (Some ranges) → ⊥
+pub no_others : (name : List ℕ) (names : List (List ℕ)) (t : List ℕ) (q : Range) (u : List ℕ) → t ≡ (name ++ within_text q) ++ u → IsIntRange q → ((more : List Range) → AreIntBounds names (Some more) → u ≡ further names more → ⊥)
+    → (ranges : List Range) → AreIntBounds (name ∷ names) (Some ranges) → t ≡ bounds_text (name ∷ names) (Some ranges) → ⊥
 no_others name names t q u item int none [] h e = omega (arith, h.0)
 no_others name names t q u item int none (r ∷ ranges) h e =
     let parts = bounds_cons name names r ranges h in none ranges parts.1 (one_item t name q r u (further names ranges) int parts.0 item e).1
@@ -145,8 +145,8 @@ pushed old mid new q more e f = f ∙ ap (λ v. v ++ more) e ∙ append_assoc ol
 
 pub further_told : (old mid new : List Range) (name : List ℕ) (names : List (List ℕ)) (t a : List ℕ) (q : Range) (u : List ℕ) (whole : Bool)
     → t ≡ codes ", " ++ a → a ≡ (name ++ within_text q) ++ u → IsIntRange q → mid ≡ old ++ (q ∷ [])
-    → MatchBool whole ((more : List Range) × (new ≡ mid ++ more) × AreBounds names (Some more) × (u ≡ further names more)) ((more : List Range) → AreBounds names (Some more) → u ≢ further names more)
-    → MatchBool whole ((more : List Range) × (new ≡ old ++ more) × AreBounds (name ∷ names) (Some more) × (t ≡ further (name ∷ names) more)) ((more : List Range) → AreBounds (name ∷ names) (Some more) → t ≢ further (name ∷ names) more)
+    → MatchBool whole ((more : List Range) × (new ≡ mid ++ more) × AreIntBounds names (Some more) × (u ≡ further names more)) ((more : List Range) → AreIntBounds names (Some more) → u ≢ further names more)
+    → MatchBool whole ((more : List Range) × (new ≡ old ++ more) × AreIntBounds (name ∷ names) (Some more) × (t ≡ further (name ∷ names) more)) ((more : List Range) → AreIntBounds (name ∷ names) (Some more) → t ≢ further (name ∷ names) more)
 further_told old mid new name names t a q u true is item int e h =
     (q ∷ h.0, pushed old mid new q h.0 e h.1, cons_bounds name names q h.0 int h.2, further_is name names t a q u h.0 is item h.3)
 further_told old mid new name names t a q u false is item int e h = no_further name names t a q u is item int h

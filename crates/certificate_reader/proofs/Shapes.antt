@@ -7,7 +7,7 @@ use Rattle.c_tree.specs.declared.tree.Kind.{Kind}
 use Rattle.c_tree.specs.declared.tree.Kind.TheVariants.{Overflow, ZeroDivisor, Assertion}
 use Rattle.leaf_domain.specs.declared.range.Range.{Range}
 use Rattle.alarm_report.specs.Texts.{place_text, kind_text}
-use Rattle.certificate_reader.specs.Bounds.{bounds_text, AreBounds}
+use Rattle.certificate_reader.specs.Bounds.{bounds_text, AreIntBounds}
 use Rattle.certificate_reader.specs.Cuts.{Lacks, IsCut}
 use Rattle.certificate_reader.specs.Forms.{EndsDigits}
 use Rattle.certificate_reader.specs.Lines.{Saying, Loop, Alarm, Says, IsPlace, IsLoopText, IsAlarmLine}
@@ -65,6 +65,6 @@ pub no_saying : (names : List (List ℕ)) (line : List ℕ) → ((p : Place) (r 
 no_saying names line loops alarms (Loop p r b) h = loops p r (bounds_text names b) h.0
 no_saying names line loops alarms (Alarm p k r) h = alarms p k r h
 
-pub no_leaf : (names : List (List ℕ)) (line : List ℕ) (p : Place) (r l : List ℕ) → IsLoopText line p r l → ((b : Option (List Range)) → AreBounds names b → l ≢ bounds_text names b) → (s : Saying) → ¬ (Says names line s)
+pub no_leaf : (names : List (List ℕ)) (line : List ℕ) (p : Place) (r l : List ℕ) → IsLoopText line p r l → ((b : Option (List Range)) → AreIntBounds names b → l ≢ bounds_text names b) → (s : Saying) → ¬ (Says names line s)
 no_leaf names line p r l a none (Loop q s b) h = none b h.1 (one_loop line p q r s l (bounds_text names b) a h.0).2
 no_leaf names line p r l a none (Alarm q k s) h = not_both line p q r l s k a h

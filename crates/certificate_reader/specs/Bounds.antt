@@ -24,6 +24,6 @@ pub record IsIntRange (r : Range) : Type 0 where
   pub some : r.low ≤ℤ r.high
 
 -- a range for each name, where there are bounds
-abbrev pub AreBounds : List (List ℕ) → Option (List Range) → Type 0
-AreBounds names None = ⊤
-AreBounds names (Some ranges) = (length ranges ≡ length names) × All IsIntRange ranges
+abbrev pub AreIntBounds : List (List ℕ) → Option (List Range) → Type 0
+AreIntBounds names None = ⊤
+AreIntBounds names (Some ranges) = (length ranges ≡ length names) × All IsIntRange ranges

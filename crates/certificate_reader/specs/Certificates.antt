@@ -2,6 +2,7 @@
 use Rattle.std.specs.Prelude.{◌≡◌, ◌≢◌, ⊤, ◌⊎◌, ℕ, ◌+◌, ◌<◌, ◌≤◌, List, [], ◌∷◌, ◌++◌, codes, length, Option, Result, Ok, Err}
 use Rattle.fam_outer.specs.declared.refusal.Refusal.{Refusal}
 use Rattle.fam_outer.specs.declared.refusal.Refusal.TheVariants.{NoMemory, Fault}
+use Rattle.fam_outer.specs.Limits.{certificate_bytes}
 use Rattle.c_tree.specs.declared.tree.Mode.{Mode}
 use Rattle.c_tree.specs.declared.tree.Mode.TheVariants.{Stop, Wrap}
 use Rattle.cpp_conditions.specs.View.{formula}
@@ -42,9 +43,6 @@ alarms_of (Alarm a ∷ entries) = a ∷ alarms_of entries
 
 -- ---- texts
 
-abbrev pub most_bytes : ℕ
-most_bytes = 16777216
-
 -- the first line, with its newline
 abbrev pub header : Mode → List ℕ
 header Stop = codes "famlint certificate 1 stop\n"
@@ -54,13 +52,13 @@ header Wrap = codes "famlint certificate 1 wrap\n"
 -- newline; behind them stands the rest
 pub record AreRead (of : List ℕ → Option Numbered) (names : List (List ℕ)) (bytes : List ℕ) (mode : Mode) (lines : List (List ℕ)) (entries : List Entry) (rest : List ℕ) : Type 0 where
   pub behind : List ℕ
-  pub short : length bytes ≤ most_bytes
+  pub short : length bytes ≤ certificate_bytes
   pub whole : bytes ≡ header mode ++ behind
   pub begins : Begins (codes "\n") behind lines rest
   pub said : AreEntries of names lines entries
 
 -- the certificate of the text: all lines are read, and the loops and the alarms are theirs, in order
-pub record IsCertificate (of : List ℕ → Option Numbered) (names : List (List ℕ)) (bytes : List ℕ) (c : Certificate) : Type 0 where
+pub record SpellsCertificate (of : List ℕ → Option Numbered) (names : List (List ℕ)) (bytes : List ℕ) (c : Certificate) : Type 0 where
   pub lines : List (List ℕ)
   pub entries : List Entry
   pub read : AreRead of names bytes c.mode lines entries []
@@ -90,18 +88,18 @@ HasNoFormula of names rest =
 
 -- why the text is refused
 abbrev pub HasFault : (List ℕ → Option Numbered) → List (List ℕ) → List ℕ → CertificateFault → Type 0
-HasFault of names bytes TooLong = most_bytes < length bytes
-HasFault of names bytes Header = (length bytes ≤ most_bytes) × ((mode : Mode) (behind : List ℕ) → bytes ≢ header mode ++ behind)
+HasFault of names bytes TooLong = certificate_bytes < length bytes
+HasFault of names bytes Header = (length bytes ≤ certificate_bytes) × ((mode : Mode) (behind : List ℕ) → bytes ≢ header mode ++ behind)
 HasFault of names bytes (Line n) = (rest : List ℕ) × IsLeft of names bytes n rest × HasNoForm names rest
 HasFault of names bytes (Test n) = (rest : List ℕ) × IsLeft of names bytes n rest × HasNoFormula of names rest
 
 -- ---- answers
 
 -- the certificate, or the fault; want of memory is free
-abbrev pub Answers : (List ℕ → Option Numbered) → List (List ℕ) → List ℕ → Result Certificate (Refusal CertificateFault) → Type 0
-Answers of names bytes (Ok c) = IsCertificate of names bytes c
-Answers of names bytes (Err (Fault fault)) = HasFault of names bytes fault
-Answers of names bytes (Err NoMemory) = ⊤
+abbrev pub IsCertificateRead : (List ℕ → Option Numbered) → List (List ℕ) → List ℕ → Result Certificate (Refusal CertificateFault) → Type 0
+IsCertificateRead of names bytes (Ok c) = SpellsCertificate of names bytes c
+IsCertificateRead of names bytes (Err (Fault fault)) = HasFault of names bytes fault
+IsCertificateRead of names bytes (Err NoMemory) = ⊤
 
 -- what a line is read as
 abbrev pub IsLineRead : (List ℕ → Option Numbered) → List (List ℕ) → List ℕ → ℕ → Result Entry (Refusal CertificateFault) → Type 0

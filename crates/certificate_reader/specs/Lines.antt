@@ -4,7 +4,7 @@ use Rattle.fam_outer.specs.declared.faults.Place.{Place}
 use Rattle.c_tree.specs.declared.tree.Kind.{Kind}
 use Rattle.leaf_domain.specs.declared.range.Range.{Range}
 use Rattle.alarm_report.specs.Texts.{place_text, kind_text, IsWordPlace}
-use Rattle.certificate_reader.specs.Bounds.{bounds_text, AreBounds}
+use Rattle.certificate_reader.specs.Bounds.{bounds_text, AreIntBounds}
 use Rattle.certificate_reader.specs.Cuts.{IsCut}
 
 -- what a line says, with the text of its region
@@ -31,7 +31,7 @@ pub record IsLoopText (line : List ℕ) (place : Place) (region leaf : List ℕ)
 
 -- the same with the text of bounds
 abbrev pub IsLoopLine : List (List ℕ) → List ℕ → Place → List ℕ → Option (List Range) → Type 0
-IsLoopLine names line place region bounds = IsLoopText line place region (bounds_text names bounds) × AreBounds names bounds
+IsLoopLine names line place region bounds = IsLoopText line place region (bounds_text names bounds) × AreIntBounds names bounds
 
 -- `alarm LINE:COLUMN: KIND if REGION`
 pub record IsAlarmLine (line : List ℕ) (place : Place) (kind : Kind) (region : List ℕ) : Type 0 where

@@ -4,7 +4,7 @@
 ghost use Rattle.std.specs.Prelude.{◌≡◌, ◌≢◌, ℕ, List, ◌++◌, length, Option, Some, true, false, IfOk, MatchOption, MatchBool};
 ghost use Rattle.leaf_domain.specs.declared.range.Range.{Range};
 ghost use Rattle.alarm_report.specs.LeafTexts.{within_text};
-ghost use Rattle.certificate_reader.specs.Bounds.{bounds_text, IsIntRange, AreBounds};
+ghost use Rattle.certificate_reader.specs.Bounds.{bounds_text, IsIntRange, AreIntBounds};
 ghost use Rattle.certificate_reader.specs.Forms.{further};
 
 use crate::cutting::behind;
@@ -54,8 +54,8 @@ fn item_before<'a>(name: &Text, text: &'a [u8]) -> Option<(Range, &'a [u8])>
 fn push_further(names: &[Text], text: &[u8], ranges: &mut Vec<Range>) -> Result<bool, NoMemory>
     ensures { IfOk result (λ whole. MatchBool whole
         ((more : List Range) × (ranges.new.items ≡ ranges.old.items ++ more)
-        × AreBounds names.now (Some more) × (text.now ≡ further names.now more))
-        ((more : List Range) → AreBounds names.now (Some more) → text.now ≢ further names.now more)) }
+        × AreIntBounds names.now (Some more) × (text.now ≡ further names.now more))
+        ((more : List Range) → AreIntBounds names.now (Some more) → text.now ≢ further names.now more)) }
 {
     let Some((name, names)) = cut(names) else {
         return Ok(text.is_empty());
@@ -74,9 +74,9 @@ fn push_further(names: &[Text], text: &[u8], ranges: &mut Vec<Range>) -> Result<
 /// The ranges of the names.
 fn ranges_of(alloc: Global, names: &[Text], text: &[u8]) -> Result<Option<Vec<Range>>, NoMemory>
     ensures { IfOk result (λ found. MatchOption found
-        ((ranges : List Range) → AreBounds names.now (Some ranges)
+        ((ranges : List Range) → AreIntBounds names.now (Some ranges)
         → text.now ≢ bounds_text names.now (Some ranges))
-        (λ v. AreBounds names.now (Some v.items) × (text.now ≡ bounds_text names.now (Some v.items)))) }
+        (λ v. AreIntBounds names.now (Some v.items) × (text.now ≡ bounds_text names.now (Some v.items)))) }
 {
     let mut ranges = Vec::new(alloc);
     let Some((name, names)) = cut(names) else {
@@ -104,8 +104,8 @@ pub(crate) fn bounds_of(
     text: &[u8],
 ) -> Result<Option<Option<Ranges>>, NoMemory>
     ensures { IfOk result (λ found. MatchOption found
-        ((bounds : Option (List Range)) → AreBounds names.now bounds → text.now ≢ bounds_text names.now bounds)
-        (λ bounds. AreBounds names.now bounds × (text.now ≡ bounds_text names.now bounds))) }
+        ((bounds : Option (List Range)) → AreIntBounds names.now bounds → text.now ≢ bounds_text names.now bounds)
+        (λ bounds. AreIntBounds names.now bounds × (text.now ≡ bounds_text names.now bounds))) }
 {
     if text == b"unreachable".as_slice() {
         return Ok(Some(None));

@@ -9,8 +9,9 @@ ghost use Rattle.cpp_conditions.specs.Propositions.{IsBelow};
 ghost use Rattle.cpp_conditions.specs.View.{formula};
 ghost use Rattle.lifted_analysis.specs.declared.lines.LoopLine.{LoopLine};
 ghost use Rattle.certificate_reader.specs.declared.certificates.AlarmLine.{AlarmLine};
-ghost use Rattle.certificate_reader.specs.Bounds.{AreBounds};
-ghost use Rattle.certificate_reader.specs.Certificates.{Answers, IsLineRead, header, loops_of, alarms_of, most_bytes};
+ghost use Rattle.certificate_reader.specs.Bounds.{AreIntBounds};
+ghost use Rattle.fam_outer.specs.Limits.{certificate_bytes};
+ghost use Rattle.certificate_reader.specs.Certificates.{IsCertificateRead, IsLineRead, header, loops_of, alarms_of};
 ghost use Rattle.certificate_reader.specs.Lines.{IsLoopText, IsAlarmLine};
 ghost use Rattle.certificate_reader.specs.Regions.{literal_of};
 ghost use Rattle.certificate_reader.specs.Rows.{row_of};
@@ -22,13 +23,10 @@ use crate::leaves::bounds_of;
 use crate::literals::{Row, rows_of};
 use crate::regions::formula_of;
 use c_tree::{Kind, Mode};
-use fam_outer::{NoMemory, Place, Refusal, Text};
+use fam_outer::{CERTIFICATE_BYTES, NoMemory, Place, Refusal, Text};
 use lifted_analysis::LoopLine;
 use linear_atoms::{Atom, Feature};
 use std::alloc::Global;
-
-/// The most bytes of a certificate.
-const MOST_BYTES: usize = 16_777_216;
 
 /// The mode of the first line, and what stands behind it.
 fn mode_before(bytes: &[u8]) -> Option<(Mode, &[u8])>
@@ -133,9 +131,9 @@ fn read_lines(
     mode: Mode,
     text: &[u8],
 ) -> Result<Certificate, Refusal<CertificateFault>>
-    requires { length text.now ≤ most_bytes }
-    ensures { (bytes : List ℕ) → length bytes ≤ most_bytes → bytes ≡ header mode ++ text.now
-        → Answers (row_of rows.now) names.now bytes result }
+    requires { length text.now ≤ certificate_bytes }
+    ensures { (bytes : List ℕ) → length bytes ≤ certificate_bytes → bytes ≡ header mode ++ text.now
+        → IsCertificateRead (row_of rows.now) names.now bytes result }
 {
     let mut certificate = Certificate {
         mode,
@@ -183,14 +181,14 @@ pub fn read_certificate(
 ) -> Result<Certificate, Refusal<CertificateFault>>
     requires atoms { AreAtoms (length features.now) atoms.now }
     requires few { length atoms.now ≤ 64 }
-    ensures answers { Answers (literal_of features.now atoms.now) names.now bytes.now result }
+    ensures answers { IsCertificateRead (literal_of features.now atoms.now) names.now bytes.now result }
     ensures loops { IfOk result (λ c. All (λ (l : LoopLine). IsBelow
         (length atoms.now) (formula l.region)) c.loops.items) }
     ensures alarms { IfOk result (λ c. All (λ (a : AlarmLine). IsBelow
         (length atoms.now) (formula a.region)) c.alarms.items) }
-    ensures bounds { IfOk result (λ c. All (λ (l : LoopLine). AreBounds names.now l.bounds) c.loops.items) }
+    ensures bounds { IfOk result (λ c. All (λ (l : LoopLine). AreIntBounds names.now l.bounds) c.loops.items) }
 {
-    if bytes.len() > MOST_BYTES {
+    if bytes.len() > CERTIFICATE_BYTES {
         return Err(Refusal::Fault(CertificateFault::TooLong));
     }
     let Some((mode, text)) = mode_before(bytes) else {

@@ -16,7 +16,7 @@ use Rattle.c_tree.specs.declared.tree.Mode.{Mode}
 use Rattle.c_tree.specs.declared.tree.Mode.TheVariants.{Stop}
 use Rattle.fam_outer.specs.declared.refusal.Refusal.TheVariants as refusal
 use Rattle.command_words.specs.declared.refusal.Usage.{Usage}
-use Rattle.command_words.specs.Arguments.{Reads, meant, domain_of, delay_of, narrow_of, overflow_of, steps_of, chosen_by, chosen_of}
+use Rattle.command_words.specs.Arguments.{AnswersWords, meant, domain_of, delay_of, narrow_of, overflow_of, steps_of, chosen_by, chosen_of}
 use Rattle.command_words.specs.Options.{HasTexts, IsNumberBelow, are_spelled, five_app, passes, words_of}
 use Rattle.command_words.specs.Spelling.{domain_by, is_number, number_up_to, overflow_by}
 use Rattle.command_words.proofs.Faults.{fault_parts, fits, or_else_none, range_faults, refused_unless, words_fault}
@@ -225,6 +225,6 @@ chosen-read v rows words r spelled e rows_are none reads =
     (fit_number 1000000 v.steps (codes "1000") (omega arith) s.steps fit.steps))
 
 -- a value, or else a refusal
-pub Reads-ok_or : {A : Type 0} (usage : Usage) (expected given : Option A) → given ≡ expected → Reads expected (ok_or given (refusal.Fault usage))
+pub Reads-ok_or : {A : Type 0} (usage : Usage) (expected given : Option A) → given ≡ expected → AnswersWords expected (ok_or given (refusal.Fault usage))
 Reads-ok_or usage expected None e = sym e
 Reads-ok_or usage expected (Some x) e = sym e

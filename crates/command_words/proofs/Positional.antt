@@ -4,16 +4,16 @@ use Rattle.std.specs.Prelude.{Some, option_and_then}
 use Rattle.std.specs.List.{list_all}
 use Rattle.std.proofs.lemmas.Bool.{and_parts, not-true}
 use Rattle.std.proofs.lemmas.List.{append-nil}
-use Rattle.command_words.specs.declared.sorting.State.{State}
+use Rattle.command_words.specs.declared.sorting.SortingState.{SortingState}
 use Rattle.command_words.specs.Arguments.{all_positional, arguments_of, chosen_of, inputs_set, settings_of}
 use Rattle.command_words.specs.Sorting.{begins_with_dash, sorted, sorted_from, start, step}
 
 -- after these positional words
-abbrev at : List (List ℕ) → State
+abbrev at : List (List ℕ) → SortingState
 at words = record start { positional = words }
 
 -- after these positional words and `--`
-abbrev past : List (List ℕ) → State
+abbrev past : List (List ℕ) → SortingState
 past words = record start { positional = words; is_trailing = true }
 
 kept_step : (front : List (List ℕ)) (word : List ℕ) → begins_with_dash word ≡ false → step (at front) word ≡ Some (at (front ++ word ∷ []))

@@ -9,7 +9,7 @@ use Rattle.command_words.specs.declared.named.OptionValues.{OptionValues}
 use Rattle.command_words.specs.declared.settings.Chosen.{Chosen}
 use Rattle.command_words.specs.declared.settings.Domain.{Domain}
 use Rattle.c_tree.specs.declared.tree.Mode.{Mode}
-use Rattle.command_words.specs.declared.settings.Settings.{Settings}
+use Rattle.command_words.specs.declared.settings.OptionSettings.{OptionSettings}
 use Rattle.command_words.specs.Arguments.{AreInRange, meant, domain_of, delay_of, narrow_of, overflow_of, steps_of, inputs_set, chosen_by, chosen_of, settings_from, settings_of}
 use Rattle.command_words.specs.Spelling.{input_of, inputs_after, inputs_of, is_in_int, is_input, is_number, number_up_to}
 use Rattle.command_words.proofs.Numbers.{in_order}
@@ -66,7 +66,7 @@ set_near (Some text) zs e = inputs_near [] (slice_split (λ c. c == 44) text) zs
 
 -- ---- all settings
 
-ranged : (d : Option Domain) (l n : Option ℕ) (o : Option Mode) (t : Option ℕ) (i : Option (List ℤ)) (s : Settings) → settings_from (chosen_by d l n o t) i ≡ Some s
+ranged : (d : Option Domain) (l n : Option ℕ) (o : Option Mode) (t : Option ℕ) (i : Option (List ℤ)) (s : OptionSettings) → settings_from (chosen_by d l n o t) i ≡ Some s
     → ((x : ℕ) → l ≡ Some x → x ≤ 16) → ((x : ℕ) → n ≡ Some x → x ≤ 8) → ((x : ℕ) → t ≡ Some x → x ≤ 1000000) → ((zs : List ℤ) → i ≡ Some zs → All IsNear zs) → AreInRange s
 ranged None l n o t i s e a b c f = absurd cc
 ranged (Some d) None n o t i s e a b c f = absurd cc
@@ -78,7 +78,7 @@ ranged (Some d) (Some l) (Some n) (Some o) (Some t) (Some i) s e a b c f =
     subst AreInRange (some_is (record { chosen = record { domain = d; delay = l; narrow = n; overflow = o; steps = t }; inputs = i }) s e)
     (record { delay = a l refl; narrow = b n refl; steps = c t refl; inputs = f i refl })
 
-settings_ranged : (v : OptionValues) (s : Settings) → settings_of v ≡ Some s → AreInRange s
+settings_ranged : (v : OptionValues) (s : OptionSettings) → settings_of v ≡ Some s → AreInRange s
 unfolding settings_of chosen_of inputs_set
 settings_ranged v s e =
     ranged (domain_of v) (delay_of v) (narrow_of v) (overflow_of v) (steps_of v) (inputs_set v) s e

@@ -8,7 +8,7 @@ use Rattle.command_words.specs.declared.settings.Domain.{Domain}
 use Rattle.command_words.specs.declared.settings.Domain.TheVariants.{Interval}
 use Rattle.c_tree.specs.declared.tree.Mode.{Mode}
 use Rattle.c_tree.specs.declared.tree.Mode.TheVariants.{Stop}
-use Rattle.command_words.specs.declared.settings.Settings.{Settings}
+use Rattle.command_words.specs.declared.settings.OptionSettings.{OptionSettings}
 use Rattle.command_words.specs.declared.settings.Given.{Given}
 use Rattle.command_words.specs.declared.reading.Arguments.{Arguments}
 use Rattle.command_words.specs.declared.refusal.Usage.{Usage}
@@ -69,14 +69,14 @@ chosen_by domain_meant delay_meant narrow_meant overflow_meant steps_meant = do
 unfoldable pub chosen_of : OptionValues → Option Chosen
 chosen_of values = chosen_by (domain_of values) (delay_of values) (narrow_of values) (overflow_of values) (steps_of values)
 
-abbrev pub settings_from : Option Chosen → Option (List ℤ) → Option Settings
+abbrev pub settings_from : Option Chosen → Option (List ℤ) → Option OptionSettings
 settings_from chosen_meant inputs_meant = do
   chosen ← chosen_meant
   inputs ← inputs_meant
   Some (record { chosen = chosen; inputs = inputs })
 
 -- what all options set, or nothing where the text of one means nothing
-unfoldable pub settings_of : OptionValues → Option Settings
+unfoldable pub settings_of : OptionValues → Option OptionSettings
 settings_of values = settings_from (chosen_of values) (inputs_set values)
 
 -- which options are given
@@ -98,13 +98,13 @@ arguments_of words = do
   Some (record { positional = state.positional; given = given_of state.values; settings = settings })
 
 -- a call that reads answers this: it refuses exactly where there is nothing, and want of memory is free
-abbrev pub Reads : {A : Type 0} → Option A → Result A (Refusal Usage) → Type 0
-Reads expected (Ok found) = expected ≡ Some found
-Reads expected (Err (refusal.Fault usage)) = expected ≡ None
-Reads expected (Err refusal.NoMemory) = ⊤
+abbrev pub AnswersWords : {A : Type 0} → Option A → Result A (Refusal Usage) → Type 0
+AnswersWords expected (Ok found) = expected ≡ Some found
+AnswersWords expected (Err (refusal.Fault usage)) = expected ≡ None
+AnswersWords expected (Err refusal.NoMemory) = ⊤
 
 -- what is set is in the ranges of the options
-pub record AreInRange (settings : Settings) : Type 0 where
+pub record AreInRange (settings : OptionSettings) : Type 0 where
   pub delay : settings.chosen.delay ≤ 16
   pub narrow : settings.chosen.narrow ≤ 8
   pub steps : settings.chosen.steps ≤ 1000000
@@ -117,7 +117,7 @@ abbrev pub nothing_given : Given
 nothing_given = record { domain = false; delay = false; narrow = false; overflow = false; steps = false; inputs = false }
 
 -- what is set where no option is given
-abbrev pub defaults : Settings
+abbrev pub defaults : OptionSettings
 defaults = record {
   chosen = record { domain = Interval; delay = 0; narrow = 1; overflow = Stop; steps = 1000 };
   inputs = [];

@@ -7,7 +7,7 @@ use Rattle.std.specs.Borrow.{Bor}
 use Rattle.command_words.specs.declared.named.OptionName.{OptionName}
 use Rattle.command_words.specs.declared.named.OptionName.TheVariants.{Domain, Delay, Narrow, Overflow, Steps, Inputs}
 use Rattle.command_words.specs.declared.named.OptionValues.{OptionValues}
-use Rattle.command_words.specs.declared.sorting.State.{State}
+use Rattle.command_words.specs.declared.sorting.SortingState.{SortingState}
 use Rattle.command_words.specs.declared.refusal.Usage.{Usage}
 use Rattle.fam_outer.specs.declared.refusal.Refusal.{Refusal}
 use Rattle.fam_outer.specs.declared.refusal.Refusal.TheVariants as refusal
@@ -80,7 +80,7 @@ option_parts word = option_and_then (λ text. Some (parts text)) (after_dashes w
 -- ---- one word after another
 
 -- where the reading starts
-abbrev pub start : State
+abbrev pub start : SortingState
 start = record {
   positional = [];
   values = record { domain = None; delay = None; narrow = None; overflow = None; steps = None; inputs = None };
@@ -89,59 +89,59 @@ start = record {
 }
 
 -- a positional word
-abbrev pub keep : State → List ℕ → Option State
+abbrev pub keep : SortingState → List ℕ → Option SortingState
 keep state word = Some (record state { positional = state.positional ++ word ∷ [] })
 
 -- an option's value, once
-abbrev pub give : State → OptionName → List ℕ → Option State
+abbrev pub give : SortingState → OptionName → List ℕ → Option SortingState
 give state name value =
     if is_given state.values name then None
     else Some (record state { values = with_value state.values name value; waiting = None })
 
 -- an option with its value, or one whose value is awaited; no other option is known
-abbrev pub option_given : State → Option OptionName → Option (List ℕ) → Option State
+abbrev pub option_given : SortingState → Option OptionName → Option (List ℕ) → Option SortingState
 option_given state None value = None
 option_given state (Some name) (Some value) = give state name value
 option_given state (Some name) None = Some (record state { waiting = Some name })
 
 -- an option by its name and value, if the word has a name
-abbrev pub option_taken : State → Option (List ℕ × Option (List ℕ)) → Option State
+abbrev pub option_taken : SortingState → Option (List ℕ × Option (List ℕ)) → Option SortingState
 option_taken state None = None
 option_taken state (Some p) = option_given state (name_by p.0) p.1
 
 -- an option word
-abbrev pub option_step : State → List ℕ → Option State
+abbrev pub option_step : SortingState → List ℕ → Option SortingState
 option_step state word = option_taken state (option_parts word)
 
 -- a word where no value is awaited, before the first `--`
-abbrev pub free_step : State → List ℕ → Option State
+abbrev pub free_step : SortingState → List ℕ → Option SortingState
 free_step state word =
     if bytes_eq word (codes "--") then Some (record state { is_trailing = true })
     else (if begins_with_dash word && not (bytes_eq word (codes "-")) then option_step state word
     else keep state word)
 
 -- a word where the value of an option may be awaited
-abbrev pub waited_step : State → Option OptionName → List ℕ → Option State
+abbrev pub waited_step : SortingState → Option OptionName → List ℕ → Option SortingState
 waited_step state None word = free_step state word
 waited_step state (Some name) word = if begins_with_dash word then None else give state name word
 
 -- the next word
-unfoldable pub step : State → List ℕ → Option State
+unfoldable pub step : SortingState → List ℕ → Option SortingState
 step state word = if state.is_trailing then keep state word else waited_step state state.waiting word
 
 -- the words after a state
-abbrev pub sorted_from : State → List (List ℕ) → Option State
+abbrev pub sorted_from : SortingState → List (List ℕ) → Option SortingState
 sorted_from state [] = if is_some state.waiting then None else Some state
 sorted_from state (word ∷ words) = option_and_then (λ next. sorted_from next words) (step state word)
 
 -- the words, sorted into options and positional words, or nothing where they are refused
-abbrev pub sorted : List (List ℕ) → Option State
+abbrev pub sorted : List (List ℕ) → Option SortingState
 sorted words = sorted_from start words
 
 -- ---- what the code answers
 
 -- a step of the code answers this: it refuses exactly where there is no next state, and want of memory is free
-abbrev pub StepsTo : {X : Type 0} → Option State → State → Result X (Refusal Usage) → Type 0
+abbrev pub StepsTo : {X : Type 0} → Option SortingState → SortingState → Result X (Refusal Usage) → Type 0
 StepsTo expected new (Ok done) = expected ≡ Some new
 StepsTo expected new (Err refusal.NoMemory) = ⊤
 StepsTo expected new (Err (refusal.Fault usage)) = expected ≡ None

@@ -5,7 +5,7 @@ ghost use Rattle.std.specs.Prelude.{◌≡◌, ◌^◌, IfOk, codes, Some, List,
 ghost use Rattle.std.specs.Str.Parse.{digits_value};
 ghost use Rattle.clap.specs.Words.{FailsBy, fault_of, found_of, matches_of, rows_of, rule_of, app_of, with_rule, is_broken, one_of, first_of};
 ghost use Rattle.clap.specs.declared.builder.value_parser.ValueParser.TheVariants as vp;
-ghost use Rattle.command_words.specs.Arguments.{texts_of, Reads, chosen_of, chosen_by};
+ghost use Rattle.command_words.specs.Arguments.{texts_of, AnswersWords, chosen_of, chosen_by};
 ghost use Rattle.command_words.specs.Options.{bare_app, five_app, option_rule, words_of, are_spelled, HasTexts, IsNumberBelow};
 ghost use Rattle.command_words.specs.Spelling.{domain_by, overflow_by};
 ghost use Rattle.command_words.specs.declared.named.OptionValues.{OptionValues};
@@ -164,7 +164,7 @@ fn chosen_in(matches: &ArgMatches<'_>) -> Option<Chosen>
 /// What the words for values that are spelled right set.
 pub fn read_spelled(alloc: Global, words: &[String]) -> Result<Chosen, WordsRefusal>
     ensures { (values : OptionValues) → texts_of words.now ≡ words_of values → are_spelled values ≡ true
-        → Reads (chosen_of values) result }
+        → AnswersWords (chosen_of values) result }
 {
     let matches = match parse_options(alloc, words) {
         Ok(matches) => matches,

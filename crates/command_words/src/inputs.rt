@@ -3,7 +3,7 @@
 
 ghost use Rattle.std.specs.Prelude.{◌≡◌, ◌==◌, [], IfOk, map};
 ghost use Rattle.std.specs.List.{slice_split};
-ghost use Rattle.command_words.specs.Arguments.{inputs_set, Reads};
+ghost use Rattle.command_words.specs.Arguments.{inputs_set, AnswersWords};
 ghost use Rattle.command_words.specs.Spelling.{input_of as read_input, inputs_after, inputs_of as read_inputs};
 
 use crate::named::OptionValues;
@@ -35,7 +35,7 @@ fn parts_of(alloc: Global, text: &str) -> Result<Vec<&str>, NoMemory>
 
 /// The numbers that the texts spell.
 fn inputs_in(alloc: Global, texts: &[&str]) -> Result<Values, WordsRefusal>
-    ensures { Reads (inputs_after [] (map (λ text. text.now) texts.now)) result }
+    ensures { AnswersWords (inputs_after [] (map (λ text. text.now) texts.now)) result }
 {
     let mut numbers = Vec::new(alloc);
     for text in texts {
@@ -49,7 +49,7 @@ fn inputs_in(alloc: Global, texts: &[&str]) -> Result<Values, WordsRefusal>
 
 /// The numbers, joined by commas, that the text spells.
 pub fn inputs_of(alloc: Global, text: &str) -> Result<Values, WordsRefusal>
-    ensures { Reads (read_inputs text.now) result }
+    ensures { AnswersWords (read_inputs text.now) result }
 {
     let parts = parts_of(alloc, text)?;
     inputs_in(alloc, parts.as_slice())
@@ -58,7 +58,7 @@ pub fn inputs_of(alloc: Global, text: &str) -> Result<Values, WordsRefusal>
 /// What `--inputs` sets.
 #[tactic(auto, unfolding(crate::specs::Arguments::inputs_set))]
 pub fn inputs_given(alloc: Global, values: &OptionValues) -> Result<Values, WordsRefusal>
-    ensures { Reads (inputs_set values.now) result }
+    ensures { AnswersWords (inputs_set values.now) result }
 {
     match &values.inputs {
         Some(text) => inputs_of(alloc, text.as_str()),

@@ -2,7 +2,7 @@
 #![tactic(auto)]
 
 ghost use Rattle.std.specs.Prelude.{◌≡◌, ◌++◌, IfOk, OnOk, codes, is_some, string_bytes};
-ghost use Rattle.command_words.specs.Arguments.{texts_of, Reads, chosen_of};
+ghost use Rattle.command_words.specs.Arguments.{texts_of, AnswersWords, chosen_of};
 ghost use Rattle.command_words.specs.Options.{option_word, words_of, passes, are_spelled as spelled};
 ghost use Rattle.command_words.specs.Spelling.{is_number as number_spelled, domain_by, overflow_by};
 
@@ -98,7 +98,7 @@ fn option_words(alloc: Global, values: &OptionValues) -> Result<Vec<String>, NoM
 
 /// What the five options set.
 pub fn read_options(alloc: Global, values: &OptionValues) -> Result<Chosen, WordsRefusal>
-    ensures { Reads (chosen_of values.now) result }
+    ensures { AnswersWords (chosen_of values.now) result }
 {
     if !are_spelled(values) {
         return Err(WordsRefusal::Fault(Usage));

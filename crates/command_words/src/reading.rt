@@ -2,13 +2,13 @@
 #![tactic(auto)]
 
 ghost use Rattle.std.specs.Prelude.{◌≡◌, IfOk};
-ghost use Rattle.command_words.specs.Arguments.{arguments_of, settings_of, texts_of, AreInRange, Reads};
+ghost use Rattle.command_words.specs.Arguments.{arguments_of, settings_of, texts_of, AreInRange, AnswersWords};
 
 use crate::inputs::inputs_given;
 use crate::named::OptionValues;
 use crate::options::read_options;
 use crate::refusal::WordsRefusal;
-use crate::settings::{Given, Settings};
+use crate::settings::{Given, OptionSettings};
 use crate::sorting::sort_words;
 use crate::word::Words;
 use std::alloc::Global;
@@ -18,24 +18,24 @@ use std::alloc::Global;
 pub struct Arguments {
     pub positional: Words,
     pub given: Given,
-    pub settings: Settings,
+    pub settings: OptionSettings,
 }
 
 /// What all options set.
 #[tactic(auto, unfolding(crate::specs::Arguments::settings_of))]
-fn read_settings(alloc: Global, values: &OptionValues) -> Result<Settings, WordsRefusal>
-    ensures answer { Reads (settings_of values.now) result }
+fn read_settings(alloc: Global, values: &OptionValues) -> Result<OptionSettings, WordsRefusal>
+    ensures answer { AnswersWords (settings_of values.now) result }
     ensures ranges { IfOk result (λ settings. AreInRange settings) }
 {
     let chosen = read_options(alloc, values)?;
     let inputs = inputs_given(alloc, values)?;
-    Ok(Settings { chosen, inputs })
+    Ok(OptionSettings { chosen, inputs })
 }
 
 /// What the words say. They are refused where one is no option of these six, an option is given twice
 /// or without its value, or a value is not spelled as the option wants or is out of its range.
 pub fn read_words(alloc: Global, words: &[String]) -> Result<Arguments, WordsRefusal>
-    ensures answer { Reads (arguments_of (texts_of words.now)) result }
+    ensures answer { AnswersWords (arguments_of (texts_of words.now)) result }
     ensures ranges { IfOk result (λ found. AreInRange found.settings) }
 {
     let state = sort_words(alloc, words)?;

@@ -52,7 +52,7 @@ pub struct Chosen {
 
 /// What each option sets, and its default where it is not given.
 #[derive(Debug, Drop)]
-pub struct Settings {
+pub struct OptionSettings {
     pub chosen: Chosen,
     pub inputs: Values,
 }

@@ -3,7 +3,7 @@
 
 ghost use Rattle.std.specs.Prelude.{◌≡◌};
 ghost use Rattle.command_words.specs.Sorting.{start, keep, StepsTo, give, option_step, free_step, step, sorted, begins_with_dash, Splits};
-ghost use Rattle.command_words.specs.Arguments.{texts_of, Reads};
+ghost use Rattle.command_words.specs.Arguments.{texts_of, AnswersWords};
 
 use crate::named::{OptionName, OptionValues};
 use crate::refusal::{Usage, WordsRefusal};
@@ -12,7 +12,7 @@ use std::alloc::Global;
 
 /// Where the reading of words stands.
 #[derive(Debug, Drop)]
-pub struct State {
+pub struct SortingState {
     pub positional: Words,
     pub values: OptionValues,
     pub waiting: Option<OptionName>,
@@ -40,12 +40,12 @@ fn name_and_value(word: &str) -> Option<(&str, Option<&str>)>
     }
 }
 
-impl State {
+impl SortingState {
     /// Nothing read.
-    pub fn start(alloc: Global) -> State
+    pub fn start(alloc: Global) -> SortingState
         ensures { result ≡ start }
     {
-        State {
+        SortingState {
             positional: Words::new(alloc),
             values: OptionValues {
                 domain: None,
@@ -130,10 +130,10 @@ impl State {
 }
 
 /// Sorts the words into options and positional words.
-pub fn sort_words(alloc: Global, words: &[String]) -> Result<State, WordsRefusal>
-    ensures { Reads (sorted (texts_of words.now)) result }
+pub fn sort_words(alloc: Global, words: &[String]) -> Result<SortingState, WordsRefusal>
+    ensures { AnswersWords (sorted (texts_of words.now)) result }
 {
-    let mut state = State::start(alloc);
+    let mut state = SortingState::start(alloc);
     for word in words {
         state.take(alloc, word.as_str())?;
     }

@@ -24,7 +24,7 @@ use Rattle.configuration_advice.specs.Searching.{pairs, ArePairs, IsAsked, IsCan
 use Rattle.configuration_advice.specs.Tests.{at_least}
 use Rattle.configuration_advice.proofs.Asked.{at_least_fit}
 use Rattle.configuration_advice.proofs.Chosen.{open_chosen, differing_most}
-use Rattle.configuration_advice.proofs.Found.{within_length}
+use Rattle.configuration_advice.proofs.FirstFound.{within_length}
 
 -- ---- the tests behind the atoms
 

@@ -5,7 +5,7 @@ pub mod Belows
 pub mod Chosen
 pub mod Compared
 pub mod Formed
-pub mod Found
+pub mod FirstFound
 pub mod Halved
 pub mod Ranged
 pub mod Searched

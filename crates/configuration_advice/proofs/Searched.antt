@@ -6,7 +6,7 @@ use Rattle.configuration_advice.specs.declared.choices.Choice.TheVariants.{Open,
 use Rattle.configuration_advice.specs.declared.question.Question.{Question}
 use Rattle.configuration_advice.specs.Choices.{AreChosen, changes, close, Tightens}
 use Rattle.configuration_advice.specs.Nearest.{differing}
-use Rattle.configuration_advice.specs.Searching.{IsCandidate, IsFirstOf, IsRefuted, IsNearer, IsBeaten, HaveOneLength, AreAdvice, IsAdvice, FindsNearest}
+use Rattle.configuration_advice.specs.Searching.{IsCandidate, IsFirstOf, IsRefuted, IsNearer, IsBeaten, HaveOneLength, MayBeCandidateWithin, IsCandidateWithin, FindsNearest}
 use Rattle.configuration_advice.proofs.Chosen.{chosen_length, close_loosens, close_differs, changes_least, close_by, split_open, open_again, one_change, no_change, one_length}
 
 module _ (q : Question) where
@@ -22,7 +22,7 @@ module _ (q : Question) where
 
   -- ---- all that is open is kept
 
-  kept_advice : (cs : List Choice) (most : ℕ) (a : Advice) → IsCandidate q (map close cs) a.config.values → a.changed ≡ changes cs → changes cs ≤ most → IsAdvice q cs most a
+  kept_advice : (cs : List Choice) (most : ℕ) (a : Advice) → IsCandidate q (map close cs) a.config.values → a.changed ≡ changes cs → changes cs ≤ most → IsCandidateWithin q cs most a
   kept_advice cs most a c e h = record {
     candidate = rechosen (map close cs) cs a.config.values c (close_loosens cs given a.config.values c.chosen);
     changed = e ∙ sym (close_differs cs given a.config.values c.chosen);
@@ -59,7 +59,7 @@ module _ (q : Question) where
     pub count : length (front ++ rest) ≡ length choices
     pub same_changes : changes (front ++ rest) ≡ changes choices
     pub within : (values : List ℤ) → AreChosen (front ++ rest) given values → AreChosen choices given values
-    pub advice : AreAdvice q choices most best
+    pub advice : MayBeCandidateWithin q choices most best
     pub left : (values : List ℤ) → IsCandidate q choices values → differs values ≤ most → AreChosen (front ++ rest) given values ⊎ IsBeaten given values best
 
   pub branching_start : (choices blamed : List Choice) (most : ℕ) → Tightens choices blamed → IsBranching choices blamed most [] choices blamed None
@@ -135,13 +135,13 @@ module _ (q : Question) where
   trial_within choices blamed most front rest others behind trial best b e f values h =
       b.within values (subst (λ xs. AreChosen (front ++ xs) given values) (sym e) (open_again front behind Changed given values (subst (λ xs. AreChosen xs given values) f h)))
 
-  advice_of : (choices trial : List Choice) (most : ℕ) (found : Option Advice) → ((values : List ℤ) → AreChosen trial given values → AreChosen choices given values) → AreAdvice q trial most found → AreAdvice q choices most found
+  advice_of : (choices trial : List Choice) (most : ℕ) (found : Option Advice) → ((values : List ℤ) → AreChosen trial given values → AreChosen choices given values) → MayBeCandidateWithin q trial most found → MayBeCandidateWithin q choices most found
   advice_of choices trial most None w h = tt
   advice_of choices trial most (Some a) w h = record { candidate = rechosen trial choices a.config.values h.candidate (w a.config.values h.candidate.chosen); changed = h.changed; within = h.within }
 
-  advice_either : (choices : List Choice) (most : ℕ) (best found new : Option Advice) → AreAdvice q choices most best → AreAdvice q choices most found → (new ≡ best) ⊎ (new ≡ found) → AreAdvice q choices most new
-  advice_either choices most best found new h k (inl e) = subst (AreAdvice q choices most) (sym e) h
-  advice_either choices most best found new h k (inr e) = subst (AreAdvice q choices most) (sym e) k
+  advice_either : (choices : List Choice) (most : ℕ) (best found new : Option Advice) → MayBeCandidateWithin q choices most best → MayBeCandidateWithin q choices most found → (new ≡ best) ⊎ (new ≡ found) → MayBeCandidateWithin q choices most new
+  advice_either choices most best found new h k (inl e) = subst (MayBeCandidateWithin q choices most) (sym e) h
+  advice_either choices most best found new h k (inr e) = subst (MayBeCandidateWithin q choices most) (sym e) k
 
   pub trial_length : (choices blamed : List Choice) (most : ℕ) (front rest others behind trial : List Choice) (best : Option Advice) → IsBranching choices blamed most front rest others best
       → rest ≡ Open ∷ behind → trial ≡ front ++ Changed ∷ behind → length trial ≡ length choices
@@ -154,10 +154,10 @@ module _ (q : Question) where
       ap changes f ∙ one_change front behind ∙ ap suc (ap (λ xs. changes (front ++ xs)) (sym e) ∙ b.same_changes)
 
   -- advice has one value per feature
-  one_length_of : (choices : List Choice) (most : ℕ) (a : Advice) → IsAdvice q choices most a → length a.config.values ≡ length given
+  one_length_of : (choices : List Choice) (most : ℕ) (a : Advice) → IsCandidateWithin q choices most a → length a.config.values ≡ length given
   one_length_of choices most a h = chosen_length choices given a.config.values h.candidate.chosen
 
-  pub have_one_length : (choices trial : List Choice) (most : ℕ) (best found : Option Advice) → AreAdvice q choices most best → AreAdvice q trial most found → HaveOneLength best found
+  pub have_one_length : (choices trial : List Choice) (most : ℕ) (best found : Option Advice) → MayBeCandidateWithin q choices most best → MayBeCandidateWithin q trial most found → HaveOneLength best found
   have_one_length choices trial most None found h k = tt
   have_one_length choices trial most (Some a) None h k = tt
   have_one_length choices trial most (Some a) (Some b) h k = one_length_of choices most a h ∙ sym (one_length_of trial most b k)

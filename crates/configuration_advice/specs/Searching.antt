@@ -77,16 +77,16 @@ HaveOneLength (Some best) None = Unit {0}
 HaveOneLength (Some best) (Some found) = length best.config.values ≡ length found.config.values
 
 -- a candidate with at most so many changes
-pub record IsAdvice (q : Question) (choices : List Choice) (most : ℕ) (advice : Advice) : Type 0 where
+pub record IsCandidateWithin (q : Question) (choices : List Choice) (most : ℕ) (advice : Advice) : Type 0 where
   pub candidate : IsCandidate q choices advice.config.values
   pub changed : advice.changed ≡ differing q.given.now.values advice.config.values
   pub within : advice.changed ≤ most
 
-abbrev pub AreAdvice : Question → List Choice → ℕ → Option Advice → Type 0
-AreAdvice q choices most None = Unit {0}
-AreAdvice q choices most (Some advice) = IsAdvice q choices most advice
+abbrev pub MayBeCandidateWithin : Question → List Choice → ℕ → Option Advice → Type 0
+MayBeCandidateWithin q choices most None = Unit {0}
+MayBeCandidateWithin q choices most (Some advice) = IsCandidateWithin q choices most advice
 
 -- the nearest candidate, if one has at most so many changes
 pub record FindsNearest (q : Question) (choices : List Choice) (most : ℕ) (found : Option Advice) : Type 0 where
-  pub advice : AreAdvice q choices most found
+  pub advice : MayBeCandidateWithin q choices most found
   pub nearest : (values : List ℤ) → IsCandidate q choices values → differing q.given.now.values values ≤ most → IsBeaten q.given.now.values values found

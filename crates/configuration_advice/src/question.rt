@@ -10,7 +10,7 @@ use crate::asking::at_least;
 use crate::choices::{Choice, of_choices};
 use atom_solver::Prepared;
 use cpp_conditions::Formula;
-use fam_outer::NoMemory;
+use fam_outer::{MOST_VALUE, NoMemory};
 use linear_atoms::slices::cut;
 use linear_atoms::{Atom, Config};
 use std::alloc::Global;
@@ -28,7 +28,7 @@ pub(crate) struct Question<'a> {
 
 /// Adds the two tests of a feature: that it has at least the value, and that it has more.
 fn push_pair(alloc: Global, list: &mut Vec<Atom>, number: u32, value: i64) -> Result<(), NoMemory>
-    requires { unsigned_abs value ≤ 1048576 }
+    requires { unsigned_abs value ≤ MOST_VALUE }
     ensures { IfOk result (λ _. list.new.items
         ≡ list.old.items ++ (at_least number value ∷ at_least number (value +ℤ pos 1) ∷ [])) }
 {

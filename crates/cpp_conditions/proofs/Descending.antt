@@ -2,8 +2,8 @@
 use Rattle.std.proofs.Common.{◌≡◌, ℕ, suc, ◌<◌, List, [], ◌∷◌, length, Some, None, refl, sym, ap, subst, ◌∙◌, arith}
 use Rattle.cpp_conditions.specs.declared.operators.Operator.{Operator}
 use Rattle.cpp_conditions.specs.declared.operators.Prefix.{Prefix}
-use Rattle.cpp_conditions.specs.declared.stop.Stop.{Stop}
-use Rattle.cpp_conditions.specs.declared.stop.Stop.TheVariants as stops
+use Rattle.cpp_conditions.specs.declared.expression_refusal.ExpressionRefusal.{ExpressionRefusal}
+use Rattle.cpp_conditions.specs.declared.expression_refusal.ExpressionRefusal.TheVariants as stops
 use Rattle.cpp_conditions.specs.declared.tokens.Token as coded
 use Rattle.cpp_conditions.specs.Expressions.{Expression, Unary, Binary}
 use Rattle.cpp_conditions.specs.Grammar.{tighter, sign}
@@ -50,7 +50,7 @@ inside_halts : (ts rest : List Token) → ts ≡ Open ∷ rest → Halts 6 rest 
 unfolding read
 inside_halts ts rest cut halts open_ le = ap (read (Wants open_)) cut ∙ halts (Paren ∷ open_) (omega arith)
 
-pub inside_falls : (s : Stop) (ts rest : List Token) → ts ≡ Open ∷ rest → Falls 6 s rest → Falls 0 s ts
+pub inside_falls : (s : ExpressionRefusal) (ts rest : List Token) → ts ≡ Open ∷ rest → Falls 6 s rest → Falls 0 s ts
 inside_falls stops.NoMemory ts rest cut h = tt
 inside_falls stops.Wrong ts rest cut h = inside_halts ts rest cut h
 
@@ -58,7 +58,7 @@ pub prefixed : (u : Prefix) (ts rest after : List Token) (e made : Expression) �
 prefixed u ts rest after e made cut goes is open_ le =
     ap (read (Wants open_)) cut ∙ signs u open_ rest ∙ goes (Pre u ∷ open_) (omega arith) ∙ pre_absorbs u open_ e after ∙ ap (λ (x : Expression). read (Has open_ x) after) (sym is)
 
-pub prefix_falls : (u : Prefix) (s : Stop) (ts rest : List Token) → ts ≡ sign u ∷ rest → Falls 0 s rest → Falls 0 s ts
+pub prefix_falls : (u : Prefix) (s : ExpressionRefusal) (ts rest : List Token) → ts ≡ sign u ∷ rest → Falls 0 s rest → Falls 0 s ts
 prefix_falls u stops.NoMemory ts rest cut h = tt
 prefix_falls u stops.Wrong ts rest cut halts = λ open_ le. ap (read (Wants open_)) cut ∙ signs u open_ rest ∙ halts (Pre u ∷ open_) (omega arith)
 
@@ -67,7 +67,7 @@ one_more k j op ts rest after next a b made goes cut lt is right ends made_is op
     goes open_ le ∙ ap (read (Has open_ a)) cut ∙ pushes op open_ a after (omega arith) ∙ right (Left op a ∷ open_) (omega arith)
     ∙ left_absorbs op a open_ b next (subst (λ (i : ℕ). Loose (suc i) next) is ends) ∙ ap (λ (x : Expression). read (Has open_ x) next) (sym made_is)
 
-pub right_falls : (k j : ℕ) (op : Operator) (ts rest after : List Token) (a : Expression) (s : Stop) → Goes k ts a rest → rest ≡ Oper op ∷ after → tighter op < k → j ≡ tighter op → Falls j s after → Falls k s ts
+pub right_falls : (k j : ℕ) (op : Operator) (ts rest after : List Token) (a : Expression) (s : ExpressionRefusal) → Goes k ts a rest → rest ≡ Oper op ∷ after → tighter op < k → j ≡ tighter op → Falls j s after → Falls k s ts
 right_falls k j op ts rest after a stops.NoMemory goes cut lt is right = tt
 right_falls k j op ts rest after a stops.Wrong goes cut lt is right = λ open_ le.
     goes open_ le ∙ ap (read (Has open_ a)) cut ∙ pushes op open_ a after (omega arith) ∙ right (Left op a ∷ open_) (omega arith)

@@ -2,8 +2,8 @@
 use Rattle.std.proofs.Common.{◌≡◌, Bool, true, false, ◌&&◌, List, Result, Ok, Err, refl, sym, ap, subst, ◌∙◌}
 use Rattle.linear_atoms.specs.declared.atoms.Atom.{Atom}
 use Rattle.linear_atoms.specs.declared.atoms.Feature.{Feature}
-use Rattle.linear_atoms.specs.declared.forms.LinearFault.{LinearFault}
-use Rattle.linear_atoms.specs.declared.forms.LinearFault.TheVariants as faults
+use Rattle.linear_atoms.specs.declared.linear_fault.LinearFault.{LinearFault}
+use Rattle.linear_atoms.specs.declared.linear_fault.LinearFault.TheVariants as faults
 use Rattle.cpp_conditions.specs.declared.conditions.Condition.{Condition}
 use Rattle.cpp_conditions.specs.declared.operators.Operator.{Operator}
 use Rattle.cpp_conditions.specs.declared.operators.Operator.TheVariants.{Times, Plus, Minus, Less, AtMost, Greater, AtLeast, Equal, Differs, Both, Either}

@@ -9,15 +9,15 @@ use Rattle.linear_atoms.specs.Atoms.{IsWithin}
 use Rattle.cpp_conditions.specs.declared.conditions.Condition.{Condition}
 use Rattle.cpp_conditions.specs.declared.reading.ConditionRefusal.{ConditionRefusal}
 use Rattle.cpp_conditions.specs.declared.reading.ConditionRefusal.TheVariants as refusals
-use Rattle.cpp_conditions.specs.declared.stop.Stop.{Stop}
-use Rattle.cpp_conditions.specs.declared.stop.Stop.TheVariants as stops
+use Rattle.cpp_conditions.specs.declared.expression_refusal.ExpressionRefusal.{ExpressionRefusal}
+use Rattle.cpp_conditions.specs.declared.expression_refusal.ExpressionRefusal.TheVariants as stops
 use Rattle.cpp_conditions.specs.declared.tokens.Token as coded
-use Rattle.cpp_conditions.specs.Descent.{plain, Reads as Parses}
+use Rattle.cpp_conditions.specs.Descent.{plain, AnswersExpression as Parses}
 use Rattle.cpp_conditions.specs.Expressions.{Expression, is_nonzero, value}
 use Rattle.cpp_conditions.specs.Grammar.{Spells, CSpells, judged, ReadsAs, no_tokens, too_deep, no_condition, read}
 use Rattle.cpp_conditions.specs.Machine.{Wants, read as read_by}
 use Rattle.cpp_conditions.specs.Propositions.{Proposition, true_at}
-use Rattle.cpp_conditions.specs.Reading.{Reads, Judges, stop_refusal}
+use Rattle.cpp_conditions.specs.Reading.{IsConditionRead, Judges, condition_refusal}
 use Rattle.cpp_conditions.specs.Scanning.{Scans}
 use Rattle.cpp_conditions.specs.Tokens.{SpellsTokens, weight_behind}
 use Rattle.cpp_conditions.specs.View.{proposition}
@@ -25,7 +25,7 @@ use Rattle.cpp_conditions.proofs.Complete.{is_read}
 use Rattle.cpp_conditions.proofs.Once.{has_value}
 use Rattle.cpp_conditions.proofs.Sound.{read_spells}
 
-pub stopped_scan : (features : List Feature) (bytes : List ℕ) (s : Stop) → Scans (Err s) bytes → Reads features bytes (Err (stop_refusal s))
+pub stopped_scan : (features : List Feature) (bytes : List ℕ) (s : ExpressionRefusal) → Scans (Err s) bytes → IsConditionRead features bytes (Err (condition_refusal s))
 stopped_scan features bytes stops.NoMemory h = tt
 stopped_scan features bytes stops.Wrong h = no_tokens h
 
@@ -41,24 +41,24 @@ no_tree features bytes list list2 items n s e f w le r =
     no_condition (plain items) s (let h : n ≡ weight_behind false (plain items) = w ∙ ap (λ ts. weight_behind false (plain ts)) e in omega arith)
     (λ d x. none_some (read_by (Wants []) (plain items)) d (ap (λ ts. read_by (Wants []) (plain ts)) (sym f) ∙ r) (is_read (plain items) d x))
 
-pub stopped_parse : (features : List Feature) (bytes : List ℕ) (list list2 items : List coded.Token) (n : ℕ) (stop : Stop) → SpellsTokens bytes (plain items) → list ≡ items → list2 ≡ items → n ≡ weight_behind false (plain list) → n ≤ 64
-    → Parses (Err stop) (read_by (Wants []) (plain list2)) → Reads features bytes (Err (stop_refusal stop))
+pub stopped_parse : (features : List Feature) (bytes : List ℕ) (list list2 items : List coded.Token) (n : ℕ) (stop : ExpressionRefusal) → SpellsTokens bytes (plain items) → list ≡ items → list2 ≡ items → n ≡ weight_behind false (plain list) → n ≤ 64
+    → Parses (Err stop) (read_by (Wants []) (plain list2)) → IsConditionRead features bytes (Err (condition_refusal stop))
 stopped_parse features bytes list list2 items n stops.NoMemory s e f w le h = tt
 stopped_parse features bytes list list2 items n stops.Wrong s e f w le h = no_tree features bytes list list2 items n s e f w le h
 
-as_judged : (features : List Feature) (bytes : List ℕ) (r : Result Condition ConditionRefusal) (x : Result (Proposition Atom) ConditionFault) → ReadsAs features bytes x → Judges r x → Reads features bytes r
+as_judged : (features : List Feature) (bytes : List ℕ) (r : Result Condition ConditionRefusal) (x : Result (Proposition Atom) ConditionFault) → ReadsAs features bytes x → Judges r x → IsConditionRead features bytes r
 as_judged features bytes (Ok made) x h j = subst (ReadsAs features bytes) j h
 as_judged features bytes (Err refusals.NoMemory) x h j = tt
 as_judged features bytes (Err (refusals.Fault fault)) x h j = subst (ReadsAs features bytes) j h
 
 pub tree_read : (features names : List Feature) (bytes : List ℕ) (list list2 items : List coded.Token) (n : ℕ) (tree : Expression) (r : Result Condition ConditionRefusal) → SpellsTokens bytes (plain items) → list ≡ items → list2 ≡ items
-    → n ≡ weight_behind false (plain list) → n ≤ 64 → read_by (Wants []) (plain list2) ≡ Some tree → names ≡ features → Judges r (judged names tree) → Reads features bytes r
+    → n ≡ weight_behind false (plain list) → n ≤ 64 → read_by (Wants []) (plain list2) ≡ Some tree → names ≡ features → Judges r (judged names tree) → IsConditionRead features bytes r
 tree_read features names bytes list list2 items n tree r s e f w le p same j =
     let h : weight_behind false (plain items) ≤ 64 = (let k : n ≡ weight_behind false (plain items) = w ∙ ap (λ ts. weight_behind false (plain ts)) e in omega arith) in
     let x : Spells 6 (plain items) tree = read_spells (plain items) tree (ap (λ ts. read_by (Wants []) (plain ts)) (sym f) ∙ p) in
     as_judged features bytes r (judged features tree) (read (plain items) tree s h x) (subst (λ fs. Judges r (judged fs tree)) same j)
 
-pub values_of : (features : List Feature) (bytes : List ℕ) (r : Result Condition ConditionRefusal) → Reads features bytes r
+pub values_of : (features : List Feature) (bytes : List ℕ) (r : Result Condition ConditionRefusal) → IsConditionRead features bytes r
     → IfOk r (λ made. (e : Expression) (values : List ℤ) → CSpells e bytes → IsWithin features values → true_at values (proposition made) ≡ is_nonzero (value features values e))
 values_of features bytes (Ok made) h = has_value features bytes (proposition made) h
 values_of features bytes (Err fault) h = tt

@@ -6,7 +6,7 @@ use Rattle.std.proofs.lemmas.Bool.{ltb-false, ltb-true, cases_lt}
 use Rattle.cpp_conditions.specs.declared.operators.Operator.TheVariants.{Times, Plus, Minus, Less, AtMost, Greater, AtLeast, Equal, Differs, Both, Either}
 use Rattle.cpp_conditions.specs.Expressions.{Expression, Unary, Binary}
 use Rattle.cpp_conditions.specs.Grammar.{tighter, sign, Spells, number, name, defined, defined_group, group, prefix, loose, binary}
-use Rattle.cpp_conditions.specs.Machine.{Frame, Paren, Pre, Left, room, State, Wants, Has, Asks, AsksInside, Asked, settle, closed_by, ended_by, step, finish, moved, read}
+use Rattle.cpp_conditions.specs.Machine.{Frame, Paren, Pre, Left, room, ExpressionState, Wants, Has, Asks, AsksInside, Asked, settle, closed_by, ended_by, step, finish, moved, read}
 use Rattle.cpp_conditions.specs.Tokens.{Token, Digits, Word, Defined, Open, Close, Bang, Oper, Twice}
 use Rattle.cpp_conditions.proofs.Complete.{tighter_small}
 
@@ -17,7 +17,7 @@ Read (Paren ∷ open_) a = (b : List Token) × Read open_ b × (a ≡ b ++ Open 
 Read (Pre u ∷ open_) a = (b : List Token) × Read open_ b × (a ≡ b ++ sign u ∷ [])
 Read (Left op x ∷ open_) a = (b us : List Token) × Read open_ b × Spells (suc (tighter op)) us x × (tighter op < room open_) × (a ≡ b ++ (us ++ Oper op ∷ []))
 
-abbrev pub Stands : State → List Token → Type 0
+abbrev pub Stands : ExpressionState → List Token → Type 0
 Stands (Wants open_) a = Read open_ a
 Stands (Has open_ e) a = (b ts : List Token) × Read open_ b × Spells 0 ts e × (a ≡ b ++ ts)
 Stands (Asks open_) a = (b : List Token) × Read open_ b × (a ≡ b ++ Defined ∷ [])
@@ -136,7 +136,7 @@ keeps_until open_ x Bang a r = tt
 keeps_until open_ x (Oper op) a r = tt
 keeps_until open_ x Twice a r = tt
 
-keeps : (state : State) (t : Token) (a : List Token) → Stands state a → IfSome (step state t) (λ next. Stands next (a ++ t ∷ []))
+keeps : (state : ExpressionState) (t : Token) (a : List Token) → Stands state a → IfSome (step state t) (λ next. Stands next (a ++ t ∷ []))
 keeps (Wants open_) = keeps_wanted open_
 keeps (Has open_ e) = keeps_had open_ e
 keeps (Asks open_) = keeps_asked open_
@@ -147,14 +147,14 @@ ended_is : (open_ : List Frame) (e : Expression) (a : List Token) → Settled 6 
 ended_is [] e a d = subst (λ (y : List Token). Spells 6 y e) (sym (d.parts ∙ ap (λ (y : List Token). y ++ d.text) d.is_read)) d.spells
 ended_is (frame ∷ open_) e a d = tt
 
-finishes : (state : State) (a : List Token) → Stands state a → IfSome (finish state) (λ made. Spells 6 a made)
+finishes : (state : ExpressionState) (a : List Token) → Stands state a → IfSome (finish state) (λ made. Spells 6 a made)
 finishes (Wants open_) a r = tt
 finishes (Has open_ e) a r = ended_is (settle 6 open_ e).0 (settle 6 open_ e).1 a (of_state open_ e a 6 (omega arith) r)
 finishes (Asks open_) a r = tt
 finishes (AsksInside open_) a r = tt
 finishes (Asked open_ x) a r = tt
 
-sound : (state : State) (ts a : List Token) → Stands state a → IfSome (read state ts) (λ made. Spells 6 (a ++ ts) made)
+sound : (state : ExpressionState) (ts a : List Token) → Stands state a → IfSome (read state ts) (λ made. Spells 6 (a ++ ts) made)
 unfolding read
 sound state [] a r = subst (λ (y : List Token). IfSome (finish state) (λ made. Spells 6 y made)) (sym (append-nil a)) (finishes state a r)
 sound state (x ∷ ts) a r = elim (step state x) as (λ o. IfSome o (λ next. Stands next (a ++ x ∷ [])) → IfSome (moved o (λ next. read next ts)) (λ made. Spells 6 (a ++ x ∷ ts) made)) [

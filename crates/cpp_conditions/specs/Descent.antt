@@ -1,8 +1,8 @@
 -- What the functions of the descent answer, as the machine does it.
 use Rattle.std.specs.Prelude.{◌≡◌, ⊤, ℕ, suc, ◌≤◌, List, ◌∷◌, map, Option, Some, None, Result, Ok, Err}
 use Rattle.std.specs.Borrow.{Bor}
-use Rattle.cpp_conditions.specs.declared.stop.Stop.{Stop}
-use Rattle.cpp_conditions.specs.declared.stop.Stop.TheVariants as stops
+use Rattle.cpp_conditions.specs.declared.expression_refusal.ExpressionRefusal.{ExpressionRefusal}
+use Rattle.cpp_conditions.specs.declared.expression_refusal.ExpressionRefusal.TheVariants as stops
 use Rattle.cpp_conditions.specs.declared.tokens.Token as coded
 use Rattle.cpp_conditions.specs.declared.expressions.Expression as trees
 use Rattle.cpp_conditions.specs.declared.expressions.Expression.TheVariants as variants
@@ -48,11 +48,11 @@ Goes k ts e rest = (open_ : List Frame) → k ≤ room open_ → read (Wants ope
 abbrev pub Halts : ℕ → List Token → Type 0
 Halts k ts = (open_ : List Frame) → k ≤ room open_ → read (Wants open_) ts ≡ None
 
-abbrev pub Falls : ℕ → Stop → List Token → Type 0
+abbrev pub Falls : ℕ → ExpressionRefusal → List Token → Type 0
 Falls k stops.NoMemory ts = ⊤
 Falls k stops.Wrong ts = Halts k ts
 
-abbrev pub Climbs : ℕ → Result (trees.Expression × Bor (List coded.Token)) Stop → List Token → Type 0
+abbrev pub Climbs : ℕ → Result (trees.Expression × Bor (List coded.Token)) ExpressionRefusal → List Token → Type 0
 Climbs k (Ok x) ts = Goes k ts (expression x.0) (plain x.1.now)
 Climbs k (Err e) ts = Falls k e ts
 
@@ -66,12 +66,12 @@ abbrev pub Singles : Option (trees.Expression × Bor (List coded.Token)) → Lis
 Singles (Some x) ts = (open_ : List Frame) → read (Wants open_) ts ≡ read (Has open_ (expression x.0)) (plain x.1.now)
 Singles None ts = IsNoPrefix ts → IsNoOpen ts → (open_ : List Frame) → read (Wants open_) ts ≡ None
 
-abbrev pub Made : Result trees.Expression Stop → Expression → Type 0
+abbrev pub Made : Result trees.Expression ExpressionRefusal → Expression → Type 0
 Made (Ok e) t = expression e ≡ t
 Made (Err stops.NoMemory) t = ⊤
 Made (Err stops.Wrong) t = ⊥
 
-abbrev pub Reads : Result trees.Expression Stop → Option Expression → Type 0
-Reads (Ok e) o = o ≡ Some (expression e)
-Reads (Err stops.NoMemory) o = ⊤
-Reads (Err stops.Wrong) o = o ≡ None
+abbrev pub AnswersExpression : Result trees.Expression ExpressionRefusal → Option Expression → Type 0
+AnswersExpression (Ok e) o = o ≡ Some (expression e)
+AnswersExpression (Err stops.NoMemory) o = ⊤
+AnswersExpression (Err stops.Wrong) o = o ≡ None

@@ -3,8 +3,8 @@ use Rattle.std.specs.Prelude.{◌≡◌, ⊤, ℕ, ◌≤◌, ℤ, unsigned_abs,
 use Rattle.linear_atoms.specs.declared.atoms.Atom.{Atom}
 use Rattle.linear_atoms.specs.declared.atoms.Feature.{Feature}
 use Rattle.linear_atoms.specs.declared.forms.Linear.{Linear}
-use Rattle.linear_atoms.specs.declared.forms.LinearFault.{LinearFault}
-use Rattle.linear_atoms.specs.declared.forms.LinearFault.TheVariants as faults
+use Rattle.linear_atoms.specs.declared.linear_fault.LinearFault.{LinearFault}
+use Rattle.linear_atoms.specs.declared.linear_fault.LinearFault.TheVariants as faults
 use Rattle.linear_atoms.specs.Atoms.{AreBelow}
 use Rattle.linear_atoms.specs.Forms.{IsRising, form_sum, form_by, are_small, is_small_form}
 use Rattle.cpp_conditions.specs.declared.conditions.Condition.{Condition}

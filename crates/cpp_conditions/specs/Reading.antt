@@ -4,22 +4,22 @@ use Rattle.fam_outer.specs.declared.faults.ConditionFault.{ConditionFault}
 use Rattle.fam_outer.specs.declared.faults.ConditionFault.TheVariants as faults
 use Rattle.linear_atoms.specs.declared.atoms.Atom.{Atom}
 use Rattle.linear_atoms.specs.declared.atoms.Feature.{Feature}
-use Rattle.linear_atoms.specs.declared.forms.LinearFault.{LinearFault}
-use Rattle.linear_atoms.specs.declared.forms.LinearFault.TheVariants as linear
+use Rattle.linear_atoms.specs.declared.linear_fault.LinearFault.{LinearFault}
+use Rattle.linear_atoms.specs.declared.linear_fault.LinearFault.TheVariants as linear
 use Rattle.cpp_conditions.specs.declared.conditions.Condition.{Condition}
 use Rattle.cpp_conditions.specs.declared.reading.ConditionRefusal.{ConditionRefusal}
 use Rattle.cpp_conditions.specs.declared.reading.ConditionRefusal.TheVariants as refusals
-use Rattle.cpp_conditions.specs.declared.stop.Stop.{Stop}
-use Rattle.cpp_conditions.specs.declared.stop.Stop.TheVariants as stops
+use Rattle.cpp_conditions.specs.declared.expression_refusal.ExpressionRefusal.{ExpressionRefusal}
+use Rattle.cpp_conditions.specs.declared.expression_refusal.ExpressionRefusal.TheVariants as stops
 use Rattle.cpp_conditions.specs.Grammar.{ReadsAs}
 use Rattle.cpp_conditions.specs.Propositions.{Proposition}
 use Rattle.cpp_conditions.specs.View.{proposition}
 
 -- the answer is what the bytes are read as, unless memory runs out
-abbrev pub Reads : List Feature → List ℕ → Result Condition ConditionRefusal → Type 0
-Reads features bytes (Ok made) = ReadsAs features bytes (Ok (proposition made))
-Reads features bytes (Err refusals.NoMemory) = ⊤
-Reads features bytes (Err (refusals.Fault fault)) = ReadsAs features bytes (Err fault)
+abbrev pub IsConditionRead : List Feature → List ℕ → Result Condition ConditionRefusal → Type 0
+IsConditionRead features bytes (Ok made) = ReadsAs features bytes (Ok (proposition made))
+IsConditionRead features bytes (Err refusals.NoMemory) = ⊤
+IsConditionRead features bytes (Err (refusals.Fault fault)) = ReadsAs features bytes (Err fault)
 
 -- the answer is the expected one, unless memory runs out
 abbrev pub Judges : Result Condition ConditionRefusal → Result (Proposition Atom) ConditionFault → Type 0
@@ -27,9 +27,9 @@ Judges (Ok made) expected = expected ≡ Ok (proposition made)
 Judges (Err refusals.NoMemory) expected = ⊤
 Judges (Err (refusals.Fault fault)) expected = expected ≡ Err fault
 
-abbrev pub stop_refusal : Stop → ConditionRefusal
-stop_refusal stops.NoMemory = refusals.NoMemory
-stop_refusal stops.Wrong = refusals.Fault faults.Syntax
+abbrev pub condition_refusal : ExpressionRefusal → ConditionRefusal
+condition_refusal stops.NoMemory = refusals.NoMemory
+condition_refusal stops.Wrong = refusals.Fault faults.Syntax
 
 abbrev pub linear_refusal : LinearFault → ConditionRefusal
 linear_refusal linear.NoMemory = refusals.NoMemory

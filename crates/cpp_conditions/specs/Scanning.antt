@@ -2,8 +2,8 @@
 use Rattle.std.specs.Prelude.{⊤, ℕ, Bool, true, false, if◌then◌else◌, List, [], ◌∷◌, map, Option, Some, None, option_map, Result, Ok, Err}
 use Rattle.std.specs.Borrow.{Bor}
 use Rattle.std.specs.Global.{Vec}
-use Rattle.cpp_conditions.specs.declared.stop.Stop.{Stop}
-use Rattle.cpp_conditions.specs.declared.stop.Stop.TheVariants as stops
+use Rattle.cpp_conditions.specs.declared.expression_refusal.ExpressionRefusal.{ExpressionRefusal}
+use Rattle.cpp_conditions.specs.declared.expression_refusal.ExpressionRefusal.TheVariants as stops
 use Rattle.cpp_conditions.specs.declared.tokens.Token as coded
 use Rattle.cpp_conditions.specs.declared.tokens.Token.TheVariants as tokens
 use Rattle.cpp_conditions.specs.Tokens.{Token, Digits, Word, Defined, Open, Close, Bang, Oper, Twice, is_digit, is_alphanumeric, is_first, is_word, is_number, number_from, word_token, pair_of, single_of, SpellsTokens}
@@ -57,7 +57,7 @@ abbrev pub plainly : Option (coded.Token × Bor (List ℕ)) → Option (Token ×
 plainly = option_map (λ x. (token x.0, x.1.now))
 
 -- the tokens that the bytes spell, and `Wrong` where they spell none
-abbrev pub Scans : Result (Vec coded.Token) Stop → List ℕ → Type 0
+abbrev pub Scans : Result (Vec coded.Token) ExpressionRefusal → List ℕ → Type 0
 Scans (Ok list) bytes = SpellsTokens bytes (map token list.items)
 Scans (Err stops.NoMemory) bytes = ⊤
 Scans (Err stops.Wrong) bytes = (ts : List Token) → SpellsTokens bytes ts → ⊥

@@ -7,10 +7,10 @@ ghost use Rattle.cpp_conditions.specs.Grammar.{tighter, sign};
 ghost use Rattle.cpp_conditions.specs.Machine.{read, Wants};
 ghost use Rattle.cpp_conditions.specs.Scanning.{token};
 ghost use Rattle.cpp_conditions.specs.Tokens as kinds;
-ghost use Rattle.cpp_conditions.specs.Descent.{expression, plain, Loose, IsNoClose, Climbs, IsNoPrefix, IsNoOpen, Asking, Singles, Made, Reads};
+ghost use Rattle.cpp_conditions.specs.Descent.{expression, plain, Loose, IsNoClose, Climbs, IsNoPrefix, IsNoOpen, Asking, Singles, Made, AnswersExpression};
 
+use crate::expression_refusal::ExpressionRefusal;
 use crate::operators::{Operator, Prefix};
-use crate::stop::Stop;
 use crate::tokens::Token;
 use std::alloc::Global;
 
@@ -86,7 +86,11 @@ fn asked<'a, 'b>(tokens: &'b [Token<'a>]) -> Option<(&'a [u8], &'b [Token<'a>])>
 }
 
 /// An operator with its operand.
-fn unary<'a>(alloc: Global, op: Prefix, operand: Expression<'a>) -> Result<Expression<'a>, Stop>
+fn unary<'a>(
+    alloc: Global,
+    op: Prefix,
+    operand: Expression<'a>,
+) -> Result<Expression<'a>, ExpressionRefusal>
     ensures { Made result (Unary op (expression operand.entry)) }
 {
     Ok(Expression::Unary(op, Box::new(alloc, operand)?))
@@ -98,7 +102,7 @@ fn binary<'a>(
     op: Operator,
     left: Expression<'a>,
     right: Expression<'a>,
-) -> Result<Expression<'a>, Stop>
+) -> Result<Expression<'a>, ExpressionRefusal>
     ensures { Made result (Binary op (expression left.entry) (expression right.entry)) }
 {
     Ok(Expression::Binary(op, Box::new(alloc, left)?, Box::new(alloc, right)?))
@@ -152,7 +156,7 @@ fn open<'a, 'b>(tokens: &'b [Token<'a>]) -> Option<&'b [Token<'a>]>
 fn operand<'a, 'b>(
     alloc: Global,
     tokens: &'b [Token<'a>],
-) -> Result<(Expression<'a>, &'b [Token<'a>]), Stop>
+) -> Result<(Expression<'a>, &'b [Token<'a>]), ExpressionRefusal>
     ensures read { Climbs 0 result (plain tokens.now) }
     ensures shorter { IfOk result (λ x. length x.1.now < length tokens.now) }
 {
@@ -164,13 +168,13 @@ fn operand<'a, 'b>(
     if let Some(inside) = open(tokens) {
         let (inner, rest) = climb(alloc, inside, 6)?;
         let Some(after) = close(rest) else {
-            return Err(Stop::Wrong);
+            return Err(ExpressionRefusal::Wrong);
         };
         return Ok((inner, after));
     }
     match single(tokens) {
         Some(found) => Ok(found),
-        None => Err(Stop::Wrong),
+        None => Err(ExpressionRefusal::Wrong),
     }
 }
 
@@ -180,7 +184,7 @@ fn climb<'a, 'b>(
     alloc: Global,
     tokens: &'b [Token<'a>],
     level: u32,
-) -> Result<(Expression<'a>, &'b [Token<'a>]), Stop>
+) -> Result<(Expression<'a>, &'b [Token<'a>]), ExpressionRefusal>
     ensures read { Climbs level result (plain tokens.now) }
     ensures ends { IfOk result (λ x. Loose (suc level) (plain x.1.now)) }
     ensures shorter { IfOk result (λ x. length x.1.now < length tokens.now) }
@@ -195,13 +199,16 @@ fn climb<'a, 'b>(
 }
 
 /// The expression that the tokens are. It answers `Wrong` where they are none.
-pub(crate) fn parse<'a>(alloc: Global, tokens: &[Token<'a>]) -> Result<Expression<'a>, Stop>
-    ensures { Reads result (read (Wants []) (plain tokens.now)) }
+pub(crate) fn parse<'a>(
+    alloc: Global,
+    tokens: &[Token<'a>],
+) -> Result<Expression<'a>, ExpressionRefusal>
+    ensures { AnswersExpression result (read (Wants []) (plain tokens.now)) }
 {
     let (made, rest) = climb(alloc, tokens, 6)?;
     if rest.is_empty() {
         Ok(made)
     } else {
-        Err(Stop::Wrong)
+        Err(ExpressionRefusal::Wrong)
     }
 }

@@ -14,21 +14,12 @@ ghost use Rattle.cpp_conditions.specs.Tokens.{number_from};
 use crate::expressions::Expression;
 use crate::names::Names;
 use crate::operators::{Operator, Prefix};
+use fam_outer::cut;
 use linear_atoms::{Linear, LinearFault};
 use std::alloc::Global;
 
 /// The least number that is too large for a form.
 const TOO_LARGE: u64 = 2_147_483_649;
-
-/// The first byte and those behind it.
-fn cut(bytes: &[u8]) -> Option<(u8, &[u8])>
-    ensures { MatchOption result (bytes.now ≡ []) (λ x. bytes.now ≡ x.0 ∷ x.1.now) }
-{
-    match bytes {
-        [] => None,
-        [b, behind @ ..] => Some((*b, behind)),
-    }
-}
 
 /// The number that digits write, and that which is too large for each that is.
 fn number(digits: &[u8]) -> u64

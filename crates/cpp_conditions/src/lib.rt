@@ -5,6 +5,7 @@ mod comparing;
 pub mod conditions;
 pub mod distinct;
 mod expected;
+mod expression_refusal;
 mod expressions;
 mod forming;
 pub mod formulas;
@@ -14,7 +15,6 @@ pub mod models;
 mod names;
 pub mod operators;
 pub mod reading;
-mod stop;
 mod tokens;
 mod truths;
 

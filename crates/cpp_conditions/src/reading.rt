@@ -9,22 +9,19 @@ ghost use Rattle.cpp_conditions.specs.Forming.{IsOverFeatures};
 ghost use Rattle.cpp_conditions.specs.Grammar.{CSpells, judged};
 ghost use Rattle.cpp_conditions.specs.Naming.{AreFeatures};
 ghost use Rattle.cpp_conditions.specs.Propositions.{IsFit, IsOpen, true_at};
-ghost use Rattle.cpp_conditions.specs.Reading.{Reads, Judges};
+ghost use Rattle.cpp_conditions.specs.Reading.{IsConditionRead, Judges};
 ghost use Rattle.cpp_conditions.specs.View.{proposition};
 
 use crate::conditions::Condition;
+use crate::expression_refusal::ExpressionRefusal;
 use crate::expressions::{Expression, parse};
 use crate::judging::{count_deep, has_reserved, named};
 use crate::names::Names;
-use crate::stop::Stop;
 use crate::tokens::scan;
 use crate::truths::condition;
-use fam_outer::{ConditionFault, NoMemory};
+use fam_outer::{ConditionFault, MOST_OPERATORS, NoMemory};
 use linear_atoms::{Feature, LinearFault};
 use std::alloc::Global;
-
-/// The greatest number of operators and opening parentheses of a condition.
-const MOST_OPERATORS: usize = 64;
 
 /// Why bytes are read as no condition: want of memory, or a fault.
 #[derive(Clone, Copy, Debug, PartialEq, Eq)]
@@ -44,16 +41,16 @@ impl From<NoMemory> for ConditionRefusal {
     }
 }
 
-impl From<Stop> for ConditionRefusal {
+impl From<ExpressionRefusal> for ConditionRefusal {
     ghost use Rattle.std.specs.Prelude.{◌≡◌};
-    ghost use Rattle.cpp_conditions.specs.Reading.{stop_refusal};
+    ghost use Rattle.cpp_conditions.specs.Reading.{condition_refusal};
 
-    ghost from_gives = { λ stop given. given ≡ stop_refusal stop };
+    ghost from_gives = { λ stop given. given ≡ condition_refusal stop };
 
-    fn from(stop: Stop) -> ConditionRefusal {
+    fn from(stop: ExpressionRefusal) -> ConditionRefusal {
         match stop {
-            Stop::NoMemory => ConditionRefusal::NoMemory,
-            Stop::Wrong => ConditionRefusal::Fault(ConditionFault::Syntax),
+            ExpressionRefusal::NoMemory => ConditionRefusal::NoMemory,
+            ExpressionRefusal::Wrong => ConditionRefusal::Fault(ConditionFault::Syntax),
         }
     }
 }
@@ -117,7 +114,7 @@ pub fn read_condition(
     bytes: &[u8],
 ) -> Result<Condition, ConditionRefusal>
     requires { AreFeatures features.now }
-    ensures read { Reads features.now bytes.now result }
+    ensures read { IsConditionRead features.now bytes.now result }
     ensures value { IfOk result (λ made. (e : expressions.Expression) (values : List ℤ) → CSpells e bytes.now
         → IsWithin features.now values
         → true_at values (proposition made) ≡ expressions.is_nonzero (expressions.value features.now values e)) }

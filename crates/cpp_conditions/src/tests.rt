@@ -6,7 +6,7 @@ ghost use Rattle.cpp_conditions.specs.Propositions.{IsFit};
 ghost use Rattle.cpp_conditions.specs.View.{proposition};
 
 use crate::*;
-use fam_outer::{ConditionFault, Text, Values};
+use fam_outer::{ConditionFault, MOST_VALUE, Text, Values};
 use linear_atoms::{Atom, Config, Feature, Linear, Literal, Normal};
 use std::alloc::Global;
 use std::test::Fail;
@@ -153,8 +153,8 @@ fn both_features(alloc: Global) -> Result<Features, Fail>
 /// Whether a condition is true at these values.
 fn holds(alloc: Global, condition: &Condition, number: i64, switch: i64) -> Result<bool, Fail>
     requires fit { IsFit 2 (proposition condition.now) }
-    requires number { unsigned_abs number ≤ 1048576 }
-    requires switch { unsigned_abs switch ≤ 1048576 }
+    requires number { unsigned_abs number ≤ MOST_VALUE }
+    requires switch { unsigned_abs switch ≤ MOST_VALUE }
 {
     let config = Config {
         values: Values::from_vec(vec![in alloc; number, switch]?),
@@ -173,7 +173,7 @@ enum Answer {
 /// The truths of a condition at the values from 0 to 7.
 fn truths(alloc: Global, condition: &Condition, switch: i64) -> Result<u8, Fail>
     requires fit { IsFit 2 (proposition condition.now) }
-    requires switch { unsigned_abs switch ≤ 1048576 }
+    requires switch { unsigned_abs switch ≤ MOST_VALUE }
 {
     let mut bits = 0;
     for number in 0..8u8 {

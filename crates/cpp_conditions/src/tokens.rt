@@ -6,8 +6,9 @@ ghost use Rattle.std.specs.List.{list_all, prefix_len};
 ghost use Rattle.cpp_conditions.specs.Tokens as kinds;
 ghost use Rattle.cpp_conditions.specs.Scanning.{token, number_at, word_at, mark_at, lexeme_at, plainly, Scans};
 
+use crate::expression_refusal::ExpressionRefusal;
 use crate::operators::Operator;
-use crate::stop::Stop;
+use fam_outer::cut;
 use std::alloc::Global;
 
 /// A token: a number or a name with its bytes, `defined`, a parenthesis, `!`, another operator, or `++` or `--`.
@@ -156,16 +157,6 @@ fn word(bytes: &[u8]) -> Option<(Token<'_>, &[u8])>
     Some((word_token(name), behind))
 }
 
-/// The first byte and those behind it.
-fn cut(bytes: &[u8]) -> Option<(u8, &[u8])>
-    ensures { MatchOption result (bytes.now ≡ []) (λ x. bytes.now ≡ x.0 ∷ x.1.now) }
-{
-    match bytes {
-        [] => None,
-        [b, behind @ ..] => Some((*b, behind)),
-    }
-}
-
 /// The longest mark of a byte and those behind it, and what is behind the mark.
 fn mark(first: u8, behind: &[u8]) -> Option<(Token<'_>, &[u8])>
     ensures { plainly result ≡ mark_at first behind.now }
@@ -197,7 +188,7 @@ fn lexeme<'a>(bytes: &'a [u8], first: u8, behind: &'a [u8]) -> Option<(Token<'a>
 
 /// The tokens of the bytes. It answers `Wrong` where a byte begins no token, or a run of digits and letters is no
 /// decimal number.
-pub(crate) fn scan(alloc: Global, bytes: &[u8]) -> Result<Vec<Token<'_>>, Stop>
+pub(crate) fn scan(alloc: Global, bytes: &[u8]) -> Result<Vec<Token<'_>>, ExpressionRefusal>
     ensures { Scans result bytes.now }
 {
     let mut list = Vec::new(alloc);
@@ -208,7 +199,7 @@ pub(crate) fn scan(alloc: Global, bytes: &[u8]) -> Result<Vec<Token<'_>>, Stop>
             continue;
         }
         let Some((token, after)) = lexeme(rest, first, behind) else {
-            return Err(Stop::Wrong);
+            return Err(ExpressionRefusal::Wrong);
         };
         list.push(token)?;
         rest = after;

@@ -11,7 +11,7 @@ use Rattle.cpp_conditions.specs.Distinct.{HaveFewAtoms, HaveMoreAtoms}
 use Rattle.cpp_conditions.specs.Grammar.{ReadsAs}
 use Rattle.cpp_conditions.specs.Propositions.{Proposition}
 use Rattle.cpp_conditions.specs.Validity.{Plain}
-use Rattle.cpp_lines.specs.GroupConditions.{condition_in, IsReadAs}
+use Rattle.cpp_lines.specs.GroupConditions.{condition_in, IsGroupCondition}
 use Rattle.cpp_lines.specs.Lines.{line_place, pieces}
 use Rattle.cpp_lines.specs.Nesting.{named_in, opened_by, is_unclosed, line_fault}
 use Rattle.cpp_lines.specs.Preprocessed.{preprocessed}
@@ -31,7 +31,7 @@ ok_of p = Ok p
 same_ok : (p q : Proposition Atom) → ok_of p ≡ ok_of q → p ≡ q
 same_ok p q e = let k : ok_of p ≡ ok_of q = e in cc
 
-same_condition : OneCondition → (features : List Feature) (text : Result (List ℕ) ConditionFault) (p q : Proposition Atom) → IsReadAs features text (Ok p) → IsReadAs features text (Ok q) → p ≡ q
+same_condition : OneCondition → (features : List Feature) (text : Result (List ℕ) ConditionFault) (p q : Proposition Atom) → IsGroupCondition features text (Ok p) → IsGroupCondition features text (Ok q) → p ≡ q
 same_condition one features (Ok bytes) p q h k = same_ok p q (one features bytes (Ok p) (Ok q) h k)
 same_condition one features (Err fault) p q h k = absurd cc
 
@@ -50,7 +50,7 @@ same_line one m opens ps line qs rs (sections.untested a n) (sections.tested t p
 same_line one m opens ps line qs rs (sections.tested t p b o i f) (sections.untested a n) = absurd (no_text t (condition_in line) n o)
 same_line one m opens ps line qs rs (sections.tested t p a n i f) (sections.tested u q b o j g) =
     let e : t ≡ u = same_text t u (sym n ∙ o) in
-    ap (λ (x : Proposition Atom). x ∷ []) (same_condition one m.features u p q (subst (λ (x : Result (List ℕ) ConditionFault). IsReadAs m.features x (Ok p)) e i) j)
+    ap (λ (x : Proposition Atom). x ∷ []) (same_condition one m.features u p q (subst (λ (x : Result (List ℕ) ConditionFault). IsGroupCondition m.features x (Ok p)) e i) j)
 
 -- ---- the faults of one line
 
@@ -67,11 +67,11 @@ no_ok p f e = let k : ok_of p ≡ err_of f = e in cc
 same_err : (f g : ConditionFault) → err_of f ≡ err_of g → f ≡ g
 same_err f g e = let k : err_of f ≡ err_of g = e in cc
 
-not_refused : OneCondition → (features : List Feature) (text : Result (List ℕ) ConditionFault) (p : Proposition Atom) (f : ConditionFault) → IsReadAs features text (Ok p) → IsReadAs features text (Err f) → ⊥
+not_refused : OneCondition → (features : List Feature) (text : Result (List ℕ) ConditionFault) (p : Proposition Atom) (f : ConditionFault) → IsGroupCondition features text (Ok p) → IsGroupCondition features text (Err f) → ⊥
 not_refused one features (Ok bytes) p f h k = no_ok p f (one features bytes (Ok p) (Err f) h k)
 not_refused one features (Err fault) p f h k = absurd cc
 
-same_refusal : OneCondition → (features : List Feature) (text : Result (List ℕ) ConditionFault) (f g : ConditionFault) → IsReadAs features text (Err f) → IsReadAs features text (Err g) → f ≡ g
+same_refusal : OneCondition → (features : List Feature) (text : Result (List ℕ) ConditionFault) (f g : ConditionFault) → IsGroupCondition features text (Err f) → IsGroupCondition features text (Err g) → f ≡ g
 same_refusal one features (Ok bytes) f g h k = same_err f g (one features bytes (Err f) (Err g) h k)
 same_refusal one features (Err fault) f g h k = same_err f g (h ∙ sym k)
 
@@ -90,11 +90,11 @@ line_not_faulty one more m opens ps line qs code (sections.tested t p a n i f) (
 line_not_faulty one more m opens ps line qs code (sections.untested a n) (sections.refused u g b o j) = no_text u (condition_in line) n o
 line_not_faulty one more m opens ps line qs code (sections.tested t p a n i f) (sections.refused u g b o j) =
     let e : t ≡ u = same_text t u (sym n ∙ o) in
-    not_refused one m.features u p g (subst (λ (x : Result (List ℕ) ConditionFault). IsReadAs m.features x (Ok p)) e i) j
+    not_refused one m.features u p g (subst (λ (x : Result (List ℕ) ConditionFault). IsGroupCondition m.features x (Ok p)) e i) j
 line_not_faulty one more m opens ps line qs code (sections.untested a n) (sections.crowded u q b o j h) = no_text u (condition_in line) n o
 line_not_faulty one more m opens ps line qs code (sections.tested t p a n i f) (sections.crowded u q b o j h) =
     let e : t ≡ u = same_text t u (sym n ∙ o) in
-    let same : p ≡ q = same_condition one m.features u p q (subst (λ (x : Result (List ℕ) ConditionFault). IsReadAs m.features x (Ok p)) e i) j in
+    let same : p ≡ q = same_condition one m.features u p q (subst (λ (x : Result (List ℕ) ConditionFault). IsGroupCondition m.features x (Ok p)) e i) j in
     more 64 (m.constraints ++ (ps ++ q ∷ [])) (subst (λ (x : Proposition Atom). HaveFewAtoms 64 (m.constraints ++ (ps ++ x ∷ []))) same f) h
 
 -- a line has one fault
@@ -105,14 +105,14 @@ same_fault one m opens ps line c d (sections.misplaced x e) (sections.crowded u 
 same_fault one m opens ps line c d (sections.refused t f a n i) (sections.misplaced y e) = absurd (no_code (line_fault opens line) d a e)
 same_fault one m opens ps line c d (sections.refused t f a n i) (sections.refused u g b o j) =
     let e : t ≡ u = same_text t u (sym n ∙ o) in
-    ap (λ (x : ConditionFault). codes_of.Condition x) (same_refusal one m.features u f g (subst (λ (x : Result (List ℕ) ConditionFault). IsReadAs m.features x (Err f)) e i) j)
+    ap (λ (x : ConditionFault). codes_of.Condition x) (same_refusal one m.features u f g (subst (λ (x : Result (List ℕ) ConditionFault). IsGroupCondition m.features x (Err f)) e i) j)
 same_fault one m opens ps line c d (sections.refused t f a n i) (sections.crowded u q b o j h) =
     let e : u ≡ t = same_text u t (sym o ∙ n) in
-    absurd (not_refused one m.features t q f (subst (λ (x : Result (List ℕ) ConditionFault). IsReadAs m.features x (Ok q)) e j) i)
+    absurd (not_refused one m.features t q f (subst (λ (x : Result (List ℕ) ConditionFault). IsGroupCondition m.features x (Ok q)) e j) i)
 same_fault one m opens ps line c d (sections.crowded t p a n i k) (sections.misplaced y e) = absurd (no_code (line_fault opens line) d a e)
 same_fault one m opens ps line c d (sections.crowded t p a n i k) (sections.refused u g b o j) =
     let e : t ≡ u = same_text t u (sym n ∙ o) in
-    absurd (not_refused one m.features u p g (subst (λ (x : Result (List ℕ) ConditionFault). IsReadAs m.features x (Ok p)) e i) j)
+    absurd (not_refused one m.features u p g (subst (λ (x : Result (List ℕ) ConditionFault). IsGroupCondition m.features x (Ok p)) e i) j)
 same_fault one m opens ps line c d (sections.crowded t p a n i k) (sections.crowded u q b o j h) = refl
 
 -- ---- all lines

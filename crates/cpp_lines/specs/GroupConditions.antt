@@ -45,6 +45,6 @@ abbrev pub condition_in : List ℕ → Option (Result (List ℕ) ConditionFault)
 condition_in line = if begins_directive line then condition_text (directive_of (behind_hash line)) (behind_word (behind_hash line)) else None
 
 -- what a condition is read as
-abbrev pub IsReadAs : List Feature → Result (List ℕ) ConditionFault → Result (Proposition Atom) ConditionFault → Type 0
-IsReadAs features (Ok bytes) r = ReadsAs features bytes r
-IsReadAs features (Err fault) r = r ≡ Err fault
+abbrev pub IsGroupCondition : List Feature → Result (List ℕ) ConditionFault → Result (Proposition Atom) ConditionFault → Type 0
+IsGroupCondition features (Ok bytes) r = ReadsAs features bytes r
+IsGroupCondition features (Err fault) r = r ≡ Err fault

@@ -2,7 +2,7 @@
 use Rattle.std.specs.Prelude.{◌≡◌, ◌≤◌, ℕ, ◌+◌, ◌-◌, Bool, if◌then◌else◌, List, [], ◌∷◌, Option}
 use Rattle.fam_outer.specs.declared.faults.Place.{Place}
 use Rattle.cpp_lines.specs.declared.directives.Directive.{Directive}
-use Rattle.cpp_lines.specs.declared.opens.Opens.{Opens}
+use Rattle.cpp_lines.specs.declared.open_sections.Opens.{Opens}
 use Rattle.cpp_lines.specs.Around.{opened}
 use Rattle.cpp_lines.specs.Nesting.{opens_section, ends_before}
 

@@ -21,7 +21,7 @@ use Rattle.cpp_lines.specs.declared.line.LineKind.{LineKind}
 use Rattle.cpp_lines.specs.declared.line.LineKind.TheVariants as kinds
 use Rattle.cpp_lines.specs.declared.sections.Sections.{Sections}
 use Rattle.cpp_lines.specs.Directives.{begins_directive, behind_hash, directive_of}
-use Rattle.cpp_lines.specs.GroupConditions.{condition_in, IsReadAs}
+use Rattle.cpp_lines.specs.GroupConditions.{condition_in, IsGroupCondition}
 use Rattle.cpp_lines.specs.Lines.{line_place, pieces}
 use Rattle.cpp_lines.specs.Nesting.{named_in, opened_by, is_unclosed, line_fault}
 
@@ -51,15 +51,15 @@ line_at n start first line = record {
 pub data HasFault (model : Plain) (opens : List Bool) (ps : List (Proposition Atom)) (line : List ℕ) : FileCode → Type 0 where
   misplaced : (code : FileCode) → line_fault opens line ≡ Some code → HasFault model opens ps line code
   refused : (text : Result (List ℕ) ConditionFault) (fault : ConditionFault) → line_fault opens line ≡ None → condition_in line ≡ Some text
-      → IsReadAs model.features text (Err fault) → HasFault model opens ps line (codes_of.Condition fault)
+      → IsGroupCondition model.features text (Err fault) → HasFault model opens ps line (codes_of.Condition fault)
   crowded : (text : Result (List ℕ) ConditionFault) (p : Proposition Atom) → line_fault opens line ≡ None → condition_in line ≡ Some text
-      → IsReadAs model.features text (Ok p) → HaveMoreAtoms 64 (model.constraints ++ (ps ++ p ∷ [])) → HasFault model opens ps line codes_of.TooManyTests
+      → IsGroupCondition model.features text (Ok p) → HaveMoreAtoms 64 (model.constraints ++ (ps ++ p ∷ [])) → HasFault model opens ps line codes_of.TooManyTests
 
 -- the line has no fault, and this condition or none
 pub data IsRead (model : Plain) (opens : List Bool) (ps : List (Proposition Atom)) (line : List ℕ) : List (Proposition Atom) → Type 0 where
   untested : line_fault opens line ≡ None → condition_in line ≡ None → IsRead model opens ps line []
   tested : (text : Result (List ℕ) ConditionFault) (p : Proposition Atom) → line_fault opens line ≡ None → condition_in line ≡ Some text
-      → IsReadAs model.features text (Ok p) → HaveFewAtoms 64 (model.constraints ++ (ps ++ p ∷ [])) → IsRead model opens ps line (p ∷ [])
+      → IsGroupCondition model.features text (Ok p) → HaveFewAtoms 64 (model.constraints ++ (ps ++ p ∷ [])) → IsRead model opens ps line (p ∷ [])
 
 -- ---- all lines
 

@@ -17,9 +17,9 @@ use Rattle.cpp_conditions.specs.Distinct.{AreAtomsOf, HaveFewAtoms, HaveMoreAtom
 use Rattle.cpp_conditions.specs.Propositions.{Proposition, IsFit}
 use Rattle.cpp_conditions.specs.Validity.{Plain, AreFit}
 use Rattle.cpp_conditions.specs.View.{proposition}
-use Rattle.cpp_lines.specs.declared.opens.Opens.{Opens}
+use Rattle.cpp_lines.specs.declared.open_sections.Opens.{Opens}
 use Rattle.cpp_lines.specs.declared.sections.Reading.{Reading}
-use Rattle.cpp_lines.specs.GroupConditions.{IsReadAs}
+use Rattle.cpp_lines.specs.GroupConditions.{IsGroupCondition}
 use Rattle.cpp_lines.specs.Lines.{line_place}
 use Rattle.cpp_lines.specs.Nesting.{named_in, opened_by}
 use Rattle.cpp_lines.specs.Opens.{flags, first_after}
@@ -27,8 +27,8 @@ use Rattle.cpp_lines.specs.Sections.{HasFault, IsRead, TextIsRead, line_at}
 
 -- what the text of a condition is read as; want of memory is free
 abbrev pub ReadsText : List Feature → Result (List ℕ) ConditionFault → Result Condition ConditionRefusal → Type 0
-ReadsText features text (Ok made) = IsReadAs features text (Ok (proposition made)) × IsFit (length features) (proposition made)
-ReadsText features text (Err (conditions.Fault fault)) = IsReadAs features text (Err fault)
+ReadsText features text (Ok made) = IsGroupCondition features text (Ok (proposition made)) × IsFit (length features) (proposition made)
+ReadsText features text (Err (conditions.Fault fault)) = IsGroupCondition features text (Err fault)
 ReadsText features text (Err conditions.NoMemory) = ⊤
 
 -- the code of a refused condition
@@ -54,19 +54,19 @@ pub record IsKept (model : Plain) (reading : Reading) : Type 0 where
 -- a condition that is added
 pub record IsAdded (model : Plain) (text : Result (List ℕ) ConditionFault) (old new : Reading) : Type 0 where
   pub added : Proposition Atom
-  pub is_read : IsReadAs model.features text (Ok added)
+  pub is_read : IsGroupCondition model.features text (Ok added)
   pub few : HaveFewAtoms 64 (model.constraints ++ (meant old ++ added ∷ []))
   pub meant_now : meant new ≡ meant old ++ added ∷ []
   pub kept : IsKept model new
 
 -- why a condition is not added
-pub data IsRefused (model : Plain) (text : Result (List ℕ) ConditionFault) (old : Reading) : FileCode → Type 0 where
-  unread : (fault : ConditionFault) → IsReadAs model.features text (Err fault) → IsRefused model text old (codes_of.Condition fault)
-  crowded : (p : Proposition Atom) → IsReadAs model.features text (Ok p) → HaveMoreAtoms 64 (model.constraints ++ (meant old ++ p ∷ [])) → IsRefused model text old codes_of.TooManyTests
+pub data IsConditionRefused (model : Plain) (text : Result (List ℕ) ConditionFault) (old : Reading) : FileCode → Type 0 where
+  unread : (fault : ConditionFault) → IsGroupCondition model.features text (Err fault) → IsConditionRefused model text old (codes_of.Condition fault)
+  crowded : (p : Proposition Atom) → IsGroupCondition model.features text (Ok p) → HaveMoreAtoms 64 (model.constraints ++ (meant old ++ p ∷ [])) → IsConditionRefused model text old codes_of.TooManyTests
 
 abbrev pub Adds : Plain → Result (List ℕ) ConditionFault → Reading → Reading → Result ⊤ (Refusal FileCode) → Type 0
 Adds model text old new (Ok _) = IsAdded model text old new
-Adds model text old new (Err (refusals.Fault code)) = IsRefused model text old code
+Adds model text old new (Err (refusals.Fault code)) = IsConditionRefused model text old code
 Adds model text old new (Err refusals.NoMemory) = ⊤
 
 -- a line without a fault, with its condition added

@@ -8,16 +8,6 @@ ghost use Rattle.cpp_lines.specs.Bytes as kinds;
 
 use c_words::{is_gap, is_word_byte};
 
-/// The first byte and those behind it.
-pub(crate) fn cut(bytes: &[u8]) -> Option<(u8, &[u8])>
-    ensures { MatchOption result (bytes.now ≡ []) (λ x. bytes.now ≡ x.0 ∷ x.1.now) }
-{
-    match bytes {
-        [] => None,
-        [b, behind @ ..] => Some((*b, behind)),
-    }
-}
-
 /// Whether the first two bytes are these.
 pub(crate) fn begins_with(first: u8, second: u8, bytes: &[u8]) -> bool
     ensures { result ≡ kinds.begins_with first second bytes.now }

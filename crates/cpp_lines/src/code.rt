@@ -6,18 +6,8 @@ ghost use Rattle.cpp_lines.specs.Code as specs;
 ghost use Rattle.cpp_lines.specs.Lines as lists;
 
 use crate::line::{Line, LineKind};
-use fam_outer::{FILE_BYTES, NoMemory, Text};
+use fam_outer::{FILE_BYTES, NoMemory, Text, cut};
 use std::alloc::Global;
-
-/// The first line and those behind it.
-pub(crate) fn cut(lines: &[Line]) -> Option<(Line, &[Line])>
-    ensures { MatchOption result (lines.now ≡ []) (λ x. lines.now ≡ x.0 ∷ x.1.now) }
-{
-    match lines {
-        [] => None,
-        [line, behind @ ..] => Some((*line, behind)),
-    }
-}
 
 /// Whether a line of this kind is code.
 pub(crate) fn is_code(kind: LineKind) -> bool

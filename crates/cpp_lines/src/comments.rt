@@ -4,8 +4,8 @@
 ghost use Rattle.std.specs.Prelude.{◌≡◌, ◌≤◌, length, IfOk, IfSome};
 ghost use Rattle.cpp_lines.specs.Comments as specs;
 
-use crate::bytes::{begins_with, cut, line_len};
-use fam_outer::{NoMemory, Text};
+use crate::bytes::{begins_with, line_len};
+use fam_outer::{NoMemory, Text, cut};
 use std::alloc::Global;
 
 /// How many bytes stand up to the end of the first `*/`.

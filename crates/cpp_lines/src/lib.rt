@@ -1,29 +1,29 @@
 //! Comments, lines and the code between directives (ISO/IEC 9899:2011, 5.1.1.2 and 6.10).
 #![tactic(auto)]
 
-mod asked;
 mod bytes;
 pub mod code;
 mod comments;
 mod directives;
-pub mod ends;
-pub mod faults;
+mod group_conditions;
 pub mod laws;
 pub mod line;
 pub mod lines;
 pub mod lists;
 mod nesting;
-mod opens;
+mod open_sections;
 pub mod preprocessing;
 pub mod sections;
-pub mod whole;
+pub mod text_end;
+pub mod whole_file;
+pub mod without_comments;
 
 pub use code::code_text;
-pub use ends::end_place;
-pub use faults::blank_comments;
 pub use line::{Line, LineKind, Lines};
 pub use lines::plain_lines;
 pub use lists::{Atoms, Formulas};
 pub use preprocessing::preprocessed_text;
 pub use sections::{Sections, read_sections};
-pub use whole::blanked_file;
+pub use text_end::end_place;
+pub use whole_file::blanked_file;
+pub use without_comments::blank_comments;

@@ -7,10 +7,10 @@ ghost use Rattle.fam_outer.specs.Places.{is_newline};
 ghost use Rattle.fam_outer.specs.Refusals.{Gives};
 ghost use Rattle.cpp_lines.specs.Lines as specs;
 
-use crate::bytes::{cut, gap_len, line_len};
+use crate::bytes::{gap_len, line_len};
 use crate::directives::{begins_directive, plain_kind};
 use crate::line::{Line, Lines};
-use fam_outer::{FILE_BYTES, FileRefusal, Place};
+use fam_outer::{FILE_BYTES, FileRefusal, Place, cut};
 use std::alloc::Global;
 
 /// The first line, and what stands behind its newline; none where no newline comes.

@@ -9,7 +9,7 @@ ghost use Rattle.cpp_lines.specs.Opens as opens;
 use crate::bytes::split_word;
 use crate::directives::{Directive, begins_directive, behind_hash, directive_named, directive_of};
 use crate::lines::cut_line;
-use crate::opens::Opens;
+use crate::open_sections::Opens;
 use fam_outer::{FILE_BYTES, FileCode, NoMemory, Place};
 use std::alloc::Global;
 

@@ -6,11 +6,11 @@ ghost use Rattle.cpp_groups.specs.Kept as groups;
 ghost use Rattle.cpp_lines.specs.Lines as lists;
 ghost use Rattle.cpp_lines.specs.Preprocessed as kept;
 
-use crate::code::{cut, is_code};
+use crate::code::is_code;
 use crate::line::{Line, LineKind};
 use crate::lines::cut_line;
 use cpp_groups::{GroupDirective, OpenSections};
-use fam_outer::{NoMemory, Text};
+use fam_outer::{NoMemory, Text, cut};
 use std::alloc::Global;
 
 /// The group directive of a line.

@@ -14,20 +14,17 @@ ghost use Rattle.cpp_lines.specs.Lines as lists;
 ghost use Rattle.cpp_lines.specs.Sections as sections;
 ghost use Rattle.cpp_lines.specs.Taking as taking;
 
-use crate::asked::{ConditionText, condition_in, read_text};
 use crate::directives::{Directive, begins_directive, behind_hash, directive_of};
+use crate::group_conditions::{ConditionText, condition_in, read_text};
 use crate::line::{Line, LineKind, Lines};
 use crate::lines::{cut_line, line_place};
 use crate::lists::{Atoms, Formulas};
 use crate::nesting::ends_of;
-use crate::opens::Opens;
+use crate::open_sections::Opens;
 use cpp_conditions::{Condition, ConditionRefusal, Formula, Model, add_atoms, number};
-use fam_outer::{FILE_BYTES, FileCode, FileRefusal, NoMemory, Place, Refusal};
+use fam_outer::{FILE_BYTES, FileCode, FileRefusal, MOST_ATOMS, NoMemory, Place, Refusal};
 use linear_atoms::Atom;
 use std::alloc::Global;
-
-/// The greatest number of distinct atoms of a model and a file.
-const MOST_ATOMS: usize = 64;
 
 /// The lines of a text, the conditions of its group directives in their order, and the atoms of the model and of all
 /// conditions, which rise strictly. A formula has the numbers of its condition's atoms.

@@ -26,8 +26,8 @@ use Rattle.cpp_lines.specs.Lines.{pieces}
 use Rattle.cpp_lines.specs.Sections.{Told, AreRead, TextIsRead}
 use Rattle.cpp_lines.specs.Whole.{blanked_file}
 use Rattle.cpp_lines.proofs.CodeLines.{code_piece, code_pieces}
-use Rattle.c_parser.specs.Families.{HasItems, HasEarlyFault}
-use Rattle.c_parser.specs.FamilyReading.{IsFamilyRefused, families_over, setting_of}
+use Rattle.c_parser.specs.FamilyItems.{HasItems, HasEarlyFault}
+use Rattle.c_parser.specs.FamilyReading.{IsFamilyRefused, families_over, context_of}
 use Rattle.c_parser.specs.Items.{Listed, listed}
 use Rattle.c_parser.specs.Phases.{HasWrong, HasDeep, HasItemFault}
 use Rattle.c_parser.specs.Reading.{items_of_code}
@@ -168,16 +168,16 @@ items_laid : (x y : ℕ) (bs : List Block) (xs : List Item) → map sign_in xs �
 items_laid x y bs xs e = sym (laid_again nowhere xs) ∙ ap (laid (place_in nowhere xs) 0) e
 
 no_name : (laws : Laws) (model : Model) (text : List ℕ) (bs : List Block) (told : Told) (l : Listed) (atoms : List Atom) (formulas : List Formula) (fault : FileCode × Place) → Accepts laws model text bs → HasItems (plain model) text told l
-    → IsFirstNameFault (setting_of model atoms formulas l.names) l.items (Some fault) → ⊥
+    → IsFirstNameFault (context_of model atoms formulas l.names) l.items (Some fault) → ⊥
 no_name laws model text bs told l atoms formulas fault a h n =
-    let setting = setting_of model atoms formulas l.names in
+    let context = context_of model atoms formulas l.names in
     let x = first_in l.names in
     let y = second_in l.names in
     let f = place_in nowhere l.items in
     let are = signs_are laws model text bs told l a h in
-    let free = names_free (setting_of model atoms formulas l.names) bs l.items a.features (family_fit laws.texts (plain model) text told l h) are in
-    not_none fault (no_fault setting f x y (laid f 12 (blocks_signs x y 0 bs ++ signs.RightBrace ∷ [])) (Some fault) free (statements_own f x y bs)
-    (subst (λ (xs : List Item). IsFirstNameFault (setting_of model atoms formulas l.names) xs (Some fault)) (items_laid x y bs l.items are) n))
+    let free = names_free (context_of model atoms formulas l.names) bs l.items a.features (family_fit laws.texts (plain model) text told l h) are in
+    not_none fault (no_fault context f x y (laid f 12 (blocks_signs x y 0 bs ++ signs.RightBrace ∷ [])) (Some fault) free (statements_own f x y bs)
+    (subst (λ (xs : List Item). IsFirstNameFault (context_of model atoms formulas l.names) xs (Some fault)) (items_laid x y bs l.items are) n))
 
 no_item : (laws : Laws) (model : Model) (text : List ℕ) (bs : List Block) (fault : FileCode × Place) → Accepts laws model text bs → HasItemFault (families_over model) text fault → ⊥
 no_item laws model text bs fault a h =

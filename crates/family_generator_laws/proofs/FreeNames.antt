@@ -13,7 +13,7 @@ use Rattle.c_grammar.specs.declared.items.Sign.{Sign}
 use Rattle.c_grammar.specs.declared.items.Sign.TheVariants as signs
 use Rattle.c_grammar.specs.Facts.{IsFit, AreFit}
 use Rattle.c_parser.specs.Items.{number_in}
-use Rattle.family_names.specs.Names.{Setting, is_feature, is_feature_name}
+use Rattle.family_names.specs.Names.{NameContext, is_feature, is_feature_name}
 use Rattle.family_generator.specs.Features.{generated_features}
 use Rattle.family_generator_laws.proofs.BlockTexts.{Block, Switched, Bounded, Checked}
 use Rattle.family_generator_laws.proofs.Signs.{laid, sign_in, block_signs, blocks_signs, condition_count, file_signs}
@@ -46,10 +46,10 @@ signs_fit count (x ∷ xs) h = (h.0, signs_fit count xs h.1)
 
 -- ---- no feature has such a name
 
-not_feature : (setting : Setting) (x : ℕ) (name : List ℕ) → slice_get setting.names x ≡ Some name → setting.model.features ≡ generated_features
-    → list_any (λ (f : Feature). bytes_eq f.name name) generated_features ≡ false → is_feature setting x ≡ false
-not_feature setting x name e f h =
-    ap (is_feature_name setting.model) e ∙ ap (λ (features : List Feature). list_any (λ (f : Feature). bytes_eq f.name name) features) f ∙ h
+not_feature : (context : NameContext) (x : ℕ) (name : List ℕ) → slice_get context.names x ≡ Some name → context.model.features ≡ generated_features
+    → list_any (λ (f : Feature). bytes_eq f.name name) generated_features ≡ false → is_feature context x ≡ false
+not_feature context x name e f h =
+    ap (is_feature_name context.model) e ∙ ap (λ (features : List Feature). list_any (λ (f : Feature). bytes_eq f.name name) features) f ∙ h
 
 first_no_feature : list_any (λ (f : Feature). bytes_eq f.name (codes "a")) generated_features ≡ false
 unfolding digits
@@ -73,18 +73,18 @@ two_apart : (names : List (List ℕ)) (x y : ℕ) (b : Bool) → nat_eq y x ≡ 
 two_apart names x y true e f g = absurd (let bytes : 97 ≡ 98 = ap first_byte (sym f ∙ ap (slice_get names) (sym (same_number y x e)) ∙ g) in omega (arith, bytes))
 two_apart names x y false e f g = refl
 
-pub names_free : (setting : Setting) (bs : List Block) (xs : List Item) → setting.model.features ≡ generated_features → AreFit (length setting.names) xs
-    → map sign_in xs ≡ file_signs (first_in setting.names) (second_in setting.names) bs → AreFree setting (first_in setting.names) (second_in setting.names)
-names_free setting bs xs features fit e =
-    let x = first_in setting.names in
-    let y = second_in setting.names in
-    let all : AllFit (length setting.names) (file_signs (first_in setting.names) (second_in setting.names) bs) = subst (AllFit (length setting.names)) e (signs_fit (length setting.names) xs fit) in
-    let first : slice_get setting.names (first_in setting.names) ≡ Some (codes "a") = number_found setting.names (codes "a") all.1.0 in
-    let second : slice_get setting.names (second_in setting.names) ≡ Some (codes "b") = number_found setting.names (codes "b") all.1.1.1.1.0 in
+pub names_free : (context : NameContext) (bs : List Block) (xs : List Item) → context.model.features ≡ generated_features → AreFit (length context.names) xs
+    → map sign_in xs ≡ file_signs (first_in context.names) (second_in context.names) bs → AreFree context (first_in context.names) (second_in context.names)
+names_free context bs xs features fit e =
+    let x = first_in context.names in
+    let y = second_in context.names in
+    let all : AllFit (length context.names) (file_signs (first_in context.names) (second_in context.names) bs) = subst (AllFit (length context.names)) e (signs_fit (length context.names) xs fit) in
+    let first : slice_get context.names (first_in context.names) ≡ Some (codes "a") = number_found context.names (codes "a") all.1.0 in
+    let second : slice_get context.names (second_in context.names) ≡ Some (codes "b") = number_found context.names (codes "b") all.1.1.1.1.0 in
     record {
-      first = not_feature setting x (codes "a") first features first_no_feature;
-      second = not_feature setting y (codes "b") second features second_no_feature;
-      apart = two_apart setting.names x y (nat_eq y x) refl first second;
+      first = not_feature context x (codes "a") first features first_no_feature;
+      second = not_feature context y (codes "b") second features second_no_feature;
+      apart = two_apart context.names x y (nat_eq y x) refl first second;
     }
 
 -- ---- no other name stands behind the header

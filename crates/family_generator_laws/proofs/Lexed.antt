@@ -11,7 +11,7 @@ use Rattle.c_grammar.specs.declared.items.Sign.TheVariants as signs
 use Rattle.cpp_lines.specs.declared.line.Line.{Line}
 use Rattle.cpp_lines.specs.declared.line.LineKind.{LineKind}
 use Rattle.cpp_lines.proofs.CodeLines.{code_piece}
-use Rattle.c_parser.specs.Families.{group_sign, or_directive}
+use Rattle.c_parser.specs.FamilyItems.{group_sign, or_directive}
 use Rattle.c_parser.specs.Items.{number_in, items_over}
 use Rattle.c_parser.proofs.KeptItems.{AreRead}
 use Rattle.c_parser.proofs.LineItems.{by_both}

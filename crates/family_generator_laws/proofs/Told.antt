@@ -9,7 +9,7 @@ use Rattle.cpp_conditions.specs.Validity.{Plain}
 use Rattle.cpp_lines.specs.declared.line.Line.{Line}
 use Rattle.cpp_lines.specs.declared.line.LineKind.{LineKind}
 use Rattle.cpp_lines.specs.declared.line.LineKind.TheVariants as kinds
-use Rattle.cpp_lines.specs.GroupConditions.{condition_in, name_in, behind_prefix, IsReadAs}
+use Rattle.cpp_lines.specs.GroupConditions.{condition_in, name_in, behind_prefix, IsGroupCondition}
 use Rattle.cpp_lines.specs.Nesting.{named_in, opened_by, ends_of, is_unclosed, line_fault}
 use Rattle.cpp_lines.specs.Sections.{AreRead, none, goes_on, untested, tested, Told, line_at}
 use Rattle.family_generator.specs.Features.{generated_features}
@@ -65,7 +65,7 @@ untested_line text opens next ps start line lines sorts unclosed fault condition
 
 -- a line with a condition
 tested_line : (text : List ℕ) (opens next : List Bool) (ps : List (Proposition Atom)) (start : ℕ) (line : List ℕ) (lines : List (List ℕ)) (sorts : List LineKind) (bytes : List ℕ) (p : Proposition Atom)
-    → is_unclosed line lines ≡ false → line_fault opens line ≡ None → condition_in line ≡ Some (Ok bytes) → IsReadAs generated_features (Ok bytes) (Ok p) → AreTests (ps ++ p ∷ []) → opened_by (named_in line) opens ≡ next
+    → is_unclosed line lines ≡ false → line_fault opens line ≡ None → condition_in line ≡ Some (Ok bytes) → IsGroupCondition generated_features (Ok bytes) (Ok p) → AreTests (ps ++ p ∷ []) → opened_by (named_in line) opens ≡ next
     → Reads text next (ps ++ p ∷ []) (start + length line + 1) lines sorts → Reads text opens ps start (line ∷ lines) (kind_of_line (length ps) line ∷ sorts)
 tested_line text opens next ps start line lines sorts bytes p unclosed fault condition means tests opened r = record {
   told = record { lines = line_at (length ps) start (place_at text start) line ∷ r.told.lines; conditions = p ∷ r.told.conditions };

@@ -18,7 +18,7 @@ use Rattle.c_grammar.specs.declared.items.Sign.{Sign}
 use Rattle.c_grammar.specs.declared.items.Sign.TheVariants as signs
 use Rattle.atom_solver.specs.Solutions.{IsBefore, IsFirst, Finds}
 use Rattle.family_names.specs.Laws.{AreAlike, NamesAreJudgedOnce}
-use Rattle.family_names.specs.Names.{Setting, has_main, declared_by, declared_at, is_among, each_once, is_kept, is_missed, is_met_again, is_feature_name, is_feature, new_name_fault, code_with, IsWithFirst, IsEither, IsUseFault, IsDeclarationFault, IsNameFault, IsThisOr, IsFaultFrom}
+use Rattle.family_names.specs.Names.{NameContext, has_main, declared_by, declared_at, is_among, each_once, is_kept, is_missed, is_met_again, is_feature_name, is_feature, new_name_fault, code_with, IsWithFirst, IsEither, IsUseFault, IsDeclarationFault, IsNameFault, IsThisOr, IsFaultFrom}
 
 -- ---- the first configuration
 
@@ -68,18 +68,18 @@ same_feature_name : (m n : Model) → m.features ≡ n.features → (o : Option 
 same_feature_name m n e None = refl
 same_feature_name m n e (Some name) = ap (λ (fs : List Feature). list_any (λ f. bytes_eq f.name name) fs) e
 
-same_feature : (a b : Setting) → AreAlike a b → (x : ℕ) → is_feature a x ≡ is_feature b x
+same_feature : (a b : NameContext) → AreAlike a b → (x : ℕ) → is_feature a x ≡ is_feature b x
 same_feature a b s x =
     same_feature_name a.model b.model (ap (λ (p : Plain). p.features) s.models) (slice_get a.names x) ∙ ap (λ (names : List (List ℕ)). is_feature_name b.model (slice_get names x)) s.names
 
-same_new : (a b : Setting) → AreAlike a b → (declared : List ℕ) (x : ℕ) → new_name_fault a declared x ≡ new_name_fault b declared x
+same_new : (a b : NameContext) → AreAlike a b → (declared : List ℕ) (x : ℕ) → new_name_fault a declared x ≡ new_name_fault b declared x
 same_new a b s declared x =
     ap (λ (f : Bool). if f then Some FeatureInCode else (if not (is_among x declared) && nat_le 16 (length declared) then Some TooManyVariables else None)) (same_feature a b s x)
 
-same_missed : (a b : Setting) → AreAlike a b → (before : List Item) (x : ℕ) (values : List ℤ) → is_missed a before x values ≡ is_missed b before x values
+same_missed : (a b : NameContext) → AreAlike a b → (before : List Item) (x : ℕ) (values : List ℤ) → is_missed a before x values ≡ is_missed b before x values
 same_missed a b s before x values = ap (λ (ts : List Bool). is_kept ts before && not (is_among x (declared_at ts before))) (s.truths values)
 
-same_met : (a b : Setting) → AreAlike a b → (before : List Item) (x : ℕ) (values : List ℤ) → is_met_again a before x values ≡ is_met_again b before x values
+same_met : (a b : NameContext) → AreAlike a b → (before : List Item) (x : ℕ) (values : List ℤ) → is_met_again a before x values ≡ is_met_again b before x values
 same_met a b s before x values = ap (λ (ts : List Bool). is_kept ts before && is_among x (declared_at ts before)) (s.truths values)
 
 either_same : (A B C D : Type 0) (c d : Option FileCode) (f g : Bool) → f ≡ g → (A → C → c ≡ d) → (B → D → c ≡ d) → IsEither f A B → IsEither g C D → c ≡ d
@@ -88,7 +88,7 @@ either_same A B C D c d false false e one two h k = two h k
 either_same A B C D c d true false e one two h k = absurd cc
 either_same A B C D c d false true e one two h k = absurd cc
 
-same_use : (a b : Setting) → AreAlike a b → (before : List Item) (x : ℕ) (c d : Option FileCode) → IsUseFault a before x c → IsUseFault b before x d → c ≡ d
+same_use : (a b : NameContext) → AreAlike a b → (before : List Item) (x : ℕ) (c d : Option FileCode) → IsUseFault a before x c → IsUseFault b before x d → c ≡ d
 same_use a b s before x c d h k =
     either_same (c ≡ Some FeatureInCode) (IsEither (is_among x (declared_by before)) (IsWithFirst a.model (is_missed a before x) Undeclared None c) (c ≡ Some (Undeclared None)))
     (d ≡ Some FeatureInCode) (IsEither (is_among x (declared_by before)) (IsWithFirst b.model (is_missed b before x) Undeclared None d) (d ≡ Some (Undeclared None)))
@@ -100,12 +100,12 @@ same_use a b s before x c d h k =
     (λ w z. w ∙ sym z) i j)
     h k
 
-same_declaration : (a b : Setting) → AreAlike a b → (before : List Item) (x : ℕ) (c d : Option FileCode) → IsDeclarationFault a before x c → IsDeclarationFault b before x d → c ≡ d
+same_declaration : (a b : NameContext) → AreAlike a b → (before : List Item) (x : ℕ) (c d : Option FileCode) → IsDeclarationFault a before x c → IsDeclarationFault b before x d → c ≡ d
 same_declaration a b s before x c d h k =
     same_with a.model b.model s.models (is_met_again a before x) (is_met_again b before x) (same_met a b s before x) Twice
     (new_name_fault a (each_once [] (declared_by before)) x) (new_name_fault b (each_once [] (declared_by before)) x) c d (same_new a b s (each_once [] (declared_by before)) x) h k
 
-same_code : (a b : Setting) → AreAlike a b → (before : List Item) (sign : Sign) (c d : Option FileCode) → IsNameFault a before sign c → IsNameFault b before sign d → c ≡ d
+same_code : (a b : NameContext) → AreAlike a b → (before : List Item) (sign : Sign) (c d : Option FileCode) → IsNameFault a before sign c → IsNameFault b before sign d → c ≡ d
 same_code a b s before (signs.Name x) c d h k =
     either_same (IsUseFault a before x c) (IsDeclarationFault a before x c) (IsUseFault b before x d) (IsDeclarationFault b before x d) c d (has_main before) (has_main before) refl
     (same_use a b s before x c d) (same_declaration a b s before x c d) h k
@@ -117,7 +117,7 @@ same_or_later : (code : Option FileCode) (place : Place) (f g : Option (FileCode
 same_or_later None place f g A B go h k = go h k
 same_or_later (Some code) place f g A B go h k = h ∙ sym k
 
-same_from : (a b : Setting) → AreAlike a b → (before items : List Item) (f g : Option (FileCode × Place)) → IsFaultFrom a before items f → IsFaultFrom b before items g → f ≡ g
+same_from : (a b : NameContext) → AreAlike a b → (before items : List Item) (f g : Option (FileCode × Place)) → IsFaultFrom a before items f → IsFaultFrom b before items g → f ≡ g
 same_from a b s before [] f g h k = h ∙ sym k
 same_from a b s before (x ∷ xs) f g (c, h, i) (d, k, j) =
     let e : d ≡ c = sym (same_code a b s before x.sign c d h k) in

@@ -16,7 +16,7 @@ use Rattle.family_names.specs.declared.declarations.Declaration.{Declaration}
 use Rattle.family_names.specs.declared.faults.Seen.{Seen}
 use Rattle.family_names.specs.Declarations.{is_kept, is_declared}
 use Rattle.family_names.specs.Groups.{are_kept}
-use Rattle.family_names.specs.Names.{Setting, truths_at}
+use Rattle.family_names.specs.Names.{NameContext, truths_at}
 use Rattle.family_names.specs.Judging.{AreSettled, is_missed, is_undeclared, Misses}
 
 -- the same is found where the same holds
@@ -46,28 +46,28 @@ or_cases true b e P f g = f refl
 or_cases false b e P f g = g e
 
 -- a name is never missed where a declaration of it is kept wherever it is
-pub never_missed : (setting : Setting) (seen : Seen) (settled : List Declaration) (x : ℕ) → AreSettled setting seen.declarations.items settled
-    → ((values : List ℤ) → IsValid (plain setting.model) values → are_kept (truths_at setting values) seen.groups ≡ true → is_declared (truths_at setting values) seen.declarations.items x ≡ true)
-    → Misses setting seen settled x None
-never_missed setting seen settled x s h = record {
+pub never_missed : (context : NameContext) (seen : Seen) (settled : List Declaration) (x : ℕ) → AreSettled context seen.declarations.items settled
+    → ((values : List ℤ) → IsValid (plain context.model) values → are_kept (truths_at context values) seen.groups ≡ true → is_declared (truths_at context values) seen.declarations.items x ≡ true)
+    → Misses context seen settled x None
+never_missed context seen settled x s h = record {
   fault_is = record {
     found = None;
-    finds = λ values valid. not_both (are_kept (truths_at setting values) seen.groups) (is_declared (truths_at setting values) seen.declarations.items x) (h values valid);
+    finds = λ values valid. not_both (are_kept (truths_at context values) seen.groups) (is_declared (truths_at context values) seen.declarations.items x) (h values valid);
     fault_is = refl;
   };
   settled_is = s;
 }
 
 -- one more is settled
-pub settled_more : (setting : Setting) (ds settled : List Declaration) (d : Declaration) → AreSettled setting ds settled
-    → ((values : List ℤ) (x : ℕ) → IsValid (plain setting.model) values → is_kept (truths_at setting values) x d ≡ true → is_declared (truths_at setting values) ds x ≡ true)
-    → AreSettled setting ds (settled ++ d ∷ [])
-settled_more setting ds settled d s h = λ values x valid e.
-    or_cases (is_declared (truths_at setting values) settled x) (is_declared (truths_at setting values) (d ∷ []) x)
-    (sym (list_any-append (λ (c : Declaration). is_kept (truths_at setting values) x c) settled (d ∷ [])) ∙ e)
-    (is_declared (truths_at setting values) ds x ≡ true)
+pub settled_more : (context : NameContext) (ds settled : List Declaration) (d : Declaration) → AreSettled context ds settled
+    → ((values : List ℤ) (x : ℕ) → IsValid (plain context.model) values → is_kept (truths_at context values) x d ≡ true → is_declared (truths_at context values) ds x ≡ true)
+    → AreSettled context ds (settled ++ d ∷ [])
+settled_more context ds settled d s h = λ values x valid e.
+    or_cases (is_declared (truths_at context values) settled x) (is_declared (truths_at context values) (d ∷ []) x)
+    (sym (list_any-append (λ (c : Declaration). is_kept (truths_at context values) x c) settled (d ∷ [])) ∙ e)
+    (is_declared (truths_at context values) ds x ≡ true)
     (s values x valid)
-    (λ g. or_cases (is_kept (truths_at setting values) x d) false g (is_declared (truths_at setting values) ds x ≡ true) (h values x valid) (λ f. absurd cc))
+    (λ g. or_cases (is_kept (truths_at context values) x d) false g (is_declared (truths_at context values) ds x ≡ true) (h values x valid) (λ f. absurd cc))
 
 pub below_both : (count : ℕ) (whole a b : Formula) → formula whole ≡ And (formula a) (formula b) → IsBelow count (formula a) → IsBelow count (formula b) → IsBelow count (formula whole)
 below_both count whole a b e h k = subst (IsBelow count) (sym e) (h, k)
@@ -82,16 +82,16 @@ kept_name x y b e = elim (nat_eq x y) as (λ t. nat_eq x y ≡ t → (t && b) �
 ] refl e
 
 -- what is never missed here is settled
-pub settle : (setting : Setting) (seen : Seen) (old settled : List Declaration) (x : ℕ) (d : Declaration) → AreSettled setting seen.declarations.items old
-    → Finds setting.model (is_missed setting seen x) None → settled ≡ old ++ d ∷ [] → d.name ≡ x → d.groups ≡ seen.groups → Misses setting seen settled x None
-settle setting seen old settled x d s none e name groups = record {
+pub settle : (context : NameContext) (seen : Seen) (old settled : List Declaration) (x : ℕ) (d : Declaration) → AreSettled context seen.declarations.items old
+    → Finds context.model (is_missed context seen x) None → settled ≡ old ++ d ∷ [] → d.name ≡ x → d.groups ≡ seen.groups → Misses context seen settled x None
+settle context seen old settled x d s none e name groups = record {
   fault_is = record { found = None; finds = none; fault_is = refl };
-  settled_is = subst (AreSettled setting seen.declarations.items) (sym e) (settled_more setting seen.declarations.items old d s
+  settled_is = subst (AreSettled context seen.declarations.items) (sym e) (settled_more context seen.declarations.items old d s
       (λ values y valid k.
-      let n = kept_name y d.name (are_kept (truths_at setting values) d.groups) k in
-      subst (λ (z : ℕ). is_declared (truths_at setting values) seen.declarations.items z ≡ true) (sym (n.0 ∙ name))
-      (kept_declared (are_kept (truths_at setting values) seen.groups) (is_declared (truths_at setting values) seen.declarations.items x) (none values valid)
-      (subst (λ (gs : List Group). are_kept (truths_at setting values) gs ≡ true) groups n.1))));
+      let n = kept_name y d.name (are_kept (truths_at context values) d.groups) k in
+      subst (λ (z : ℕ). is_declared (truths_at context values) seen.declarations.items z ≡ true) (sym (n.0 ∙ name))
+      (kept_declared (are_kept (truths_at context values) seen.groups) (is_declared (truths_at context values) seen.declarations.items x) (none values valid)
+      (subst (λ (gs : List Group). are_kept (truths_at context values) gs ≡ true) groups n.1))));
 }
 
 declared_if : (b : Bool) → not b ≡ false → b ≡ true
@@ -107,16 +107,16 @@ answered_none (Some config) answer e h = absurd (true_or_false (e ∙ ap not h))
     true_or_false k = absurd cc
 
 -- where no valid configuration lacks a declaration of the name, it is settled everywhere
-pub settle_everywhere : (setting : Setting) (seen : Seen) (old settled : List Declaration) (x : ℕ) (d : Declaration) (found : Option Config) → AreSettled setting seen.declarations.items old
-    → Finds setting.model (is_undeclared setting seen.declarations.items x) found → is_none found ≡ true → settled ≡ old ++ d ∷ [] → d.name ≡ x → Misses setting seen settled x None
-settle_everywhere setting seen old settled x d (Some config) s finds none e name = absurd cc
-settle_everywhere setting seen old settled x d None s finds none e name =
-    never_missed setting seen settled x
-    (subst (AreSettled setting seen.declarations.items) (sym e) (settled_more setting seen.declarations.items old d s
+pub settle_everywhere : (context : NameContext) (seen : Seen) (old settled : List Declaration) (x : ℕ) (d : Declaration) (found : Option Config) → AreSettled context seen.declarations.items old
+    → Finds context.model (is_undeclared context seen.declarations.items x) found → is_none found ≡ true → settled ≡ old ++ d ∷ [] → d.name ≡ x → Misses context seen settled x None
+settle_everywhere context seen old settled x d (Some config) s finds none e name = absurd cc
+settle_everywhere context seen old settled x d None s finds none e name =
+    never_missed context seen settled x
+    (subst (AreSettled context seen.declarations.items) (sym e) (settled_more context seen.declarations.items old d s
     (λ values y valid k.
-    let n = kept_name y d.name (are_kept (truths_at setting values) d.groups) k in
-    subst (λ (z : ℕ). is_declared (truths_at setting values) seen.declarations.items z ≡ true) (sym (n.0 ∙ name)) (here values valid))))
+    let n = kept_name y d.name (are_kept (truths_at context values) d.groups) k in
+    subst (λ (z : ℕ). is_declared (truths_at context values) seen.declarations.items z ≡ true) (sym (n.0 ∙ name)) (here values valid))))
     (λ values valid kept. here values valid)
   where
-    here : (values : List ℤ) → IsValid (plain setting.model) values → is_declared (truths_at setting values) seen.declarations.items x ≡ true
-    here values valid = declared_if (is_declared (truths_at setting values) seen.declarations.items x) (finds values valid)
+    here : (values : List ℤ) → IsValid (plain context.model) values → is_declared (truths_at context values) seen.declarations.items x ≡ true
+    here values valid = declared_if (is_declared (truths_at context values) seen.declarations.items x) (finds values valid)

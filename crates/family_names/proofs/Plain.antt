@@ -13,7 +13,7 @@ use Rattle.c_grammar.specs.declared.items.Sign.TheVariants as signs
 use Rattle.c_grammar.specs.Grammar.{is_group}
 use Rattle.c_grammar.specs.Kept.{directive_of, kept_from}
 use Rattle.atom_solver.specs.Solutions.{Finds}
-use Rattle.family_names.specs.Names.{Setting, truths_at, has_main, until_main, names_of, is_main, declared_by, declared_at, is_among, each_once, sections_behind, is_kept, is_missed, is_met_again, is_feature, new_name_fault, IsWithFirst, IsEither, IsUseFault, IsDeclarationFault, code_with}
+use Rattle.family_names.specs.Names.{NameContext, truths_at, has_main, until_main, names_of, is_main, declared_by, declared_at, is_among, each_once, sections_behind, is_kept, is_missed, is_met_again, is_feature, new_name_fault, IsWithFirst, IsEither, IsUseFault, IsDeclarationFault, code_with}
 use Rattle.family_names.specs.Laws.{has_groups, plain_use_fault, PlainNames}
 use Rattle.family_names.proofs.Answering.{found_same}
 
@@ -61,15 +61,15 @@ kept_plain truths before h = ap all_kept (none_open truths before h)
 declared_plain : (truths : List Bool) (before : List Item) → has_groups before ≡ false → declared_at truths before ≡ declared_by before
 declared_plain truths before h = ap names_of (all_stay truths (until_main before) (until_none before h))
 
-missed_plain : (setting : Setting) (before : List Item) (x : ℕ) → has_groups before ≡ false → (values : List ℤ) → is_missed setting before x values ≡ not (is_among x (declared_by before))
-missed_plain setting before x h values =
-    ap (λ (b : Bool). b && not (is_among x (declared_at (truths_at setting values) before))) (kept_plain (truths_at setting values) before h)
-    ∙ ap (λ (ns : List ℕ). not (is_among x ns)) (declared_plain (truths_at setting values) before h)
+missed_plain : (context : NameContext) (before : List Item) (x : ℕ) → has_groups before ≡ false → (values : List ℤ) → is_missed context before x values ≡ not (is_among x (declared_by before))
+missed_plain context before x h values =
+    ap (λ (b : Bool). b && not (is_among x (declared_at (truths_at context values) before))) (kept_plain (truths_at context values) before h)
+    ∙ ap (λ (ns : List ℕ). not (is_among x ns)) (declared_plain (truths_at context values) before h)
 
-met_plain : (setting : Setting) (before : List Item) (x : ℕ) → has_groups before ≡ false → (values : List ℤ) → is_met_again setting before x values ≡ is_among x (declared_by before)
-met_plain setting before x h values =
-    ap (λ (b : Bool). b && is_among x (declared_at (truths_at setting values) before)) (kept_plain (truths_at setting values) before h)
-    ∙ ap (is_among x) (declared_plain (truths_at setting values) before h)
+met_plain : (context : NameContext) (before : List Item) (x : ℕ) → has_groups before ≡ false → (values : List ℤ) → is_met_again context before x values ≡ is_among x (declared_by before)
+met_plain context before x h values =
+    ap (λ (b : Bool). b && is_among x (declared_at (truths_at context values) before)) (kept_plain (truths_at context values) before h)
+    ∙ ap (is_among x) (declared_plain (truths_at context values) before h)
 
 -- where this holds nowhere, nothing is found
 never_found : (model : Model) (holds : List ℤ → Bool) (code : Option (List ℤ) → FileCode) (other fault : Option FileCode) → ((values : List ℤ) → holds values ≡ false) → IsWithFirst model holds code other fault → fault ≡ other
@@ -79,30 +79,30 @@ never_found model holds code other fault none w = by_found w.found w.finds w.fau
     by_found None h e = e
     by_found (Some config) h e = absurd (let f : true ≡ false = sym h.met ∙ none config.values in cc)
 
-use_plain : (setting : Setting) (before : List Item) (x : ℕ) (fault : Option FileCode) → has_groups before ≡ false → IsUseFault setting before x fault → fault ≡ plain_use_fault setting (declared_by before) x
-use_plain setting before x fault h u =
-    elim (is_feature setting x) as (λ f. IsEither f (fault ≡ Some FeatureInCode) (IsEither (is_among x (declared_by before)) (IsWithFirst setting.model (is_missed setting before x) Undeclared None fault) (fault ≡ Some (Undeclared None)))
+use_plain : (context : NameContext) (before : List Item) (x : ℕ) (fault : Option FileCode) → has_groups before ≡ false → IsUseFault context before x fault → fault ≡ plain_use_fault context (declared_by before) x
+use_plain context before x fault h u =
+    elim (is_feature context x) as (λ f. IsEither f (fault ≡ Some FeatureInCode) (IsEither (is_among x (declared_by before)) (IsWithFirst context.model (is_missed context before x) Undeclared None fault) (fault ≡ Some (Undeclared None)))
     → fault ≡ (if f then Some FeatureInCode else (if is_among x (declared_by before) then None else Some (Undeclared None)))) [
       | true ↦ λ e. e
-      | false ↦ elim (is_among x (declared_by before)) as (λ a. is_among x (declared_by before) ≡ a → IsEither a (IsWithFirst setting.model (is_missed setting before x) Undeclared None fault) (fault ≡ Some (Undeclared None))
+      | false ↦ elim (is_among x (declared_by before)) as (λ a. is_among x (declared_by before) ≡ a → IsEither a (IsWithFirst context.model (is_missed context before x) Undeclared None fault) (fault ≡ Some (Undeclared None))
           → fault ≡ (if a then None else Some (Undeclared None))) [
-            | true ↦ λ a w. never_found setting.model (is_missed setting before x) Undeclared None fault (λ values. missed_plain setting before x h values ∙ ap not a) w
+            | true ↦ λ a w. never_found context.model (is_missed context before x) Undeclared None fault (λ values. missed_plain context before x h values ∙ ap not a) w
             | false ↦ λ a e. e
           ] refl
     ] u
 
-declaration_plain : (setting : Setting) (before : List Item) (x : ℕ) (fault : Option FileCode) → has_groups before ≡ false → IsDeclarationFault setting before x fault
-    → IsEither (is_among x (declared_by before)) (IsWithFirst setting.model (λ (values : List ℤ). true) Twice (new_name_fault setting (each_once [] (declared_by before)) x) fault) (fault ≡ new_name_fault setting (each_once [] (declared_by before)) x)
-declaration_plain setting before x fault h w =
-    elim (is_among x (declared_by before)) as (λ a. is_among x (declared_by before) ≡ a → IsEither a (IsWithFirst setting.model (λ (values : List ℤ). true) Twice (new_name_fault setting (each_once [] (declared_by before)) x) fault) (fault ≡ new_name_fault setting (each_once [] (declared_by before)) x)) [
-      | true ↦ λ a. record { found = w.found; finds = found_same setting.model (is_met_again setting before x) (λ (values : List ℤ). true) (λ values. met_plain setting before x h values ∙ a) w.found w.finds; fault_is = w.fault_is }
-      | false ↦ λ a. never_found setting.model (is_met_again setting before x) Twice (new_name_fault setting (each_once [] (declared_by before)) x) fault (λ values. met_plain setting before x h values ∙ a) w
+declaration_plain : (context : NameContext) (before : List Item) (x : ℕ) (fault : Option FileCode) → has_groups before ≡ false → IsDeclarationFault context before x fault
+    → IsEither (is_among x (declared_by before)) (IsWithFirst context.model (λ (values : List ℤ). true) Twice (new_name_fault context (each_once [] (declared_by before)) x) fault) (fault ≡ new_name_fault context (each_once [] (declared_by before)) x)
+declaration_plain context before x fault h w =
+    elim (is_among x (declared_by before)) as (λ a. is_among x (declared_by before) ≡ a → IsEither a (IsWithFirst context.model (λ (values : List ℤ). true) Twice (new_name_fault context (each_once [] (declared_by before)) x) fault) (fault ≡ new_name_fault context (each_once [] (declared_by before)) x)) [
+      | true ↦ λ a. record { found = w.found; finds = found_same context.model (is_met_again context before x) (λ (values : List ℤ). true) (λ values. met_plain context before x h values ∙ a) w.found w.finds; fault_is = w.fault_is }
+      | false ↦ λ a. never_found context.model (is_met_again context before x) Twice (new_name_fault context (each_once [] (declared_by before)) x) fault (λ values. met_plain context before x h values ∙ a) w
     ] refl
 
 pub plain_names : PlainNames
-plain_names setting before x fault h n =
-    elim (has_main before) as (λ m. IsEither m (IsUseFault setting before x fault) (IsDeclarationFault setting before x fault) → IsEither m (fault ≡ plain_use_fault setting (declared_by before) x)
-    (IsEither (is_among x (declared_by before)) (IsWithFirst setting.model (λ (values : List ℤ). true) Twice (new_name_fault setting (each_once [] (declared_by before)) x) fault) (fault ≡ new_name_fault setting (each_once [] (declared_by before)) x))) [
-      | true ↦ λ u. use_plain setting before x fault h u
-      | false ↦ λ w. declaration_plain setting before x fault h w
+plain_names context before x fault h n =
+    elim (has_main before) as (λ m. IsEither m (IsUseFault context before x fault) (IsDeclarationFault context before x fault) → IsEither m (fault ≡ plain_use_fault context (declared_by before) x)
+    (IsEither (is_among x (declared_by before)) (IsWithFirst context.model (λ (values : List ℤ). true) Twice (new_name_fault context (each_once [] (declared_by before)) x) fault) (fault ≡ new_name_fault context (each_once [] (declared_by before)) x))) [
+      | true ↦ λ u. use_plain context before x fault h u
+      | false ↦ λ w. declaration_plain context before x fault h w
     ] n

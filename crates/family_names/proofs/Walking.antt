@@ -19,7 +19,7 @@ use Rattle.family_names.specs.declared.declarations.Declaration.{Declaration}
 use Rattle.family_names.specs.declared.faults.Seen.{Seen}
 use Rattle.family_names.specs.Declarations.{is_kept as declaration_kept, is_declared}
 use Rattle.family_names.specs.Groups.{sections, are_kept}
-use Rattle.family_names.specs.Names.{Setting, truths_at, is_main, has_main, until_main, name_of, names_of, declared_by, declared_at, is_among, with_number, each_once, sections_behind, is_kept, is_missed, is_met_again, is_feature, new_name_fault, IsWithFirst, IsEither, IsUseFault, IsDeclarationFault, IsNameFault, IsFaultFrom}
+use Rattle.family_names.specs.Names.{NameContext, truths_at, is_main, has_main, until_main, name_of, names_of, declared_by, declared_at, is_among, with_number, each_once, sections_behind, is_kept, is_missed, is_met_again, is_feature, new_name_fault, IsWithFirst, IsEither, IsUseFault, IsDeclarationFault, IsNameFault, IsFaultFrom}
 use Rattle.family_names.specs.Judging as judging
 use Rattle.family_names.specs.Judging.{IsSeen, AreSettled, Uses, AreNamed, IsAgain, Adds, Declares, Judges}
 use Rattle.family_names.proofs.Answering.{found_same}
@@ -195,15 +195,15 @@ pub seen_named : (before : List Item) (seen : Seen) → IsSeen before seen → A
 seen_named before seen k truths x h =
     seen_among before seen x k ∙ among_kept x truths [] (until_main before) (sym (k.declarations truths x) ∙ h)
 
-missed_same : (setting : Setting) (before : List Item) (seen : Seen) (x : ℕ) → IsSeen before seen → (values : List ℤ) → judging.is_missed setting seen x values ≡ is_missed setting before x values
-missed_same setting before seen x k values =
-    ap (λ (ss : List Section). all_kept ss && not (is_declared (truths_at setting values) seen.declarations.items x)) (k.groups (truths_at setting values))
-    ∙ ap (λ (b : Bool). is_kept (truths_at setting values) before && not b) (k.declarations (truths_at setting values) x)
+missed_same : (context : NameContext) (before : List Item) (seen : Seen) (x : ℕ) → IsSeen before seen → (values : List ℤ) → judging.is_missed context seen x values ≡ is_missed context before x values
+missed_same context before seen x k values =
+    ap (λ (ss : List Section). all_kept ss && not (is_declared (truths_at context values) seen.declarations.items x)) (k.groups (truths_at context values))
+    ∙ ap (λ (b : Bool). is_kept (truths_at context values) before && not b) (k.declarations (truths_at context values) x)
 
-met_same : (setting : Setting) (before : List Item) (seen : Seen) (x : ℕ) → IsSeen before seen → (values : List ℤ) → judging.is_met_again setting seen x values ≡ is_met_again setting before x values
-met_same setting before seen x k values =
-    ap (λ (ss : List Section). all_kept ss && is_declared (truths_at setting values) seen.declarations.items x) (k.groups (truths_at setting values))
-    ∙ ap (λ (b : Bool). is_kept (truths_at setting values) before && b) (k.declarations (truths_at setting values) x)
+met_same : (context : NameContext) (before : List Item) (seen : Seen) (x : ℕ) → IsSeen before seen → (values : List ℤ) → judging.is_met_again context seen x values ≡ is_met_again context before x values
+met_same context before seen x k values =
+    ap (λ (ss : List Section). all_kept ss && is_declared (truths_at context values) seen.declarations.items x) (k.groups (truths_at context values))
+    ∙ ap (λ (b : Bool). is_kept (truths_at context values) before && b) (k.declarations (truths_at context values) x)
 
 first_same : (model : Model) (a b : List ℤ → Bool) (code : Option (List ℤ) → FileCode) (other fault : Option FileCode) → ((values : List ℤ) → a values ≡ b values) → IsWithFirst model a code other fault → IsWithFirst model b code other fault
 first_same model a b code other fault same h = record { found = h.found; finds = found_same model a b same h.found h.finds; fault_is = h.fault_is }
@@ -216,20 +216,20 @@ outer : (b : Bool) (A B C : Type 0) → (A → C) → IsEither b A B → IsEithe
 outer true A B C f h = f h
 outer false A B C f h = h
 
-use_is : (setting : Setting) (before : List Item) (seen : Seen) (settled : List Declaration) (x : ℕ) (fault : Option FileCode) → IsSeen before seen → Uses setting seen settled x fault → IsUseFault setting before x fault
-use_is setting before seen settled x fault k u =
-    inner (is_feature setting x) (fault ≡ Some FeatureInCode)
-    (IsEither (is_among x seen.names.items) (IsWithFirst setting.model (judging.is_missed setting seen x) Undeclared None fault) (fault ≡ Some (Undeclared None)))
-    (IsEither (is_among x (declared_by before)) (IsWithFirst setting.model (is_missed setting before x) Undeclared None fault) (fault ≡ Some (Undeclared None)))
-    (λ h. outer (is_among x (declared_by before)) (IsWithFirst setting.model (judging.is_missed setting seen x) Undeclared None fault) (fault ≡ Some (Undeclared None)) (IsWithFirst setting.model (is_missed setting before x) Undeclared None fault)
-    (first_same setting.model (judging.is_missed setting seen x) (is_missed setting before x) Undeclared None fault (missed_same setting before seen x k))
-    (subst (λ (b : Bool). IsEither b (IsWithFirst setting.model (judging.is_missed setting seen x) Undeclared None fault) (fault ≡ Some (Undeclared None))) (seen_among before seen x k) h))
+use_is : (context : NameContext) (before : List Item) (seen : Seen) (settled : List Declaration) (x : ℕ) (fault : Option FileCode) → IsSeen before seen → Uses context seen settled x fault → IsUseFault context before x fault
+use_is context before seen settled x fault k u =
+    inner (is_feature context x) (fault ≡ Some FeatureInCode)
+    (IsEither (is_among x seen.names.items) (IsWithFirst context.model (judging.is_missed context seen x) Undeclared None fault) (fault ≡ Some (Undeclared None)))
+    (IsEither (is_among x (declared_by before)) (IsWithFirst context.model (is_missed context before x) Undeclared None fault) (fault ≡ Some (Undeclared None)))
+    (λ h. outer (is_among x (declared_by before)) (IsWithFirst context.model (judging.is_missed context seen x) Undeclared None fault) (fault ≡ Some (Undeclared None)) (IsWithFirst context.model (is_missed context before x) Undeclared None fault)
+    (first_same context.model (judging.is_missed context seen x) (is_missed context before x) Undeclared None fault (missed_same context before seen x k))
+    (subst (λ (b : Bool). IsEither b (IsWithFirst context.model (judging.is_missed context seen x) Undeclared None fault) (fault ≡ Some (Undeclared None))) (seen_among before seen x k) h))
     u.fault_is
 
-declaration_is : (setting : Setting) (before : List Item) (seen : Seen) (x : ℕ) (fault : Option FileCode) → IsSeen before seen → IsAgain setting seen x fault → IsDeclarationFault setting before x fault
-declaration_is setting before seen x fault k h =
-    first_same setting.model (judging.is_met_again setting seen x) (is_met_again setting before x) Twice (new_name_fault setting (each_once [] (declared_by before)) x) fault (met_same setting before seen x k)
-    (subst (λ (ns : List ℕ). IsWithFirst setting.model (judging.is_met_again setting seen x) Twice (new_name_fault setting ns x) fault) k.names h)
+declaration_is : (context : NameContext) (before : List Item) (seen : Seen) (x : ℕ) (fault : Option FileCode) → IsSeen before seen → IsAgain context seen x fault → IsDeclarationFault context before x fault
+declaration_is context before seen x fault k h =
+    first_same context.model (judging.is_met_again context seen x) (is_met_again context before x) Twice (new_name_fault context (each_once [] (declared_by before)) x) fault (met_same context before seen x k)
+    (subst (λ (ns : List ℕ). IsWithFirst context.model (judging.is_met_again context seen x) Twice (new_name_fault context ns x) fault) k.names h)
 
 -- ---- one item more
 
@@ -243,17 +243,17 @@ still_seen before x old new k s groups main names declarations = record {
   declarations = λ truths y. ap (λ (ds : List Declaration). is_declared truths ds y) declarations ∙ k.declarations truths y ∙ ap (is_among y) (sym (s.kept truths));
 }
 
-pub at_main : (setting : Setting) (before : List Item) (sign : Sign) (seen new : Seen) (settled : List Declaration) → sign ≡ signs.Main → IsSeen before seen → AreSettled setting seen.declarations.items settled
-    → new.groups ≡ seen.groups → new.in_main ≡ true → new.names.items ≡ seen.names.items → new.declarations.items ≡ seen.declarations.items → Judges setting before sign new settled None
-at_main setting before sign seen new settled is k s groups main names declarations = subst (λ (t : Sign). Judges setting before t new settled None) (sym is) (record {
+pub at_main : (context : NameContext) (before : List Item) (sign : Sign) (seen new : Seen) (settled : List Declaration) → sign ≡ signs.Main → IsSeen before seen → AreSettled context seen.declarations.items settled
+    → new.groups ≡ seen.groups → new.in_main ≡ true → new.names.items ≡ seen.names.items → new.declarations.items ≡ seen.declarations.items → Judges context before sign new settled None
+at_main context before sign seen new settled is k s groups main names declarations = subst (λ (t : Sign). Judges context before t new settled None) (sym is) (record {
   fault_is = refl;
   seen_is = λ _ p. still_seen before (at p signs.Main) seen new k (still_main before (at p signs.Main) refl) (λ truths. ap (sections truths) groups) (main ∙ sym (or_true (has_main before))) names declarations;
-  settled_is = λ _. subst (λ (ds : List Declaration). AreSettled setting ds settled) (sym declarations) s;
+  settled_is = λ _. subst (λ (ds : List Declaration). AreSettled context ds settled) (sym declarations) s;
 })
 
-pub at_use : (setting : Setting) (before : List Item) (sign : Sign) (seen : Seen) (settled : List Declaration) (x : ℕ) (fault : Option FileCode) → sign ≡ signs.Name x → seen.in_main ≡ true → IsSeen before seen → Uses setting seen settled x fault → Judges setting before sign seen settled fault
-at_use setting before sign seen settled x fault is main k u = subst (λ (t : Sign). Judges setting before t seen settled fault) (sym is) (record {
-  fault_is = subst (λ (b : Bool). IsEither b (IsUseFault setting before x fault) (IsDeclarationFault setting before x fault)) (sym (sym k.main ∙ main)) (use_is setting before seen settled x fault k u);
+pub at_use : (context : NameContext) (before : List Item) (sign : Sign) (seen : Seen) (settled : List Declaration) (x : ℕ) (fault : Option FileCode) → sign ≡ signs.Name x → seen.in_main ≡ true → IsSeen before seen → Uses context seen settled x fault → Judges context before sign seen settled fault
+at_use context before sign seen settled x fault is main k u = subst (λ (t : Sign). Judges context before t seen settled fault) (sym is) (record {
+  fault_is = subst (λ (b : Bool). IsEither b (IsUseFault context before x fault) (IsDeclarationFault context before x fault)) (sym (sym k.main ∙ main)) (use_is context before seen settled x fault k u);
   seen_is = λ _ p. still_seen before (at p (signs.Name x)) seen seen k (still_behind before (at p (signs.Name x)) (sym k.main ∙ main)) (λ truths. refl) (k.main ∙ sym (or_false (has_main before))) refl refl;
   settled_is = λ _. u.settled_is;
 })
@@ -282,74 +282,74 @@ more_seen before p x old new k h a =
           ∙ ap (λ (b : Bool). is_among y (declared_at truths before) || b) (kept_name truths before p x y));
     }
 
-more_settled : (setting : Setting) (old new : Seen) (x : ℕ) (settled : List Declaration) → Adds old x new → AreSettled setting old.declarations.items settled → AreSettled setting new.declarations.items settled
-more_settled setting old new x settled a s = λ values y valid h.
-    ap (λ (ds : List Declaration). is_declared (truths_at setting values) ds y) a.declarations
-    ∙ list_any-append (λ (d : Declaration). declaration_kept (truths_at setting values) y d) old.declarations.items (record { name = x; groups = old.groups } ∷ [])
-    ∙ or_left (is_declared (truths_at setting values) old.declarations.items y) (is_declared (truths_at setting values) (record { name = x; groups = old.groups } ∷ []) y) (s values y valid h)
+more_settled : (context : NameContext) (old new : Seen) (x : ℕ) (settled : List Declaration) → Adds old x new → AreSettled context old.declarations.items settled → AreSettled context new.declarations.items settled
+more_settled context old new x settled a s = λ values y valid h.
+    ap (λ (ds : List Declaration). is_declared (truths_at context values) ds y) a.declarations
+    ∙ list_any-append (λ (d : Declaration). declaration_kept (truths_at context values) y d) old.declarations.items (record { name = x; groups = old.groups } ∷ [])
+    ∙ or_left (is_declared (truths_at context values) old.declarations.items y) (is_declared (truths_at context values) (record { name = x; groups = old.groups } ∷ []) y) (s values y valid h)
 
-pub at_declaration : (setting : Setting) (before : List Item) (sign : Sign) (seen new : Seen) (settled : List Declaration) (x : ℕ) (fault : Option FileCode) → sign ≡ signs.Name x → seen.in_main ≡ false → IsSeen before seen
-    → AreSettled setting seen.declarations.items settled → Declares setting seen x new fault → Judges setting before sign new settled fault
-at_declaration setting before sign seen new settled x fault is main k s d = subst (λ (t : Sign). Judges setting before t new settled fault) (sym is) (record {
-  fault_is = subst (λ (b : Bool). IsEither b (IsUseFault setting before x fault) (IsDeclarationFault setting before x fault)) (sym (sym k.main ∙ main)) (declaration_is setting before seen x fault k d.fault_is);
+pub at_declaration : (context : NameContext) (before : List Item) (sign : Sign) (seen new : Seen) (settled : List Declaration) (x : ℕ) (fault : Option FileCode) → sign ≡ signs.Name x → seen.in_main ≡ false → IsSeen before seen
+    → AreSettled context seen.declarations.items settled → Declares context seen x new fault → Judges context before sign new settled fault
+at_declaration context before sign seen new settled x fault is main k s d = subst (λ (t : Sign). Judges context before t new settled fault) (sym is) (record {
+  fault_is = subst (λ (b : Bool). IsEither b (IsUseFault context before x fault) (IsDeclarationFault context before x fault)) (sym (sym k.main ∙ main)) (declaration_is context before seen x fault k d.fault_is);
   seen_is = λ none p. more_seen before p x seen new k (sym k.main ∙ main) (d.added none);
-  settled_is = λ none. more_settled setting seen new x settled (d.added none) s;
+  settled_is = λ none. more_settled context seen new x settled (d.added none) s;
 })
 
 pub record IsOther (sign : Sign) : Type 0 where
   pub names_none : name_of sign ≡ []
   pub is_no_main : is_main sign ≡ false
-  pub has_no_fault : (setting : Setting) (before : List Item) → IsNameFault setting before sign None
+  pub has_no_fault : (context : NameContext) (before : List Item) → IsNameFault context before sign None
 
 pub other_sign : (sign : Sign) → ((x : ℕ) → sign ≡ signs.Name x → ⊥) → (sign ≡ signs.Main → ⊥) → IsOther sign
 other_sign (signs.Name x) n m = absurd (n x refl)
 other_sign signs.Main n m = absurd (m refl)
-other_sign _ n m = record { names_none = refl; is_no_main = refl; has_no_fault = λ setting before. refl }
+other_sign _ n m = record { names_none = refl; is_no_main = refl; has_no_fault = λ context before. refl }
 
-pub at_other : (setting : Setting) (before : List Item) (sign : Sign) (seen new : Seen) (settled : List Declaration) → IsOther sign → IsSeen before seen → AreSettled setting seen.declarations.items settled
+pub at_other : (context : NameContext) (before : List Item) (sign : Sign) (seen new : Seen) (settled : List Declaration) → IsOther sign → IsSeen before seen → AreSettled context seen.declarations.items settled
     → ((truths : List Bool) → sections truths new.groups ≡ sections_after truths (sections truths seen.groups) (directive_of sign)) → new.in_main ≡ seen.in_main → new.names.items ≡ seen.names.items → new.declarations.items ≡ seen.declarations.items
-    → Judges setting before sign new settled None
-at_other setting before sign seen new settled o k s groups main names declarations = record {
-  fault_is = o.has_no_fault setting before;
+    → Judges context before sign new settled None
+at_other context before sign seen new settled o k s groups main names declarations = record {
+  fault_is = o.has_no_fault context before;
   seen_is = λ _ p. still_seen before (at p sign) seen new k (still_other before (at p sign) o.is_no_main o.names_none) groups
       (main ∙ k.main ∙ sym (ap (λ (b : Bool). has_main before || b) o.is_no_main ∙ or_false (has_main before))) names declarations;
-  settled_is = λ _. subst (λ (ds : List Declaration). AreSettled setting ds settled) (sym declarations) s;
+  settled_is = λ _. subst (λ (ds : List Declaration). AreSettled context ds settled) (sym declarations) s;
 }
 
 -- ---- the file
 
 -- a first fault of what is left is one of the file
-pub record Leads (setting : Setting) (items before left : List Item) : Type 0 where
-  pub leads : (fault : Option (FileCode × Place)) → IsFaultFrom setting before left fault → IsFaultFrom setting [] items fault
+pub record Leads (context : NameContext) (items before left : List Item) : Type 0 where
+  pub leads : (fault : Option (FileCode × Place)) → IsFaultFrom context before left fault → IsFaultFrom context [] items fault
 
-pub leads_on : (setting : Setting) (items before left : List Item) (x : Item) → Leads setting items before (x ∷ left) → IsNameFault setting before x.sign None → Leads setting items (before ++ x ∷ []) left
-leads_on setting items before left x k h = record { leads = λ fault later. k.leads fault (None, h, later) }
+pub leads_on : (context : NameContext) (items before left : List Item) (x : Item) → Leads context items before (x ∷ left) → IsNameFault context before x.sign None → Leads context items (before ++ x ∷ []) left
+leads_on context items before left x k h = record { leads = λ fault later. k.leads fault (None, h, later) }
 
-pub leads_to : (setting : Setting) (items before left : List Item) (x : Item) (code : FileCode) → Leads setting items before (x ∷ left) → IsNameFault setting before x.sign (Some code) → IsFaultFrom setting [] items (Some (code, x.place))
-leads_to setting items before left x code k h = k.leads (Some (code, x.place)) (Some code, h, refl)
+pub leads_to : (context : NameContext) (items before left : List Item) (x : Item) (code : FileCode) → Leads context items before (x ∷ left) → IsNameFault context before x.sign (Some code) → IsFaultFrom context [] items (Some (code, x.place))
+leads_to context items before left x code k h = k.leads (Some (code, x.place)) (Some code, h, refl)
 
 -- behind an item without a fault
-pub record Walks (setting : Setting) (items : List Item) (n : ℕ) (seen : Seen) (settled : List Declaration) : Type 0 where
+pub record Walks (context : NameContext) (items : List Item) (n : ℕ) (seen : Seen) (settled : List Declaration) : Type 0 where
   pub seen_is : IsSeen (take n items) seen
-  pub settled_is : AreSettled setting seen.declarations.items settled
-  pub fault_is : Leads setting items (take n items) (drop n items)
+  pub settled_is : AreSettled context seen.declarations.items settled
+  pub fault_is : Leads context items (take n items) (drop n items)
 
-pub walk_on : (setting : Setting) (items : List Item) (i : ℕ) (d : Item) (seen : Seen) (settled : List Declaration) (fault : Option FileCode) → i < length items → Leads setting items (take i items) (drop i items) → fault ≡ None
-    → Judges setting (take i items) (get_or items i d).sign seen settled fault → Walks setting items (i + 1) seen settled
-walk_on setting items i d seen settled fault lt k none j =
+pub walk_on : (context : NameContext) (items : List Item) (i : ℕ) (d : Item) (seen : Seen) (settled : List Declaration) (fault : Option FileCode) → i < length items → Leads context items (take i items) (drop i items) → fault ≡ None
+    → Judges context (take i items) (get_or items i d).sign seen settled fault → Walks context items (i + 1) seen settled
+walk_on context items i d seen settled fault lt k none j =
     let t : take (i + 1) items ≡ take i items ++ get_or items i d ∷ [] = take_more items i d lt in
     let r : drop i items ≡ get_or items i d ∷ drop (i + 1) items = rw add-one (drop-cons items i d lt) in
     record {
       seen_is = subst (λ (ys : List Item). IsSeen ys seen) (sym t) (j.seen_is none (get_or items i d).place);
       settled_is = j.settled_is none;
-      fault_is = subst (λ (ys : List Item). Leads setting items ys (drop (i + 1) items)) (sym t)
-          (leads_on setting items (take i items) (drop (i + 1) items) (get_or items i d) (subst (Leads setting items (take i items)) r k)
-          (subst (IsNameFault setting (take i items) (get_or items i d).sign) none j.fault_is));
+      fault_is = subst (λ (ys : List Item). Leads context items ys (drop (i + 1) items)) (sym t)
+          (leads_on context items (take i items) (drop (i + 1) items) (get_or items i d) (subst (Leads context items (take i items)) r k)
+          (subst (IsNameFault context (take i items) (get_or items i d).sign) none j.fault_is));
     }
 
-pub walk_to : (setting : Setting) (items : List Item) (i : ℕ) (d : Item) (seen : Seen) (settled : List Declaration) (fault : Option FileCode) (code : FileCode) → i < length items → Leads setting items (take i items) (drop i items) → fault ≡ Some code
-    → Judges setting (take i items) (get_or items i d).sign seen settled fault → IsFaultFrom setting [] items (Some (code, (get_or items i d).place))
-walk_to setting items i d seen settled fault code lt k some j =
+pub walk_to : (context : NameContext) (items : List Item) (i : ℕ) (d : Item) (seen : Seen) (settled : List Declaration) (fault : Option FileCode) (code : FileCode) → i < length items → Leads context items (take i items) (drop i items) → fault ≡ Some code
+    → Judges context (take i items) (get_or items i d).sign seen settled fault → IsFaultFrom context [] items (Some (code, (get_or items i d).place))
+walk_to context items i d seen settled fault code lt k some j =
     let r : drop i items ≡ get_or items i d ∷ drop (suc i) items = drop-cons items i d lt in
-    leads_to setting items (take i items) (drop (suc i) items) (get_or items i d) code (subst (Leads setting items (take i items)) r k)
-    (subst (IsNameFault setting (take i items) (get_or items i d).sign) some j.fault_is)
+    leads_to context items (take i items) (drop (suc i) items) (get_or items i d) code (subst (Leads context items (take i items)) r k)
+    (subst (IsNameFault context (take i items) (get_or items i d).sign) some j.fault_is)

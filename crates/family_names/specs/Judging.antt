@@ -11,7 +11,7 @@ use Rattle.family_names.specs.declared.declarations.Declaration.{Declaration}
 use Rattle.family_names.specs.declared.faults.Seen.{Seen}
 use Rattle.family_names.specs.Declarations.{is_declared}
 use Rattle.family_names.specs.Groups.{sections, are_kept}
-use Rattle.family_names.specs.Names.{Setting, truths_at, has_main, declared_by, declared_at, is_among, with_number, each_once, sections_behind, is_feature, new_name_fault, IsWithFirst, IsEither, IsNameFault}
+use Rattle.family_names.specs.Names.{NameContext, truths_at, has_main, declared_by, declared_at, is_among, with_number, each_once, sections_behind, is_feature, new_name_fault, IsWithFirst, IsEither, IsNameFault}
 
 -- what is known behind these items
 pub record IsSeen (before : List Item) (seen : Seen) : Type 0 where
@@ -21,39 +21,39 @@ pub record IsSeen (before : List Item) (seen : Seen) : Type 0 where
   pub declarations : (truths : List Bool) (x : ℕ) → is_declared truths seen.declarations.items x ≡ is_among x (declared_at truths before)
 
 -- where these are kept at a valid configuration, a declaration of the same name is
-abbrev pub AreSettled : Setting → List Declaration → List Declaration → Type 0
-AreSettled setting declarations settled =
-    (values : List ℤ) (x : ℕ) → IsValid (plain setting.model) values → is_declared (truths_at setting values) settled x ≡ true → is_declared (truths_at setting values) declarations x ≡ true
+abbrev pub AreSettled : NameContext → List Declaration → List Declaration → Type 0
+AreSettled context declarations settled =
+    (values : List ℤ) (x : ℕ) → IsValid (plain context.model) values → is_declared (truths_at context values) settled x ≡ true → is_declared (truths_at context values) declarations x ≡ true
 
 -- no declaration of the name is kept
-abbrev pub is_undeclared : Setting → List Declaration → ℕ → List ℤ → Bool
-is_undeclared setting declarations x values = not (is_declared (truths_at setting values) declarations x)
+abbrev pub is_undeclared : NameContext → List Declaration → ℕ → List ℤ → Bool
+is_undeclared context declarations x values = not (is_declared (truths_at context values) declarations x)
 
 -- the name that stands here is kept, and no declaration of it
-abbrev pub is_missed : Setting → Seen → ℕ → List ℤ → Bool
-is_missed setting seen x values = are_kept (truths_at setting values) seen.groups && not (is_declared (truths_at setting values) seen.declarations.items x)
+abbrev pub is_missed : NameContext → Seen → ℕ → List ℤ → Bool
+is_missed context seen x values = are_kept (truths_at context values) seen.groups && not (is_declared (truths_at context values) seen.declarations.items x)
 
 -- the name that stands here is kept, and a declaration of it
-abbrev pub is_met_again : Setting → Seen → ℕ → List ℤ → Bool
-is_met_again setting seen x values = are_kept (truths_at setting values) seen.groups && is_declared (truths_at setting values) seen.declarations.items x
+abbrev pub is_met_again : NameContext → Seen → ℕ → List ℤ → Bool
+is_met_again context seen x values = are_kept (truths_at context values) seen.groups && is_declared (truths_at context values) seen.declarations.items x
 
 -- the fault of a name that is used and declared
-pub record Misses (setting : Setting) (seen : Seen) (settled : List Declaration) (x : ℕ) (fault : Option FileCode) : Type 0 where
-  pub fault_is : IsWithFirst setting.model (is_missed setting seen x) Undeclared None fault
-  pub settled_is : AreSettled setting seen.declarations.items settled
+pub record Misses (context : NameContext) (seen : Seen) (settled : List Declaration) (x : ℕ) (fault : Option FileCode) : Type 0 where
+  pub fault_is : IsWithFirst context.model (is_missed context seen x) Undeclared None fault
+  pub settled_is : AreSettled context seen.declarations.items settled
 
 -- the fault of a name that is used
-pub record Uses (setting : Setting) (seen : Seen) (settled : List Declaration) (x : ℕ) (fault : Option FileCode) : Type 0 where
-  pub fault_is : IsEither (is_feature setting x) (fault ≡ Some FeatureInCode)
-      (IsEither (is_among x seen.names.items) (IsWithFirst setting.model (is_missed setting seen x) Undeclared None fault) (fault ≡ Some (Undeclared None)))
-  pub settled_is : AreSettled setting seen.declarations.items settled
+pub record Uses (context : NameContext) (seen : Seen) (settled : List Declaration) (x : ℕ) (fault : Option FileCode) : Type 0 where
+  pub fault_is : IsEither (is_feature context x) (fault ≡ Some FeatureInCode)
+      (IsEither (is_among x seen.names.items) (IsWithFirst context.model (is_missed context seen x) Undeclared None fault) (fault ≡ Some (Undeclared None)))
+  pub settled_is : AreSettled context seen.declarations.items settled
 
 -- a name with a declaration that is kept is among those that are declared
 abbrev pub AreNamed : Seen → Type 0
 AreNamed seen = (truths : List Bool) (x : ℕ) → is_declared truths seen.declarations.items x ≡ true → is_among x seen.names.items ≡ true
 
-abbrev pub IsAgain : Setting → Seen → ℕ → Option FileCode → Type 0
-IsAgain setting seen x fault = IsWithFirst setting.model (is_met_again setting seen x) Twice (new_name_fault setting seen.names.items x) fault
+abbrev pub IsAgain : NameContext → Seen → ℕ → Option FileCode → Type 0
+IsAgain context seen x fault = IsWithFirst context.model (is_met_again context seen x) Twice (new_name_fault context seen.names.items x) fault
 
 -- the name is declared where the others are
 pub record Adds (old : Seen) (x : ℕ) (new : Seen) : Type 0 where
@@ -63,12 +63,12 @@ pub record Adds (old : Seen) (x : ℕ) (new : Seen) : Type 0 where
   pub declarations : new.declarations.items ≡ old.declarations.items ++ record { name = x; groups = old.groups } ∷ []
 
 -- the fault of a name that is declared; without one it is added
-pub record Declares (setting : Setting) (old : Seen) (x : ℕ) (new : Seen) (fault : Option FileCode) : Type 0 where
-  pub fault_is : IsAgain setting old x fault
+pub record Declares (context : NameContext) (old : Seen) (x : ℕ) (new : Seen) (fault : Option FileCode) : Type 0 where
+  pub fault_is : IsAgain context old x fault
   pub added : fault ≡ None → Adds old x new
 
 -- the fault of an item behind these; without one it is seen too
-pub record Judges (setting : Setting) (before : List Item) (sign : Sign) (seen : Seen) (settled : List Declaration) (fault : Option FileCode) : Type 0 where
-  pub fault_is : IsNameFault setting before sign fault
+pub record Judges (context : NameContext) (before : List Item) (sign : Sign) (seen : Seen) (settled : List Declaration) (fault : Option FileCode) : Type 0 where
+  pub fault_is : IsNameFault context before sign fault
   pub seen_is : fault ≡ None → (p : Place) → IsSeen (before ++ at p sign ∷ []) seen
-  pub settled_is : fault ≡ None → AreSettled setting seen.declarations.items settled
+  pub settled_is : fault ≡ None → AreSettled context seen.declarations.items settled

@@ -8,35 +8,35 @@ use Rattle.cpp_conditions.specs.Validity.{plain}
 use Rattle.c_grammar.specs.declared.items.Item.{Item}
 use Rattle.c_grammar.specs.declared.items.Sign.TheVariants as signs
 use Rattle.c_grammar.specs.Grammar.{is_group}
-use Rattle.family_names.specs.Names.{Setting, truths_at, has_main, declared_by, is_among, each_once, is_feature, new_name_fault, IsWithFirst, IsEither, IsNameFault, IsFirstNameFault}
+use Rattle.family_names.specs.Names.{NameContext, truths_at, has_main, declared_by, is_among, each_once, is_feature, new_name_fault, IsWithFirst, IsEither, IsNameFault, IsFirstNameFault}
 
 -- a group directive stands among the items
 abbrev pub has_groups : List Item → Bool
 has_groups items = list_any (λ x. is_group x.sign) items
 
 -- a name is used: a feature's, or one that is not declared
-abbrev pub plain_use_fault : Setting → List ℕ → ℕ → Option FileCode
-plain_use_fault setting declared x =
-    if is_feature setting x then Some FeatureInCode else (if is_among x declared then None else Some (Undeclared None))
+abbrev pub plain_use_fault : NameContext → List ℕ → ℕ → Option FileCode
+plain_use_fault context declared x =
+    if is_feature context x then Some FeatureInCode else (if is_among x declared then None else Some (Undeclared None))
 
 -- the fault of a name without groups: of a second declaration the example is the least valid configuration
-abbrev pub IsPlainFault : Setting → List Item → ℕ → Option FileCode → Type 0
-IsPlainFault setting before x fault =
-    IsEither (has_main before) (fault ≡ plain_use_fault setting (declared_by before) x)
-    (IsEither (is_among x (declared_by before)) (IsWithFirst setting.model (λ (values : List ℤ). true) Twice (new_name_fault setting (each_once [] (declared_by before)) x) fault)
-    (fault ≡ new_name_fault setting (each_once [] (declared_by before)) x))
+abbrev pub IsPlainFault : NameContext → List Item → ℕ → Option FileCode → Type 0
+IsPlainFault context before x fault =
+    IsEither (has_main before) (fault ≡ plain_use_fault context (declared_by before) x)
+    (IsEither (is_among x (declared_by before)) (IsWithFirst context.model (λ (values : List ℤ). true) Twice (new_name_fault context (each_once [] (declared_by before)) x) fault)
+    (fault ≡ new_name_fault context (each_once [] (declared_by before)) x))
 
 -- behind items without groups, the fault of a name is the plain one
 abbrev pub PlainNames : Type 0
-PlainNames = (setting : Setting) (before : List Item) (x : ℕ) (fault : Option FileCode) → has_groups before ≡ false → IsNameFault setting before (signs.Name x) fault → IsPlainFault setting before x fault
+PlainNames = (context : NameContext) (before : List Item) (x : ℕ) (fault : Option FileCode) → has_groups before ≡ false → IsNameFault context before (signs.Name x) fault → IsPlainFault context before x fault
 
 -- one is as good as the other: the models have the same features and the same conditions as constraints, the names are the
 -- same, and at each values the conditions have the same truths
-pub record AreAlike (a b : Setting) : Type 0 where
+pub record AreAlike (a b : NameContext) : Type 0 where
   pub models : plain a.model ≡ plain b.model
   pub names : a.names ≡ b.names
   pub truths : (values : List ℤ) → truths_at a values ≡ truths_at b values
 
 -- over settings that are alike, items have one first fault of a name, or none
 abbrev pub NamesAreJudgedOnce : Type 0
-NamesAreJudgedOnce = (a b : Setting) (items : List Item) (f g : Option (FileCode × Place)) → AreAlike a b → IsFirstNameFault a items f → IsFirstNameFault b items g → f ≡ g
+NamesAreJudgedOnce = (a b : NameContext) (items : List Item) (f g : Option (FileCode × Place)) → AreAlike a b → IsFirstNameFault a items f → IsFirstNameFault b items g → f ≡ g

@@ -3,4 +3,4 @@ pub mod Groups
 pub mod Judging
 pub mod Laws
 pub mod Names
-pub mod Settings
+pub mod NameContexts

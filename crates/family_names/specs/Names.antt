@@ -81,7 +81,7 @@ is_kept truths before = all_kept (sections_behind truths [] before)
 -- ---- configurations
 
 -- what the items of a file are judged by: a model, the atoms and the conditions of the file's groups, and its names
-pub record Setting : Type 0 where
+pub record NameContext : Type 0 where
   pub model : Model
   pub atoms : List Atom
   pub conditions : List Formula
@@ -92,18 +92,18 @@ abbrev pub truths_on : List Formula → List Bool → List Bool
 truths_on conditions vector = map (λ f. true_on vector (formula f)) conditions
 
 -- the truths of the conditions at these values of the features
-abbrev pub truths_at : Setting → List ℤ → List Bool
-truths_at setting values = truths_on setting.conditions (vector_at setting.atoms values)
+abbrev pub truths_at : NameContext → List ℤ → List Bool
+truths_at context values = truths_on context.conditions (vector_at context.atoms values)
 
 -- the name behind these items is kept, and no declaration of it
-abbrev pub is_missed : Setting → List Item → ℕ → List ℤ → Bool
-is_missed setting before x values =
-    is_kept (truths_at setting values) before && not (is_among x (declared_at (truths_at setting values) before))
+abbrev pub is_missed : NameContext → List Item → ℕ → List ℤ → Bool
+is_missed context before x values =
+    is_kept (truths_at context values) before && not (is_among x (declared_at (truths_at context values) before))
 
 -- the name behind these items is kept, and a declaration of it
-abbrev pub is_met_again : Setting → List Item → ℕ → List ℤ → Bool
-is_met_again setting before x values =
-    is_kept (truths_at setting values) before && is_among x (declared_at (truths_at setting values) before)
+abbrev pub is_met_again : NameContext → List Item → ℕ → List ℤ → Bool
+is_met_again context before x values =
+    is_kept (truths_at context values) before && is_among x (declared_at (truths_at context values) before)
 
 -- ---- faults
 
@@ -123,8 +123,8 @@ abbrev pub is_feature_name : Model → Option (List ℕ) → Bool
 is_feature_name model None = false
 is_feature_name model (Some name) = list_any (λ f. bytes_eq f.name name) model.features
 
-abbrev pub is_feature : Setting → ℕ → Bool
-is_feature setting x = is_feature_name setting.model (slice_get setting.names x)
+abbrev pub is_feature : NameContext → ℕ → Bool
+is_feature context x = is_feature_name context.model (slice_get context.names x)
 
 -- the first where this is true, else the second
 abbrev pub IsEither : Bool → Type 0 → Type 0 → Type 0
@@ -132,27 +132,27 @@ IsEither true First Second = First
 IsEither false First Second = Second
 
 -- where a name is used: it is a feature's, or it has no declaration, or no declaration of it is kept at some configuration
-abbrev pub IsUseFault : Setting → List Item → ℕ → Option FileCode → Type 0
-IsUseFault setting before x fault =
-    IsEither (is_feature setting x) (fault ≡ Some FeatureInCode)
-    (IsEither (is_among x (declared_by before)) (IsWithFirst setting.model (is_missed setting before x) Undeclared None fault) (fault ≡ Some (Undeclared None)))
+abbrev pub IsUseFault : NameContext → List Item → ℕ → Option FileCode → Type 0
+IsUseFault context before x fault =
+    IsEither (is_feature context x) (fault ≡ Some FeatureInCode)
+    (IsEither (is_among x (declared_by before)) (IsWithFirst context.model (is_missed context before x) Undeclared None fault) (fault ≡ Some (Undeclared None)))
 
 -- a name is a feature's, or it is the 17th, where these are declared before it
-abbrev pub new_name_fault : Setting → List ℕ → ℕ → Option FileCode
-new_name_fault setting declared x =
-    if is_feature setting x then Some FeatureInCode
+abbrev pub new_name_fault : NameContext → List ℕ → ℕ → Option FileCode
+new_name_fault context declared x =
+    if is_feature context x then Some FeatureInCode
     else (if not (is_among x declared) && nat_le 16 (length declared) then Some TooManyVariables else None)
 
 -- where a name is declared: an earlier declaration of it is kept too at some configuration, or it is a feature's or the 17th
-abbrev pub IsDeclarationFault : Setting → List Item → ℕ → Option FileCode → Type 0
-IsDeclarationFault setting before x fault =
-    IsWithFirst setting.model (is_met_again setting before x) Twice (new_name_fault setting (each_once [] (declared_by before)) x) fault
+abbrev pub IsDeclarationFault : NameContext → List Item → ℕ → Option FileCode → Type 0
+IsDeclarationFault context before x fault =
+    IsWithFirst context.model (is_met_again context before x) Twice (new_name_fault context (each_once [] (declared_by before)) x) fault
 
 -- the fault of an item behind these
-abbrev pub IsNameFault : Setting → List Item → Sign → Option FileCode → Type 0
-IsNameFault setting before (signs.Name x) fault =
-    IsEither (has_main before) (IsUseFault setting before x fault) (IsDeclarationFault setting before x fault)
-IsNameFault setting before _ fault = fault ≡ None
+abbrev pub IsNameFault : NameContext → List Item → Sign → Option FileCode → Type 0
+IsNameFault context before (signs.Name x) fault =
+    IsEither (has_main before) (IsUseFault context before x fault) (IsDeclarationFault context before x fault)
+IsNameFault context before _ fault = fault ≡ None
 
 -- the fault of an item at its place if it has one, else a later one
 abbrev pub IsThisOr : Option FileCode → Place → Option (FileCode × Place) → Type 0 → Type 0
@@ -160,11 +160,11 @@ IsThisOr (Some code) place fault later = fault ≡ Some (code, place)
 IsThisOr None place fault later = later
 
 -- the first fault of a name among the items behind these
-abbrev pub IsFaultFrom : Setting → List Item → List Item → Option (FileCode × Place) → Type 0
-IsFaultFrom setting before [] fault = fault ≡ None
-IsFaultFrom setting before (x ∷ xs) fault =
-    (code : Option FileCode) × IsNameFault setting before x.sign code × IsThisOr code x.place fault (IsFaultFrom setting (before ++ x ∷ []) xs fault)
+abbrev pub IsFaultFrom : NameContext → List Item → List Item → Option (FileCode × Place) → Type 0
+IsFaultFrom context before [] fault = fault ≡ None
+IsFaultFrom context before (x ∷ xs) fault =
+    (code : Option FileCode) × IsNameFault context before x.sign code × IsThisOr code x.place fault (IsFaultFrom context (before ++ x ∷ []) xs fault)
 
 -- the first fault of a name in a file
-abbrev pub IsFirstNameFault : Setting → List Item → Option (FileCode × Place) → Type 0
-IsFirstNameFault setting items fault = IsFaultFrom setting [] items fault
+abbrev pub IsFirstNameFault : NameContext → List Item → Option (FileCode × Place) → Type 0
+IsFirstNameFault context items fault = IsFaultFrom context [] items fault

@@ -4,20 +4,17 @@
 ghost use Rattle.std.specs.Prelude.{◌≡◌, ℕ, ℤ, Bool, true, false, not, ◌&&◌, List, IfOk, OnOk};
 ghost use Rattle.atom_solver.specs.Solutions.{Finds};
 ghost use Rattle.family_names.specs.Names.{is_among, truths_at, with_number, new_name_fault};
-ghost use Rattle.family_names.specs.Settings.{plain, IsFit};
+ghost use Rattle.family_names.specs.NameContexts.{plain, IsFit};
 ghost use Rattle.family_names.specs.Judging as judging;
 
 use crate::declarations::{Declaration, declaring, is_clear};
 use crate::groups::Groups;
+use crate::name_context::NameContext;
 use crate::questions::keeping;
-use crate::setting::Setting;
 use cpp_conditions::formulas::{both, negation};
-use fam_outer::{FileCode, NoMemory};
+use fam_outer::{FileCode, MOST_NAMES, NoMemory};
 use linear_atoms::Config;
 use std::alloc::Global;
-
-/// The greatest number of names.
-const MOST_NAMES: usize = 16;
 
 /// What is known behind some items: the groups that stand there, whether `main` is among the items, the names that they
 /// declare, each once, and their declarations.
@@ -44,52 +41,52 @@ fn contains(numbers: &[u32], number: u32) -> bool
 /// The least valid configuration that keeps the name which stands here, and no declaration of it.
 fn missed(
     alloc: Global,
-    setting: &Setting<'_>,
+    context: &NameContext<'_>,
     seen: &Seen,
     name: u32,
 ) -> Result<Option<Config>, NoMemory>
-    requires { IsFit (plain setting.now) }
-    ensures { IfOk result (λ found. Finds setting.now.model.now
-        (judging.is_missed (plain setting.now) seen.now name) found) }
+    requires { IsFit (plain context.now) }
+    ensures { IfOk result (λ found. Finds context.now.model.now
+        (judging.is_missed (plain context.now) seen.now name) found) }
 {
-    let kept = keeping(alloc, setting.conditions, &seen.groups)?;
-    let declared = declaring(alloc, setting.conditions, &seen.declarations, name)?;
+    let kept = keeping(alloc, context.conditions, &seen.groups)?;
+    let declared = declaring(alloc, context.conditions, &seen.declarations, name)?;
     let none = negation(alloc, declared)?;
     let wanted = both(alloc, kept, none)?;
-    setting.model.least_where(alloc, setting.atoms, &wanted)
+    context.model.least_where(alloc, context.atoms, &wanted)
 }
 
 /// The least valid configuration that keeps no declaration of the name, wherever it stands.
 fn undeclared(
     alloc: Global,
-    setting: &Setting<'_>,
+    context: &NameContext<'_>,
     seen: &Seen,
     name: u32,
 ) -> Result<Option<Config>, NoMemory>
-    requires { IsFit (plain setting.now) }
-    ensures { IfOk result (λ found. Finds setting.now.model.now
-        (judging.is_undeclared (plain setting.now) seen.now.declarations.items name) found) }
+    requires { IsFit (plain context.now) }
+    ensures { IfOk result (λ found. Finds context.now.model.now
+        (judging.is_undeclared (plain context.now) seen.now.declarations.items name) found) }
 {
-    let declared = declaring(alloc, setting.conditions, &seen.declarations, name)?;
+    let declared = declaring(alloc, context.conditions, &seen.declarations, name)?;
     let none = negation(alloc, declared)?;
-    setting.model.least_where(alloc, setting.atoms, &none)
+    context.model.least_where(alloc, context.atoms, &none)
 }
 
 /// The least valid configuration that keeps the name which stands here, and a declaration of it.
 fn met_again(
     alloc: Global,
-    setting: &Setting<'_>,
+    context: &NameContext<'_>,
     seen: &Seen,
     name: u32,
 ) -> Result<Option<Config>, NoMemory>
-    requires { IsFit (plain setting.now) }
-    ensures { IfOk result (λ found. Finds setting.now.model.now
-        (judging.is_met_again (plain setting.now) seen.now name) found) }
+    requires { IsFit (plain context.now) }
+    ensures { IfOk result (λ found. Finds context.now.model.now
+        (judging.is_met_again (plain context.now) seen.now name) found) }
 {
-    let kept = keeping(alloc, setting.conditions, &seen.groups)?;
-    let declared = declaring(alloc, setting.conditions, &seen.declarations, name)?;
+    let kept = keeping(alloc, context.conditions, &seen.groups)?;
+    let declared = declaring(alloc, context.conditions, &seen.declarations, name)?;
     let wanted = both(alloc, kept, declared)?;
-    setting.model.least_where(alloc, setting.atoms, &wanted)
+    context.model.least_where(alloc, context.atoms, &wanted)
 }
 
 /// Whether the name is settled, in whatever groups.
@@ -101,24 +98,24 @@ fn has_settled(settled: &[Declaration], name: u32) -> bool {
 /// is. Where that is clear, nothing is asked; and the first question of a name is whether it is so everywhere.
 fn missing_fault(
     alloc: Global,
-    setting: &Setting<'_>,
+    context: &NameContext<'_>,
     seen: &Seen,
     settled: &mut Vec<Declaration>,
     name: u32,
 ) -> Result<Option<FileCode>, NoMemory>
-    requires { IsFit (plain setting.now) }
-    ensures { judging.AreSettled (plain setting.now) seen.now.declarations.items settled.old.items
-        → IfOk result (λ fault. judging.Misses (plain setting.now) seen.now settled.new.items name fault) }
+    requires { IsFit (plain context.now) }
+    ensures { judging.AreSettled (plain context.now) seen.now.declarations.items settled.old.items
+        → IfOk result (λ fault. judging.Misses (plain context.now) seen.now settled.new.items name fault) }
 {
     if is_clear(&seen.declarations, name, &seen.groups) || is_clear(settled, name, &seen.groups) {
         return Ok(None);
     }
-    if !has_settled(settled, name) && undeclared(alloc, setting, seen, name)?.is_none() {
+    if !has_settled(settled, name) && undeclared(alloc, context, seen, name)?.is_none() {
         let groups = Groups::new(alloc);
         settled.push(Declaration { name, groups })?;
         return Ok(None);
     }
-    match missed(alloc, setting, seen, name)? {
+    match missed(alloc, context, seen, name)? {
         Some(config) => Ok(Some(FileCode::Undeclared(Some(config.values)))),
         None => {
             let groups = seen.groups.copy(alloc)?;
@@ -131,29 +128,29 @@ fn missing_fault(
 /// The fault of a use.
 pub(crate) fn use_fault(
     alloc: Global,
-    setting: &Setting<'_>,
+    context: &NameContext<'_>,
     seen: &Seen,
     settled: &mut Vec<Declaration>,
     name: u32,
 ) -> Result<Option<FileCode>, NoMemory>
-    requires { IsFit (plain setting.now) }
-    ensures { judging.AreSettled (plain setting.now) seen.now.declarations.items settled.old.items
-        → IfOk result (λ fault. judging.Uses (plain setting.now) seen.now settled.new.items name fault) }
+    requires { IsFit (plain context.now) }
+    ensures { judging.AreSettled (plain context.now) seen.now.declarations.items settled.old.items
+        → IfOk result (λ fault. judging.Uses (plain context.now) seen.now settled.new.items name fault) }
 {
-    if setting.is_feature(name) {
+    if context.is_feature(name) {
         return Ok(Some(FileCode::FeatureInCode));
     }
     if !contains(&seen.names, name) {
         return Ok(Some(FileCode::Undeclared(None)));
     }
-    missing_fault(alloc, setting, seen, settled, name)
+    missing_fault(alloc, context, seen, settled, name)
 }
 
 /// The fault of a declaration whose name no declaration before it has at the same configuration.
-fn new_name_fault(setting: &Setting<'_>, names: &[u32], name: u32) -> Option<FileCode>
-    ensures { result ≡ new_name_fault (plain setting.now) names.now name }
+fn new_name_fault(context: &NameContext<'_>, names: &[u32], name: u32) -> Option<FileCode>
+    ensures { result ≡ new_name_fault (plain context.now) names.now name }
 {
-    if setting.is_feature(name) {
+    if context.is_feature(name) {
         return Some(FileCode::FeatureInCode);
     }
     if !contains(names, name) && names.len() >= MOST_NAMES {
@@ -165,20 +162,20 @@ fn new_name_fault(setting: &Setting<'_>, names: &[u32], name: u32) -> Option<Fil
 /// The fault of a declaration.
 fn declaration_fault(
     alloc: Global,
-    setting: &Setting<'_>,
+    context: &NameContext<'_>,
     seen: &Seen,
     name: u32,
 ) -> Result<Option<FileCode>, NoMemory>
-    requires { IsFit (plain setting.now) }
+    requires { IsFit (plain context.now) }
     ensures { judging.AreNamed seen.now
-        → IfOk result (λ fault. judging.IsAgain (plain setting.now) seen.now name fault) }
+        → IfOk result (λ fault. judging.IsAgain (plain context.now) seen.now name fault) }
 {
     if !contains(&seen.names, name) {
-        return Ok(new_name_fault(setting, &seen.names, name));
+        return Ok(new_name_fault(context, &seen.names, name));
     }
-    match met_again(alloc, setting, seen, name)? {
+    match met_again(alloc, context, seen, name)? {
         Some(config) => Ok(Some(FileCode::Twice(Some(config.values)))),
-        None => Ok(new_name_fault(setting, &seen.names, name)),
+        None => Ok(new_name_fault(context, &seen.names, name)),
     }
 }
 
@@ -205,15 +202,15 @@ fn add(alloc: Global, seen: &mut Seen, name: u32) -> Result<(), NoMemory>
 /// The fault of a declaration; without one it is added.
 pub(crate) fn declare(
     alloc: Global,
-    setting: &Setting<'_>,
+    context: &NameContext<'_>,
     seen: &mut Seen,
     name: u32,
 ) -> Result<Option<FileCode>, NoMemory>
-    requires { IsFit (plain setting.now) }
+    requires { IsFit (plain context.now) }
     ensures { judging.AreNamed seen.old
-        → IfOk result (λ fault. judging.Declares (plain setting.now) seen.old name seen.new fault) }
+        → IfOk result (λ fault. judging.Declares (plain context.now) seen.old name seen.new fault) }
 {
-    let fault = declaration_fault(alloc, setting, seen, name)?;
+    let fault = declaration_fault(alloc, context, seen, name)?;
     if fault.is_none() {
         add(alloc, seen, name)?;
     }

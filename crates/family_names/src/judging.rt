@@ -11,13 +11,13 @@ ghost use Rattle.c_grammar.specs.declared.items.Item as items;
 ghost use Rattle.c_grammar.specs.Kept.{directive_of};
 ghost use Rattle.family_names.specs.Groups.{sections};
 ghost use Rattle.family_names.specs.Names.{IsFirstNameFault};
-ghost use Rattle.family_names.specs.Settings.{plain, IsFit};
+ghost use Rattle.family_names.specs.NameContexts.{plain, IsFit};
 ghost use Rattle.family_names.specs.Judging as judging;
 
 use crate::declarations::Declaration;
 use crate::faults::{Seen, declare, use_fault};
 use crate::groups::Groups;
-use crate::setting::Setting;
+use crate::name_context::NameContext;
 use c_grammar::{Item, Sign};
 use cpp_groups::GroupDirective;
 use fam_outer::{FileCode, NoMemory, Place};
@@ -51,15 +51,15 @@ fn pass(groups: &mut Groups, sign: Sign) -> Result<(), NoMemory>
 /// The fault of an item; without one it is seen.
 fn judge(
     alloc: Global,
-    setting: &Setting<'_>,
+    context: &NameContext<'_>,
     seen: &mut Seen,
     settled: &mut Vec<Declaration>,
     sign: Sign,
 ) -> Result<Option<FileCode>, NoMemory>
-    requires { IsFit (plain setting.now) }
+    requires { IsFit (plain context.now) }
     ensures { (before : List items.Item) → judging.IsSeen before seen.old
-        → judging.AreSettled (plain setting.now) seen.old.declarations.items settled.old.items
-        → IfOk result (λ fault. judging.Judges (plain setting.now) before sign seen.new settled.new.items fault) }
+        → judging.AreSettled (plain context.now) seen.old.declarations.items settled.old.items
+        → IfOk result (λ fault. judging.Judges (plain context.now) before sign seen.new settled.new.items fault) }
 {
     match sign {
         Sign::Main => {
@@ -68,9 +68,9 @@ fn judge(
         }
         Sign::Name(number) => {
             if seen.in_main {
-                use_fault(alloc, setting, seen, settled, number)
+                use_fault(alloc, context, seen, settled, number)
             } else {
-                declare(alloc, setting, seen, number)
+                declare(alloc, context, seen, number)
             }
         }
         _ => {
@@ -97,13 +97,13 @@ fn judge(
 /// outermost of those groups. Otherwise the time is that of the items by the declarations and these answers.
 pub fn first_name_fault(
     alloc: Global,
-    setting: &Setting<'_>,
+    context: &NameContext<'_>,
     items: &[Item],
 ) -> Result<Option<(FileCode, Place)>, NoMemory>
-    requires atoms { AreAtoms (length setting.now.model.now.features) setting.now.atoms.now }
-    requires conditions { All (λ f. IsBelow (length setting.now.atoms.now)
-        (formula f)) setting.now.conditions.now }
-    ensures { IfOk result (λ fault. IsFirstNameFault (plain setting.now) items.now fault) }
+    requires atoms { AreAtoms (length context.now.model.now.features) context.now.atoms.now }
+    requires conditions { All (λ f. IsBelow (length context.now.atoms.now)
+        (formula f)) context.now.conditions.now }
+    ensures { IfOk result (λ fault. IsFirstNameFault (plain context.now) items.now fault) }
 {
     let mut seen = Seen {
         groups: Groups::new(alloc),
@@ -113,7 +113,7 @@ pub fn first_name_fault(
     };
     let mut settled = Vec::new(alloc);
     for item in items {
-        if let Some(code) = judge(alloc, setting, &mut seen, &mut settled, item.sign)? {
+        if let Some(code) = judge(alloc, context, &mut seen, &mut settled, item.sign)? {
             return Ok(Some((code, item.place)));
         }
     }

@@ -6,8 +6,8 @@ mod faults;
 mod groups;
 pub mod judging;
 pub mod laws;
+pub mod name_context;
 mod questions;
-pub mod setting;
 
 pub use judging::first_name_fault;
-pub use setting::Setting;
+pub use name_context::NameContext;

@@ -15,7 +15,7 @@ use atom_solver::Prepared;
 use c_grammar::{Item, Sign};
 use cpp_conditions::{Condition, Conditions, Features, Formula, Model};
 use fam_outer::{FileCode, NoMemory, Place, Text};
-use family_names::{Setting, first_name_fault};
+use family_names::{NameContext, first_name_fault};
 use linear_atoms::{Atom, Feature, Linear};
 use std::alloc::{AllocError, Global};
 use std::process::Abort;
@@ -119,13 +119,13 @@ fn fault(alloc: Global, file: &[u8]) -> Result<Option<(FileCode, Place)>, Fail> 
     let names = names(alloc)?;
     let items = items(alloc, file)?;
     let prepared = Prepared::new(alloc, &model)?;
-    let setting = Setting {
+    let context = NameContext {
         model: &prepared,
         atoms: &atoms,
         conditions: &conditions,
         names: &names,
     };
-    Ok(first_name_fault(alloc, &setting, &items)?)
+    Ok(first_name_fault(alloc, &context, &items)?)
 }
 
 fn accepts(rt: &impl Abort, alloc: Global, file: &str) -> Result<(), Fail> {

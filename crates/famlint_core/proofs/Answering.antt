@@ -4,7 +4,7 @@ use Rattle.std.specs.Prelude.{Option, None, Result, Ok, Err}
 use Rattle.fam_outer.specs.declared.faults.FileCode.{FileCode}
 use Rattle.fam_outer.specs.declared.faults.Place.{Place}
 use Rattle.c_tree.specs.Tree.{Whole}
-use Rattle.c_parser.specs.Reading.{Reads, ReadsOver}
+use Rattle.c_parser.specs.Reading.{IsPlainRead, IsPlainReadOver}
 use Rattle.famlint_core.specs.declared.request.Analysis.{Analysis}
 use Rattle.famlint_core.specs.declared.fault.Done.{Done}
 use Rattle.famlint_core.specs.declared.fault.Fault.{Fault}
@@ -13,9 +13,9 @@ use Rattle.famlint_core.specs.Answers.{AnswersPlain, plain_done}
 
 -- a file is read in one way
 abbrev pub OneReading : Type 0
-OneReading = (given : List (List ℕ)) (bytes : List ℕ) (r s : Result Whole (FileCode × Place)) → ReadsOver given bytes r → ReadsOver given bytes s → r ≡ s
+OneReading = (given : List (List ℕ)) (bytes : List ℕ) (r s : Result Whole (FileCode × Place)) → IsPlainReadOver given bytes r → IsPlainReadOver given bytes s → r ≡ s
 
-one_program : OneReading → (bytes : List ℕ) (p q : Whole) → Reads bytes (Ok p) → Reads bytes (Ok q) → p ≡ q
+one_program : OneReading → (bytes : List ℕ) (p q : Whole) → IsPlainRead bytes (Ok p) → IsPlainRead bytes (Ok q) → p ≡ q
 one_program once bytes p q h k = let e : (let r : Result Whole (FileCode × Place) = Ok p in r) ≡ Ok q = once [] bytes (Ok p) (Ok q) h k in cc
 
 -- bytes are answered once
@@ -42,9 +42,9 @@ one_answer once analysis bytes (Err (fault.File code place example)) (Err (fault
 
 -- each file is read as a program, or has a refusal
 abbrev pub SomeReading : Type 0
-SomeReading = (given : List (List ℕ)) (bytes : List ℕ) → (r : Result Whole (FileCode × Place)) × ReadsOver given bytes r
+SomeReading = (given : List (List ℕ)) (bytes : List ℕ) → (r : Result Whole (FileCode × Place)) × IsPlainReadOver given bytes r
 
-answer_by : (analysis : Analysis) (bytes : List ℕ) (r : Result Whole (FileCode × Place)) → Reads bytes r → (answer : Result Done Fault) × AnswersPlain analysis bytes answer
+answer_by : (analysis : Analysis) (bytes : List ℕ) (r : Result Whole (FileCode × Place)) → IsPlainRead bytes r → (answer : Result Done Fault) × AnswersPlain analysis bytes answer
 answer_by analysis bytes (Ok p) h = (Ok (plain_done analysis p), (p, h, refl))
 answer_by analysis bytes (Err (code, place)) h = (Err (fault.File code place None), (h, refl))
 

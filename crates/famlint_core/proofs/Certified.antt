@@ -178,12 +178,12 @@ are_same laws m f k l h i =
 -- ---- the same reading and the same verdict
 
 read_over : (k l : ProductLine) (bytes : List ℕ) (result : Result Certificate (Refusal CertificateFault)) → AreSameLines k l
-    → reader.Answers (literal_of k.model.features k.family.atoms) (whole k.family.code).names bytes result
-    → reader.Answers (literal_of l.model.features l.family.atoms) (whole l.family.code).names bytes result
+    → reader.IsCertificateRead (literal_of k.model.features k.family.atoms) (whole k.family.code).names bytes result
+    → reader.IsCertificateRead (literal_of l.model.features l.family.atoms) (whole l.family.code).names bytes result
 read_over k l bytes result e h =
-    subst (λ (p : Whole). reader.Answers (literal_of l.model.features l.family.atoms) p.names bytes result) e.code
-    (subst (λ (atoms : List Atom). reader.Answers (literal_of l.model.features atoms) (whole k.family.code).names bytes result) e.atoms
-    (subst (λ (m : Plain). reader.Answers (literal_of m.features k.family.atoms) (whole k.family.code).names bytes result) e.model h))
+    subst (λ (p : Whole). reader.IsCertificateRead (literal_of l.model.features l.family.atoms) p.names bytes result) e.code
+    (subst (λ (atoms : List Atom). reader.IsCertificateRead (literal_of l.model.features atoms) (whole k.family.code).names bytes result) e.atoms
+    (subst (λ (m : Plain). reader.IsCertificateRead (literal_of m.features k.family.atoms) (whole k.family.code).names bytes result) e.model h))
 
 module _ {X : Type 0} (a b : Model) (e : plain a ≡ plain b) (holds says : X → List ℤ → Bool) (same : (x : X) (values : List ℤ) → holds x values ≡ says x values) where
   always : (x : X) → HoldsAlways a (holds x) → HoldsAlways b (says x)
@@ -270,7 +270,7 @@ module _ (laws : CertifiedLaws) (m f bytes : List ℕ) (h : IsCertified m f byte
       }
 
   read_accepted : (k : ProductLine) (result : Result Certificate (Refusal CertificateFault)) → IsProductLine m f k
-      → reader.Answers (literal_of k.model.features k.family.atoms) (whole k.family.code).names bytes result
+      → reader.IsCertificateRead (literal_of k.model.features k.family.atoms) (whole k.family.code).names bytes result
       → IsReadAndAccepted l.model (whole l.family.code) l.family.conditions l.family.atoms result
   read_accepted k result line answers =
       laws.written h.options l.model (whole l.family.code) l.family.conditions l.family.atoms bytes result h.line_is.usable.program

@@ -7,7 +7,7 @@ use Rattle.cpp_lines.specs.Preprocessed.{preprocessed}
 use Rattle.cpp_lines.specs.Sections.{truths_at}
 use Rattle.cpp_lines.specs.Whole.{IsPreprocessed}
 use Rattle.c_parser.specs.FamilyReading.{IsFamilyOf}
-use Rattle.c_parser.specs.Reading.{ReadsOver}
+use Rattle.c_parser.specs.Reading.{IsPlainReadOver}
 use Rattle.c_parser.specs.Variants.{VariantsAreRead, projection, truths_in, names_in}
 use Rattle.famlint_core.specs.declared.product_line.ProductLine.{ProductLine}
 use Rattle.famlint_core.specs.ProductLines.{IsProgramAt}
@@ -20,4 +20,4 @@ is_program_at law l values p spelled valid e =
     let text = preprocessed (truths_at values told.conditions) told.lines blanked in
     let made : IsPreprocessed (plain l.model) (truths_at values) l.text text =
     record { blanked = blanked; told = told; without_comments = spelled.are.items.without_comments; read = spelled.are.items.read; is = refl } in
-    record { text = text; preprocessed = made; read = subst (λ q. ReadsOver (names_in l.family) text (Ok q)) (sym e) (law l.model l.text text l.family values spelled valid made) }
+    record { text = text; preprocessed = made; read = subst (λ q. IsPlainReadOver (names_in l.family) text (Ok q)) (sym e) (law l.model l.text text l.family values spelled valid made) }

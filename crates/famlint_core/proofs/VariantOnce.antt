@@ -18,7 +18,7 @@ use Rattle.feature_model.specs.Stages.{◌>>=◌}
 use Rattle.variant_projector.specs.Variant.{IsVariant}
 use Rattle.c_tree.specs.Tree.{Whole}
 use Rattle.c_parser.specs.declared.family.Family.{Family}
-use Rattle.c_parser.specs.Reading.{ReadsOver}
+use Rattle.c_parser.specs.Reading.{IsPlainReadOver}
 use Rattle.c_parser.specs.Variants.{names_in, AreSameFamily, FamiliesAreNotRefused, FamiliesAreReadOnce, FamiliesAreRefusedOnce}
 use Rattle.famlint_core.specs.declared.fault.Done.{Done}
 use Rattle.famlint_core.specs.declared.fault.Fault.{Fault}
@@ -203,7 +203,7 @@ same_program laws s t e p q h k =
     let text : h.text ≡ k.text = same_text laws s t e h.text k.text h.preprocessed k.preprocessed in
     same_read p q
     (laws.programs (names_in t.line.family) k.text (Ok p) (Ok q)
-    (subst (λ (b : List ℕ). ReadsOver (names_in t.line.family) b (Ok p)) text (subst (λ (ns : List (List ℕ)). ReadsOver ns h.text (Ok p)) e.names h.read))
+    (subst (λ (b : List ℕ). IsPlainReadOver (names_in t.line.family) b (Ok p)) text (subst (λ (ns : List (List ℕ)). IsPlainReadOver ns h.text (Ok p)) e.names h.read))
     k.read)
 
 abbrev done : List ℕ → ℕ → Done

@@ -5,7 +5,7 @@ use Rattle.c_tree.specs.Tree.{Whole}
 use Rattle.c_tree.specs.declared.tree.Mode.{Mode}
 use Rattle.cpp_conditions.specs.declared.models.Model.{Model}
 use Rattle.cpp_conditions.specs.Validity.{plain}
-use Rattle.c_parser.specs.Reading.{Reads}
+use Rattle.c_parser.specs.Reading.{IsPlainRead}
 use Rattle.variant_projector.specs.Variant.{IsVariant}
 use Rattle.interval_leaf.specs.Intervals.{intervals}
 use Rattle.leaf_domain.specs.Leaves.{LeafMeaning}
@@ -68,8 +68,8 @@ plain_done analysis p = report_done (meaning_of analysis.domain) analysis.option
 
 -- the report on the program that the bytes spell, or their refusal
 abbrev pub AnswersPlain : Analysis → List ℕ → Result Done Fault → Type 0
-AnswersPlain analysis bytes (Ok done) = (p : Whole) × Reads bytes (Ok p) × (done ≡ plain_done analysis p)
-AnswersPlain analysis bytes (Err (fault.File code place example)) = Reads bytes (Err (code, place)) × (example ≡ Option.None)
+AnswersPlain analysis bytes (Ok done) = (p : Whole) × IsPlainRead bytes (Ok p) × (done ≡ plain_done analysis p)
+AnswersPlain analysis bytes (Err (fault.File code place example)) = IsPlainRead bytes (Err (code, place)) × (example ≡ Option.None)
 AnswersPlain analysis bytes (Err other) = ⊥
 
 -- ---- `project`, `variant` and `run`
@@ -166,7 +166,7 @@ IsLoaded (Features model) told failed = failed ≡ Some model
 
 -- the report is one on the program that the bytes spell
 abbrev pub PromisedPlain : Analysis → List ℕ → ℕ → List ℕ → Type 0
-PromisedPlain analysis bytes status text = (p : Whole) × Reads bytes (Ok p) × IsReport (meaning_of analysis.domain) analysis.options p status text
+PromisedPlain analysis bytes status text = (p : Whole) × IsPlainRead bytes (Ok p) × IsReport (meaning_of analysis.domain) analysis.options p status text
 
 -- a report is one on the program of the variant; a text or a run is exactly its answer, and no more is promised of it
 abbrev pub PromisedOf : VariantTask → Selected → ℕ → List ℕ → Type 0

@@ -21,7 +21,8 @@ use Rattle.setting_texts.specs.Settings.{config_text}
 use Rattle.alarm_report.specs.Texts.{place_text, kind_text}
 use Rattle.certificate_reader.specs.declared.certificates.AlarmLine.{AlarmLine}
 use Rattle.certificate_reader.specs.declared.certificates.Certificate.{Certificate}
-use Rattle.certificate_reader.specs.Certificates.{IsCertificate, HasFault, most_bytes}
+use Rattle.fam_outer.specs.Limits.{certificate_bytes}
+use Rattle.certificate_reader.specs.Certificates.{SpellsCertificate, HasFault}
 use Rattle.certificate_reader.specs.Regions.{literal_of}
 use Rattle.invariant_certificate.specs.declared.verdicts.Verdict.{Verdict}
 use Rattle.invariant_certificate.specs.declared.verdicts.Verdict.TheVariants.{Yes, NotInductive, Unlisted}
@@ -39,7 +40,7 @@ use Rattle.famlint_core.specs.ProductLines.{IsProductLine, IsLineRefused, IsLoad
 
 -- the certificate that bytes spell over the literals and the names of a product line, or why they are refused
 abbrev pub IsCertificateFor : ProductLine → List ℕ → Result Certificate Fault → Type 0
-IsCertificateFor l bytes (Ok c) = IsCertificate (literal_of l.model.features l.family.atoms) (whole l.family.code).names bytes c
+IsCertificateFor l bytes (Ok c) = SpellsCertificate (literal_of l.model.features l.family.atoms) (whole l.family.code).names bytes c
 IsCertificateFor l bytes (Err (fault.Certificate given)) = HasFault (literal_of l.model.features l.family.atoms) (whole l.family.code).names bytes given
 IsCertificateFor l bytes (Err other) = ⊥
 
@@ -112,7 +113,7 @@ pub record IsCertified (m f bytes : List ℕ) : Type 0 where
   pub done : Done
   pub done_is : IsFamilyDone intervals options task.Certificate line done
   pub text : bytes ≡ done.text
-  pub short : length bytes ≤ most_bytes
+  pub short : length bytes ≤ certificate_bytes
 
 -- a check that came to yes
 abbrev pub IsYes : Result Done Fault → Type 0

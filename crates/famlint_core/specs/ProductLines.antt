@@ -4,7 +4,7 @@ use Rattle.cpp_conditions.specs.declared.models.Model.{Model}
 use Rattle.cpp_conditions.specs.Validity.{plain}
 use Rattle.c_tree.specs.Tree.{Whole}
 use Rattle.c_parser.specs.FamilyReading.{IsFamilyOf}
-use Rattle.c_parser.specs.Reading.{ReadsOver}
+use Rattle.c_parser.specs.Reading.{IsPlainReadOver}
 use Rattle.c_parser.specs.Variants.{names_in}
 use Rattle.variant_projector.specs.Variant.{IsVariant}
 use Rattle.famlint_core.specs.declared.fault.Fault.{Fault}
@@ -43,4 +43,4 @@ pub record IsUsableLine (l : ProductLine) : Type 0 where
 pub record IsProgramAt (l : ProductLine) (values : List ℤ) (p : Whole) : Type 0 where
   pub text : List ℕ
   pub preprocessed : IsVariant (plain l.model) values l.text text
-  pub read : ReadsOver (names_in l.family) text (Ok p)
+  pub read : IsPlainReadOver (names_in l.family) text (Ok p)

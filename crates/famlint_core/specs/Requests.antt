@@ -9,7 +9,7 @@ use Rattle.command_words.specs.declared.reading.Arguments.{Arguments}
 use Rattle.command_words.specs.declared.settings.Chosen.{Chosen}
 use Rattle.command_words.specs.declared.settings.Domain.TheVariants as domains
 use Rattle.command_words.specs.declared.settings.Given.{Given}
-use Rattle.command_words.specs.declared.settings.Settings.{Settings}
+use Rattle.command_words.specs.declared.settings.OptionSettings.{OptionSettings}
 use Rattle.command_words.specs.Spelling.{number_up_to}
 use Rattle.famlint_core.specs.declared.request.Analysis.{Analysis}
 use Rattle.famlint_core.specs.declared.request.options.Command.{Command}
@@ -139,11 +139,11 @@ features_request (model ∷ []) = Some (request.Features model)
 features_request (model ∷ more ∷ words) = None
 
 -- the run that the options ask for
-abbrev pub run_task : Settings → VariantTask
+abbrev pub run_task : OptionSettings → VariantTask
 run_task settings = task.Run settings.chosen.steps settings.inputs settings.chosen.overflow
 
 -- what a command asks for with these words
-abbrev pub request_for : Command → Settings → List (List ℕ) → Option Request
+abbrev pub request_for : Command → OptionSettings → List (List ℕ) → Option Request
 request_for command.Plain settings words = plain_request (analysis_of settings.chosen) words
 request_for command.Project settings words = variant_request task.Text words
 request_for command.Variant settings words = variant_request (task.Report (analysis_of settings.chosen)) words

@@ -7,7 +7,7 @@ use Rattle.cpp_conditions.specs.declared.conditions.Condition.{Condition}
 use Rattle.cpp_conditions.specs.declared.reading.ConditionRefusal.{ConditionRefusal}
 use Rattle.cpp_conditions.specs.declared.reading.ConditionRefusal.TheVariants as conditions
 use Rattle.cpp_conditions.specs.Grammar.{ReadsAs}
-use Rattle.cpp_conditions.specs.Reading.{Reads}
+use Rattle.cpp_conditions.specs.Reading.{IsConditionRead}
 use Rattle.cpp_conditions.specs.Propositions.{IsFit, IsOpen}
 use Rattle.cpp_conditions.specs.Validity.{AreFit, AreOpen}
 use Rattle.cpp_conditions.specs.View.{proposition}
@@ -19,11 +19,11 @@ use Rattle.feature_model.specs.Constraints.{AreRead, none, refused, first, numbe
 pub nothing_added : (features : List Feature) (n : ℕ) (texts : List (List ℕ)) (old : List Condition) (done : ⊤) → texts ≡ [] → Adds features n texts old old (Ok done)
 nothing_added features n texts old done e = ([], sym (append-nil old), subst (λ ts. AreRead features n ts (Ok [])) (sym e) (none n))
 
-refused_by : (features : List Feature) (n : ℕ) (behind : List (List ℕ)) (text : List ℕ) (old : List Condition) (refusal : ConditionRefusal) → Reads features text (Err refusal) → Adds features n (text ∷ behind) old old (Err (numbered n refusal))
+refused_by : (features : List Feature) (n : ℕ) (behind : List (List ℕ)) (text : List ℕ) (old : List Condition) (refusal : ConditionRefusal) → IsConditionRead features text (Err refusal) → Adds features n (text ∷ behind) old old (Err (numbered n refusal))
 refused_by features n behind text old conditions.NoMemory h = tt
 refused_by features n behind text old (conditions.Fault fault) h = refused n text behind fault h
 
-pub text_refused : (features : List Feature) (n : ℕ) (texts behind : List (List ℕ)) (text : List ℕ) (old : List Condition) (refusal : ConditionRefusal) (given : (Refusal ModelFault)) → texts ≡ text ∷ behind → Reads features text (Err refusal) → given ≡ numbered n refusal
+pub text_refused : (features : List Feature) (n : ℕ) (texts behind : List (List ℕ)) (text : List ℕ) (old : List Condition) (refusal : ConditionRefusal) (given : (Refusal ModelFault)) → texts ≡ text ∷ behind → IsConditionRead features text (Err refusal) → given ≡ numbered n refusal
     → Adds features n texts old old (Err given)
 text_refused features n texts behind text old refusal given cut h e = subst (λ ts. Adds features n ts old old (Err given)) (sym cut) (subst (λ g. Adds features n (text ∷ behind) old old (Err g)) (sym e) (refused_by features n behind text old refusal h))
 

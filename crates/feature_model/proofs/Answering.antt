@@ -11,19 +11,19 @@ use Rattle.feature_model.specs.declared.faults.ModelFault.{ModelFault}
 use Rattle.fam_outer.specs.declared.refusal.Refusal.{Refusal}
 use Rattle.fam_outer.specs.declared.refusal.Refusal.TheVariants as refusals
 use Rattle.feature_model.specs.Constraints.{AreRead, Adds}
-use Rattle.feature_model.specs.Models.{Says, Ends, too_many_tests, void, accepted, untold, refused, said, Judges, Reads}
+use Rattle.feature_model.specs.Models.{Says, Ends, too_many_tests, void, accepted, untold, refused, said, Judges, IsModelRead}
 use Rattle.feature_model.specs.Stages.{told_of, Fails}
 
-pub untold_so : (bytes : List ℕ) (e : (Refusal ModelFault)) → Fails e (told_of bytes) → Reads bytes (Err e)
+pub untold_so : (bytes : List ℕ) (e : (Refusal ModelFault)) → Fails e (told_of bytes) → IsModelRead bytes (Err e)
 untold_so bytes refusals.NoMemory h = tt
 untold_so bytes (refusals.Fault fault) h = untold fault h
 
-refused_by : (bytes : List ℕ) (features : List Feature) (texts : List (List ℕ)) (old new : List Condition) (e : (Refusal ModelFault)) → told_of bytes ≡ Ok (record { features = features; texts = texts }) → Adds features 1 texts old new (Err e) → Reads bytes (Err e)
+refused_by : (bytes : List ℕ) (features : List Feature) (texts : List (List ℕ)) (old new : List Condition) (e : (Refusal ModelFault)) → told_of bytes ≡ Ok (record { features = features; texts = texts }) → Adds features 1 texts old new (Err e) → IsModelRead bytes (Err e)
 refused_by bytes features texts old new refusals.NoMemory t h = tt
 refused_by bytes features texts old new (refusals.Fault fault) t h = refused (record { features = features; texts = texts }) fault t h
 
 pub refused_so : (bytes : List ℕ) (features fs : List Feature) (texts ts : List (List ℕ)) (old new : List Condition) (e : (Refusal ModelFault)) → told_of bytes ≡ Ok (record { features = features; texts = texts }) → fs ≡ features → ts ≡ texts
-    → Adds fs 1 ts old new (Err e) → Reads bytes (Err e)
+    → Adds fs 1 ts old new (Err e) → IsModelRead bytes (Err e)
 refused_so bytes features fs texts ts old new e t a b h = refused_by bytes features texts old new e t (subst (λ f. Adds f 1 texts old new (Err e)) a (subst (λ x. Adds fs 1 x old new (Err e)) b h))
 
 says : (bytes : List ℕ) (features : List Feature) (texts : List (List ℕ)) (model : Model) (new : List Condition) (done : ⊤) → told_of bytes ≡ Ok (record { features = features; texts = texts }) → Adds features 1 texts [] new (Ok done)
@@ -34,13 +34,13 @@ says bytes features texts model new done t h e f = record {
   read = subst (λ fs. AreRead fs 1 texts (Ok (map proposition model.constraints))) (sym e) (subst (λ cs. AreRead features 1 texts (Ok (map proposition cs))) (sym (f ∙ h.1)) h.2);
 }
 
-judged_so : (bytes : List ℕ) (model : Model) (r : Result Model (Refusal ModelFault)) → Says bytes (plain model) → Judges model r → Reads bytes r
+judged_so : (bytes : List ℕ) (model : Model) (r : Result Model (Refusal ModelFault)) → Says bytes (plain model) → Judges model r → IsModelRead bytes r
 judged_so bytes model (Ok made) s h = said (plain model) (Ok (plain made)) s h
 judged_so bytes model (Err refusals.NoMemory) s h = tt
 judged_so bytes model (Err (refusals.Fault fault)) s h = said (plain model) (Err fault) s h
 
 pub read_so : (bytes : List ℕ) (features fs : List Feature) (texts ts : List (List ℕ)) (model : Model) (old new : List Condition) (done : ⊤) (r : Result Model (Refusal ModelFault)) → told_of bytes ≡ Ok (record { features = features; texts = texts })
-    → fs ≡ features → ts ≡ texts → old ≡ [] → Adds fs 1 ts old new (Ok done) → model.features ≡ features → model.constraints ≡ new → Judges model r → Reads bytes r
+    → fs ≡ features → ts ≡ texts → old ≡ [] → Adds fs 1 ts old new (Ok done) → model.features ≡ features → model.constraints ≡ new → Judges model r → IsModelRead bytes r
 read_so bytes features fs texts ts model old new done r t a b none h e f j =
     judged_so bytes model r (says bytes features texts model new done t (subst (λ o. Adds features 1 texts o new (Ok done)) none (subst (λ f. Adds f 1 texts old new (Ok done)) a (subst (λ x. Adds fs 1 x old new (Ok done)) b h))) e f) j
 

@@ -1,6 +1,7 @@
 -- Features of a model, and the first fault among them.
 use Rattle.std.specs.Prelude.{◌≡◌, ℕ, ◌+◌, ℤ, pos, neg_ℤ, int_lt, Bool, true, false, ◌||◌, if◌then◌else◌, List, [], ◌∷◌, ◌++◌, Option, Some, None, option_map}
 use Rattle.std.specs.Str.{bytes_eq}
+use Rattle.fam_outer.specs.Limits.{most_value}
 use Rattle.linear_atoms.specs.declared.atoms.Feature.{Feature}
 use Rattle.cpp_conditions.specs.Expressions.{found}
 use Rattle.feature_model.specs.declared.faults.ModelFault.{ModelFault}
@@ -21,7 +22,7 @@ feature entry = feature_by entry.name entry.range
 -- the ends are the wrong way round, or one passes 2^20 in size
 abbrev pub is_bad_range : Option (ℤ × ℤ) → Bool
 is_bad_range None = false
-is_bad_range (Some range) = int_lt range.1 range.0 || (int_lt range.0 (neg_ℤ (pos 1048576)) || int_lt (pos 1048576) range.1)
+is_bad_range (Some range) = int_lt range.1 range.0 || (int_lt range.0 (neg_ℤ (pos most_value)) || int_lt (pos most_value) range.1)
 
 -- the number, counted from this one, of the first entry that fails the test
 abbrev pub first_where : (Entry → Bool) → ℕ → List Entry → Option ℕ

@@ -37,7 +37,7 @@ Judges model (Err refusals.NoMemory) = ⊤
 Judges model (Err (refusals.Fault fault)) = Ends (plain model) (Err fault)
 
 -- the answer is what the bytes are read as, unless memory runs out
-abbrev pub Reads : List ℕ → Result Model (Refusal ModelFault) → Type 0
-Reads bytes (Ok made) = IsReadAs bytes (Ok (plain made))
-Reads bytes (Err refusals.NoMemory) = ⊤
-Reads bytes (Err (refusals.Fault fault)) = IsReadAs bytes (Err fault)
+abbrev pub IsModelRead : List ℕ → Result Model (Refusal ModelFault) → Type 0
+IsModelRead bytes (Ok made) = IsReadAs bytes (Ok (plain made))
+IsModelRead bytes (Err refusals.NoMemory) = ⊤
+IsModelRead bytes (Err (refusals.Fault fault)) = IsReadAs bytes (Err fault)

@@ -10,6 +10,7 @@ use Rattle.feature_model.specs.declared.faults.ConfigFault.{ConfigFault}
 use Rattle.feature_model.specs.declared.faults.ConfigFault.TheVariants as faults
 use Rattle.fam_outer.specs.declared.refusal.Refusal.{Refusal}
 use Rattle.fam_outer.specs.declared.refusal.Refusal.TheVariants as refusals
+use Rattle.fam_outer.specs.Limits.{most_value}
 use Rattle.feature_model.specs.Stages.{◌>>=◌}
 
 -- ---- words
@@ -122,23 +123,23 @@ Sets new (Err fault) expected = expected ≡ Err fault
 -- a number that is not at most 2^20 in size
 abbrev pub IsLarge : Option ℤ → Type 0
 IsLarge None = ⊤
-IsLarge (Some v) = 1048576 < unsigned_abs v
+IsLarge (Some v) = most_value < unsigned_abs v
 
 -- the expected value, where it is at most 2^20 in size
 abbrev pub Spells : Option ℤ → Option ℤ → Type 0
 Spells None expected = IsLarge expected
-Spells (Some v) expected = (expected ≡ Some v) × (unsigned_abs v ≤ 1048576)
+Spells (Some v) expected = (expected ≡ Some v) × (unsigned_abs v ≤ most_value)
 
 -- the range's ends are at most 2^20 in size
 pub record IsSmallRange (f : Feature) : Type 0 where
-  pub low : unsigned_abs f.low ≤ 1048576
-  pub high : unsigned_abs f.high ≤ 1048576
+  pub low : unsigned_abs f.low ≤ most_value
+  pub high : unsigned_abs f.high ≤ most_value
 
 -- the values that are set are at most 2^20 in size
 abbrev pub AreSmall : List (Option ℤ) → Type 0
 AreSmall [] = Unit {0}
 AreSmall (None ∷ slots) = AreSmall slots
-AreSmall (Some v ∷ slots) = (unsigned_abs v ≤ 1048576) × AreSmall slots
+AreSmall (Some v ∷ slots) = (unsigned_abs v ≤ most_value) × AreSmall slots
 
 -- how many are set
 abbrev pub count : List (Option ℤ) → ℕ

@@ -1,6 +1,7 @@
 -- What bytes say of a model, up to its constraints, or the first fault.
 use Rattle.std.specs.Prelude.{◌≡◌, ⊤, ℕ, nat_lt, ◌||◌, if◌then◌else◌, List, map, length, Option, Some, None, Result, Ok, Err}
 use Rattle.std.specs.Str.{is_utf8}
+use Rattle.fam_outer.specs.Limits.{model_bytes}
 use Rattle.linear_atoms.specs.declared.atoms.Feature.{Feature}
 use Rattle.serde_json.specs.Data.{Data}
 use Rattle.serde_json.specs.Read.{read}
@@ -28,7 +29,7 @@ unless (Some fault) x = Err fault
 
 -- at most 65,536 bytes
 abbrev pub short : List ℕ → Result (List ℕ) ModelFault
-short bytes = if nat_lt 65536 (length bytes) then Err faults.TooLong else Ok bytes
+short bytes = if nat_lt model_bytes (length bytes) then Err faults.TooLong else Ok bytes
 
 -- the JSON value of UTF-8
 abbrev pub value_of : List ℕ → Option Data

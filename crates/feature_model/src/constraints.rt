@@ -10,13 +10,10 @@ ghost use Rattle.feature_model.specs.Constraints as constraints;
 
 use crate::faults::{ModelFault, ModelRefusal};
 use cpp_conditions::{Condition, ConditionRefusal, distinct_atoms, read_condition};
-use fam_outer::{NoMemory, Text};
+use fam_outer::{MOST_ATOMS, NoMemory, Text};
 use linear_atoms::Feature;
 use linear_atoms::slices::cut;
 use std::alloc::Global;
-
-/// The greatest number of distinct atoms of the constraints of a model.
-const MOST_ATOMS: usize = 64;
 
 /// The refusal of the constraint of this number.
 fn numbered(number: u32, refusal: ConditionRefusal) -> ModelRefusal

@@ -10,13 +10,10 @@ ghost use Rattle.feature_model.specs.Names.{is_misnamed};
 use crate::faults::ModelFault;
 use crate::names::is_misnamed;
 use crate::shapes::Entry;
-use fam_outer::NoMemory;
+use fam_outer::{MOST_VALUE, NoMemory};
 use linear_atoms::Feature;
 use linear_atoms::slices::cut;
 use std::alloc::Global;
-
-/// The greatest size of a feature's value.
-const MOST_VALUE: i64 = 1_048_576;
 
 /// Whether a range has its ends the wrong way round, or one that is too great in size.
 fn is_bad_range(range: Option<(i64, i64)>) -> bool
@@ -24,7 +21,8 @@ fn is_bad_range(range: Option<(i64, i64)>) -> bool
 {
     match range {
         None => false,
-        Some((low, high)) => high < low || (low < -MOST_VALUE || MOST_VALUE < high),
+        Some((low, high)) => high < low
+            || (low < -i64::from(MOST_VALUE) || i64::from(MOST_VALUE) < high),
     }
 }
 

@@ -8,7 +8,7 @@ ghost use Rattle.cpp_conditions.specs.Validity.{plain, IsValid, AreFit, AreOpen}
 ghost use Rattle.serde_json.specs.View.{view};
 ghost use Rattle.feature_model.specs.declared.faults.ModelFault.TheVariants as faults;
 ghost use Rattle.feature_model.specs.Features.{AreDistinct, AreNamed, HaveSwitches};
-ghost use Rattle.feature_model.specs.Models.{Reads, Judges};
+ghost use Rattle.feature_model.specs.Models.{IsModelRead, Judges};
 ghost use Rattle.feature_model.specs.Shapes.{outline};
 ghost use Rattle.feature_model.specs.Stages.{Gives, or_fault, value_of, outlined, told_from, told_of};
 
@@ -18,19 +18,10 @@ use crate::features::{fault_of, features as features_of};
 use crate::shapes::{Outline, outline_of};
 use atom_solver::least;
 use cpp_conditions::{Conditions, Features, Model};
-use fam_outer::Text;
+use fam_outer::{MODEL_BYTES, MOST_CONSTRAINTS, MOST_FEATURES, Text};
 use linear_atoms::Feature;
 use serde_json::Value;
 use std::alloc::Global;
-
-/// The greatest number of bytes of a model.
-const MOST_BYTES: usize = 65_536;
-
-/// The greatest number of features.
-const MOST_FEATURES: usize = 32;
-
-/// The greatest number of constraints.
-const MOST_CONSTRAINTS: usize = 256;
 
 /// The JSON value of the bytes.
 fn value_of(alloc: Global, bytes: &[u8]) -> Result<Value, ModelRefusal>
@@ -52,7 +43,7 @@ fn value_of(alloc: Global, bytes: &[u8]) -> Result<Value, ModelRefusal>
 fn outlined(alloc: Global, bytes: &[u8]) -> Result<Outline, ModelRefusal>
     ensures { Gives outline result (outlined bytes.now) }
 {
-    if bytes.len() > MOST_BYTES {
+    if bytes.len() > MODEL_BYTES {
         return Err(ModelRefusal::Fault(ModelFault::TooLong));
     }
     let value = value_of(alloc, bytes)?;
@@ -137,7 +128,7 @@ fn judged(alloc: Global, model: Model) -> Result<Model, ModelRefusal>
 /// The atoms of its constraints are well formed over its features, and the ranges decide none of them. It answers
 /// `NoMemory` for want of memory.
 pub fn read_model(alloc: Global, bytes: &[u8]) -> Result<Model, ModelRefusal>
-    ensures read { Reads bytes.now result }
+    ensures read { IsModelRead bytes.now result }
     ensures features { IfOk result (λ made. AreFeatures made.features) }
     ensures distinct { IfOk result (λ made. AreDistinct made.features) }
     ensures named { IfOk result (λ made. AreNamed made.features) }

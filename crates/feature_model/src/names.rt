@@ -10,6 +10,7 @@ ghost use Rattle.c_words.specs.Keywords as tables;
 ghost use Rattle.feature_model.specs.Names as names;
 
 use c_words::is_reserved as is_reserved_word;
+use fam_outer::cut;
 
 /// Whether two texts are equal.
 fn is(word: &[u8], text: &str) -> bool
@@ -42,16 +43,6 @@ fn is_word(byte: u8) -> bool
     ensures { result ≡ is_word byte }
 {
     is_first(byte) || (48 <= byte && byte <= 57)
-}
-
-/// The first byte and those behind it.
-fn cut(bytes: &[u8]) -> Option<(u8, &[u8])>
-    ensures { MatchOption result (bytes.now ≡ []) (λ x. bytes.now ≡ x.0 ∷ x.1.now) }
-{
-    match bytes {
-        [] => None,
-        [first, behind @ ..] => Some((*first, behind)),
-    }
 }
 
 /// Whether all bytes are letters, underscores or digits.

@@ -6,26 +6,14 @@ ghost use Rattle.std.specs.List.{list_all};
 ghost use Rattle.cpp_conditions.specs.Tokens.{is_digit, is_number, number_from};
 ghost use Rattle.feature_model.specs.Settings as settings;
 
+use fam_outer::{MOST_VALUE, cut};
 use linear_atoms::Feature;
-
-/// The greatest size of a feature's value.
-const MOST_VALUE: u32 = 1_048_576;
 
 /// Whether a byte is a digit.
 fn is_digit(byte: u8) -> bool
     ensures { result ≡ is_digit byte }
 {
     48 <= byte && byte <= 57
-}
-
-/// The first byte and those behind it.
-fn cut(bytes: &[u8]) -> Option<(u8, &[u8])>
-    ensures { MatchOption result (bytes.now ≡ []) (λ x. bytes.now ≡ x.0 ∷ x.1.now) }
-{
-    match bytes {
-        [] => None,
-        [first, behind @ ..] => Some((*first, behind)),
-    }
 }
 
 /// Whether all bytes are digits.
@@ -53,10 +41,10 @@ fn is_number(bytes: &[u8]) -> bool
 
 /// The number that digits spell behind those of another, if it is at most 2^20.
 fn number(before: u32, digits: &[u8]) -> Option<u32>
-    requires before { before ≤ 1048576 }
+    requires before { before ≤ MOST_VALUE }
     requires digits { list_all is_digit digits.now ≡ true }
-    ensures { MatchOption result (1048576 < number_from before digits.now)
-        (λ n. (n ≡ number_from before digits.now) × (n ≤ 1048576)) }
+    ensures { MatchOption result (MOST_VALUE < number_from before digits.now)
+        (λ n. (n ≡ number_from before digits.now) × (n ≤ MOST_VALUE)) }
 {
     match cut(digits) {
         None => Some(before),

@@ -26,7 +26,7 @@ use Rattle.lifted_analysis.specs.Turns.{loop_places}
 use Rattle.invariant_certificate.specs.declared.verdicts.Verdict.{Verdict}
 use Rattle.invariant_certificate.specs.declared.verdicts.Verdict.TheVariants.{Yes, NotInductive, Unlisted}
 use Rattle.invariant_certificate.specs.Failing.{AllHold, IsFirstFailing}
-use Rattle.invariant_certificate.specs.Found.{loop_holds, stop_holds, IsJudged, IsFirstLoop, IsFirstStop}
+use Rattle.invariant_certificate.specs.FirstFailing.{loop_holds, stop_holds, IsJudged, IsFirstLoop, IsFirstStop}
 use Rattle.invariant_certificate.specs.Passes.{is_inductive, is_covered}
 use Rattle.invariant_certificate.specs.Verdicts.{AllInductive, IsVerdict, StopsAreListed}
 use Rattle.invariant_certificate.proofs.First.{all_hold_said, first_said}

@@ -38,7 +38,7 @@ use Rattle.plain_analysis.specs.declared.alarm.Alarm.{Alarm}
 use Rattle.plain_analysis.specs.Places.{at_by, alarm_by, alarms_by}
 use Rattle.plain_analysis.specs.Promises.{RunsForeseenBy, IsForeseen}
 use Rattle.invariant_certificate.specs.Failing.{HoldsAlways, AllHold, IsFirstFailing}
-use Rattle.invariant_certificate.specs.Found.{loop_holds, stop_holds}
+use Rattle.invariant_certificate.specs.FirstFailing.{loop_holds, stop_holds}
 use Rattle.invariant_certificate.specs.Passes.{variant_of, begin_of, heads_of, is_inductive, may_stop, is_covered, is_listed}
 use Rattle.invariant_certificate.specs.Verdicts.{AllInductive, StopsAreListed}
 use Rattle.invariant_certificate.proofs.First.{Agree}

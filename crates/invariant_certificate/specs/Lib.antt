@@ -1,4 +1,4 @@
 pub mod Passes
 pub mod Failing
 pub mod Verdicts
-pub mod Found
+pub mod FirstFailing

@@ -20,7 +20,7 @@ ghost use Rattle.lifted_analysis.specs.declared.lines.LoopLine.{LoopLine};
 ghost use Rattle.lifted_analysis.specs.Lines.{AreBounds, AreRegionsBelow};
 ghost use Rattle.certificate_reader.specs.declared.certificates.AlarmLine.{AlarmLine};
 ghost use Rattle.invariant_certificate.specs.declared.verdicts.Verdict.TheVariants.{Yes};
-ghost use Rattle.invariant_certificate.specs.Found.{IsJudged};
+ghost use Rattle.invariant_certificate.specs.FirstFailing.{IsJudged};
 ghost use Rattle.invariant_certificate.specs.Verdicts.{IsVerdict, StopsAreListed};
 
 use crate::settling::first_unsettled;

@@ -8,7 +8,7 @@ ghost use Rattle.decision_tree.specs.Plain.{TestsBelow};
 ghost use Rattle.decision_tree.specs.View.{plain};
 ghost use Rattle.lifted_analysis.specs.declared.findings.LoopTree.{LoopTree};
 ghost use Rattle.invariant_certificate.specs.Failing.{AllHold};
-ghost use Rattle.invariant_certificate.specs.Found.{loop_holds, IsFirstLoop};
+ghost use Rattle.invariant_certificate.specs.FirstFailing.{loop_holds, IsFirstLoop};
 
 use crate::asking::least_failing;
 use atom_solver::Prepared;

@@ -11,7 +11,7 @@ ghost use Rattle.decision_tree.specs.View.{plain};
 ghost use Rattle.lifted_analysis.specs.declared.findings.AlarmTree.{AlarmTree};
 ghost use Rattle.certificate_reader.specs.declared.certificates.AlarmLine.{AlarmLine};
 ghost use Rattle.invariant_certificate.specs.Failing.{AllHold};
-ghost use Rattle.invariant_certificate.specs.Found.{stop_holds, IsFirstStop};
+ghost use Rattle.invariant_certificate.specs.FirstFailing.{stop_holds, IsFirstStop};
 
 use crate::asking::least_failing;
 use crate::listing::covered;
@@ -24,7 +24,7 @@ use linear_atoms::{Atom, Config};
 use std::alloc::Global;
 
 /// A place and a kind, and a configuration.
-pub(crate) type Stop = (Place, Kind, Config);
+pub(crate) type UnlistedStop = (Place, Kind, Config);
 
 /// The place and the kind of the first alarm tree that is true at some valid configuration at which no line lists it, and the
 /// least such configuration.
@@ -34,7 +34,7 @@ pub(crate) fn first_unlisted(
     atoms: &[Atom],
     alarms: &[AlarmTree],
     lines: &[AlarmLine],
-) -> Result<Option<Stop>, NoMemory>
+) -> Result<Option<UnlistedStop>, NoMemory>
     requires atoms { AreAtoms (length prepared.now.features) atoms.now }
     requires few { length atoms.now ≤ 64 }
     requires tests { All (λ (a : AlarmTree). TestsBelow (length atoms.now) (plain a.tree)) alarms.now }

@@ -18,7 +18,7 @@ use Rattle.fam_outer.specs.declared.refusal.Refusal.{Refusal}
 use Rattle.fam_outer.specs.declared.refusal.Refusal.TheVariants as refusal
 use Rattle.item_reader.specs.Reading.{IsDeepAt, IsWrongAt, OnDeep, OnWrong}
 use Rattle.item_reader.specs.Signs.{IsUnsigned}
-use Rattle.item_reader.specs.Taking.{AreUnsigned, Reads}
+use Rattle.item_reader.specs.Taking.{AreUnsigned, AreItemsRead}
 
 unsigned_sign : (count : ℕ) (s : Sign) → IsFit count s → IsUnsigned s
 unsigned_sign count (signs.Number n) h = h.0
@@ -40,13 +40,13 @@ pub plain : PlainWithoutGroups → WithinIsFile → (names : List (List ℕ)) (i
 plain law is_file names items p s none = let t = is_file names items p s in subst IsPlainProgram (sym t.is) (law names items t.file none t.forms)
 
 -- what is refused as wrong
-pub wrong_there : StopsWrong → (e : Refusal Unread) (items : List Item) → Reads items (Err e) → OnWrong {X = Program} (Err e) (IsWrongAt items)
+pub wrong_there : StopsWrong → (e : Refusal Unread) (items : List Item) → AreItemsRead items (Err e) → OnWrong {X = Program} (Err e) (IsWrongAt items)
 wrong_there law refusal.NoMemory items r = tt
 wrong_there law (refusal.Fault (unread.Wrong n)) items r = let w = (law items r.left).0 r.stops in record { left = r.left; position = r.position; wrong = w.0; shallow = w.1 }
 wrong_there law (refusal.Fault (unread.Deep n)) items r = tt
 
 -- what is refused as too deep
-pub deep_there : StopsDeep → (e : Refusal Unread) (items : List Item) → Reads items (Err e) → OnDeep {X = Program} (Err e) (IsDeepAt items)
+pub deep_there : StopsDeep → (e : Refusal Unread) (items : List Item) → AreItemsRead items (Err e) → OnDeep {X = Program} (Err e) (IsDeepAt items)
 deep_there law refusal.NoMemory items r = tt
 deep_there law (refusal.Fault (unread.Wrong n)) items r = tt
 deep_there law (refusal.Fault (unread.Deep n)) items r = record { left = r.left; position = r.position; deep = (law items r.left).0 r.stops }

@@ -1,10 +1,10 @@
 -- The stages of a file: which function takes the step of a state.
 use Rattle.std.specs.Prelude.{ℕ}
-use Rattle.c_grammar.specs.Machine.{State, Outside, AfterStatic, AfterExtern, AfterInt, AfterExternInt, Declaring, Bare, Starting, Negating, Started, Parameters, InParameters, AfterVoid, AfterParameters, Ready, Ended, Wants, Has, Named, Opens, InputOpens, InputCloses, Finishing, Returning, Returned, Closing, Over}
+use Rattle.c_grammar.specs.Machine.{ReadingState, Outside, AfterStatic, AfterExtern, AfterInt, AfterExternInt, Declaring, Bare, Starting, Negating, Started, Parameters, InParameters, AfterVoid, AfterParameters, Ready, Ended, Wants, Has, Named, Opens, InputOpens, InputCloses, Finishing, Returning, Returned, Closing, Over}
 
 -- 0 before a declarator, 1 in it, 2 at a statement, 3 at an expression or at `input`, 4 in the parentheses of a function
 -- or at the end of a file
-abbrev pub stage : State → ℕ
+abbrev pub stage : ReadingState → ℕ
 stage (Outside secs ds) = 0
 stage (AfterStatic secs ds) = 0
 stage (AfterExtern secs ds) = 0

@@ -24,8 +24,8 @@ use Rattle.item_reader.specs.declared.states.Aim.TheVariants as aims
 use Rattle.item_reader.specs.declared.states.Tailing.{Tailing}
 use Rattle.item_reader.specs.declared.states.Tailing.TheVariants as tailings
 use Rattle.item_reader.specs.declared.states.File.{File}
-use Rattle.item_reader.specs.declared.states.State.{State}
-use Rattle.item_reader.specs.declared.states.State.TheVariants as states
+use Rattle.item_reader.specs.declared.states.ReadingState.{ReadingState}
+use Rattle.item_reader.specs.declared.states.ReadingState.TheVariants as states
 
 abbrev pub as_prefix : Prefix → grammar.Prefix
 as_prefix prefixes.Positive = grammar.Positive
@@ -85,7 +85,7 @@ as_parts list = map as_tailing (reverse list)
 abbrev pub as_file : File → grammar.File
 as_file file = grammar.file_of file.declared.items (code file.body.items) file.end
 
-abbrev pub as_state : State → machine.State
+abbrev pub as_state : ReadingState → machine.ReadingState
 as_state (states.Outside secs ds) = machine.Outside (as_sections secs) ds.items
 as_state (states.AfterStatic secs ds) = machine.AfterStatic (as_sections secs) ds.items
 as_state (states.AfterExtern secs ds) = machine.AfterExtern (as_sections secs) ds.items
@@ -115,5 +115,5 @@ as_state (states.Closing ds made) = machine.Closing ds.items (code made.items)
 as_state (states.Over file parts) = machine.Over (as_file file) (as_parts parts.items)
 
 -- the state is what the machine comes to, where there is memory
-abbrev pub Moves : Result (Option State) NoMemory → Option machine.State → Type 0
+abbrev pub Moves : Result (Option ReadingState) NoMemory → Option machine.ReadingState → Type 0
 Moves result expected = IfOk result (λ next. option_map as_state next ≡ expected)

@@ -7,14 +7,14 @@ ghost use Rattle.item_reader.specs.Signs.{IsUnsigned};
 ghost use Rattle.item_reader.specs.Views.{as_sections, as_state, Moves};
 
 use crate::sections::guards_of;
-use crate::states::{Aim, Sections, State};
+use crate::states::{Aim, ReadingState, Sections};
 use c_grammar::Sign;
 use c_tree::{Declared, Guards, Op};
 use fam_outer::NoMemory;
 use std::alloc::Global;
 
 /// The state, where the sign is `int`.
-pub(crate) fn at_int(next: State, sign: Sign) -> Option<State>
+pub(crate) fn at_int(next: ReadingState, sign: Sign) -> Option<ReadingState>
     ensures { option_map as_state result ≡ machine.at_int (as_state next) sign }
 {
     match sign {
@@ -24,7 +24,7 @@ pub(crate) fn at_int(next: State, sign: Sign) -> Option<State>
 }
 
 /// The state, where the sign is `input`.
-pub(crate) fn at_input(next: State, sign: Sign) -> Option<State>
+pub(crate) fn at_input(next: ReadingState, sign: Sign) -> Option<ReadingState>
     ensures { option_map as_state result ≡ machine.at_input (as_state next) sign }
 {
     match sign {
@@ -34,11 +34,15 @@ pub(crate) fn at_input(next: State, sign: Sign) -> Option<State>
 }
 
 /// Where a declarator comes.
-pub(crate) fn declaring(sections: Sections, declared: Vec<Declared>, sign: Sign) -> Option<State>
+pub(crate) fn declaring(
+    sections: Sections,
+    declared: Vec<Declared>,
+    sign: Sign,
+) -> Option<ReadingState>
     ensures { option_map as_state result ≡ machine.declaring (as_sections sections) declared.items sign }
 {
     match sign {
-        Sign::Name(name) => Some(State::Bare {
+        Sign::Name(name) => Some(ReadingState::Bare {
             name,
             sections,
             declared,
@@ -48,11 +52,11 @@ pub(crate) fn declaring(sections: Sections, declared: Vec<Declared>, sign: Sign)
 }
 
 /// Behind `int main`, which stands outside every group.
-fn main_of(sections: Sections, declared: Vec<Declared>) -> Option<State>
+fn main_of(sections: Sections, declared: Vec<Declared>) -> Option<ReadingState>
     ensures { option_map as_state result ≡ machine.main_of (as_sections sections) declared.items }
 {
     match sections {
-        Sections::Outermost => Some(State::Parameters {
+        Sections::Outermost => Some(ReadingState::Parameters {
             aim: Aim::ToMain { declared },
         }),
         _other => None,
@@ -60,16 +64,20 @@ fn main_of(sections: Sections, declared: Vec<Declared>) -> Option<State>
 }
 
 /// Behind `int` at the front of a declaration.
-pub(crate) fn after_int(sections: Sections, declared: Vec<Declared>, sign: Sign) -> Option<State>
+pub(crate) fn after_int(
+    sections: Sections,
+    declared: Vec<Declared>,
+    sign: Sign,
+) -> Option<ReadingState>
     ensures { option_map as_state result ≡ machine.after_int (as_sections sections) declared.items sign }
 {
     match sign {
-        Sign::Name(name) => Some(State::Bare {
+        Sign::Name(name) => Some(ReadingState::Bare {
             name,
             sections,
             declared,
         }),
-        Sign::Input => Some(State::Parameters {
+        Sign::Input => Some(ReadingState::Parameters {
             aim: Aim::ToPrototype { sections, declared },
         }),
         Sign::Main => main_of(sections, declared),
@@ -106,17 +114,17 @@ pub(crate) fn started(
     sections: Sections,
     declared: Vec<Declared>,
     sign: Sign,
-) -> Result<Option<State>, NoMemory>
+) -> Result<Option<ReadingState>, NoMemory>
     ensures { Moves result (machine.started name value (as_sections sections) declared.items sign) }
 {
     match sign {
         Sign::Comma => {
             let declared = with_declared(alloc, &sections, declared, name, value)?;
-            Ok(Some(State::Declaring { sections, declared }))
+            Ok(Some(ReadingState::Declaring { sections, declared }))
         }
         Sign::Semicolon => {
             let declared = with_declared(alloc, &sections, declared, name, value)?;
-            Ok(Some(State::Outside { sections, declared }))
+            Ok(Some(ReadingState::Outside { sections, declared }))
         }
         _ => Ok(None),
     }
@@ -129,11 +137,11 @@ pub(crate) fn is_bare(
     sections: Sections,
     declared: Vec<Declared>,
     sign: Sign,
-) -> Result<Option<State>, NoMemory>
+) -> Result<Option<ReadingState>, NoMemory>
     ensures { Moves result (machine.is_bare name (as_sections sections) declared.items sign) }
 {
     match sign {
-        Sign::Equals => Ok(Some(State::Starting {
+        Sign::Equals => Ok(Some(ReadingState::Starting {
             name,
             sections,
             declared,
@@ -148,17 +156,17 @@ pub(crate) fn starting(
     sections: Sections,
     declared: Vec<Declared>,
     sign: Sign,
-) -> Option<State>
+) -> Option<ReadingState>
     ensures { option_map as_state result ≡ machine.starting name (as_sections sections) declared.items sign }
 {
     match sign {
-        Sign::Number(value) => Some(State::Started {
+        Sign::Number(value) => Some(ReadingState::Started {
             name,
             value,
             sections,
             declared,
         }),
-        Sign::Oper(Op::Sub) => Some(State::Negating {
+        Sign::Oper(Op::Sub) => Some(ReadingState::Negating {
             name,
             sections,
             declared,
@@ -173,12 +181,12 @@ pub(crate) fn negating(
     sections: Sections,
     declared: Vec<Declared>,
     sign: Sign,
-) -> Option<State>
+) -> Option<ReadingState>
     requires { IsUnsigned sign }
     ensures { option_map as_state result ≡ machine.negating name (as_sections sections) declared.items sign }
 {
     match sign {
-        Sign::Number(value) => Some(State::Started {
+        Sign::Number(value) => Some(ReadingState::Started {
             name,
             value: -value,
             sections,

@@ -7,7 +7,7 @@ ghost use Rattle.c_grammar.specs.Machine as machine;
 ghost use Rattle.c_grammar.specs.declared.items.Sign.TheVariants as signs;
 ghost use Rattle.item_reader.specs.Views.{as_file, as_parts, as_state, as_tailing, Moves};
 
-use crate::states::{File, State, Tailing};
+use crate::states::{File, ReadingState, Tailing};
 use c_grammar::Sign;
 use c_tree::{Declared, Stmt};
 use fam_outer::{NoMemory, Place};
@@ -20,14 +20,14 @@ pub(crate) fn returning(
     declared: Vec<Declared>,
     made: Vec<Stmt>,
     sign: Sign,
-) -> Result<Option<State>, NoMemory>
+) -> Result<Option<ReadingState>, NoMemory>
     ensures { Moves result (machine.returning place declared.items (code made.items) sign) }
 {
     match sign {
         Sign::Number(_) => {
             let mut made = made;
             made.push(Stmt::Skip { place })?;
-            Ok(Some(State::Returned { declared, made }))
+            Ok(Some(ReadingState::Returned { declared, made }))
         }
         _ => Ok(None),
     }
@@ -41,7 +41,7 @@ pub(crate) fn closing(
     made: Vec<Stmt>,
     place: Place,
     sign: Sign,
-) -> Option<State>
+) -> Option<ReadingState>
     ensures { option_map as_state result ≡ machine.closing declared.items (code made.items) place sign }
 {
     match sign {
@@ -51,7 +51,7 @@ pub(crate) fn closing(
                 body: made,
                 end: place,
             };
-            Some(State::Over {
+            Some(ReadingState::Over {
                 file,
                 parts: Vec::new(alloc),
             })
@@ -87,17 +87,21 @@ fn tail_start(
     file: File,
     parts: Vec<Tailing>,
     number: u32,
-) -> Result<Option<State>, NoMemory>
+) -> Result<Option<ReadingState>, NoMemory>
     ensures { Moves result (machine.over (as_file file) (as_parts parts.items) (signs.GroupIf number)) }
 {
     let mut numbers = Vec::new(alloc);
     numbers.push(number)?;
     let parts = put(parts, Tailing::Another(numbers))?;
-    Ok(Some(State::Over { file, parts }))
+    Ok(Some(ReadingState::Over { file, parts }))
 }
 
 /// The next part of a section behind `main`, where another may come.
-fn tail_condition(file: File, parts: Vec<Tailing>, number: u32) -> Result<Option<State>, NoMemory>
+fn tail_condition(
+    file: File,
+    parts: Vec<Tailing>,
+    number: u32,
+) -> Result<Option<ReadingState>, NoMemory>
     ensures { Moves result (machine.over (as_file file) (as_parts parts.items) (signs.GroupElif number)) }
 {
     let Some((innermost, parts)) = cut(parts) else {
@@ -108,14 +112,14 @@ fn tail_condition(file: File, parts: Vec<Tailing>, number: u32) -> Result<Option
             let mut numbers = numbers;
             numbers.push(number)?;
             let parts = put(parts, Tailing::Another(numbers))?;
-            Ok(Some(State::Over { file, parts }))
+            Ok(Some(ReadingState::Over { file, parts }))
         }
         Tailing::Final(_numbers) => Ok(None),
     }
 }
 
 /// The last part of a section behind `main`, where another may come.
-fn tail_last(file: File, parts: Vec<Tailing>) -> Result<Option<State>, NoMemory>
+fn tail_last(file: File, parts: Vec<Tailing>) -> Result<Option<ReadingState>, NoMemory>
     ensures { Moves result (machine.over (as_file file) (as_parts parts.items) signs.GroupElse) }
 {
     let Some((innermost, parts)) = cut(parts) else {
@@ -124,18 +128,18 @@ fn tail_last(file: File, parts: Vec<Tailing>) -> Result<Option<State>, NoMemory>
     match innermost {
         Tailing::Another(numbers) => {
             let parts = put(parts, Tailing::Final(numbers))?;
-            Ok(Some(State::Over { file, parts }))
+            Ok(Some(ReadingState::Over { file, parts }))
         }
         Tailing::Final(_numbers) => Ok(None),
     }
 }
 
 /// The end of a section behind `main`, where one is open.
-fn tail_end(file: File, parts: Vec<Tailing>) -> Option<State>
+fn tail_end(file: File, parts: Vec<Tailing>) -> Option<ReadingState>
     ensures { option_map as_state result ≡ machine.over (as_file file) (as_parts parts.items) signs.GroupEnd }
 {
     let (_innermost, parts) = cut(parts)?;
-    Some(State::Over { file, parts })
+    Some(ReadingState::Over { file, parts })
 }
 
 /// Behind the brace of `main`.
@@ -144,7 +148,7 @@ pub(crate) fn over(
     file: File,
     parts: Vec<Tailing>,
     sign: Sign,
-) -> Result<Option<State>, NoMemory>
+) -> Result<Option<ReadingState>, NoMemory>
     ensures { Moves result (machine.over (as_file file) (as_parts parts.items) sign) }
 {
     match sign {
@@ -157,11 +161,11 @@ pub(crate) fn over(
 }
 
 /// The file, where it may end here.
-pub(crate) fn finish(state: State) -> Option<File>
+pub(crate) fn finish(state: ReadingState) -> Option<File>
     ensures { option_map as_file result ≡ machine.finish (as_state state) }
 {
     match state {
-        State::Over { file, parts } => match cut(parts) {
+        ReadingState::Over { file, parts } => match cut(parts) {
             None => Some(file),
             Some(_open) => None,
         },

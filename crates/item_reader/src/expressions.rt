@@ -10,33 +10,37 @@ ghost use Rattle.c_grammar.specs.declared.items.Sign.TheVariants as signs;
 ghost use Rattle.item_reader.specs.Views.{Moves, as_frame, as_frames, as_purpose, as_state, as_update};
 
 use crate::frames::{binary, no_frames, prefix_of, settle, take_frame, tighter, with_frame};
-use crate::states::{Frame, Prefix, Purpose, Stack, State, Update};
+use crate::states::{Frame, Prefix, Purpose, ReadingState, Stack, Update};
 use c_grammar::Sign;
 use c_tree::{Expr, Op, Stmt};
 use fam_outer::{NoMemory, Place};
 use std::alloc::Global;
 
 /// One more waits, and an operand comes.
-fn waiting(frames: Vec<Frame>, frame: Frame, purpose: Purpose) -> Result<Option<State>, NoMemory>
+fn waiting(
+    frames: Vec<Frame>,
+    frame: Frame,
+    purpose: Purpose,
+) -> Result<Option<ReadingState>, NoMemory>
     ensures { Moves result (Some (machine.Wants (as_frame frame ∷ as_frames frames.items)
         (as_purpose purpose))) }
 {
     let frames = with_frame(frames, frame)?;
-    Ok(Some(State::Wants { frames, purpose }))
+    Ok(Some(ReadingState::Wants { frames, purpose }))
 }
 
 /// An expression comes.
-pub(crate) fn expected(alloc: Global, purpose: Purpose) -> State
+pub(crate) fn expected(alloc: Global, purpose: Purpose) -> ReadingState
     ensures { as_state result ≡ machine.Wants [] (as_purpose purpose) }
 {
-    State::Wants {
+    ReadingState::Wants {
         frames: no_frames(alloc),
         purpose,
     }
 }
 
 /// `input` in place of an expression.
-fn input_of(mut frames: Vec<Frame>, purpose: Purpose) -> Option<State>
+fn input_of(mut frames: Vec<Frame>, purpose: Purpose) -> Option<ReadingState>
     ensures { option_map as_state result ≡ machine.input_of (as_frames frames.items) (as_purpose purpose) }
 {
     match take_frame(&mut frames) {
@@ -46,7 +50,7 @@ fn input_of(mut frames: Vec<Frame>, purpose: Purpose) -> Option<State>
 }
 
 /// `input` as the whole expression.
-fn input_for(purpose: Purpose) -> Option<State>
+fn input_for(purpose: Purpose) -> Option<ReadingState>
     ensures { option_map as_state result ≡ machine.input_of [] (as_purpose purpose) }
 {
     match purpose {
@@ -54,7 +58,7 @@ fn input_for(purpose: Purpose) -> Option<State>
             place,
             target,
             outer,
-        } => Some(State::InputOpens {
+        } => Some(ReadingState::InputOpens {
             place,
             target,
             outer,
@@ -71,16 +75,16 @@ pub(crate) fn want(
     frames: Vec<Frame>,
     purpose: Purpose,
     sign: Sign,
-) -> Result<Option<State>, NoMemory>
+) -> Result<Option<ReadingState>, NoMemory>
     ensures { Moves result (machine.want (as_frames frames.items) (as_purpose purpose) sign) }
 {
     match sign {
-        Sign::Number(n) => Ok(Some(State::Has {
+        Sign::Number(n) => Ok(Some(ReadingState::Has {
             frames,
             purpose,
             operand: Expr::Number(n),
         })),
-        Sign::Name(x) => Ok(Some(State::Has {
+        Sign::Name(x) => Ok(Some(ReadingState::Has {
             frames,
             purpose,
             operand: Expr::Var(x),
@@ -94,7 +98,7 @@ pub(crate) fn want(
 }
 
 /// An operator where an operand comes.
-fn prefixed(frames: Vec<Frame>, purpose: Purpose, op: Op) -> Result<Option<State>, NoMemory>
+fn prefixed(frames: Vec<Frame>, purpose: Purpose, op: Op) -> Result<Option<ReadingState>, NoMemory>
     ensures { Moves result (machine.want (as_frames frames.items) (as_purpose purpose) (signs.Oper op)) }
 {
     match prefix_of(op) {
@@ -127,12 +131,12 @@ pub(crate) fn updated(
 }
 
 /// The expression in the parentheses of a statement is whole.
-fn tested(alloc: Global, purpose: Purpose, test: Expr) -> Result<Option<State>, NoMemory>
+fn tested(alloc: Global, purpose: Purpose, test: Expr) -> Result<Option<ReadingState>, NoMemory>
     ensures { Moves result (machine.tested (as_purpose purpose) (term test)) }
 {
     match purpose {
         Purpose::ToAssign { .. } | Purpose::ToUpdate { .. } => Ok(None),
-        Purpose::ToAssert { place, outer } => Ok(Some(State::Finishing {
+        Purpose::ToAssert { place, outer } => Ok(Some(ReadingState::Finishing {
             outer,
             statement: Stmt::Assert { place, test },
         })),
@@ -142,7 +146,7 @@ fn tested(alloc: Global, purpose: Purpose, test: Expr) -> Result<Option<State>, 
                 test,
                 outer: Box::new(alloc, outer)?,
             };
-            Ok(Some(State::Ready { outer }))
+            Ok(Some(ReadingState::Ready { outer }))
         }
         Purpose::ToLoop { place, outer } => {
             let outer = Stack::LoopOf {
@@ -150,7 +154,7 @@ fn tested(alloc: Global, purpose: Purpose, test: Expr) -> Result<Option<State>, 
                 test,
                 outer: Box::new(alloc, outer)?,
             };
-            Ok(Some(State::Ready { outer }))
+            Ok(Some(ReadingState::Ready { outer }))
         }
     }
 }
@@ -161,12 +165,12 @@ fn closed_by(
     mut frames: Vec<Frame>,
     purpose: Purpose,
     operand: Expr,
-) -> Result<Option<State>, NoMemory>
+) -> Result<Option<ReadingState>, NoMemory>
     ensures { Moves result (machine.closed_by (as_frames frames.items) (as_purpose purpose) (term operand)) }
 {
     match take_frame(&mut frames) {
         None => tested(alloc, purpose, operand),
-        Some(Frame::Paren) => Ok(Some(State::Has {
+        Some(Frame::Paren) => Ok(Some(ReadingState::Has {
             frames,
             purpose,
             operand,
@@ -176,7 +180,7 @@ fn closed_by(
 }
 
 /// The expression that a statement ends with is whole.
-fn assigned(alloc: Global, purpose: Purpose, value: Expr) -> Result<Option<State>, NoMemory>
+fn assigned(alloc: Global, purpose: Purpose, value: Expr) -> Result<Option<ReadingState>, NoMemory>
     ensures { Moves result (machine.assigned (as_purpose purpose) (term value)) }
 {
     match purpose {
@@ -184,7 +188,7 @@ fn assigned(alloc: Global, purpose: Purpose, value: Expr) -> Result<Option<State
             place,
             target,
             outer,
-        } => Ok(Some(State::Ended {
+        } => Ok(Some(ReadingState::Ended {
             outer,
             statement: Stmt::Assign {
                 place,
@@ -199,7 +203,7 @@ fn assigned(alloc: Global, purpose: Purpose, value: Expr) -> Result<Option<State
             outer,
         } => {
             let statement = updated(alloc, place, target, update, value)?;
-            Ok(Some(State::Ended { outer, statement }))
+            Ok(Some(ReadingState::Ended { outer, statement }))
         }
         Purpose::ToAssert { .. } | Purpose::ToChoose { .. } | Purpose::ToLoop { .. } => Ok(None),
     }
@@ -211,7 +215,7 @@ fn ended_by(
     mut frames: Vec<Frame>,
     purpose: Purpose,
     operand: Expr,
-) -> Result<Option<State>, NoMemory>
+) -> Result<Option<ReadingState>, NoMemory>
     ensures { Moves result (machine.ended_by (as_frames frames.items) (as_purpose purpose) (term operand)) }
 {
     match take_frame(&mut frames) {
@@ -226,7 +230,7 @@ fn closed(
     frames: Vec<Frame>,
     purpose: Purpose,
     operand: Expr,
-) -> Result<Option<State>, NoMemory>
+) -> Result<Option<ReadingState>, NoMemory>
     ensures { Moves result (machine.have (as_frames frames.items) (as_purpose purpose)
         (term operand) signs.Close) }
 {
@@ -240,7 +244,7 @@ fn ended(
     frames: Vec<Frame>,
     purpose: Purpose,
     operand: Expr,
-) -> Result<Option<State>, NoMemory>
+) -> Result<Option<ReadingState>, NoMemory>
     ensures { Moves result (machine.have (as_frames frames.items) (as_purpose purpose)
         (term operand) signs.Semicolon) }
 {
@@ -255,7 +259,7 @@ fn operated(
     purpose: Purpose,
     operand: Expr,
     op: Op,
-) -> Result<Option<State>, NoMemory>
+) -> Result<Option<ReadingState>, NoMemory>
     ensures { Moves result (machine.have (as_frames frames.items) (as_purpose purpose) (term operand)
         (signs.Oper op)) }
 {
@@ -270,7 +274,7 @@ pub(crate) fn have(
     purpose: Purpose,
     operand: Expr,
     sign: Sign,
-) -> Result<Option<State>, NoMemory>
+) -> Result<Option<ReadingState>, NoMemory>
     ensures { Moves result (machine.have (as_frames frames.items) (as_purpose purpose) (term operand) sign) }
 {
     match sign {

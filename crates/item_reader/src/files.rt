@@ -3,12 +3,12 @@
 
 ghost use Rattle.std.specs.Prelude.{◌≡◌, ◌≤◌, ℕ};
 ghost use Rattle.item_reader.specs.Signs.{IsUnsigned};
-ghost use Rattle.item_reader.specs.Taking.{AreUnsigned, Reads, Takes};
+ghost use Rattle.item_reader.specs.Taking.{AreUnsigned, AreItemsRead, Takes};
 ghost use Rattle.item_reader.specs.Views.{as_state};
 
 use crate::endings::finish;
 use crate::limits::{counted, is_deep};
-use crate::states::{File, Sections, State};
+use crate::states::{File, ReadingState, Sections};
 use crate::steps::step;
 use crate::unread::{Unread, UnreadRefusal};
 use c_grammar::Item;
@@ -18,11 +18,11 @@ use std::alloc::Global;
 #[tactic(auto, using(crate::proofs::Taking::shallow_few))]
 fn take(
     alloc: Global,
-    state: State,
+    state: ReadingState,
     count: u32,
     item: Item,
     position: usize,
-) -> Result<(State, u32), UnreadRefusal>
+) -> Result<(ReadingState, u32), UnreadRefusal>
     requires unsigned { IsUnsigned item.sign }
     requires few { count ≤ 64 }
     ensures { Takes (as_state state) count item position result }
@@ -39,9 +39,9 @@ fn take(
 /// The file that the items spell.
 pub(crate) fn read_file(alloc: Global, items: &[Item]) -> Result<File, UnreadRefusal>
     requires { AreUnsigned items.now }
-    ensures { Reads items.now result }
+    ensures { AreItemsRead items.now result }
 {
-    let mut state = State::Outside {
+    let mut state = ReadingState::Outside {
         sections: Sections::Outermost,
         declared: Vec::new(alloc),
     };

@@ -8,7 +8,7 @@ ghost use Rattle.c_grammar.specs.Machine as machine;
 ghost use Rattle.item_reader.specs.Views.{Moves, as_link, as_links, as_stack, as_state};
 
 use crate::lists::{choice, only};
-use crate::states::{Link, Stack, State};
+use crate::states::{Link, ReadingState, Stack};
 use c_tree::Stmt;
 use fam_outer::NoMemory;
 use std::alloc::Global;
@@ -52,7 +52,7 @@ fn linked(alloc: Global, mut links: Vec<Link>, later: Stmt) -> Result<Stmt, NoMe
 }
 
 /// The first part of a section in a list.
-fn part_in(alloc: Global, number: u32, outer: Stack) -> Result<Option<State>, NoMemory>
+fn part_in(alloc: Global, number: u32, outer: Stack) -> Result<Option<ReadingState>, NoMemory>
     ensures { Moves result (Some (machine.Ready (machine.Yes [] number Done (as_stack outer)))) }
 {
     let outer = Stack::Yes {
@@ -61,11 +61,15 @@ fn part_in(alloc: Global, number: u32, outer: Stack) -> Result<Option<State>, No
         made: Vec::new(alloc),
         outer: Box::new(alloc, outer)?,
     };
-    Ok(Some(State::Ready { outer }))
+    Ok(Some(ReadingState::Ready { outer }))
 }
 
 /// A section of groups, where a list is open.
-pub(crate) fn opened(alloc: Global, number: u32, outer: Stack) -> Result<Option<State>, NoMemory>
+pub(crate) fn opened(
+    alloc: Global,
+    number: u32,
+    outer: Stack,
+) -> Result<Option<ReadingState>, NoMemory>
     ensures { Moves result (machine.opened number (as_stack outer)) }
 {
     match outer {
@@ -75,7 +79,11 @@ pub(crate) fn opened(alloc: Global, number: u32, outer: Stack) -> Result<Option<
 }
 
 /// The next part with a condition.
-pub(crate) fn next_part(alloc: Global, number: u32, outer: Stack) -> Result<Option<State>, NoMemory>
+pub(crate) fn next_part(
+    alloc: Global,
+    number: u32,
+    outer: Stack,
+) -> Result<Option<ReadingState>, NoMemory>
     ensures { Moves result (machine.next_part number (as_stack outer)) }
 {
     match outer {
@@ -90,7 +98,7 @@ pub(crate) fn next_part(alloc: Global, number: u32, outer: Stack) -> Result<Opti
                 made,
             };
             let links = with_link(links, link)?;
-            Ok(Some(State::Ready {
+            Ok(Some(ReadingState::Ready {
                 outer: Stack::Yes {
                     links,
                     number,
@@ -104,7 +112,7 @@ pub(crate) fn next_part(alloc: Global, number: u32, outer: Stack) -> Result<Opti
 }
 
 /// The part behind `#else`.
-pub(crate) fn last_part(alloc: Global, outer: Stack) -> Option<State>
+pub(crate) fn last_part(alloc: Global, outer: Stack) -> Option<ReadingState>
     ensures { option_map as_state result ≡ machine.last_part (as_stack outer) }
 {
     match outer {
@@ -113,7 +121,7 @@ pub(crate) fn last_part(alloc: Global, outer: Stack) -> Option<State>
             number,
             made,
             outer,
-        } => Some(State::Ready {
+        } => Some(ReadingState::Ready {
             outer: Stack::No {
                 links,
                 number,
@@ -132,17 +140,17 @@ fn section(
     links: Vec<Link>,
     last: Stmt,
     outer: Box<Stack>,
-) -> Result<Option<State>, NoMemory>
+) -> Result<Option<ReadingState>, NoMemory>
     ensures { Moves result (Some (machine.Ended (as_stack outer.value)
         (machine.linked (as_links links.items) (front last Done)))) }
 {
     let statement = linked(alloc, links, last)?;
     let outer = Box::into_inner(outer);
-    Ok(Some(State::Ended { outer, statement }))
+    Ok(Some(ReadingState::Ended { outer, statement }))
 }
 
 /// The end of a section.
-pub(crate) fn group_end(alloc: Global, outer: Stack) -> Result<Option<State>, NoMemory>
+pub(crate) fn group_end(alloc: Global, outer: Stack) -> Result<Option<ReadingState>, NoMemory>
     ensures { Moves result (machine.group_end (as_stack outer)) }
 {
     match outer {

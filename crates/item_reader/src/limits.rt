@@ -8,14 +8,9 @@ ghost use Rattle.c_grammar.specs.Deep as limits;
 ghost use Rattle.item_reader.specs.Limits.{capped};
 ghost use Rattle.item_reader.specs.Views.{as_parts, as_sections, as_stack, as_state, as_tailing};
 
-use crate::states::{Sections, Stack, State, Tailing};
+use crate::states::{ReadingState, Sections, Stack, Tailing};
 use c_grammar::Sign;
-
-/// The greatest number of statements and groups around a statement or a group.
-const MOST_AROUND: usize = 64;
-
-/// The greatest number of operators and opening parentheses in an expression.
-const MOST_OPERATORS: u32 = 64;
+use fam_outer::{MOST_NESTED, MOST_OPERATORS};
 
 /// How many statements and groups are around what comes.
 #[tactic(auto, using(crate::proofs::Depths::links_length))]
@@ -79,14 +74,14 @@ fn tail_depth(parts: &[Tailing]) -> usize
 }
 
 /// How many statements and groups are around what comes.
-fn around(state: &State) -> usize
+fn around(state: &ReadingState) -> usize
     ensures { result ≡ capped (limits.around (as_state state.now)) }
 {
     match state {
-        State::Outside { sections, .. } => section_depth(sections),
-        State::Ready { outer } => depth(outer),
-        State::Ended { outer, .. } => depth_behind(outer),
-        State::Over { parts, .. } => tail_depth(parts),
+        ReadingState::Outside { sections, .. } => section_depth(sections),
+        ReadingState::Ready { outer } => depth(outer),
+        ReadingState::Ended { outer, .. } => depth_behind(outer),
+        ReadingState::Over { parts, .. } => tail_depth(parts),
         _ => 0,
     }
 }
@@ -109,14 +104,14 @@ fn is_operator(sign: Sign) -> bool
 }
 
 /// Whether what comes belongs to an expression.
-fn in_expression(state: &State) -> bool
+fn in_expression(state: &ReadingState) -> bool
     ensures { result ≡ limits.in_expression (as_state state.now) }
 {
-    matches!(state, State::Wants { .. } | State::Has { .. })
+    matches!(state, ReadingState::Wants { .. } | ReadingState::Has { .. })
 }
 
 /// How many operators and opening parentheses the expression has with this sign.
-pub(crate) fn counted(state: &State, sign: Sign, count: u32) -> u32
+pub(crate) fn counted(state: &ReadingState, sign: Sign, count: u32) -> u32
     requires { count ≤ 64 }
     ensures { result ≡ limits.counted (as_state state.now) sign count }
 {
@@ -131,10 +126,10 @@ pub(crate) fn counted(state: &State, sign: Sign, count: u32) -> u32
 
 /// Whether too much is open at a sign that the state can take.
 #[tactic(auto, using(crate::proofs::Depths::at_least))]
-pub(crate) fn is_deep(state: &State, sign: Sign, count: u32) -> bool
+pub(crate) fn is_deep(state: &ReadingState, sign: Sign, count: u32) -> bool
     requires { count ≤ 64 }
     ensures { result ≡ limits.is_deep (as_state state.now) sign count }
 {
-    let is_nested = opens_more(sign) && around(state) >= MOST_AROUND;
-    is_nested || counted(state, sign, count) > MOST_OPERATORS
+    let is_nested = opens_more(sign) && around(state) >= MOST_NESTED;
+    is_nested || counted(state, sign, count) > MOST_OPERATORS as u32
 }

@@ -5,11 +5,11 @@ ghost use Rattle.std.specs.Prelude.{◌≡◌, option_map};
 ghost use Rattle.c_grammar.specs.Machine as machine;
 ghost use Rattle.item_reader.specs.Views.{as_state};
 
-use crate::states::State;
+use crate::states::ReadingState;
 use c_grammar::Sign;
 
 /// The state behind an opening parenthesis.
-pub(crate) fn at_open(next: State, sign: Sign) -> Option<State>
+pub(crate) fn at_open(next: ReadingState, sign: Sign) -> Option<ReadingState>
     ensures { option_map as_state result ≡ machine.at_open (as_state next) sign }
 {
     match sign {
@@ -19,7 +19,7 @@ pub(crate) fn at_open(next: State, sign: Sign) -> Option<State>
 }
 
 /// The state behind a closing parenthesis.
-pub(crate) fn at_close(next: State, sign: Sign) -> Option<State>
+pub(crate) fn at_close(next: ReadingState, sign: Sign) -> Option<ReadingState>
     ensures { option_map as_state result ≡ machine.at_close (as_state next) sign }
 {
     match sign {
@@ -29,7 +29,7 @@ pub(crate) fn at_close(next: State, sign: Sign) -> Option<State>
 }
 
 /// The state behind a semicolon.
-pub(crate) fn at_semicolon(next: State, sign: Sign) -> Option<State>
+pub(crate) fn at_semicolon(next: ReadingState, sign: Sign) -> Option<ReadingState>
     ensures { option_map as_state result ≡ machine.at_semicolon (as_state next) sign }
 {
     match sign {

@@ -5,30 +5,30 @@ ghost use Rattle.std.specs.Prelude.{◌≡◌, option_map};
 ghost use Rattle.c_grammar.specs.Machine as machine;
 ghost use Rattle.item_reader.specs.Views.{as_aim, as_state};
 
-use crate::states::{Aim, Stack, State};
+use crate::states::{Aim, ReadingState, Stack};
 use c_grammar::Sign;
 use std::alloc::Global;
 
 /// In the parentheses.
-pub(crate) fn in_parameters(aim: Aim, sign: Sign) -> Option<State>
+pub(crate) fn in_parameters(aim: Aim, sign: Sign) -> Option<ReadingState>
     ensures { option_map as_state result ≡ machine.in_parameters (as_aim aim) sign }
 {
     match sign {
-        Sign::Void => Some(State::AfterVoid { aim }),
-        Sign::Close => Some(State::AfterParameters { aim }),
+        Sign::Void => Some(ReadingState::AfterVoid { aim }),
+        Sign::Close => Some(ReadingState::AfterParameters { aim }),
         _ => None,
     }
 }
 
 /// Behind the parentheses: a semicolon for `input`, and a brace for `main`.
-pub(crate) fn after_parameters(alloc: Global, aim: Aim, sign: Sign) -> Option<State>
+pub(crate) fn after_parameters(alloc: Global, aim: Aim, sign: Sign) -> Option<ReadingState>
     ensures { option_map as_state result ≡ machine.after_parameters (as_aim aim) sign }
 {
     match (aim, sign) {
         (Aim::ToPrototype { sections, declared }, Sign::Semicolon) => {
-            Some(State::Outside { sections, declared })
+            Some(ReadingState::Outside { sections, declared })
         }
-        (Aim::ToMain { declared }, Sign::LeftBrace) => Some(State::Ready {
+        (Aim::ToMain { declared }, Sign::LeftBrace) => Some(ReadingState::Ready {
             outer: Stack::Top {
                 declared,
                 made: Vec::new(alloc),

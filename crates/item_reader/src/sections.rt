@@ -7,7 +7,7 @@ ghost use Rattle.c_grammar.specs.Machine as machine;
 ghost use Rattle.c_grammar.specs.declared.items.Sign.TheVariants as signs;
 ghost use Rattle.item_reader.specs.Views.{as_sections, as_state, Moves};
 
-use crate::states::{Sections, State};
+use crate::states::{ReadingState, Sections};
 use c_grammar::Sign;
 use c_tree::{Declared, Guard};
 use fam_outer::NoMemory;
@@ -54,7 +54,7 @@ fn section_start(
     number: u32,
     sections: Sections,
     declared: Vec<Declared>,
-) -> Result<Option<State>, NoMemory>
+) -> Result<Option<ReadingState>, NoMemory>
     ensures { Moves result (machine.outside (as_sections sections) declared.items (signs.GroupIf number)) }
 {
     let guards = guards_of(alloc, &sections)?;
@@ -64,7 +64,7 @@ fn section_start(
         number,
         outer,
     };
-    Ok(Some(State::Outside { sections, declared }))
+    Ok(Some(ReadingState::Outside { sections, declared }))
 }
 
 /// The next part of a section, where another may come.
@@ -72,7 +72,7 @@ fn next_condition(
     next: u32,
     sections: Sections,
     declared: Vec<Declared>,
-) -> Result<Option<State>, NoMemory>
+) -> Result<Option<ReadingState>, NoMemory>
     ensures { Moves result (machine.next_condition next (as_sections sections) declared.items) }
 {
     match sections {
@@ -87,14 +87,17 @@ fn next_condition(
                 number: next,
                 outer,
             };
-            Ok(Some(State::Outside { sections, declared }))
+            Ok(Some(ReadingState::Outside { sections, declared }))
         }
         _other => Ok(None),
     }
 }
 
 /// The last part of a section, where another may come.
-fn last_section(sections: Sections, declared: Vec<Declared>) -> Result<Option<State>, NoMemory>
+fn last_section(
+    sections: Sections,
+    declared: Vec<Declared>,
+) -> Result<Option<ReadingState>, NoMemory>
     ensures { Moves result (machine.last_section (as_sections sections) declared.items) }
 {
     match sections {
@@ -105,14 +108,14 @@ fn last_section(sections: Sections, declared: Vec<Declared>) -> Result<Option<St
         } => {
             let guards = with_false(guards, number)?;
             let sections = Sections::InLast { guards, outer };
-            Ok(Some(State::Outside { sections, declared }))
+            Ok(Some(ReadingState::Outside { sections, declared }))
         }
         _other => Ok(None),
     }
 }
 
 /// The end of a section, where one is open.
-fn section_end(sections: Sections, declared: Vec<Declared>) -> Option<State>
+fn section_end(sections: Sections, declared: Vec<Declared>) -> Option<ReadingState>
     ensures { option_map as_state result ≡ machine.section_end (as_sections sections) declared.items }
 {
     let outer = match sections {
@@ -127,7 +130,7 @@ fn section_end(sections: Sections, declared: Vec<Declared>) -> Option<State>
             outer,
         } => outer,
     };
-    Some(State::Outside {
+    Some(ReadingState::Outside {
         sections: Box::into_inner(outer),
         declared,
     })
@@ -139,13 +142,13 @@ pub(crate) fn outside(
     sections: Sections,
     declared: Vec<Declared>,
     sign: Sign,
-) -> Result<Option<State>, NoMemory>
+) -> Result<Option<ReadingState>, NoMemory>
     ensures { Moves result (machine.outside (as_sections sections) declared.items sign) }
 {
     match sign {
-        Sign::Static => Ok(Some(State::AfterStatic { sections, declared })),
-        Sign::Extern => Ok(Some(State::AfterExtern { sections, declared })),
-        Sign::Int => Ok(Some(State::AfterInt { sections, declared })),
+        Sign::Static => Ok(Some(ReadingState::AfterStatic { sections, declared })),
+        Sign::Extern => Ok(Some(ReadingState::AfterExtern { sections, declared })),
+        Sign::Int => Ok(Some(ReadingState::AfterInt { sections, declared })),
         Sign::GroupIf(number) => section_start(alloc, number, sections, declared),
         Sign::GroupElif(number) => next_condition(number, sections, declared),
         Sign::GroupElse => last_section(sections, declared),

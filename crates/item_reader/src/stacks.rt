@@ -8,7 +8,7 @@ ghost use Rattle.c_grammar.specs.Machine as machine;
 ghost use Rattle.item_reader.specs.Views.{Moves, as_stack, as_state};
 
 use crate::lists::{if_else, if_then, loop_of, only, with_statement};
-use crate::states::{Stack, State};
+use crate::states::{ReadingState, Stack};
 use c_tree::{Expr, Stmt};
 use fam_outer::{NoMemory, Place};
 use std::alloc::Global;
@@ -77,11 +77,11 @@ pub(crate) fn folded(alloc: Global, stack: Stack, statement: Stmt) -> Result<Sta
 }
 
 /// The side of an `if` behind `else` comes.
-fn other_side(place: Place, test: Expr, first: Vec<Stmt>, outer: Box<Stack>) -> State
+fn other_side(place: Place, test: Expr, first: Vec<Stmt>, outer: Box<Stack>) -> ReadingState
     ensures { as_state result ≡ machine.Ready
         (machine.ElseOf place (term test) (code first.items) (as_stack outer.value)) }
 {
-    State::Ready {
+    ReadingState::Ready {
         outer: Stack::ElseOf {
             place,
             test,
@@ -96,7 +96,7 @@ pub(crate) fn else_of(
     alloc: Global,
     stack: Stack,
     statement: Stmt,
-) -> Result<Option<State>, NoMemory>
+) -> Result<Option<ReadingState>, NoMemory>
     ensures { Moves result (machine.else_of (as_stack stack) (front statement Done)) }
 {
     match stack {

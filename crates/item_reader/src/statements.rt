@@ -12,7 +12,7 @@ use crate::expressions::{expected, updated};
 use crate::groups::{group_end, last_part, next_part, opened};
 use crate::lists::block;
 use crate::stacks::{else_of, folded};
-use crate::states::{File, Purpose, Stack, State, Update};
+use crate::states::{File, Purpose, ReadingState, Stack, Update};
 use c_grammar::Sign;
 use c_tree::{Expr, Stmt};
 use fam_outer::{NoMemory, Place};
@@ -20,11 +20,11 @@ use std::alloc::Global;
 
 /// A closing brace: a block ends, or `main`.
 #[tactic(auto, using(crate::proofs::Parts::parts, crate::proofs::Holding::holding))]
-fn braced(alloc: Global, outer: Stack, end: Place) -> Option<State>
+fn braced(alloc: Global, outer: Stack, end: Place) -> Option<ReadingState>
     ensures { option_map as_state result ≡ machine.braced (as_stack outer) end }
 {
     match outer {
-        Stack::Top { declared, made } => Some(State::Over {
+        Stack::Top { declared, made } => Some(ReadingState::Over {
             file: File {
                 declared,
                 body: made,
@@ -32,7 +32,7 @@ fn braced(alloc: Global, outer: Stack, end: Place) -> Option<State>
             },
             parts: Vec::new(alloc),
         }),
-        Stack::Braces { place, made, outer } => Some(State::Ended {
+        Stack::Braces { place, made, outer } => Some(ReadingState::Ended {
             outer: Box::into_inner(outer),
             statement: block(place, made),
         }),
@@ -41,11 +41,11 @@ fn braced(alloc: Global, outer: Stack, end: Place) -> Option<State>
 }
 
 /// `return`, in the list of `main` alone.
-fn returned(outer: Stack, place: Place) -> Option<State>
+fn returned(outer: Stack, place: Place) -> Option<ReadingState>
     ensures { option_map as_state result ≡ machine.returned (as_stack outer) place }
 {
     match outer {
-        Stack::Top { declared, made } => Some(State::Returning {
+        Stack::Top { declared, made } => Some(ReadingState::Returning {
             place,
             declared,
             made,
@@ -55,7 +55,7 @@ fn returned(outer: Stack, place: Place) -> Option<State>
 }
 
 /// A block begins.
-fn block_in(alloc: Global, outer: Stack, place: Place) -> Result<Option<State>, NoMemory>
+fn block_in(alloc: Global, outer: Stack, place: Place) -> Result<Option<ReadingState>, NoMemory>
     ensures { Moves result (Some (machine.Ready (machine.Braces place Done (as_stack outer)))) }
 {
     let outer = Stack::Braces {
@@ -63,7 +63,7 @@ fn block_in(alloc: Global, outer: Stack, place: Place) -> Result<Option<State>, 
         made: Vec::new(alloc),
         outer: Box::new(alloc, outer)?,
     };
-    Ok(Some(State::Ready { outer }))
+    Ok(Some(ReadingState::Ready { outer }))
 }
 
 /// What a sign leads to where a statement may begin.
@@ -72,28 +72,28 @@ pub(crate) fn begin(
     outer: Stack,
     place: Place,
     sign: Sign,
-) -> Result<Option<State>, NoMemory>
+) -> Result<Option<ReadingState>, NoMemory>
     ensures { Moves result (machine.begin (as_stack outer) place sign) }
 {
     match sign {
-        Sign::Name(target) => Ok(Some(State::Named {
+        Sign::Name(target) => Ok(Some(ReadingState::Named {
             place,
             target,
             outer,
         })),
-        Sign::Semicolon => Ok(Some(State::Ended {
+        Sign::Semicolon => Ok(Some(ReadingState::Ended {
             outer,
             statement: Stmt::Skip { place },
         })),
         Sign::LeftBrace => block_in(alloc, outer, place),
         Sign::RightBrace => Ok(braced(alloc, outer, place)),
-        Sign::Assert => Ok(Some(State::Opens {
+        Sign::Assert => Ok(Some(ReadingState::Opens {
             purpose: Purpose::ToAssert { place, outer },
         })),
-        Sign::If => Ok(Some(State::Opens {
+        Sign::If => Ok(Some(ReadingState::Opens {
             purpose: Purpose::ToChoose { place, outer },
         })),
-        Sign::While => Ok(Some(State::Opens {
+        Sign::While => Ok(Some(ReadingState::Opens {
             purpose: Purpose::ToLoop { place, outer },
         })),
         Sign::Return => Ok(returned(outer, place)),
@@ -112,7 +112,7 @@ fn begin_behind(
     statement: Stmt,
     place: Place,
     sign: Sign,
-) -> Result<Option<State>, NoMemory>
+) -> Result<Option<ReadingState>, NoMemory>
     ensures { Moves result (machine.begin
         (machine.folded (as_stack outer) (front statement Done)) place sign) }
 {
@@ -127,7 +127,7 @@ pub(crate) fn on(
     statement: Stmt,
     place: Place,
     sign: Sign,
-) -> Result<Option<State>, NoMemory>
+) -> Result<Option<ReadingState>, NoMemory>
     ensures { Moves result (machine.on (as_stack outer) (front statement Done) place sign) }
 {
     match sign {
@@ -143,12 +143,12 @@ fn counting(
     target: u32,
     update: Update,
     outer: Stack,
-) -> Result<Option<State>, NoMemory>
+) -> Result<Option<ReadingState>, NoMemory>
     ensures { Moves result (Some (machine.Finishing (as_stack outer)
         (grammar.updated place target (as_update update) (Number (pos 1))))) }
 {
     let statement = updated(alloc, place, target, update, Expr::Number(1))?;
-    Ok(Some(State::Finishing { outer, statement }))
+    Ok(Some(ReadingState::Finishing { outer, statement }))
 }
 
 /// What a sign leads to behind the name at the front of a statement.
@@ -158,7 +158,7 @@ pub(crate) fn named(
     target: u32,
     outer: Stack,
     sign: Sign,
-) -> Result<Option<State>, NoMemory>
+) -> Result<Option<ReadingState>, NoMemory>
     ensures { Moves result (machine.named place target (as_stack outer) sign) }
 {
     match sign {

@@ -150,7 +150,7 @@ pub(crate) struct File {
 
 /// What was read so far.
 #[derive(Drop)]
-pub(crate) enum State {
+pub(crate) enum ReadingState {
     /// A declaration may begin.
     Outside {
         sections: Sections,

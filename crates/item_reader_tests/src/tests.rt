@@ -7,21 +7,11 @@ ghost use Rattle.c_grammar.specs.Facts.{AreFit, AreRising, IsBeforeItems, IsFit}
 
 use c_grammar::{Item, Sign};
 use c_tree::{Names, Op, Program};
-use fam_outer::{NoMemory, Place, Text};
+use fam_outer::{NoMemory, Place, Text, cut};
 use item_reader::{Unread, UnreadRefusal, read_items};
 use std::alloc::{AllocError, Global};
 use std::process::Abort;
 use std::test::Fail;
-
-/// The first item and those behind it.
-fn cut(items: &[Item]) -> Option<(Item, &[Item])>
-    ensures { MatchOption result (items.now ≡ []) (λ x. items.now ≡ x.0 ∷ x.1.now) }
-{
-    match items {
-        [] => None,
-        [item, rest @ ..] => Some((*item, rest)),
-    }
-}
 
 fn is_earlier(first: Place, second: Place) -> bool
     ensures { result ≡ is_before first second }

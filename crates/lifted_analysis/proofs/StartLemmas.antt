@@ -1,7 +1,7 @@
 -- Trees of guards and of start values.
 use Rattle.std.proofs.Common.{◌≡◌, ℕ, ◌∙◌, List, Bool, true, false, if◌then◌else◌, length, ap, sym, subst, refl, inl, inr}
 use Rattle.std.specs.Prelude.{ℤ, All, slice_index_or}
-use Rattle.c_tree.specs.declared.tree.Declared.{Declared}
+use Rattle.c_tree.specs.declared.lists.Declared.{Declared}
 use Rattle.c_tree.specs.Project.{projected_start}
 use Rattle.c_tree.specs.Value.{IsInt}
 use Rattle.c_tree.specs.Whole.{IsDeclaredOf}

@@ -1,6 +1,6 @@
 -- The start of the analysis of a family.
 use Rattle.std.specs.Prelude.{◌≡◌, ℕ, ℤ, Bool, List, if◌then◌else◌}
-use Rattle.c_tree.specs.declared.tree.Declared.{Declared}
+use Rattle.c_tree.specs.declared.lists.Declared.{Declared}
 use Rattle.c_tree.specs.Project.{projected_start}
 use Rattle.leaf_domain.specs.Leaves.{LeafValue, LeafMeaning, nothing_of}
 use Rattle.decision_tree.specs.Plain.{leaf_of, HasTest}

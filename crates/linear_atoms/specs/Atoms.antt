@@ -1,5 +1,6 @@
 -- Atoms and literals at configurations, and over the ranges of the features.
 use Rattle.std.specs.Prelude.{◌≡◌, ℕ, ◌≤◌, ◌<◌, ℤ, pos, ◌≤ℤ◌, ◌<ℤ◌, int_le, unsigned_abs, Bool, true, false, not, if◌then◌else◌, List, [], ◌∷◌, Option, Some, None}
+use Rattle.fam_outer.specs.Limits.{most_value}
 use Rattle.linear_atoms.specs.declared.atoms.Feature.{Feature}
 use Rattle.linear_atoms.specs.declared.atoms.Atom.{Atom}
 use Rattle.linear_atoms.specs.declared.atoms.Literal.{Literal}
@@ -39,12 +40,12 @@ AreLiterals count (l ∷ ls) = IsAtom count l.atom × AreLiterals count ls
 -- each value is at most 2^20 in size
 abbrev pub AreValues : List ℤ → Type 0
 AreValues [] = Unit {0}
-AreValues (v ∷ vs) = (unsigned_abs v ≤ 1048576) × AreValues vs
+AreValues (v ∷ vs) = (unsigned_abs v ≤ most_value) × AreValues vs
 
 -- no range is empty, and its ends are at most 2^20 in size
 abbrev pub AreRanges : List Feature → Type 0
 AreRanges [] = Unit {0}
-AreRanges (f ∷ fs) = (f.low ≤ℤ f.high) × (unsigned_abs f.low ≤ 1048576) × (unsigned_abs f.high ≤ 1048576) × AreRanges fs
+AreRanges (f ∷ fs) = (f.low ≤ℤ f.high) × (unsigned_abs f.low ≤ most_value) × (unsigned_abs f.high ≤ most_value) × AreRanges fs
 
 -- a configuration: one value per feature, in its range
 abbrev pub IsWithin : List Feature → List ℤ → Type 0

@@ -1,8 +1,8 @@
 -- Linear forms over features: terms by rising feature number, no coefficient 0, and a constant.
 use Rattle.std.specs.Prelude.{◌≡◌, ⊤, ℕ, ℤ, pos, ◌+ℤ◌, ◌*ℤ◌, Bool, true, false, ◌&&◌, List, [], ◌∷◌, Result, Ok, Err}
 use Rattle.linear_atoms.specs.declared.forms.Linear.{Linear}
-use Rattle.linear_atoms.specs.declared.forms.LinearFault.{LinearFault}
-use Rattle.linear_atoms.specs.declared.forms.LinearFault.TheVariants as faults
+use Rattle.linear_atoms.specs.declared.linear_fault.LinearFault.{LinearFault}
+use Rattle.linear_atoms.specs.declared.linear_fault.LinearFault.TheVariants as faults
 use Rattle.linear_terms.specs.Terms.{is_within, are_within}
 pub use Rattle.linear_terms.specs.Terms.{RisesFrom, IsRising, sum_at, one, placed, with_term, terms_sum, terms_by}
 

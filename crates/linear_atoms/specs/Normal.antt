@@ -2,8 +2,8 @@
 use Rattle.std.specs.Prelude.{◌≡◌, ⊤, ℕ, ℤ, pos, neg_ℤ, ◌-ℤ◌, int_div, int_lt, int_le, Bool, true, false, if◌then◌else◌, List, [], ◌∷◌, Result, Ok, Err}
 use Rattle.std.specs.Int.{int_div_euclid}
 use Rattle.linear_atoms.specs.declared.forms.Linear.{Linear}
-use Rattle.linear_atoms.specs.declared.forms.LinearFault.{LinearFault}
-use Rattle.linear_atoms.specs.declared.forms.LinearFault.TheVariants as faults
+use Rattle.linear_atoms.specs.declared.linear_fault.LinearFault.{LinearFault}
+use Rattle.linear_atoms.specs.declared.linear_fault.LinearFault.TheVariants as faults
 use Rattle.linear_atoms.specs.declared.atoms.Literal.{Literal}
 use Rattle.linear_atoms.specs.declared.normal.Normal.{Normal}
 use Rattle.linear_atoms.specs.declared.normal.Normal.TheVariants as normals

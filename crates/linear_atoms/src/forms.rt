@@ -5,9 +5,10 @@ ghost use Rattle.std.specs.Prelude.{◌≡◌, ℤ, List, pos, ◌+ℤ◌, ◌*�
 ghost use Rattle.linear_atoms.specs.Forms.{IsRising, form_at, constant_form, feature_form, form_sum, form_by, FormsWithin};
 
 use crate::limits::{LARGEST, narrow};
+use crate::linear_fault::LinearFault;
 use fam_outer::NoMemory;
 use linear_terms::{Terms, product};
-use std::alloc::{AllocError, AllocFailed, Global};
+use std::alloc::Global;
 
 /// A sum of features times their coefficients, and of a constant: terms by rising feature number, no
 /// coefficient 0.
@@ -15,46 +16,6 @@ use std::alloc::{AllocError, AllocFailed, Global};
 pub struct Linear {
     pub terms: Terms,
     pub constant: i64,
-}
-
-/// Why there is no form: want of memory, or a number that passes 2^31 in size.
-#[derive(Clone, Copy, Debug, PartialEq, Eq)]
-pub enum LinearFault {
-    NoMemory,
-    TooLarge,
-}
-
-impl From<NoMemory> for LinearFault {
-    ghost use Rattle.std.specs.Prelude.{◌≡◌};
-    ghost use Rattle.linear_atoms.specs.declared.forms.LinearFault.TheVariants as faults;
-
-    ghost from_gives = { λ _ given. given ≡ faults.NoMemory };
-
-    fn from(_error: NoMemory) -> LinearFault {
-        LinearFault::NoMemory
-    }
-}
-
-impl From<AllocError> for LinearFault {
-    ghost use Rattle.std.specs.Prelude.{◌≡◌};
-    ghost use Rattle.linear_atoms.specs.declared.forms.LinearFault.TheVariants as faults;
-
-    ghost from_gives = { λ _ given. given ≡ faults.NoMemory };
-
-    fn from(_error: AllocError) -> LinearFault {
-        LinearFault::NoMemory
-    }
-}
-
-impl<T: Drop> From<AllocFailed<T>> for LinearFault {
-    ghost use Rattle.std.specs.Prelude.{◌≡◌};
-    ghost use Rattle.linear_atoms.specs.declared.forms.LinearFault.TheVariants as faults;
-
-    ghost from_gives = { λ _ given. given ≡ faults.NoMemory };
-
-    fn from(_error: AllocFailed<T>) -> LinearFault {
-        LinearFault::NoMemory
-    }
 }
 
 impl Linear {

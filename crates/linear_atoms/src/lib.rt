@@ -5,13 +5,15 @@ pub mod atoms;
 pub mod forms;
 pub mod laws;
 mod limits;
+pub mod linear_fault;
 pub mod normal;
 pub mod ranges;
 pub mod slices;
 pub mod texts;
 
 pub use atoms::{Atom, Config, Feature, Literal};
-pub use forms::{Linear, LinearFault};
+pub use forms::Linear;
+pub use linear_fault::LinearFault;
 pub use linear_terms::Terms;
 pub use normal::Normal;
 pub use ranges::Span;

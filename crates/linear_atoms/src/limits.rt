@@ -4,7 +4,7 @@
 ghost use Rattle.std.specs.Prelude.{◌≡◌};
 ghost use Rattle.linear_atoms.specs.Forms.{NumberWithin, is_small};
 
-use crate::forms::LinearFault;
+use crate::linear_fault::LinearFault;
 use linear_terms::within;
 
 /// The greatest size of a coefficient or constant.

@@ -8,8 +8,9 @@ ghost use Rattle.linear_atoms.specs.Forms.{IsRising, form_at, is_small, are_smal
 ghost use Rattle.linear_atoms.specs.Normal.{divided, rounded_up, literal_by, normal_of, normal_holds, NormalWithin, IsNormal};
 
 use crate::atoms::{Atom, Literal};
-use crate::forms::{Linear, LinearFault};
+use crate::forms::Linear;
 use crate::limits::is_small;
+use crate::linear_fault::LinearFault;
 use fam_outer::NoMemory;
 use linear_terms::{Terms, first_term, greatest_common_divisor};
 use smallvec::SmallVec;

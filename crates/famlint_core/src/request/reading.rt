@@ -4,19 +4,19 @@
 ghost use Rattle.std.specs.Prelude.{◌≡◌, ◌≤◌, IfOk, IfSome};
 ghost use Rattle.std.specs.List.{All};
 ghost use Rattle.c_tree.specs.Value.{IsInt};
-ghost use Rattle.command_words.specs.Arguments.{texts_of, Reads};
+ghost use Rattle.command_words.specs.Arguments.{texts_of, AnswersWords};
 ghost use Rattle.famlint_core.specs.Requests as specs;
 ghost use Rattle.famlint_core.specs.Requests.{reading, IsWithinRanges, HaveInts};
 
 use crate::request::options::{Command, analysis_of, interval_analysis, suits};
 use crate::request::{Analysis, FamilyTask, Request, SettingWords, VariantTask};
-use command_words::{Arguments, Settings, Usage, Word, WordsRefusal, number_up_to, read_words};
+use command_words::{Arguments, OptionSettings, Usage, Word, WordsRefusal, number_up_to, read_words};
 use fam_outer::NoMemory;
 use std::alloc::Global;
 
 /// What `plain` asks for with these words.
 fn plain_request(alloc: Global, analysis: Analysis, words: &[Word]) -> Result<Request, WordsRefusal>
-    ensures answer { Reads (specs.plain_request analysis words.now) result }
+    ensures answer { AnswersWords (specs.plain_request analysis words.now) result }
     ensures ranges { IfOk result (λ request. IsWithinRanges request) }
 {
     match words {
@@ -35,7 +35,7 @@ fn variant_request(
     words: &[Word],
 ) -> Result<Request, WordsRefusal>
     requires { HaveInts task }
-    ensures answer { Reads (specs.variant_request task words.now) result }
+    ensures answer { AnswersWords (specs.variant_request task words.now) result }
     ensures ranges { IfOk result (λ request. IsWithinRanges request) }
 {
     match words {
@@ -56,7 +56,7 @@ fn family_request(
     task: FamilyTask,
     words: &[Word],
 ) -> Result<Request, WordsRefusal>
-    ensures answer { Reads (specs.family_request analysis task words.now) result }
+    ensures answer { AnswersWords (specs.family_request analysis task words.now) result }
     ensures ranges { IfOk result (λ request. IsWithinRanges request) }
 {
     match words {
@@ -84,7 +84,7 @@ fn blocks_of(text: &str) -> Option<u32>
 
 /// What `generate` asks for with these words.
 fn generate_request(analysis: Analysis, words: &[Word]) -> Result<Request, WordsRefusal>
-    ensures answer { Reads (specs.generate_request analysis words.now) result }
+    ensures answer { AnswersWords (specs.generate_request analysis words.now) result }
     ensures ranges { IfOk result (λ request. IsWithinRanges request) }
 {
     match words {
@@ -98,7 +98,7 @@ fn generate_request(analysis: Analysis, words: &[Word]) -> Result<Request, Words
 
 /// What `check` asks for with these words.
 fn check_request(alloc: Global, words: &[Word]) -> Result<Request, WordsRefusal>
-    ensures answer { Reads (specs.check_request words.now) result }
+    ensures answer { AnswersWords (specs.check_request words.now) result }
     ensures ranges { IfOk result (λ request. IsWithinRanges request) }
 {
     match words {
@@ -117,7 +117,7 @@ fn advice_request(
     analysis: Analysis,
     words: &[Word],
 ) -> Result<Request, WordsRefusal>
-    ensures answer { Reads (specs.advice_request analysis words.now) result }
+    ensures answer { AnswersWords (specs.advice_request analysis words.now) result }
     ensures ranges { IfOk result (λ request. IsWithinRanges request) }
 {
     match words {
@@ -133,7 +133,7 @@ fn advice_request(
 
 /// What `features` asks for with these words.
 fn features_request(alloc: Global, words: &[Word]) -> Result<Request, WordsRefusal>
-    ensures answer { Reads (specs.features_request words.now) result }
+    ensures answer { AnswersWords (specs.features_request words.now) result }
     ensures ranges { IfOk result (λ request. IsWithinRanges request) }
 {
     match words {
@@ -145,7 +145,7 @@ fn features_request(alloc: Global, words: &[Word]) -> Result<Request, WordsRefus
 }
 
 /// The run that the options ask for.
-fn run_task(alloc: Global, settings: &Settings) -> Result<VariantTask, NoMemory>
+fn run_task(alloc: Global, settings: &OptionSettings) -> Result<VariantTask, NoMemory>
     requires { All IsInt settings.now.inputs }
     ensures value { IfOk result (λ task. task ≡ specs.run_task settings.now) }
     ensures ints { IfOk result (λ task. HaveInts task) }
@@ -161,11 +161,11 @@ fn run_task(alloc: Global, settings: &Settings) -> Result<VariantTask, NoMemory>
 fn request_for(
     alloc: Global,
     command: Command,
-    settings: &Settings,
+    settings: &OptionSettings,
     words: &[Word],
 ) -> Result<Request, WordsRefusal>
     requires { All IsInt settings.now.inputs }
-    ensures answer { Reads (specs.request_for command settings.now words.now) result }
+    ensures answer { AnswersWords (specs.request_for command settings.now words.now) result }
     ensures ranges { IfOk result (λ request. IsWithinRanges request) }
 {
     let analysis = analysis_of(settings.chosen);
@@ -198,7 +198,7 @@ fn suited(
     words: &[Word],
 ) -> Result<Request, WordsRefusal>
     requires { All IsInt arguments.now.settings.inputs }
-    ensures answer { Reads (specs.suited command arguments.now words.now) result }
+    ensures answer { AnswersWords (specs.suited command arguments.now words.now) result }
     ensures ranges { IfOk result (λ request. IsWithinRanges request) }
 {
     if suits(command, arguments) {
@@ -211,7 +211,7 @@ fn suited(
 /// What the positional words ask for.
 fn request_of(alloc: Global, arguments: &Arguments) -> Result<Request, WordsRefusal>
     requires { All IsInt arguments.now.settings.inputs }
-    ensures answer { Reads (specs.request_of arguments.now) result }
+    ensures answer { AnswersWords (specs.request_of arguments.now) result }
     ensures ranges { IfOk result (λ request. IsWithinRanges request) }
 {
     match arguments.positional.items() {
@@ -225,7 +225,7 @@ fn request_of(alloc: Global, arguments: &Arguments) -> Result<Request, WordsRefu
 
 /// What the words ask for.
 pub fn read_request(alloc: Global, words: &[String]) -> Result<Request, WordsRefusal>
-    ensures answer { Reads (reading (texts_of words.now)) result }
+    ensures answer { AnswersWords (reading (texts_of words.now)) result }
     ensures ranges { IfOk result (λ request. IsWithinRanges request) }
 {
     let arguments = read_words(alloc, words)?;

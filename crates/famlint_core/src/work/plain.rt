@@ -3,7 +3,7 @@
 
 ghost use Rattle.std.specs.Prelude.{◌≡◌, ◌≤◌, ℕ, List, [], ◌∷◌, Some, Ok, IfOk};
 ghost use Rattle.c_tree.specs.Tree.{Whole};
-ghost use Rattle.c_parser.specs.Reading.{Reads};
+ghost use Rattle.c_parser.specs.Reading.{IsPlainRead};
 ghost use Rattle.famlint_core.specs.Answers.{AnswersPlain, PromisedPlain};
 ghost use Rattle.famlint_core.specs.Loads.{Comes, IsReadFault, IsReadOf};
 

@@ -3,7 +3,7 @@ use Rattle.linear_atoms.specs.Atoms.{AreValues}
 use Rattle.cpp_conditions.proofs.Within.{config_of}
 use Rattle.configuration_advice.specs.Searching.{pairs}
 use Rattle.configuration_advice.proofs.Advised.{asked_of, advised_for}
-use Rattle.configuration_advice.proofs.Found.{within_length}
+use Rattle.configuration_advice.proofs.FirstFound.{within_length}
 use Rattle.configuration_advice.proofs.nearness.nearest.Goals as goal
 
 pub with_pairs-requires-clause-values : goal.with_pairs-requires-clause-values

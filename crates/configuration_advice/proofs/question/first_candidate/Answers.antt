@@ -7,7 +7,7 @@ use Rattle.cpp_conditions.specs.View.{formula}
 use Rattle.atom_solver.specs.Solutions.{Finds}
 use Rattle.configuration_advice.specs.Choices.{are_chosen_on}
 use Rattle.configuration_advice.specs.Searching.{FindsFirst}
-use Rattle.configuration_advice.proofs.Found.{Stands, first_found}
+use Rattle.configuration_advice.proofs.FirstFound.{Stands, first_found}
 use Rattle.configuration_advice.proofs.question.first_candidate.Goals as goal
 
 pub least_where-requires-clause-numbers : goal.least_where-requires-clause-numbers

@@ -15,7 +15,7 @@ use Rattle.cpp_lines.specs.Taking as taking
 use Rattle.cpp_lines.proofs.sections.judge_line.Goals as goal
 
 refused : (m : Plain) (line : List ℕ) (text : Result (List ℕ) ConditionFault) (old : Reading) (code : FileCode) → line_fault (flags old.opens) line ≡ None → condition_in line ≡ Some text
-    → taking.IsRefused m text old code → sections.HasFault m (flags old.opens) (taking.meant old) line code
+    → taking.IsConditionRefused m text old code → sections.HasFault m (flags old.opens) (taking.meant old) line code
 refused m line text old code f e (taking.unread fault h) = sections.refused text fault f e h
 refused m line text old code f e (taking.crowded p h k) = sections.crowded text p f e h k
 

@@ -3,7 +3,7 @@ use Rattle.std.proofs.lemmas.List.{length-map}
 use Rattle.fam_outer.specs.declared.faults.Place.{Place}
 use Rattle.cpp_conditions.specs.View.{proposition}
 use Rattle.cpp_lines.specs.declared.line.Line.{Line}
-use Rattle.cpp_lines.specs.declared.opens.Opens.{Opens}
+use Rattle.cpp_lines.specs.declared.open_sections.Opens.{Opens}
 use Rattle.cpp_lines.specs.Lines.{line_place}
 use Rattle.cpp_lines.specs.Nesting.{named_in, opened_by}
 use Rattle.cpp_lines.specs.Opens.{flags, first_after}

@@ -4,5 +4,5 @@ use Rattle.family_names.proofs.faults.undeclared.Goals as goal
 
 pub least_where-requires-clause-numbers : goal.least_where-requires-clause-numbers
 least_where-requires-clause-numbers c =
-    below_none (length c.args.setting.now.atoms.now) c.in_ok-none.none c.in_ok-declared.declared c.in_ok-none.ensures
-    (c.in_ok-declared.ensures.below (length c.args.setting.now.atoms.now) c.requires.conditions)
+    below_none (length c.args.context.now.atoms.now) c.in_ok-none.none c.in_ok-declared.declared c.in_ok-none.ensures
+    (c.in_ok-declared.ensures.below (length c.args.context.now.atoms.now) c.requires.conditions)

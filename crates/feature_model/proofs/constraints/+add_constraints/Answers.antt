@@ -1,6 +1,6 @@
 use Rattle.std.proofs.Common.{Ok, Err, subst}
 use Rattle.cpp_conditions.specs.Grammar.{ReadsAs}
-use Rattle.cpp_conditions.specs.Reading.{Reads}
+use Rattle.cpp_conditions.specs.Reading.{IsConditionRead}
 use Rattle.cpp_conditions.specs.View.{proposition}
 use Rattle.feature_model.proofs.Adding.{nothing_added, text_refused, first_added, fit_more, open_more}
 use Rattle.feature_model.proofs.constraints.+add_constraints.Goals as goal
@@ -11,7 +11,7 @@ returns-in_default-clause-read t c = nothing_added c.args.features.now c.args.nu
 pub returns-in-Err-clause-read : goal.returns-in-Err-clause-read
 returns-in-Err-clause-read t c =
     text_refused c.args.features.now c.args.number c.args.texts.now c.in-Some.behind.now c.in-Some.text.now c.args.made.now.items c.in-Err.refusal c.numbered.result c.in-Some.ensures
-    (subst (λ b. Reads c.args.features.now b (Err c.in-Err.refusal)) c.bytes.ensures c.in-Err.ensures.read) c.numbered.ensures
+    (subst (λ b. IsConditionRead c.args.features.now b (Err c.in-Err.refusal)) c.bytes.ensures c.in-Err.ensures.read) c.numbered.ensures
 
 pub returns-clause-read : goal.returns-clause-read
 returns-clause-read t c =

@@ -14,7 +14,7 @@ use Rattle.lifted_analysis.specs.Promises.{variant_at, begin_at, AreBelow}
 use Rattle.lifted_analysis.specs.Turns.{AreInductive}
 use Rattle.plain_analysis.specs.Promises.{RunsForeseenBy}
 use Rattle.invariant_certificate.specs.declared.verdicts.Verdict.TheVariants.{Yes}
-use Rattle.invariant_certificate.specs.Found.{IsJudged}
+use Rattle.invariant_certificate.specs.FirstFailing.{IsJudged}
 use Rattle.invariant_certificate.specs.Verdicts.{IsVerdict, StopsAreListed}
 use Rattle.invariant_certificate.proofs.Belows.{more_below, more_regions}
 use Rattle.invariant_certificate.proofs.Judged.{verdict_as, passed_as, sound_if_yes}

@@ -3,7 +3,7 @@ use Rattle.std.specs.Prelude.{Some}
 use Rattle.std.proofs.lemmas.List.{take_all}
 use Rattle.atom_solver.specs.Solutions.{Finds}
 use Rattle.invariant_certificate.specs.Failing.{AllHold}
-use Rattle.invariant_certificate.specs.Found.{loop_holds}
+use Rattle.invariant_certificate.specs.FirstFailing.{loop_holds}
 use Rattle.invariant_certificate.proofs.Halves.{splits_at}
 use Rattle.invariant_certificate.proofs.settling.first_unsettled.Goals as goal
 

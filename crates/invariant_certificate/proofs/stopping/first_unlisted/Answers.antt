@@ -7,7 +7,7 @@ use Rattle.decision_tree.specs.Plain.{TestsBelow, leaf_of}
 use Rattle.decision_tree.specs.View.{plain}
 use Rattle.lifted_analysis.specs.declared.findings.AlarmTree.{AlarmTree}
 use Rattle.invariant_certificate.specs.Failing.{AllHold}
-use Rattle.invariant_certificate.specs.Found.{stop_holds}
+use Rattle.invariant_certificate.specs.FirstFailing.{stop_holds}
 use Rattle.invariant_certificate.proofs.Belows.{more_nodes, more_lines}
 use Rattle.invariant_certificate.proofs.First.{first_as}
 use Rattle.invariant_certificate.proofs.Halves.{splits_at}
