@@ -1,6 +1,8 @@
 //! Which features conditions name and link. It is advice alone: who asks looks at each condition again.
 #![tactic(auto)]
 
+ghost use Rattle.std.specs.Prelude.{◌≡◌, false, slice_index_or};
+
 use cpp_conditions::Condition;
 use fam_outer::NoMemory;
 use linear_atoms::Atom;
@@ -14,7 +16,9 @@ pub(crate) fn mark(marks: &mut [bool], place: usize) {
 }
 
 /// Whether a place is marked.
-pub(crate) fn is_marked(marks: &[bool], place: usize) -> bool {
+pub(crate) fn is_marked(marks: &[bool], place: usize) -> bool
+    ensures { result ≡ slice_index_or marks.now place false }
+{
     match marks.get(place) {
         None => false,
         Some(mark) => *mark,

@@ -9,22 +9,13 @@ ghost use Rattle.atom_solver.specs.Free.{Serves};
 ghost use Rattle.atom_solver.specs.Parts.{IsSumOf, IsTruthOf, IsPart, fixed};
 ghost use Rattle.atom_solver.specs.Spans.{ranges, meets, FindsIn};
 
+use crate::labels::is_marked;
 use cpp_conditions::Condition;
 use cpp_conditions::conditions::{both, either, negation};
 use fam_outer::NoMemory;
 use linear_atoms::slices::cut;
 use linear_atoms::{Config, Span};
 use std::alloc::Global;
-
-/// Whether a feature is marked.
-fn is_marked(marks: &[bool], place: usize) -> bool
-    ensures { result ≡ slice_index_or marks.now place false }
-{
-    match marks.get(place) {
-        None => false,
-        Some(mark) => *mark,
-    }
-}
 
 /// Whether the terms name only features that are marked, or only others.
 #[tactic(auto, using(crate::proofs::Apart::sum_none, crate::proofs::Apart::sum_more))]
