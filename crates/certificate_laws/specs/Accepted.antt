@@ -11,7 +11,7 @@ use Rattle.cpp_conditions.specs.Numbering.{vector_at}
 use Rattle.cpp_conditions.specs.Propositions.{true_on}
 use Rattle.cpp_conditions.specs.Validity.{plain, IsValid}
 use Rattle.cpp_conditions.specs.View.{formula}
-use Rattle.leaf_domain.specs.Leaves.{LeafValue, LeafMeaning, Alike, Answers, is_nothing_of}
+use Rattle.leaf_domain.specs.Leaves.{LeafValue, LeafMeaning, Alike, IsLeafLike, is_nothing_of}
 use Rattle.lifted_analysis.specs.Canon.{IsTreeOf}
 use Rattle.lifted_analysis.specs.Lines.{set_from}
 use Rattle.lifted_analysis.specs.Promises.{leaf_at, stop_at, by_kind}
@@ -41,7 +41,7 @@ AreToldByBounds M = (names : List (List ℕ)) (d v : LeafValue) → IsSome M nam
 
 -- what has a join below it has both leaves below it
 abbrev pub AreBelowJoins : LeafMeaning → Type 0
-AreBelowJoins M = (a b x : LeafValue) → Alike M a b → Answers M a x → M.leq (M.join a b) x ≡ true → (M.leq a x ≡ true) × (M.leq b x ≡ true)
+AreBelowJoins M = (a b x : LeafValue) → Alike M a b → IsLeafLike M a x → M.leq (M.join a b) x ≡ true → (M.leq a x ≡ true) × (M.leq b x ≡ true)
 
 -- ---- analyses and their certificates
 
