@@ -40,7 +40,7 @@ use Rattle.lifted_analysis.specs.declared.lines.LoopLine.{LoopLine}
 use Rattle.lifted_analysis.specs.Conditions.{AreTreesOf}
 use Rattle.lifted_analysis.specs.Entries.{leaf_there, stop_there, turn_there, IsReducedTree, IsSizedTurn, AreSized}
 use Rattle.lifted_analysis.specs.Findings.{HasFound}
-use Rattle.lifted_analysis.specs.Lines.{AreBounds, AreRegionsBelow, given_heads}
+use Rattle.lifted_analysis.specs.Lines.{AreVariableBounds, AreRegionsBelow, given_heads}
 use Rattle.lifted_analysis.specs.Pass.{heads_at, passed_at, pass_stop_at, turns_at_vector, inductive_at, loop_there, ArePassFindings}
 use Rattle.lifted_analysis.specs.Promises.{truths_of, variant_at, begin_at, by_kind, AreBelow}
 use Rattle.lifted_analysis.specs.Start.{start_at}
@@ -131,7 +131,7 @@ module _ (M : LeafMeaning) (laws : LeafLaws M) (mode : Mode) (A : TransferAnswer
 -- ---- runs
 
 pub pass_runs : (M : LeafMeaning) → LeafLaws M → (mode : Mode) → TransferAnswers M mode → TransferHolds M mode → (p : Whole) → IsProgram p → (cs : List Formula) (pl : Formula) (lines : List LoopLine)
-    → All (λ (l : LoopLine). AreBounds (length p.names) l.bounds) lines → (v : List Bool) → AreInductive M (turns_at_vector M mode p cs pl lines v)
+    → All (λ (l : LoopLine). AreVariableBounds (length p.names) l.bounds) lines → (v : List Bool) → AreInductive M (turns_at_vector M mode p cs pl lines v)
     → RunsForeseenBy M mode (heads_at M p cs pl lines v) (variant_at p cs v) (begin_at M p cs pl v)
 pass_runs M laws mode A T p program cs pl lines bounds v inductive =
     let ts = truths_of cs v in
@@ -139,7 +139,7 @@ pass_runs M laws mode A T p program cs pl lines bounds v inductive =
     let well = IsProgram-projected ts p program in
     let is_valid = valid (true_on v (formula pl)) in
     let counts : d.variables ≡ length p.names = count (true_on v (formula pl)) in
-    let fit = subst (λ m. AreFit M mode m (given_heads M lines v d)) counts (given_fit M laws mode lines v d is_valid (subst (λ m. All (λ (l : LoopLine). AreBounds m l.bounds) lines) (sym counts) bounds)) in
+    let fit = subst (λ m. AreFit M mode m (given_heads M lines v d)) counts (given_fit M laws mode lines v d is_valid (subst (λ m. All (λ (l : LoopLine). AreVariableBounds m l.bounds) lines) (sym counts) bounds)) in
     runs M mode (heads_at M p cs pl lines v) (variant_at p cs v) d well (record { body = IsPlain-projected ts p.body; declared = refl }) laws A T is_valid counts
     (inductive_heads_hold M laws mode A (length p.names) (heads_at M p cs pl lines v) fit (variant_at p cs v).body well.names d is_valid counts inductive)
   where

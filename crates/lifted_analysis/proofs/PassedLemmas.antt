@@ -21,7 +21,7 @@ use Rattle.plain_analysis.proofs.JoinLemmas.{join_answer}
 use Rattle.plain_analysis.proofs.Nothing.{after_nothing}
 use Rattle.plain_analysis.proofs.Recursion.{final_of_code}
 use Rattle.lifted_analysis.specs.declared.lines.LoopLine.{LoopLine}
-use Rattle.lifted_analysis.specs.Lines.{set_from, bounded_by, given_at, given_heads, AreBounds}
+use Rattle.lifted_analysis.specs.Lines.{set_from, bounded_by, given_at, given_heads, AreVariableBounds}
 use Rattle.lifted_analysis.specs.Rules.{no_heads}
 
 -- ---- one list after another
@@ -127,7 +127,7 @@ module _ (M : LeafMeaning) (laws : LeafLaws M) where
       let f : x + 1 + length rs ≡ (M.set_range d x r).variables = let g : (M.set_range d x r).variables ≡ d.variables = a.same in omega arith in
       answers_then d _ _ a (set_answers (x + 1) rs (M.set_range d x r) a.valid f (All-tail IsInInt r rs i))
 
-  bounded_answers : (b : Option (List Range)) (d : LeafValue) → M.valid d → AreBounds d.variables b → IsLeafLike M d (bounded_by M b d)
+  bounded_answers : (b : Option (List Range)) (d : LeafValue) → M.valid d → AreVariableBounds d.variables b → IsLeafLike M d (bounded_by M b d)
   bounded_answers None d h i = record { valid = laws.nothing_valid d.variables (laws.valid_few d h); same = refl }
   bounded_answers (Some rs) d h i = let e : 0 + length rs ≡ d.variables = omega (arith, i.0) in set_answers 0 rs d h e i.1
 
@@ -135,14 +135,14 @@ module _ (M : LeafMeaning) (laws : LeafLaws M) where
   either_answers true d x y h k = h
   either_answers false d x y h k = k
 
-  pub given_answers : (lines : List LoopLine) (v : List Bool) (d : LeafValue) (q : Place) → M.valid d → All (λ (l : LoopLine). AreBounds d.variables l.bounds) lines → IsLeafLike M d (given_at M lines v d q)
+  pub given_answers : (lines : List LoopLine) (v : List Bool) (d : LeafValue) (q : Place) → M.valid d → All (λ (l : LoopLine). AreVariableBounds d.variables l.bounds) lines → IsLeafLike M d (given_at M lines v d q)
   given_answers [] v d q h i = record { valid = laws.nothing_valid d.variables (laws.valid_few d h); same = refl }
   given_answers (l ∷ ls) v d q h i =
       either_answers (is_same_place l.place q && true_on v (formula l.region)) d (bounded_by M l.bounds d) (given_at M ls v d q)
-      (bounded_answers l.bounds d h (All-head (λ (l : LoopLine). AreBounds d.variables l.bounds) l ls i))
-      (given_answers ls v d q h (All-tail (λ (l : LoopLine). AreBounds d.variables l.bounds) l ls i))
+      (bounded_answers l.bounds d h (All-head (λ (l : LoopLine). AreVariableBounds d.variables l.bounds) l ls i))
+      (given_answers ls v d q h (All-tail (λ (l : LoopLine). AreVariableBounds d.variables l.bounds) l ls i))
 
-  pub given_fit : (mode : Mode) (lines : List LoopLine) (v : List Bool) (d : LeafValue) → M.valid d → All (λ (l : LoopLine). AreBounds d.variables l.bounds) lines → AreFit M mode d.variables (given_heads M lines v d)
+  pub given_fit : (mode : Mode) (lines : List LoopLine) (v : List Bool) (d : LeafValue) → M.valid d → All (λ (l : LoopLine). AreVariableBounds d.variables l.bounds) lines → AreFit M mode d.variables (given_heads M lines v d)
   given_fit mode lines v d h i = record {
     answers = λ place e body x g c t k. let a = given_answers lines v d place h i in record { valid = a.valid; same = a.same ∙ sym c };
   }

@@ -29,7 +29,7 @@ use Rattle.lifted_analysis.specs.declared.rule.Rule.{Rule}
 use Rattle.lifted_analysis.specs.declared.rule.Rule.TheVariants as rule
 use Rattle.lifted_analysis.specs.Finals.{Remembers}
 use Rattle.lifted_analysis.specs.declared.lines.LoopLine.{LoopLine}
-use Rattle.lifted_analysis.specs.Lines.{AreBounds, given_heads}
+use Rattle.lifted_analysis.specs.Lines.{AreVariableBounds, given_heads}
 use Rattle.lifted_analysis.specs.Rules.{no_heads, heads_where, IsRuleOf, chosen_heads, ruled_heads, passed_with, sides_with, head_with, IsRuled, Knows}
 use Rattle.lifted_analysis.specs.States.{IsState, IsLifted, IsJoint, truths_in}
 use Rattle.lifted_analysis.specs.Steps.{kept_by}
@@ -118,12 +118,12 @@ module _ {L : Type 0} (value : L → LeafValue) (M : LeafMeaning) (family : Fami
 
   -- heads are leaves of the kind
   pub ruled_fit : LeafLaws M → TransferAnswers M family.options.mode → (forest : List (Plain L)) (r : Rule L) (v : List Bool) → IsRuled value M family forest r
-      → All (λ (l : LoopLine). AreBounds family.variables l.bounds) family.lines.now → AreFit M family.options.mode family.variables (ruled_heads value M family r v)
+      → All (λ (l : LoopLine). AreVariableBounds family.variables l.bounds) family.lines.now → AreFit M family.options.mode family.variables (ruled_heads value M family r v)
   ruled_fit laws A forest rule.Rounds v h i = final_fit M laws family.options A family.variables
   ruled_fit laws A forest (rule.Lines start) v h i =
       let d = value (leaf_of (plain start) v) in
       let n : d.variables ≡ family.variables = counted value family forest (numbered start) v h.state in
-      subst (λ m. AreFit M family.options.mode m (given_heads M family.lines.now v d)) n (given_fit M laws family.options.mode family.lines.now v d (h.valid v) (subst (λ m. All (λ (l : LoopLine). AreBounds m l.bounds) family.lines.now) (sym n) i))
+      subst (λ m. AreFit M family.options.mode m (given_heads M family.lines.now v d)) n (given_fit M laws family.options.mode family.lines.now v d (h.valid v) (subst (λ m. All (λ (l : LoopLine). AreVariableBounds m l.bounds) family.lines.now) (sym n) i))
 
   pub known_stays : (r : Rule L) (a b : List (Plain L)) (f : Finals L) → Keeps a b → Knows value M family r a f → Knows value M family r b f
   known_stays r a b f h k = record { memory = memory_stays value M family a b f h k.memory; ruled = ruled_stays a b r h k.ruled }

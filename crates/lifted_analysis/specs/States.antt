@@ -11,7 +11,7 @@ use Rattle.leaf_domain.specs.Leaves.{LeafValue}
 use Rattle.tree_unify.specs.Formulas.{HasNumber}
 use Rattle.lifted_analysis.specs.declared.family.Family.{Family}
 use Rattle.lifted_analysis.specs.declared.lines.LoopLine.{LoopLine}
-use Rattle.lifted_analysis.specs.Lines.{AreBounds, AreRegionsBelow}
+use Rattle.lifted_analysis.specs.Lines.{AreVariableBounds, AreRegionsBelow}
 
 -- the truths of the conditions at a vector
 abbrev pub truths_in : List (Tree Bool) → List Bool → List Bool
@@ -37,7 +37,7 @@ pub record IsFamily (family : Family) : Type 0 where
   pub few : family.variables ≤ 16
   pub never : (x : ℕ) × (numbered family.never.now ≡ kept x false)
   pub regions : AreRegionsBelow 64 family.lines.now
-  pub bounds : All (λ (l : LoopLine). AreBounds family.variables l.bounds) family.lines.now
+  pub bounds : All (λ (l : LoopLine). AreVariableBounds family.variables l.bounds) family.lines.now
   pub choices : (i : ℕ) (c : Tree Bool) → slice_get family.choices.now i ≡ Some c → IsNumberedTree 0 64 (numbered c)
 
 -- a tree of truths whose tests are the family's

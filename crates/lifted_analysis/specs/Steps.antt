@@ -15,7 +15,7 @@ use Rattle.lifted_analysis.specs.declared.operations.Step.{Step}
 use Rattle.lifted_analysis.specs.declared.operations.Step.TheVariants as step
 use Rattle.lifted_analysis.specs.declared.operations.Combination.{Combination}
 use Rattle.lifted_analysis.specs.declared.operations.Combination.TheVariants as combination
-use Rattle.lifted_analysis.specs.Lines.{AreBounds, bounded_by}
+use Rattle.lifted_analysis.specs.Lines.{AreVariableBounds, bounded_by}
 use Rattle.lifted_analysis.specs.States.{truths_in}
 
 -- a step over so many variables
@@ -23,7 +23,7 @@ abbrev pub IsStepOf : ℕ → Step → Type 0
 IsStepOf n (step.Assign x e) = (x < n) × IsTermOf n (term e.now)
 IsStepOf n (step.Forget x) = x < n
 IsStepOf n (step.Assume e want) = IsTermOf n (term e.now)
-IsStepOf n (step.Bound bounds) = AreBounds n bounds.now
+IsStepOf n (step.Bound bounds) = AreVariableBounds n bounds.now
 
 abbrev pub stepped_by : LeafMeaning → Mode → Step → LeafValue → LeafValue
 stepped_by M mode (step.Assign x e) v = assigned M mode x (term e.now) v

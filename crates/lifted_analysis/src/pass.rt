@@ -15,7 +15,7 @@ ghost use Rattle.lifted_analysis.specs.declared.findings.LoopTree.{LoopTree};
 ghost use Rattle.lifted_analysis.specs.declared.lines.LoopLine.{LoopLine};
 ghost use Rattle.lifted_analysis.specs.Canon.{IsTreeOf};
 ghost use Rattle.lifted_analysis.specs.Entries.{turn_there, IsReducedTree, AreSized};
-ghost use Rattle.lifted_analysis.specs.Lines.{AreBounds, AreRegionsBelow};
+ghost use Rattle.lifted_analysis.specs.Lines.{AreVariableBounds, AreRegionsBelow};
 ghost use Rattle.lifted_analysis.specs.Pass.{heads_at, passed_at, pass_stop_at, turns_at_vector, inductive_at, loop_there, ArePassFindings};
 ghost use Rattle.lifted_analysis.specs.Promises.{variant_at, begin_at, by_kind, valued, AreBelow};
 ghost use Rattle.lifted_analysis.specs.Turns.{AreInductive, is_inductive, loop_places};
@@ -79,7 +79,7 @@ fn pass_counted<L: Leaf, K: Ledger>(
     requires program { IsProgram (whole code.now) }
     requires below { AreBelow 64 conditions.now plausible.now }
     requires regions { AreRegionsBelow 64 lines.now }
-    requires bounds { All (λ (l : LoopLine). AreBounds (length code.now.names) l.bounds) lines.now }
+    requires bounds { All (λ (l : LoopLine). AreVariableBounds (length code.now.names) l.bounds) lines.now }
     ensures { IfOk result (λ f. ArePassFindings L.value L.meaning mode
         (whole code.now) conditions.now plausible.now lines.now f) }
 {
@@ -139,7 +139,7 @@ pub fn pass_family<L: Leaf>(
     requires conditioned { IsConditioned (length conditions.now) (whole code.now) }
     requires below { AreBelow 64 conditions.now plausible.now }
     requires regions { AreRegionsBelow 64 lines.now }
-    requires bounds { All (λ (l : LoopLine). AreBounds (length code.now.names) l.bounds) lines.now }
+    requires bounds { All (λ (l : LoopLine). AreVariableBounds (length code.now.names) l.bounds) lines.now }
     ensures places { IfOk result (λ f. map (λ p. p.place) f.places.items ≡ program_places (whole code.now)) }
     ensures trees { IfOk result (λ f. (m : ℕ) → AreBelow m conditions.now plausible.now
         → AreRegionsBelow m lines.now

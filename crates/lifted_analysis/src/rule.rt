@@ -10,7 +10,7 @@ ghost use Rattle.decision_tree.specs.Plain.{leaf_of};
 ghost use Rattle.decision_tree.specs.View.{numbered, plain};
 ghost use Rattle.plain_analysis.specs.Places.{is_same_place};
 ghost use Rattle.plain_analysis.specs.Stated.{IsLoopAt, HasLoopsOf};
-ghost use Rattle.lifted_analysis.specs.Lines.{AreBounds, bounded_by, given_at};
+ghost use Rattle.lifted_analysis.specs.Lines.{AreVariableBounds, bounded_by, given_at};
 ghost use Rattle.lifted_analysis.specs.Rules.{Knows, IsRuleOf, heads_in, ruled_heads, head_with};
 ghost use Rattle.tree_unify.specs.Formulas.{HasNumber};
 ghost use Rattle.lifted_analysis.specs.States.{IsFamily, IsState, IsLifted, IsJoint, IsTruth, IsTest};
@@ -66,7 +66,7 @@ fn region_tree<L: Leaf, K: Ledger>(
     requires elsewhere { IsState L.value family.now tables.old.leaves (numbered elsewhere.now) }
     requires region { IsBelow 64 (formula line.now.region) }
     requires tests { (k : ℕ) → HasNumber k (formula line.now.region) → IsTest family.now k }
-    requires bounds { AreBounds family.now.variables line.now.bounds }
+    requires bounds { AreVariableBounds family.now.variables line.now.bounds }
     ensures { IfOk result (λ r. IsJoint L.value family.now tables.old.leaves tables.new.leaves
         (λ v x y. if true_on v (formula line.now.region) then bounded_by L.meaning line.now.bounds x else y)
         (plain start.now) (plain elsewhere.now) (numbered r)) }
@@ -91,7 +91,7 @@ fn line_tree<L: Leaf, K: Ledger>(
     requires elsewhere { IsState L.value family.now tables.old.leaves (numbered elsewhere.now) }
     requires region { IsBelow 64 (formula line.now.region) }
     requires tests { (k : ℕ) → HasNumber k (formula line.now.region) → IsTest family.now k }
-    requires bounds { AreBounds family.now.variables line.now.bounds }
+    requires bounds { AreVariableBounds family.now.variables line.now.bounds }
     ensures { IfOk result (λ r. IsJoint L.value family.now tables.old.leaves tables.new.leaves
         (λ v x y. if is_same_place line.now.place place && true_on v (formula line.now.region)
         then bounded_by L.meaning line.now.bounds x else y)

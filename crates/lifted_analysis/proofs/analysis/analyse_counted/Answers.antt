@@ -8,7 +8,7 @@ use Rattle.std.proofs.lemmas.List.Elements.{All-nil}
 use Rattle.cpp_conditions.specs.Propositions.{IsBelow}
 use Rattle.cpp_conditions.specs.View.{formula}
 use Rattle.lifted_analysis.specs.declared.lines.LoopLine.{LoopLine}
-use Rattle.lifted_analysis.specs.Lines.{AreBounds}
+use Rattle.lifted_analysis.specs.Lines.{AreVariableBounds}
 use Rattle.lifted_analysis.proofs.Answered.{leaf_kept, are_findings}
 use Rattle.lifted_analysis.proofs.analysis.analyse_counted.Goals as goal
 
@@ -20,7 +20,7 @@ found_in-requires-clause-family g c =
       few = few;
       never = leaf_kept (numbered c.in_ok-never.never) _ c.in_ok-never.ensures.same;
       regions = All-nil (λ (l : LoopLine). IsBelow 64 (formula l.region));
-      bounds = All-nil (λ (l : LoopLine). AreBounds (length c.items.result.now) l.bounds);
+      bounds = All-nil (λ (l : LoopLine). AreVariableBounds (length c.items.result.now) l.bounds);
       choices = λ i t e. numbered_each c.args.conditions.now c.deref.result.now i t trees e;
     }
 

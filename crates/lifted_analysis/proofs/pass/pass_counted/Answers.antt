@@ -6,7 +6,7 @@ use Rattle.decision_tree.proofs.Numbers.{numbered_tree}
 use Rattle.lifted_analysis.specs.Conditions.{AreTreesOf}
 use Rattle.lifted_analysis.proofs.ConditionLemmas.{numbered_each}
 use Rattle.lifted_analysis.specs.declared.lines.LoopLine.{LoopLine}
-use Rattle.lifted_analysis.specs.Lines.{AreBounds}
+use Rattle.lifted_analysis.specs.Lines.{AreVariableBounds}
 use Rattle.lifted_analysis.proofs.Answered.{leaf_kept}
 use Rattle.lifted_analysis.proofs.PassAnswered.{are_pass_findings, sized_by, loops_by}
 use Rattle.lifted_analysis.proofs.pass.pass_counted.Goals as goal
@@ -19,7 +19,7 @@ found_in-requires-clause-family g c =
       few = few;
       never = leaf_kept (numbered c.in_ok-never.never) _ c.in_ok-never.ensures.same;
       regions = c.requires.regions;
-      bounds = subst (λ n. All (λ (l : LoopLine). AreBounds n l.bounds) c.args.lines.now) (sym (ap length c.items.ensures)) c.requires.bounds;
+      bounds = subst (λ n. All (λ (l : LoopLine). AreVariableBounds n l.bounds) c.args.lines.now) (sym (ap length c.items.ensures)) c.requires.bounds;
       choices = λ i t e. numbered_each c.args.conditions.now c.deref.result.now i t trees e;
     }
 
