@@ -30,7 +30,7 @@ use Rattle.plain_analysis.specs.Statements.{Heads, passed, final_heads}
 use Rattle.plain_analysis.proofs.Held.{analysis_foresees}
 use Rattle.tree_unify.specs.Formulas as formulas
 use Rattle.lifted_analysis.specs.declared.entries.Found.{Found}
-use Rattle.lifted_analysis.specs.declared.family.Family.{Family}
+use Rattle.lifted_analysis.specs.declared.family_context.FamilyContext.{FamilyContext}
 use Rattle.lifted_analysis.specs.declared.findings.AlarmTree.{AlarmTree}
 use Rattle.lifted_analysis.specs.declared.findings.PlaceTree.{PlaceTree}
 use Rattle.lifted_analysis.specs.Canon.{IsTreeOf}
@@ -102,7 +102,7 @@ leaf_kept (kept n y) x e = let h : y ≡ x = cc in (n, ap (kept n) h)
 leaf_kept (branch n k low high) x e = cc
 
 -- the trees of places, and trees of truths, over so many tests
-module _ (family : Family) (m : ℕ) (small : (k : ℕ) → IsTest family k → k < m) where
+module _ (family : FamilyContext) (m : ℕ) (small : (k : ℕ) → IsTest family k → k < m) where
   below : {A : Type 0} (t : Plain A) → IsReducedTree family t → TestsBelow m t
   below t r = tests_below m t (λ k w. small k (r.tests k w))
 
@@ -135,7 +135,7 @@ twice : {X Y Z : Type 0} (f : X → Y) (g : Y → Z) (xs : List X) → map (λ (
 twice f g [] = refl
 twice f g (x ∷ xs) = ap (λ l. g (f x) ∷ l) (twice f g xs)
 
-module _ {L : Type 0} (value : L → LeafValue) (family : Family) where
+module _ {L : Type 0} (value : L → LeafValue) (family : FamilyContext) where
   -- the last place, after a tree and three alarm trees
   pub ended_made : {E : Type 0} (made : Result (Unit {0}) E) (a c d z : Found L) (ps : List (PlaceTree L)) (place : Place) (tree : Tree L)
       → IsReducedTree family (plain tree) → ps ≡ a.places.items ++ record { place = place; tree = tree } ∷ [] → c.places.items ≡ ps
@@ -222,14 +222,14 @@ module _ {L : Type 0} (value : L → LeafValue) (family : Family) where
 -- ---- over formulas
 
 -- start values by formulas
-pub begins : (M : LeafMeaning) (family : Family) (p : Whole) (cs : List Formula) (pl : Formula) → AreTreesOf cs family.choices.now → formulas.IsTreeOf (formula pl) (plain family.plausible.now) → family.variables ≡ length p.names
+pub begins : (M : LeafMeaning) (family : FamilyContext) (p : Whole) (cs : List Formula) (pl : Formula) → AreTreesOf cs family.choices.now → formulas.IsTreeOf (formula pl) (plain family.plausible.now) → family.variables ≡ length p.names
     → (v : List Bool) → start_at M family p.start p.declared v ≡ begin_at M p cs pl v
 begins M family p cs pl trees plausible count v =
     ap (λ (b : Bool). if b then M.start (projected_start (truths_in family.choices.now v) p.declared p.start) else nothing_of family.variables) (plausible.truth v)
     ∙ (ap (λ ts. if true_on v (formula pl) then M.start (projected_start ts p.declared p.start) else nothing_of family.variables) (truths_same cs family.choices.now v trees)
     ∙ ap (λ n. if true_on v (formula pl) then M.start (projected_start (truths_of cs v) p.declared p.start) else nothing_of n) count)
 
-module _ {L : Type 0} (value : L → LeafValue) (exact : (a b : L) → value a ≡ value b → a ≡ b) (M : LeafMeaning) (family : Family) (p : Whole) (cs : List Formula) (pl : Formula)
+module _ {L : Type 0} (value : L → LeafValue) (exact : (a b : L) → value a ≡ value b → a ≡ b) (M : LeafMeaning) (family : FamilyContext) (p : Whole) (cs : List Formula) (pl : Formula)
     (trees : AreTreesOf cs family.choices.now) (plausible : formulas.IsTreeOf (formula pl) (plain family.plausible.now)) (count : family.variables ≡ length p.names) (no_lines : family.lines.now ≡ []) where
   occurs : (k : ℕ) → IsTest family k → Occurs cs pl k
   occurs k (inl w) = inl (plausible.tests k w)

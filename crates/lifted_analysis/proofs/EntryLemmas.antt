@@ -29,7 +29,7 @@ use Rattle.plain_analysis.proofs.Listed.{front-If, front-While, front-Block}
 use Rattle.tree_unify.specs.Leafwise.{TestsAreOf}
 use Rattle.lifted_analysis.specs.declared.entries.Found.{Found}
 use Rattle.lifted_analysis.specs.declared.entries.TurnTree.{TurnTree}
-use Rattle.lifted_analysis.specs.declared.family.Family.{Family}
+use Rattle.lifted_analysis.specs.declared.family_context.FamilyContext.{FamilyContext}
 use Rattle.lifted_analysis.specs.Entries.{Visit, visits_at, loop_visit, leaves_in, stops_in, turn_of, turns_in, leaf_there, stop_there, turn_there, IsReducedTree, AreReduced, AreReducedStops, AreSized, HasEntered}
 use Rattle.lifted_analysis.specs.Rules.{heads_where}
 use Rattle.lifted_analysis.specs.States.{IsState, IsSized}
@@ -63,16 +63,16 @@ turns_in-append [] ys = refl
 turns_in-append (x ∷ xs) ys =
     ap (λ l. turn_of x.place x.leaf x.turn ++ l) (turns_in-append xs ys) ∙ sym (append_assoc (turn_of x.place x.leaf x.turn) (turns_in xs) (turns_in ys))
 
-pub state_reduced : {L : Type 0} (value : L → LeafValue) (family : Family) (forest : List (Plain L)) (t : Numbered L) → IsState value family forest t → IsReducedTree family (erase t)
+pub state_reduced : {L : Type 0} (value : L → LeafValue) (family : FamilyContext) (forest : List (Plain L)) (t : Numbered L) → IsState value family forest t → IsReducedTree family (erase t)
 state_reduced value family forest t s = record { reduced = s.tree.reduced; tests = s.tests }
 
 -- a tree of truths that is made of a state leaf by leaf
-pub stops_reduced : {L E : Type 0} (made : Result (Tree Bool) E) (value : L → LeafValue) (family : Family) (forest : List (Plain L)) (truths : List (Plain Bool)) (t : Numbered L)
+pub stops_reduced : {L E : Type 0} (made : Result (Tree Bool) E) (value : L → LeafValue) (family : FamilyContext) (forest : List (Plain L)) (truths : List (Plain Bool)) (t : Numbered L)
     → IsState value family forest t → IfOk made (λ r. TestsAreOf (erase t) (plain r)) → IfOk made (λ r. IsTreeIn 0 64 truths (numbered r)) → IfOk made (λ r. IsReducedTree family (plain r))
 stops_reduced (Ok r) value family forest truths t s q own = record { reduced = own.reduced; tests = λ k h. s.tests k (q.each k h) }
 stops_reduced (Err e) value family forest truths t s q own = tt
 
-module _ {L : Type 0} (value : L → LeafValue) (M : LeafMeaning) (family : Family) where
+module _ {L : Type 0} (value : L → LeafValue) (M : LeafMeaning) (family : FamilyContext) where
   pub none_entered : (a : Found L) → HasEntered value M family a a (λ v. [])
   none_entered a = record {
     leaves = λ v. sym (append-nil (map (leaf_there value v) a.places.items));
@@ -246,7 +246,7 @@ module _ {L : Type 0} (value : L → LeafValue) where
       ∙ (map_insert (turn_there value v) before i (record { place = place; entered = entered; head = head; again = again })
       ∙ (ap (λ x. insert (map (turn_there value v) before) i (t x (numbered head))) same ∙ ap (λ y. insert (map (turn_there value v) before) i (t e y)) also))
 
-  pub sized_as : (family : Family) (t u : Numbered L) → u ≡ t → IsSized value family t → IsSized value family u
+  pub sized_as : (family : FamilyContext) (t u : Numbered L) → u ≡ t → IsSized value family t → IsSized value family u
   sized_as family t u e s = subst (IsSized value family) (sym e) s
 
 pub all_inserted : {X : Type 0} (P : X → Type 0) (xs ys : List X) (i : ℕ) (x : X) → ys ≡ insert xs i x → P x → All P xs → All P ys

@@ -33,7 +33,7 @@ use Rattle.plain_analysis.proofs.Promised.{runs}
 use Rattle.tree_unify.specs.Formulas as formulas
 use Rattle.lifted_analysis.specs.declared.entries.Found.{Found}
 use Rattle.lifted_analysis.specs.declared.entries.TurnTree.{TurnTree}
-use Rattle.lifted_analysis.specs.declared.family.Family.{Family}
+use Rattle.lifted_analysis.specs.declared.family_context.FamilyContext.{FamilyContext}
 use Rattle.lifted_analysis.specs.declared.findings.AlarmTree.{AlarmTree}
 use Rattle.lifted_analysis.specs.declared.findings.LoopTree.{LoopTree}
 use Rattle.lifted_analysis.specs.declared.lines.LoopLine.{LoopLine}
@@ -160,7 +160,7 @@ regions_below m k [] h w = absurd w
 regions_below m k (l ∷ ls) h (inl w) = number_below m k (formula l.region) (All-head (λ (l : LoopLine). IsBelow m (formula l.region)) l ls h) w
 regions_below m k (l ∷ ls) h (inr w) = regions_below m k ls (All-tail (λ (l : LoopLine). IsBelow m (formula l.region)) l ls h) w
 
-module _ {L : Type 0} (value : L → LeafValue) (exact : (a b : L) → value a ≡ value b → a ≡ b) (M : LeafMeaning) (family : Family) (p : Whole) (cs : List Formula) (pl : Formula) (lines : List LoopLine)
+module _ {L : Type 0} (value : L → LeafValue) (exact : (a b : L) → value a ≡ value b → a ≡ b) (M : LeafMeaning) (family : FamilyContext) (p : Whole) (cs : List Formula) (pl : Formula) (lines : List LoopLine)
     (trees : AreTreesOf cs family.choices.now) (plausible : formulas.IsTreeOf (formula pl) (plain family.plausible.now)) (count : family.variables ≡ length p.names) (same : family.lines.now ≡ lines) where
   small : (m : ℕ) → AreBelow m cs pl → AreRegionsBelow m lines → (k : ℕ) → IsTest family k → k < m
   small m b r k (inl w) = occurs_below m k cs pl b (inl (plausible.tests k w))
@@ -220,7 +220,7 @@ loop_more {L} value M turns i turn before now tree v l e pushed is so_far =
     ∙ sym (map_more f turns i turn l)))))
 
 -- the same loops by another name
-pub sized_by : {L : Type 0} (value : L → LeafValue) (family : Family) (xs ys : List (TurnTree L)) → xs ≡ ys → AreSized value family ys → AreSized value family xs
+pub sized_by : {L : Type 0} (value : L → LeafValue) (family : FamilyContext) (xs ys : List (TurnTree L)) → xs ≡ ys → AreSized value family ys → AreSized value family xs
 sized_by {L} value family xs ys e h = subst (λ ts. All (λ (t : TurnTree L). IsSizedTurn value family t) ts) (sym e) h
 
 pub loops_by : {L : Type 0} (value : L → LeafValue) (M : LeafMeaning) (loops : List LoopTree) (xs ys : List (TurnTree L)) → xs ≡ ys

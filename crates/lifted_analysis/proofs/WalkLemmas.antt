@@ -23,7 +23,7 @@ use Rattle.leaf_domain.specs.Soundness.{TransferAnswers}
 use Rattle.leaf_domain.specs.Transfer.{assumed}
 use Rattle.plain_analysis.specs.Statements.{Heads, passed}
 use Rattle.plain_analysis.proofs.Listed.{front-If, front-While, front-Block}
-use Rattle.lifted_analysis.specs.declared.family.Family.{Family}
+use Rattle.lifted_analysis.specs.declared.family_context.FamilyContext.{FamilyContext}
 use Rattle.lifted_analysis.specs.declared.finals.Finals.{Finals}
 use Rattle.lifted_analysis.specs.declared.rule.Rule.{Rule}
 use Rattle.lifted_analysis.specs.declared.rule.Rule.TheVariants as rule
@@ -37,7 +37,7 @@ use Rattle.lifted_analysis.proofs.FinalsLemmas.{memory_stays}
 use Rattle.lifted_analysis.proofs.PassedLemmas.{AreFit, final_fit, given_fit, passed-followed, passed_nothing}
 use Rattle.lifted_analysis.proofs.StateLemmas.{state_stays, state_as, counted, lifted_as}
 
-module _ (M : LeafMeaning) (family : Family) (H : List Bool → Heads) where
+module _ (M : LeafMeaning) (family : FamilyContext) (H : List Bool → Heads) where
   -- one more statement of a list
   pub passed_with-more : (list : List Stmt) (i : ℕ) (s : Stmt) (v : List Bool) (x : LeafValue) → i < length list → s ≡ get_or list i s
       → passed_with M family H (code (take (i + 1) list)) v x ≡ passed_with M family H (front s Done) v (passed_with M family H (code (take i list)) v x)
@@ -75,7 +75,7 @@ module _ (M : LeafMeaning) (family : Family) (H : List Bool → Heads) where
       ∙ ap (λ c. passed M family.options.mode (H v) c x) (sym (ap (λ s. projected ts (front s Done)) h ∙ projected-Cond ts number p q b e))
 
 -- where two sides are entered with Nothing where they are not kept, their join is what the kept one gives
-pub sides_join : (M : LeafMeaning) → LeafLaws M → (family : Family) → TransferAnswers M family.options.mode → family.variables ≤ 16 → (H : Heads) (ts : List Bool) (p q : Code) (b : Bool) (x : LeafValue) → x.variables ≡ family.variables
+pub sides_join : (M : LeafMeaning) → LeafLaws M → (family : FamilyContext) → TransferAnswers M family.options.mode → family.variables ≤ 16 → (H : Heads) (ts : List Bool) (p q : Code) (b : Bool) (x : LeafValue) → x.variables ≡ family.variables
     → (passed M family.options.mode (heads_where b H) (projected ts p) (kept_by true b x)).variables ≡ family.variables → (passed M family.options.mode (heads_where (not b) H) (projected ts q) (kept_by false b x)).variables ≡ family.variables
     → M.join (passed M family.options.mode (heads_where b H) (projected ts p) (kept_by true b x)) (passed M family.options.mode (heads_where (not b) H) (projected ts q) (kept_by false b x))
     ≡ (if b then passed M family.options.mode H (projected ts p) x else passed M family.options.mode H (projected ts q) x)
@@ -100,18 +100,18 @@ heads_within false true c H e = ap (λ d. heads_where d H) e
 heads_within false false c H e = ap (λ d. heads_where d H) e
 
 -- a list passed with heads that are the same at each vector
-pub lifted_by : {L : Type 0} (value : L → LeafValue) (M : LeafMeaning) (family : Family) (a b : List (Plain L)) (H K : List Bool → Heads) (c : Code) (t : Plain L) (r : Numbered L)
+pub lifted_by : {L : Type 0} (value : L → LeafValue) (M : LeafMeaning) (family : FamilyContext) (a b : List (Plain L)) (H K : List Bool → Heads) (c : Code) (t : Plain L) (r : Numbered L)
     → ((v : List Bool) → K v ≡ H v) → IsLifted value family a b (passed_with M family K c) t r → IsLifted value family a b (passed_with M family H c) t r
 lifted_by value M family a b H K c t r e h =
     lifted_as value family a b (passed_with M family K c) (passed_with M family H c) t r (λ v. ap (λ G. passed M family.options.mode G (projected (truths_in family.choices.now v) c) (value (leaf_of t v))) (e v)) h
 
 -- a step in a forest that has more since
-pub lifted_longer : {L : Type 0} (value : L → LeafValue) (family : Family) (a b z : List (Plain L)) (f : List Bool → LeafValue → LeafValue) (t : Plain L) (r : Numbered L) → Keeps b z → IsLifted value family a b f t r → IsLifted value family a z f t r
+pub lifted_longer : {L : Type 0} (value : L → LeafValue) (family : FamilyContext) (a b z : List (Plain L)) (f : List Bool → LeafValue → LeafValue) (t : Plain L) (r : Numbered L) → Keeps b z → IsLifted value family a b f t r → IsLifted value family a z f t r
 lifted_longer value family a b z f t r k h = record { state = state_stays value family b z r k h.state; keeps = keeps_both a b z h.keeps k; at_each = h.at_each }
 
 -- ---- what is known of loops, in a forest that grows
 
-module _ {L : Type 0} (value : L → LeafValue) (M : LeafMeaning) (family : Family) where
+module _ {L : Type 0} (value : L → LeafValue) (M : LeafMeaning) (family : FamilyContext) where
   ruled_stays : (a b : List (Plain L)) (r : Rule L) → Keeps a b → IsRuled value M family a r → IsRuled value M family b r
   ruled_stays a b rule.Rounds k h = tt
   ruled_stays a b (rule.Lines start) k h = record { state = state_stays value family a b (numbered start) k h.state; valid = h.valid }

@@ -16,12 +16,13 @@ ghost use Rattle.lifted_analysis.specs.Heads.{IsHeadOf};
 ghost use Rattle.lifted_analysis.specs.States.{IsFamily, IsState, IsLifted, IsTruth};
 ghost use Rattle.lifted_analysis.specs.Steps.{after_at, if_at, group_at, turn_at, final_at};
 
-use crate::family::{Family, Tables};
+use crate::family_context::FamilyContext;
 use crate::finals::{Entered, Finals, find, remember};
 use crate::operations::{Combination, Step};
 use crate::states::{
     below, combined, is_everywhere, is_nothing_everywhere, joined, kept, selected, stepped,
 };
+use crate::tables::Tables;
 use c_tree::{Expr, Stmt};
 use decision_tree::Tree;
 use fam_outer::{NoMemory, Place};
@@ -33,7 +34,7 @@ use std::sync::ledger::Ledger;
 pub(crate) fn after_list<L: Leaf, K: Ledger>(
     tables: &mut Tables<L, K>,
     finals: &mut Finals<L>,
-    family: &Family,
+    family: &FamilyContext,
     list: &[Stmt],
     t: &Tree<L>,
 ) -> Result<Tree<L>, NoMemory>
@@ -62,7 +63,7 @@ pub(crate) fn after_list<L: Leaf, K: Ledger>(
 fn after_stmt<L: Leaf, K: Ledger>(
     tables: &mut Tables<L, K>,
     finals: &mut Finals<L>,
-    family: &Family,
+    family: &FamilyContext,
     s: &Stmt,
     t: &Tree<L>,
 ) -> Result<Tree<L>, NoMemory>
@@ -104,7 +105,7 @@ fn after_stmt<L: Leaf, K: Ledger>(
 fn after_if<L: Leaf, K: Ledger>(
     tables: &mut Tables<L, K>,
     finals: &mut Finals<L>,
-    family: &Family,
+    family: &FamilyContext,
     yes: &[Stmt],
     no: &[Stmt],
     test: &Expr,
@@ -135,7 +136,7 @@ fn after_if<L: Leaf, K: Ledger>(
 fn after_group<L: Leaf, K: Ledger>(
     tables: &mut Tables<L, K>,
     finals: &mut Finals<L>,
-    family: &Family,
+    family: &FamilyContext,
     yes: &[Stmt],
     no: &[Stmt],
     choice: &Tree<bool>,
@@ -174,7 +175,7 @@ pub(crate) struct Head<L> {
 fn head_at<L: Leaf, K: Ledger>(
     tables: &mut Tables<L, K>,
     finals: &mut Finals<L>,
-    family: &Family,
+    family: &FamilyContext,
     body: &[Stmt],
     test: &Expr,
     t: &Tree<L>,
@@ -206,7 +207,7 @@ fn head_at<L: Leaf, K: Ledger>(
 fn widened<L: Leaf, K: Ledger>(
     tables: &mut Tables<L, K>,
     finals: &mut Finals<L>,
-    family: &Family,
+    family: &FamilyContext,
     body: &[Stmt],
     test: &Expr,
     t: &Tree<L>,
@@ -250,7 +251,7 @@ fn widened<L: Leaf, K: Ledger>(
 fn narrowed<L: Leaf, K: Ledger>(
     tables: &mut Tables<L, K>,
     finals: &mut Finals<L>,
-    family: &Family,
+    family: &FamilyContext,
     body: &[Stmt],
     test: &Expr,
     t: &Tree<L>,
@@ -292,7 +293,7 @@ fn narrowed<L: Leaf, K: Ledger>(
 fn final_by_rounds<L: Leaf, K: Ledger>(
     tables: &mut Tables<L, K>,
     finals: &mut Finals<L>,
-    family: &Family,
+    family: &FamilyContext,
     body: &[Stmt],
     test: &Expr,
     t: &Tree<L>,
@@ -324,7 +325,7 @@ fn final_by_rounds<L: Leaf, K: Ledger>(
 pub(crate) fn final_tree<L: Leaf, K: Ledger>(
     tables: &mut Tables<L, K>,
     finals: &mut Finals<L>,
-    family: &Family,
+    family: &FamilyContext,
     place: Place,
     body: &[Stmt],
     test: &Expr,

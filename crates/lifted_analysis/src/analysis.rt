@@ -23,11 +23,12 @@ ghost use Rattle.lifted_analysis.specs.States.{IsFamily, IsTruth};
 ghost use Rattle.lifted_analysis.specs.Promises.{variant_at, begin_at, leaf_at, stop_at, by_kind, valued, Occurs, AreBelow};
 
 use crate::entries::{Found, enter_list};
-use crate::family::{Family, Tables};
+use crate::family_context::FamilyContext;
 use crate::finals::Finals;
 use crate::findings::{AlarmTree, FamilyFindings, PlaceTree};
 use crate::rule::rule_of;
 use crate::start::start_tree;
+use crate::tables::Tables;
 use c_tree::{Kind, Program};
 use cpp_conditions::Formula;
 use decision_tree::{Forest, Tree};
@@ -60,7 +61,7 @@ pub(crate) fn condition_trees<L: Leaf, K: Ledger>(
 /// Adds an alarm tree that is true nowhere.
 fn add_never<L: Leaf>(
     found: &mut Found<L>,
-    family: &Family,
+    family: &FamilyContext,
     place: Place,
     kind: Kind,
 ) -> Result<(), NoMemory>
@@ -81,7 +82,7 @@ fn add_never<L: Leaf>(
 /// Adds the tree of the last place, at which nothing stops.
 fn add_end<L: Leaf>(
     found: &mut Found<L>,
-    family: &Family,
+    family: &FamilyContext,
     place: Place,
     tree: Tree<L>,
 ) -> Result<(), NoMemory>
@@ -98,7 +99,7 @@ fn add_end<L: Leaf>(
 /// What is found of a family's program, where its loops have at their heads what lines give them, or else their final trees.
 pub(crate) fn found_in<L: Leaf, K: Ledger>(
     tables: &mut Tables<L, K>,
-    family: &Family,
+    family: &FamilyContext,
     is_given: bool,
 ) -> Result<Found<L>, NoMemory>
     requires family { IsFamily family.now }
@@ -164,7 +165,7 @@ fn analyse_counted<L: Leaf, K: Ledger>(
     let choices = condition_trees(&mut tables, conditions)?;
     let plausible = test_tree_in(alloc, &mut tables.truths, plausible, &mut tables.steps)?;
     let never = tables.truths.leaf(false)?;
-    let family = Family {
+    let family = FamilyContext {
         program: code,
         choices: &choices,
         plausible: &plausible,

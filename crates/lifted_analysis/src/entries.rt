@@ -14,12 +14,13 @@ ghost use Rattle.lifted_analysis.specs.Entries.{leaf_there, stop_there, IsReduce
 ghost use Rattle.lifted_analysis.specs.Rules.{Knows, heads_in, passed_with, sides_with, group_with, head_with};
 ghost use Rattle.lifted_analysis.specs.States.{IsFamily, IsState, IsSized, IsLifted, IsTruth};
 
-use crate::family::{Family, Tables};
+use crate::family_context::FamilyContext;
 use crate::finals::Finals;
 use crate::findings::{AlarmTree, PlaceTree};
 use crate::operations::Step;
 use crate::rule::{Rule, head_tree};
 use crate::states::{joined, kept, stepped, within};
+use crate::tables::Tables;
 use c_tree::{Expr, Kind, Stmt};
 use decision_tree::Tree;
 use fam_outer::{NoMemory, Place};
@@ -47,7 +48,7 @@ pub(crate) struct Found<L> {
 /// Where a statement may stop with the kind.
 fn may_stop<L: Leaf, K: Ledger>(
     tables: &mut Tables<L, K>,
-    family: &Family,
+    family: &FamilyContext,
     s: &Stmt,
     kind: Kind,
     t: &Tree<L>,
@@ -73,7 +74,7 @@ fn may_stop<L: Leaf, K: Ledger>(
 /// Adds the tree with which a statement is entered.
 fn add_tree<L: Leaf>(
     found: &mut Found<L>,
-    family: &Family,
+    family: &FamilyContext,
     place: Place,
     t: &Tree<L>,
 ) -> Result<(), NoMemory>
@@ -96,7 +97,7 @@ fn add_tree<L: Leaf>(
 /// Adds the tree of the vectors at which a statement may stop with the kind.
 fn add_alarm<L: Leaf, K: Ledger>(
     tables: &mut Tables<L, K>,
-    family: &Family,
+    family: &FamilyContext,
     found: &mut Found<L>,
     s: &Stmt,
     place: Place,
@@ -127,7 +128,7 @@ fn add_alarm<L: Leaf, K: Ledger>(
 /// Adds the tree with which a statement is entered, and its alarm trees.
 fn enter<L: Leaf, K: Ledger>(
     tables: &mut Tables<L, K>,
-    family: &Family,
+    family: &FamilyContext,
     found: &mut Found<L>,
     s: &Stmt,
     place: Place,
@@ -154,7 +155,7 @@ fn enter<L: Leaf, K: Ledger>(
 /// Adds a loop before those in its body, which come behind it in the text.
 fn add_turn<L: Leaf>(
     found: &mut Found<L>,
-    family: &Family,
+    family: &FamilyContext,
     at: usize,
     place: Place,
     entered: &Tree<L>,
@@ -199,7 +200,7 @@ pub(crate) fn enter_list<L: Leaf, K: Ledger>(
     tables: &mut Tables<L, K>,
     finals: &mut Finals<L>,
     found: &mut Found<L>,
-    family: &Family,
+    family: &FamilyContext,
     rule: &Rule<L>,
     here: &Tree<bool>,
     list: &[Stmt],
@@ -233,7 +234,7 @@ fn enter_stmt<L: Leaf, K: Ledger>(
     tables: &mut Tables<L, K>,
     finals: &mut Finals<L>,
     found: &mut Found<L>,
-    family: &Family,
+    family: &FamilyContext,
     rule: &Rule<L>,
     here: &Tree<bool>,
     s: &Stmt,
@@ -309,7 +310,7 @@ fn enter_if<L: Leaf, K: Ledger>(
     tables: &mut Tables<L, K>,
     finals: &mut Finals<L>,
     found: &mut Found<L>,
-    family: &Family,
+    family: &FamilyContext,
     rule: &Rule<L>,
     here: &Tree<bool>,
     yes: &[Stmt],
@@ -350,7 +351,7 @@ fn enter_group<L: Leaf, K: Ledger>(
     tables: &mut Tables<L, K>,
     finals: &mut Finals<L>,
     found: &mut Found<L>,
-    family: &Family,
+    family: &FamilyContext,
     rule: &Rule<L>,
     here: &Tree<bool>,
     yes: &[Stmt],
@@ -394,7 +395,7 @@ fn enter_loop<L: Leaf, K: Ledger>(
     tables: &mut Tables<L, K>,
     finals: &mut Finals<L>,
     found: &mut Found<L>,
-    family: &Family,
+    family: &FamilyContext,
     rule: &Rule<L>,
     here: &Tree<bool>,
     s: &Stmt,

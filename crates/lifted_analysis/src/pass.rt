@@ -22,10 +22,11 @@ ghost use Rattle.lifted_analysis.specs.Turns.{AreInductive, is_inductive, loop_p
 
 use crate::analysis::{condition_trees, found_in};
 use crate::entries::TurnTree;
-use crate::family::{Family, Tables};
+use crate::family_context::FamilyContext;
 use crate::findings::{LoopTree, PassFindings};
 use crate::lines::LoopLine;
 use crate::states::{below, within};
+use crate::tables::Tables;
 use c_tree::{Mode, Program};
 use cpp_conditions::Formula;
 use decision_tree::Forest;
@@ -40,7 +41,7 @@ use tree_unify::{Steps, test_tree_in};
 /// The vectors at which each loop is inductive.
 fn loop_trees<L: Leaf, K: Ledger>(
     tables: &mut Tables<L, K>,
-    family: &Family,
+    family: &FamilyContext,
     turns: &[TurnTree<L>],
 ) -> Result<Vec<LoopTree>, NoMemory>
     requires { AreSized L.value family.now turns.now }
@@ -93,7 +94,7 @@ fn pass_counted<L: Leaf, K: Ledger>(
     let choices = condition_trees(&mut tables, conditions)?;
     let plausible = test_tree_in(alloc, &mut tables.truths, plausible, &mut tables.steps)?;
     let never = tables.truths.leaf(false)?;
-    let family = Family {
+    let family = FamilyContext {
         program: code,
         choices: &choices,
         plausible: &plausible,

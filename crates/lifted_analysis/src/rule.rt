@@ -16,11 +16,12 @@ ghost use Rattle.tree_unify.specs.Formulas.{HasNumber};
 ghost use Rattle.lifted_analysis.specs.States.{IsFamily, IsState, IsLifted, IsJoint, IsTruth, IsTest};
 
 use crate::after::final_tree;
-use crate::family::{Family, Tables};
+use crate::family_context::FamilyContext;
 use crate::finals::Finals;
 use crate::lines::{LoopLine, Ranges};
 use crate::operations::Step;
 use crate::states::{kept, selected, stepped};
+use crate::tables::Tables;
 use c_tree::{Expr, Stmt};
 use decision_tree::Tree;
 use fam_outer::{NoMemory, Place};
@@ -57,7 +58,7 @@ fn is_at(line: &LoopLine, place: Place) -> bool
 /// What a line gives where its region holds, and a tree elsewhere.
 fn region_tree<L: Leaf, K: Ledger>(
     tables: &mut Tables<L, K>,
-    family: &Family,
+    family: &FamilyContext,
     line: &LoopLine,
     start: &Tree<L>,
     elsewhere: &Tree<L>,
@@ -81,7 +82,7 @@ fn region_tree<L: Leaf, K: Ledger>(
 /// What a line gives the loop at a place where its region holds, and a tree elsewhere. A line at another place gives nothing.
 fn line_tree<L: Leaf, K: Ledger>(
     tables: &mut Tables<L, K>,
-    family: &Family,
+    family: &FamilyContext,
     line: &LoopLine,
     place: Place,
     start: &Tree<L>,
@@ -107,7 +108,7 @@ fn line_tree<L: Leaf, K: Ledger>(
 /// What the lines give the loop at a place: the first of its lines whose region holds counts, so the last one is taken first.
 fn given_tree<L: Leaf, K: Ledger>(
     tables: &mut Tables<L, K>,
-    family: &Family,
+    family: &FamilyContext,
     start: &Tree<L>,
     place: Place,
 ) -> Result<Tree<L>, NoMemory>
@@ -129,7 +130,7 @@ fn given_tree<L: Leaf, K: Ledger>(
 fn ruled_tree<L: Leaf, K: Ledger>(
     tables: &mut Tables<L, K>,
     finals: &mut Finals<L>,
-    family: &Family,
+    family: &FamilyContext,
     rule: &Rule<L>,
     place: Place,
     body: &[Stmt],
@@ -159,7 +160,7 @@ fn ruled_tree<L: Leaf, K: Ledger>(
 pub(crate) fn head_tree<L: Leaf, K: Ledger>(
     tables: &mut Tables<L, K>,
     finals: &mut Finals<L>,
-    family: &Family,
+    family: &FamilyContext,
     rule: &Rule<L>,
     here: &Tree<bool>,
     place: Place,
