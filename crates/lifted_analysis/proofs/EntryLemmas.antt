@@ -27,7 +27,7 @@ use Rattle.c_tree.specs.declared.tree.Mode.{Mode}
 use Rattle.plain_analysis.specs.Statements.{Heads, passed}
 use Rattle.plain_analysis.proofs.Listed.{front-If, front-While, front-Block}
 use Rattle.tree_unify.specs.Leafwise.{TestsAreOf}
-use Rattle.lifted_analysis.specs.declared.entries.Found.{Found}
+use Rattle.lifted_analysis.specs.declared.entries.Noted.{Noted}
 use Rattle.lifted_analysis.specs.declared.entries.TurnTree.{TurnTree}
 use Rattle.lifted_analysis.specs.declared.family_context.FamilyContext.{FamilyContext}
 use Rattle.lifted_analysis.specs.Entries.{Visit, visits_at, loop_visit, leaves_in, stops_in, turn_of, turns_in, leaf_there, stop_there, turn_there, IsReducedTree, AreReduced, AreReducedStops, AreSized, HasEntered}
@@ -73,7 +73,7 @@ stops_reduced (Ok r) value family forest truths t s q own = record { reduced = o
 stops_reduced (Err e) value family forest truths t s q own = tt
 
 module _ {L : Type 0} (value : L → LeafValue) (M : LeafMeaning) (family : FamilyContext) where
-  pub none_entered : (a : Found L) → HasEntered value M family a a (λ v. [])
+  pub none_entered : (a : Noted L) → HasEntered value M family a a (λ v. [])
   none_entered a = record {
     leaves = λ v. sym (append-nil (map (leaf_there value v) a.places.items));
     stops = λ v. sym (append-nil (map (stop_there v) a.alarms.items));
@@ -83,7 +83,7 @@ module _ {L : Type 0} (value : L → LeafValue) (M : LeafMeaning) (family : Fami
     sized = λ h. h;
   }
 
-  pub entered_then : (a b c : Found L) (xs ys zs : List Bool → List Visit) → ((v : List Bool) → xs v ++ ys v ≡ zs v) → HasEntered value M family a b xs → HasEntered value M family b c ys → HasEntered value M family a c zs
+  pub entered_then : (a b c : Noted L) (xs ys zs : List Bool → List Visit) → ((v : List Bool) → xs v ++ ys v ≡ zs v) → HasEntered value M family a b xs → HasEntered value M family b c ys → HasEntered value M family a c zs
   entered_then a b c xs ys zs e h k = record {
     leaves = λ v. onward (map (leaf_there value v) a.places.items) (map (leaf_there value v) b.places.items) (map (leaf_there value v) c.places.items) (leaves_in (xs v)) (leaves_in (ys v)) (leaves_in (zs v)) (h.leaves v) (k.leaves v) (ap leaves_in (sym (e v)) ∙ leaves_in-append (xs v) (ys v));
     stops = λ v. onward (map (stop_there v) a.alarms.items) (map (stop_there v) b.alarms.items) (map (stop_there v) c.alarms.items) (stops_in M family.options.mode (xs v)) (stops_in M family.options.mode (ys v)) (stops_in M family.options.mode (zs v)) (h.stops v) (k.stops v) (ap (stops_in M family.options.mode) (sym (e v)) ∙ stops_in-append M family.options.mode (xs v) (ys v));
@@ -93,7 +93,7 @@ module _ {L : Type 0} (value : L → LeafValue) (M : LeafMeaning) (family : Fami
     sized = λ r. k.sized (h.sized r);
   }
 
-  pub entered_as : (a b : Found L) (xs ys : List Bool → List Visit) → ((v : List Bool) → xs v ≡ ys v) → HasEntered value M family a b xs → HasEntered value M family a b ys
+  pub entered_as : (a b : Noted L) (xs ys : List Bool → List Visit) → ((v : List Bool) → xs v ≡ ys v) → HasEntered value M family a b xs → HasEntered value M family a b ys
   entered_as a b xs ys e h = record {
     leaves = λ v. h.leaves v ∙ ap (λ l. map (leaf_there value v) a.places.items ++ leaves_in l) (e v);
     stops = λ v. h.stops v ∙ ap (λ l. map (stop_there v) a.alarms.items ++ stops_in M family.options.mode l) (e v);
@@ -104,7 +104,7 @@ module _ {L : Type 0} (value : L → LeafValue) (M : LeafMeaning) (family : Fami
   }
 
   -- a statement whose tree and three alarm trees were added
-  pub entered_at_last : {E : Type 0} (made : Result (Unit {0}) E) (a b c d z : Found L) (place : Place) (s : Code) (x : List Bool → LeafValue)
+  pub entered_at_last : {E : Type 0} (made : Result (Unit {0}) E) (a b c d z : Noted L) (place : Place) (s : Code) (x : List Bool → LeafValue)
       → ((v : List Bool) → map (leaf_there value v) b.places.items ≡ map (leaf_there value v) a.places.items ++ (place, x v) ∷ [])
       → (AreReduced family a.places.items → AreReduced family b.places.items) → b.alarms.items ≡ a.alarms.items → b.turns.items ≡ a.turns.items → c.turns.items ≡ b.turns.items → d.turns.items ≡ c.turns.items → z.turns.items ≡ d.turns.items
       → ((v : List Bool) → map (stop_there v) c.alarms.items ≡ map (stop_there v) b.alarms.items ++ ((place, Overflow), may_at M family.options.mode Overflow s (x v)) ∷ [])
@@ -129,7 +129,7 @@ module _ {L : Type 0} (value : L → LeafValue) (M : LeafMeaning) (family : Fami
       }
 
   -- a loop, and the statements in its body, before which it was added
-  pub loop_entered : (a b c z : Found L) (at : ℕ) (place : Place) (s : Code) (x e g : List Bool → LeafValue) (ys : List Bool → List Visit) → at ≡ length a.turns.items
+  pub loop_entered : (a b c z : Noted L) (at : ℕ) (place : Place) (s : Code) (x e g : List Bool → LeafValue) (ys : List Bool → List Visit) → at ≡ length a.turns.items
       → HasEntered value M family a b (λ v. record { place = place; statement = s; leaf = x v; turn = None } ∷ []) → HasEntered value M family b c ys
       → z.places.items ≡ c.places.items → z.alarms.items ≡ c.alarms.items
       → ((v : List Bool) → map (turn_there value v) z.turns.items ≡ insert (map (turn_there value v) c.turns.items) at (record { place = place; entered = e v; head = x v; again = g v }))
@@ -150,7 +150,7 @@ module _ {L : Type 0} (value : L → LeafValue) (M : LeafMeaning) (family : Fami
       }
 
   -- the loops so far come first
-  pub turns_before : (a b : Found L) (xs : List Bool → List Visit) → HasEntered value M family a b xs → length a.turns.items ≤ length b.turns.items
+  pub turns_before : (a b : Noted L) (xs : List Bool → List Visit) → HasEntered value M family a b xs → length a.turns.items ≤ length b.turns.items
   turns_before a b xs h =
       let ts = map (turn_there value []) a.turns.items in
       let e : length (map (turn_there value []) b.turns.items) ≡ length ts + length (turns_in (xs [])) = ap length (h.turns []) ∙ length-append ts (turns_in (xs [])) in

@@ -31,7 +31,7 @@ use Rattle.plain_analysis.specs.Statements.{Heads, passed}
 use Rattle.plain_analysis.proofs.JoinLemmas.{join_answer}
 use Rattle.plain_analysis.proofs.Promised.{runs}
 use Rattle.tree_unify.specs.Formulas as formulas
-use Rattle.lifted_analysis.specs.declared.entries.Found.{Found}
+use Rattle.lifted_analysis.specs.declared.entries.Noted.{Noted}
 use Rattle.lifted_analysis.specs.declared.entries.TurnTree.{TurnTree}
 use Rattle.lifted_analysis.specs.declared.family_context.FamilyContext.{FamilyContext}
 use Rattle.lifted_analysis.specs.declared.findings.AlarmTree.{AlarmTree}
@@ -39,7 +39,7 @@ use Rattle.lifted_analysis.specs.declared.findings.LoopTree.{LoopTree}
 use Rattle.lifted_analysis.specs.declared.lines.LoopLine.{LoopLine}
 use Rattle.lifted_analysis.specs.Conditions.{AreTreesOf}
 use Rattle.lifted_analysis.specs.Entries.{leaf_there, stop_there, turn_there, IsReducedTree, IsSizedTurn, AreSized}
-use Rattle.lifted_analysis.specs.Findings.{HasFound}
+use Rattle.lifted_analysis.specs.Findings.{HasNoted}
 use Rattle.lifted_analysis.specs.Lines.{AreVariableBounds, AreRegionsBelow, given_heads}
 use Rattle.lifted_analysis.specs.Pass.{heads_at, passed_at, pass_stop_at, turns_at_vector, inductive_at, loop_there, ArePassFindings}
 use Rattle.lifted_analysis.specs.Promises.{truths_of, variant_at, begin_at, by_kind, AreBelow}
@@ -167,7 +167,7 @@ module _ {L : Type 0} (value : L → LeafValue) (exact : (a b : L) → value a �
   small m b r k (inr (inl w)) = occurs_below m k cs pl b (inr (tests_each cs family.choices.now k trees w))
   small m b r k (inr (inr w)) = regions_below m k lines r (subst (HasRegionNumber k) same w)
 
-  module _ (f : Found L) (loops : Vec LoopTree Global) (h : HasFound value M family p (λ v. given_heads M family.lines.now v (start_at M family p.start p.declared v)) f)
+  module _ (f : Noted L) (loops : Vec LoopTree Global) (h : HasNoted value M family p (λ v. given_heads M family.lines.now v (start_at M family p.start p.declared v)) f)
       (at_loops : (v : List Bool) → map (loop_there v) loops.items ≡ map {B = Place × Bool} (λ (t : TurnTree L). (t.place, is_inductive M (turn_there value v t))) f.turns.items)
       (reduced : All (λ (l : LoopTree). IsReducedTree family (plain l.tree)) loops.items) where
     abbrev mode : Mode

@@ -13,7 +13,7 @@ use Rattle.leaf_domain.specs.Leaves.{LeafValue, LeafMeaning}
 use Rattle.leaf_domain.specs.Transfer.{assumed, assigned, forgotten}
 use Rattle.leaf_domain.specs.Stops.{may_at}
 use Rattle.plain_analysis.specs.Statements.{Heads, passed}
-use Rattle.lifted_analysis.specs.declared.entries.Found.{Found}
+use Rattle.lifted_analysis.specs.declared.entries.Noted.{Noted}
 use Rattle.lifted_analysis.specs.declared.entries.TurnTree.{TurnTree}
 use Rattle.lifted_analysis.specs.declared.family_context.FamilyContext.{FamilyContext}
 use Rattle.lifted_analysis.specs.declared.findings.PlaceTree.{PlaceTree}
@@ -147,7 +147,7 @@ entered_loop value M family H s place test body t v =
     (assumed M family.options.mode test true (head_with M family H place test body v (value (leaf_of t v))))
 
 -- these statements, each with its tree and its alarm trees, the loops among them, and nothing else
-pub record HasEntered {L : Type 0} (value : L → LeafValue) (M : LeafMeaning) (family : FamilyContext) (before now : Found L) (entries : List Bool → List Visit) : Type 0 where
+pub record HasEntered {L : Type 0} (value : L → LeafValue) (M : LeafMeaning) (family : FamilyContext) (before now : Noted L) (entries : List Bool → List Visit) : Type 0 where
   pub leaves : (v : List Bool) → map (leaf_there value v) now.places.items ≡ map (leaf_there value v) before.places.items ++ leaves_in (entries v)
   pub stops : (v : List Bool) → map (stop_there v) now.alarms.items ≡ map (stop_there v) before.alarms.items ++ stops_in M family.options.mode (entries v)
   pub turns : (v : List Bool) → map (turn_there value v) now.turns.items ≡ map (turn_there value v) before.turns.items ++ turns_in (entries v)

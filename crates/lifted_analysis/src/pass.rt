@@ -20,7 +20,7 @@ ghost use Rattle.lifted_analysis.specs.Pass.{heads_at, passed_at, pass_stop_at, 
 ghost use Rattle.lifted_analysis.specs.Promises.{variant_at, begin_at, by_kind, valued, AreBelow};
 ghost use Rattle.lifted_analysis.specs.Turns.{AreInductive, is_inductive, loop_places};
 
-use crate::analysis::{condition_trees, found_in};
+use crate::analysis::{condition_trees, noted_in};
 use crate::entries::TurnTree;
 use crate::family_context::FamilyContext;
 use crate::findings::{LoopTree, PassFindings};
@@ -107,11 +107,11 @@ fn pass_counted<L: Leaf, K: Ledger>(
             mode,
         },
     };
-    let found = found_in(&mut tables, &family, true)?;
-    let loops = loop_trees(&mut tables, &family, &found.turns)?;
+    let noted = noted_in(&mut tables, &family, true)?;
+    let loops = loop_trees(&mut tables, &family, &noted.turns)?;
     Ok(PassFindings {
-        places: found.places,
-        alarms: found.alarms,
+        places: noted.places,
+        alarms: noted.alarms,
         loops,
     })
 }

@@ -25,9 +25,9 @@ use fam_outer::{NoMemory, Place};
 use leaf_domain::{Leaf, assign, assume, forget, may};
 use std::alloc::Global;
 
-/// The leaves and alarms found so far, in the order of the text.
+/// The leaves and alarms noted so far, in the order of the text.
 #[derive(Drop)]
-pub(crate) struct Found<L> {
+pub(crate) struct Noted<L> {
     pub(crate) places: Vec<PlaceLeaf<L>>,
     pub(crate) alarms: Vec<Alarm>,
 }
@@ -35,23 +35,23 @@ pub(crate) struct Found<L> {
 /// Adds the leaf with which a statement is entered.
 fn add_leaf<L: Leaf>(
     alloc: Global,
-    found: &mut Found<L>,
+    noted: &mut Noted<L>,
     place: Place,
     leaf: &L,
 ) -> Result<(), NoMemory>
-    ensures leaves { OnOk result (map (place_and_leaf L.value) found.new.places.items
-        ≡ map (place_and_leaf L.value) found.old.places.items ++ (place, L.value leaf.now) ∷ []) }
-    ensures alarms { OnOk result (found.new.alarms.items ≡ found.old.alarms.items) }
+    ensures leaves { OnOk result (map (place_and_leaf L.value) noted.new.places.items
+        ≡ map (place_and_leaf L.value) noted.old.places.items ++ (place, L.value leaf.now) ∷ []) }
+    ensures alarms { OnOk result (noted.new.alarms.items ≡ noted.old.alarms.items) }
 {
     let leaf = leaf.copy(alloc)?;
-    found.places.push(PlaceLeaf { place, leaf })?;
+    noted.places.push(PlaceLeaf { place, leaf })?;
     Ok(())
 }
 
 /// Adds the alarm of a kind, where the statement may stop with it.
 fn add_alarm<L: Leaf>(
     alloc: Global,
-    found: &mut Found<L>,
+    noted: &mut Noted<L>,
     s: &Stmt,
     place: Place,
     kind: Kind,
@@ -59,13 +59,13 @@ fn add_alarm<L: Leaf>(
     options: Options,
 ) -> Result<(), NoMemory>
     requires { IsCodeOf (L.value leaf.now).variables (front s.now Done) }
-    ensures leaves { OnOk result (found.new.places.items ≡ found.old.places.items) }
-    ensures alarms { OnOk result (found.new.alarms.items
-        ≡ found.old.alarms.items ++ alarm_where
+    ensures leaves { OnOk result (noted.new.places.items ≡ noted.old.places.items) }
+    ensures alarms { OnOk result (noted.new.alarms.items
+        ≡ noted.old.alarms.items ++ alarm_where
         (may_at L.meaning options.mode kind (front s.now Done) (L.value leaf.now)) place kind) }
 {
     if may(alloc, leaf, kind, s, options.mode)? {
-        found.alarms.push(Alarm { place, kind })?;
+        noted.alarms.push(Alarm { place, kind })?;
     }
     Ok(())
 }
@@ -73,20 +73,20 @@ fn add_alarm<L: Leaf>(
 /// Adds the leaf with which a statement is entered, and its alarms.
 fn enter<L: Leaf>(
     alloc: Global,
-    found: &mut Found<L>,
+    noted: &mut Noted<L>,
     s: &Stmt,
     place: Place,
     leaf: &L,
     options: Options,
 ) -> Result<(), NoMemory>
     requires { IsCodeOf (L.value leaf.now).variables (front s.now Done) }
-    ensures { OnOk result (HasEntered L.value L.meaning options found.old found.new
+    ensures { OnOk result (HasEntered L.value L.meaning options noted.old noted.new
         (record { place = place; statement = front s.now Done; leaf = L.value leaf.now } ∷ [])) }
 {
-    add_leaf(alloc, found, place, leaf)?;
-    add_alarm(alloc, found, s, place, Kind::Overflow, leaf, options)?;
-    add_alarm(alloc, found, s, place, Kind::ZeroDivisor, leaf, options)?;
-    add_alarm(alloc, found, s, place, Kind::Assertion, leaf, options)
+    add_leaf(alloc, noted, place, leaf)?;
+    add_alarm(alloc, noted, s, place, Kind::Overflow, leaf, options)?;
+    add_alarm(alloc, noted, s, place, Kind::ZeroDivisor, leaf, options)?;
+    add_alarm(alloc, noted, s, place, Kind::Assertion, leaf, options)
 }
 
 /// Enters the statements of a list with `leaf`, and answers the leaf after them.
@@ -94,7 +94,7 @@ fn enter<L: Leaf>(
 pub(crate) fn enter_list<L: Leaf>(
     alloc: Global,
     finals: &mut Finals<L>,
-    found: &mut Found<L>,
+    noted: &mut Noted<L>,
     task: &Task<'_>,
     list: &[Stmt],
     leaf: &L,
@@ -105,13 +105,13 @@ pub(crate) fn enter_list<L: Leaf>(
     ensures value { IfOk result (λ made. L.value made
         ≡ after_of L.meaning task.now.options (code list.now) (L.value leaf.now)) }
     ensures same { IfOk result (λ made. (L.value made).variables ≡ (L.value leaf.now).variables) }
-    ensures entered { OnOk result (HasEntered L.value L.meaning task.now.options found.old found.new
+    ensures entered { OnOk result (HasEntered L.value L.meaning task.now.options noted.old noted.new
         (entries_of L.meaning task.now.options (code list.now) (L.value leaf.now))) }
     ensures memory { OnOk result (Remembers L.value L.meaning task.now finals.new) }
 {
     let mut made = leaf.copy(alloc)?;
     for s in list {
-        made = enter_stmt(alloc, finals, found, task, s, &made)?;
+        made = enter_stmt(alloc, finals, noted, task, s, &made)?;
     }
     Ok(made)
 }
@@ -122,7 +122,7 @@ pub(crate) fn enter_list<L: Leaf>(
 fn enter_stmt<L: Leaf>(
     alloc: Global,
     finals: &mut Finals<L>,
-    found: &mut Found<L>,
+    noted: &mut Noted<L>,
     task: &Task<'_>,
     s: &Stmt,
     leaf: &L,
@@ -133,7 +133,7 @@ fn enter_stmt<L: Leaf>(
     ensures value { IfOk result (λ made. L.value made
         ≡ after_of L.meaning task.now.options (front s.now Done) (L.value leaf.now)) }
     ensures same { IfOk result (λ made. (L.value made).variables ≡ (L.value leaf.now).variables) }
-    ensures entered { OnOk result (HasEntered L.value L.meaning task.now.options found.old found.new
+    ensures entered { OnOk result (HasEntered L.value L.meaning task.now.options noted.old noted.new
         (entries_of L.meaning task.now.options (front s.now Done) (L.value leaf.now))) }
     ensures memory { OnOk result (Remembers L.value L.meaning task.now finals.new) }
 {
@@ -143,15 +143,15 @@ fn enter_stmt<L: Leaf>(
             target,
             value,
         } => {
-            enter(alloc, found, s, *place, leaf, task.options)?;
+            enter(alloc, noted, s, *place, leaf, task.options)?;
             assign(alloc, leaf, *target, value, task.options.mode)
         }
         Stmt::Input { place, target } => {
-            enter(alloc, found, s, *place, leaf, task.options)?;
+            enter(alloc, noted, s, *place, leaf, task.options)?;
             forget(alloc, leaf, *target)
         }
         Stmt::Assert { place, test } => {
-            enter(alloc, found, s, *place, leaf, task.options)?;
+            enter(alloc, noted, s, *place, leaf, task.options)?;
             assume(alloc, leaf, test, true, task.options.mode)
         }
         Stmt::If {
@@ -160,23 +160,23 @@ fn enter_stmt<L: Leaf>(
             yes,
             no,
         } => {
-            enter(alloc, found, s, *place, leaf, task.options)?;
-            let after_yes = enter_side(alloc, finals, found, task, yes, test, true, leaf)?;
-            let after_no = enter_side(alloc, finals, found, task, no, test, false, leaf)?;
+            enter(alloc, noted, s, *place, leaf, task.options)?;
+            let after_yes = enter_side(alloc, finals, noted, task, yes, test, true, leaf)?;
+            let after_no = enter_side(alloc, finals, noted, task, no, test, false, leaf)?;
             joined(alloc, &after_yes, &after_no)
         }
         Stmt::While { place, test, body } => {
             let last = final_leaf(alloc, finals, task, *place, body, test, leaf)?;
-            enter(alloc, found, s, *place, &last, task.options)?;
-            enter_side(alloc, finals, found, task, body, test, true, &last)?;
+            enter(alloc, noted, s, *place, &last, task.options)?;
+            enter_side(alloc, finals, noted, task, body, test, true, &last)?;
             assume(alloc, &last, test, false, task.options.mode)
         }
         Stmt::Block { place, body } => {
-            enter(alloc, found, s, *place, leaf, task.options)?;
-            enter_list(alloc, finals, found, task, body, leaf)
+            enter(alloc, noted, s, *place, leaf, task.options)?;
+            enter_list(alloc, finals, noted, task, body, leaf)
         }
         Stmt::Skip { place } => {
-            enter(alloc, found, s, *place, leaf, task.options)?;
+            enter(alloc, noted, s, *place, leaf, task.options)?;
             leaf.copy(alloc)
         }
         Stmt::Cond { .. } => leaf.copy(alloc),
@@ -188,7 +188,7 @@ fn enter_stmt<L: Leaf>(
 fn enter_side<L: Leaf>(
     alloc: Global,
     finals: &mut Finals<L>,
-    found: &mut Found<L>,
+    noted: &mut Noted<L>,
     task: &Task<'_>,
     list: &[Stmt],
     test: &Expr,
@@ -203,11 +203,11 @@ fn enter_side<L: Leaf>(
         ≡ after_of L.meaning task.now.options (code list.now)
         (assumed L.meaning task.now.options.mode (term test.now) want (L.value leaf.now))) }
     ensures same { IfOk result (λ made. (L.value made).variables ≡ (L.value leaf.now).variables) }
-    ensures entered { OnOk result (HasEntered L.value L.meaning task.now.options found.old found.new
+    ensures entered { OnOk result (HasEntered L.value L.meaning task.now.options noted.old noted.new
         (entries_of L.meaning task.now.options (code list.now)
         (assumed L.meaning task.now.options.mode (term test.now) want (L.value leaf.now)))) }
     ensures memory { OnOk result (Remembers L.value L.meaning task.now finals.new) }
 {
     let inside = assume(alloc, leaf, test, want, task.options.mode)?;
-    enter_list(alloc, finals, found, task, list, &inside)
+    enter_list(alloc, finals, noted, task, list, &inside)
 }

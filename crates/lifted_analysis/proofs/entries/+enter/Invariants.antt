@@ -15,7 +15,7 @@ invariant-enter_list-loop-s g l =
     let M = g.L.Leaf.meaning in
     record {
       made : IsLifted value l.family l.fn.tables.leaves l.tables.leaves (passed_with M l.family (heads_in value M l.family l.rule (plain l.here)) (code (take l.s-index l.list))) (plain l.t) (numbered l.made);
-      entered : HasEntered value M l.family l.fn.found l.found (entered_with value M l.family (heads_in value M l.family l.rule (plain l.here)) (code (take l.s-index l.list)) (plain l.t));
+      entered : HasEntered value M l.family l.fn.noted l.noted (entered_with value M l.family (heads_in value M l.family l.rule (plain l.here)) (code (take l.s-index l.list)) (plain l.t));
       memory : Knows value M l.family l.rule l.tables.leaves l.finals;
     }
 
