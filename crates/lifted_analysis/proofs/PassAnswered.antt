@@ -47,7 +47,8 @@ use Rattle.lifted_analysis.specs.Start.{start_at}
 use Rattle.lifted_analysis.specs.States.{truths_in, IsTest, HasRegionNumber}
 use Rattle.lifted_analysis.specs.Turns.{Turn, turns_by, is_inductive, AreInductive, inductive_in, loop_places}
 use Rattle.lifted_analysis.proofs.Answered.{keys_are, leaf_findings, truth_findings, begins}
-use Rattle.lifted_analysis.proofs.ConditionLemmas.{truths_same, tests_each, occurs_below, number_below}
+use Rattle.tree_unify.proofs.FormulaTrees.{number_below}
+use Rattle.lifted_analysis.proofs.ConditionLemmas.{truths_same, tests_each, occurs_below}
 use Rattle.lifted_analysis.proofs.PassedLemmas.{AreFit, given_fit, passed_keeps, suits, within_count}
 
 -- ---- loops that are inductive
