@@ -61,10 +61,11 @@ pub fn analyse_one<L: Leaf>(
         entries: IndexMap::new(alloc),
     };
     let task = Task {
+        alloc,
         program,
         options: *options,
     };
-    let leaf = enter_list(alloc, &mut finals, &mut noted, &task, &program.body, start)?;
+    let leaf = enter_list(&mut finals, &mut noted, &task, &program.body, start)?;
     let place = program.end;
     noted.places.push(PlaceLeaf { place, leaf })?;
     Ok(Findings {

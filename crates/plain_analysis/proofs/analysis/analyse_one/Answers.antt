@@ -1,4 +1,4 @@
-use Rattle.std.proofs.Common.{◌++◌, map, ap, ◌∙◌, refl}
+use Rattle.std.proofs.Common.{rules, ◌++◌, map, ap, ◌∙◌, refl}
 use Rattle.c_tree.specs.View.{code, whole}
 use Rattle.plain_analysis.specs.Statements.{after_of, entries_of, final_heads}
 use Rattle.plain_analysis.specs.Entered.{place_and_leaf, leaves_in, alarms_in}
@@ -43,7 +43,7 @@ returns-clause-alarms g c =
     ∙ (ap (λ l. alarms_in M o.mode (entries_of M o (code l) d)) c.deref.ensures.value
     ∙ alarms M o.mode (final_heads M o) (whole c.args.program.now) d c.requires.program c.requires.plain)))
 
-pub enter_list-requires-clause-loops : goal.enter_list-requires-clause-loops
-enter_list-requires-clause-loops g c =
+pub enter_list-requires-clause-part : goal.enter_list-requires-clause-part
+enter_list-requires-clause-part g c =
     let p = whole c.args.program.now in
-    loops_same p _ _ c.deref.ensures.value (has_its_loops p c.requires.program.rising)
+    (search rules, loops_same p _ _ c.deref.ensures.value (has_its_loops p c.requires.program.rising))

@@ -6,21 +6,21 @@ use Rattle.c_tree.specs.Fit.{IsCodeOf}
 use Rattle.leaf_domain.specs.Leaves.{LeafValue}
 use Rattle.leaf_domain.specs.Transfer.{assumed}
 use Rattle.plain_analysis.specs.Loops.{final_leaf}
-use Rattle.plain_analysis.specs.Stated.{IsLoopAt, HasLoopsOf}
+use Rattle.plain_analysis.specs.Stated.{HasLoopsOf}
 use Rattle.plain_analysis.specs.Statements.{after_of, entries_of}
 use Rattle.plain_analysis.specs.Entered.{HasEntered}
 use Rattle.plain_analysis.proofs.Listed.{IsCodeOf-at, after_of-take_more, entries_of-take_more, front-While}
 use Rattle.plain_analysis.proofs.Sizes.{size-at}
-use Rattle.plain_analysis.proofs.StatedLemmas.{loops-at, loops_If, loops_While, loops_Block, loops_same, loop_same}
+use Rattle.plain_analysis.proofs.StatedLemmas.{loops-at}
 use Rattle.plain_analysis.proofs.EnteredLemmas.{on_ok, on_ok_by, entered_then, entered_as, entries-If, entries-While, entries-Block}
 use Rattle.plain_analysis.proofs.entries.+enter.Goals as goal
 
 pub enter_list-enter_stmt-requires : goal.enter_list-enter_stmt-requires
 enter_list-enter_stmt-requires g t c κs within =
     let s = c.s-item.result in
-    let at_entry = IsCodeOf-at (g.L.Leaf.value c.args.leaf.now).variables c.args.list.now c.loop-s.s-index s c.loop-s-test.true c.s-item.is c.requires.fit in
+    let at_entry = IsCodeOf-at (g.L.Leaf.value c.args.leaf.now).variables c.args.list.now c.loop-s.s-index s c.loop-s-test.true c.s-item.is c.requires.part.0 in
     let fit : IsCodeOf (g.L.Leaf.value c.loop-s.made).variables (front s Done) = subst (λ n. IsCodeOf n (front s Done)) (sym c.loop-s.invariant.same) at_entry in
-    let loops : HasLoopsOf (whole c.args.task.now.program.now) (front s Done) = loops-at (whole c.args.task.now.program.now) c.args.list.now c.loop-s.s-index s c.loop-s-test.true c.s-item.is c.requires.loops in
+    let loops : HasLoopsOf (whole c.args.task.now.program.now) (front s Done) = loops-at (whole c.args.task.now.program.now) c.args.list.now c.loop-s.s-index s c.loop-s-test.true c.s-item.is c.requires.part.1 in
     let memory = c.loop-s.invariant.memory in
     (omega (arith, size-at c.args.list.now c.loop-s.s-index s c.loop-s-test.true c.s-item.is), search rules)
 
