@@ -21,7 +21,7 @@ use Rattle.atom_solver.specs.Solutions.{IsFirst, all_hold}
 use Rattle.lifted_analysis.specs.declared.findings.AlarmTree.{AlarmTree}
 use Rattle.alarm_report.specs.declared.alarms.FamilyAlarm.{FamilyAlarm}
 use Rattle.alarm_report.specs.declared.region.Region.{Region}
-use Rattle.alarm_report.specs.Alarms.{StopTree, stop_tree, alarm_in, AreAlarms, AreKeyed, Tells, TellsOnce, HasKey, CoversStops}
+use Rattle.alarm_report.specs.Alarms.{PlainAlarmTree, plain_alarm_tree, alarm_in, AreAlarms, AreKeyed, Tells, TellsOnce, HasKey, CoversStops}
 use Rattle.alarm_report.specs.Alarms as stops
 use Rattle.alarm_report.specs.Regions.{AreRegions, Meets, MeetsOne, Covers}
 use Rattle.alarm_report.proofs.Covering.{all_below}
@@ -30,7 +30,7 @@ use Rattle.alarm_report.proofs.Wellformed.{regions_fit}
 
 -- ---- one tree more
 
-pub alarms_more : (model : Model) (atoms : List Atom) (ts : List StopTree) (alarms : List FamilyAlarm) (t : StopTree) (rs : List Region)
+pub alarms_more : (model : Model) (atoms : List Atom) (ts : List PlainAlarmTree) (alarms : List FamilyAlarm) (t : PlainAlarmTree) (rs : List Region)
     → AreAlarms model atoms ts alarms → AreRegions model atoms t.tree rs → AreAlarms model atoms (ts ++ t ∷ []) (alarms ++ map (alarm_in t.place t.kind) rs)
 alarms_more model atoms _ _ t rs stops.no_tree k =
     subst (λ xs. AreAlarms model atoms (t ∷ []) xs) (append-nil (map (alarm_in t.place t.kind) rs)) (stops.tree t [] rs [] k stops.no_tree)
@@ -40,18 +40,18 @@ alarms_more model atoms _ _ t rs (stops.tree u us qs bs h rest) k =
 
 -- ---- keys
 
-keyed_tail : (t : StopTree) (ts : List StopTree) → AreKeyed (t ∷ ts) → AreKeyed ts
+keyed_tail : (t : PlainAlarmTree) (ts : List PlainAlarmTree) → AreKeyed (t ∷ ts) → AreKeyed ts
 keyed_tail t ts h = λ i j a b e f g k. let s : suc i ≡ suc j = h (suc i) (suc j) a b e f g k in omega (arith, s)
 
 -- a later tree has another place or kind than the first
-differs : (t u : StopTree) (ts : List StopTree) (n : ℕ) → AreKeyed (t ∷ ts) → slice_get ts n ≡ Some u → t.place ≡ u.place → t.kind ≡ u.kind → ⊥
+differs : (t u : PlainAlarmTree) (ts : List PlainAlarmTree) (n : ℕ) → AreKeyed (t ∷ ts) → slice_get ts n ≡ Some u → t.place ≡ u.place → t.kind ≡ u.kind → ⊥
 differs t u ts n keyed e p k = let s : 0 ≡ suc n = keyed 0 (suc n) t u refl e p k in absurd (omega (arith, s))
 
-abbrev pub AreKnown : List StopTree → List FamilyAlarm → Type 0
+abbrev pub AreKnown : List PlainAlarmTree → List FamilyAlarm → Type 0
 AreKnown ts alarms = (i : ℕ) (a : FamilyAlarm) → slice_get alarms i ≡ Some a → HasKey ts a.place a.kind
 
 -- so no alarm of the later ones is told for it
-unkeyed : (t : StopTree) (ts : List StopTree) (alarms : List FamilyAlarm) → AreKeyed (t ∷ ts) → AreKnown ts alarms
+unkeyed : (t : PlainAlarmTree) (ts : List PlainAlarmTree) (alarms : List FamilyAlarm) → AreKeyed (t ∷ ts) → AreKnown ts alarms
     → (i : ℕ) (a : FamilyAlarm) (values : List ℤ) → slice_get alarms i ≡ Some a → Tells a t.place t.kind values → ⊥
 unkeyed t ts alarms keyed known i a values e w =
     let h : HasKey ts a.place a.kind = known i a e in
@@ -62,7 +62,7 @@ unkeyed t ts alarms keyed known i a values e w =
 region_of_alarm : (p : Place) (k : Kind) (r : Region) (a : FamilyAlarm) (values : List ℤ) → alarm_in p k r ≡ a → Meets a.region values → Meets r values
 region_of_alarm p k r a values e m = subst (λ (x : FamilyAlarm). Meets x.region values) (sym e) m
 
-front_alone : (t : StopTree) (rs : List Region) (alarms : List FamilyAlarm) (values : List ℤ)
+front_alone : (t : PlainAlarmTree) (rs : List Region) (alarms : List FamilyAlarm) (values : List ℤ)
     → ((i : ℕ) (a : FamilyAlarm) → slice_get alarms i ≡ Some a → Tells a t.place t.kind values → ⊥) → (o : MeetsOne rs values)
     → (i : ℕ) (a : FamilyAlarm) → slice_get (map (alarm_in t.place t.kind) rs ++ alarms) i ≡ Some a → Tells a t.place t.kind values → i ≡ o.place
 front_alone t rs alarms values none o i a e w =
@@ -71,7 +71,7 @@ front_alone t rs alarms values none o i a e w =
       | inr k ↦ absurd (none k.0 a k.1 w)
     ]
 
-front_once : (t : StopTree) (rs : List Region) (alarms : List FamilyAlarm) (values : List ℤ)
+front_once : (t : PlainAlarmTree) (rs : List Region) (alarms : List FamilyAlarm) (values : List ℤ)
     → ((i : ℕ) (a : FamilyAlarm) → slice_get alarms i ≡ Some a → Tells a t.place t.kind values → ⊥) → MeetsOne rs values
     → TellsOnce (map (alarm_in t.place t.kind) rs ++ alarms) t.place t.kind values
 front_once t rs alarms values none o =
@@ -87,7 +87,7 @@ front_once t rs alarms values none o =
 
 -- ---- the alarms of the later trees
 
-later_alone : (t u : StopTree) (rs : List Region) (alarms : List FamilyAlarm) (values : List ℤ) → (t.place ≡ u.place → t.kind ≡ u.kind → ⊥)
+later_alone : (t u : PlainAlarmTree) (rs : List Region) (alarms : List FamilyAlarm) (values : List ℤ) → (t.place ≡ u.place → t.kind ≡ u.kind → ⊥)
     → (o : TellsOnce alarms u.place u.kind values) → (i : ℕ) (a : FamilyAlarm) → slice_get (map (alarm_in t.place t.kind) rs ++ alarms) i ≡ Some a
     → Tells a u.place u.kind values → i ≡ length (map (alarm_in t.place t.kind) rs) + o.index
 later_alone t u rs alarms values other o i a e w =
@@ -97,7 +97,7 @@ later_alone t u rs alarms values other o i a e w =
       | inr k ↦ k.2 ∙ ap (λ n. length (map (alarm_in t.place t.kind) rs) + n) (o.alone k.0 a k.1 w)
     ]
 
-later_once : (t u : StopTree) (rs : List Region) (alarms : List FamilyAlarm) (values : List ℤ) → (t.place ≡ u.place → t.kind ≡ u.kind → ⊥)
+later_once : (t u : PlainAlarmTree) (rs : List Region) (alarms : List FamilyAlarm) (values : List ℤ) → (t.place ≡ u.place → t.kind ≡ u.kind → ⊥)
     → TellsOnce alarms u.place u.kind values → TellsOnce (map (alarm_in t.place t.kind) rs ++ alarms) u.place u.kind values
 later_once t u rs alarms values other o = record {
   index = length (map (alarm_in t.place t.kind) rs) + o.index;
@@ -110,39 +110,39 @@ later_once t u rs alarms values other o = record {
 -- ---- all
 
 module _ (model : Model) (atoms : List Atom) where
-  abbrev IsTrueAt : StopTree → List ℤ → Type 0
+  abbrev IsTrueAt : PlainAlarmTree → List ℤ → Type 0
   IsTrueAt t values = leaf_of t.tree (vector_at atoms values) ≡ true
 
-  one_told : (t : StopTree) (ts : List StopTree) (rs : List Region) (alarms : List FamilyAlarm) → AreKeyed (t ∷ ts) → Covers model atoms t.tree rs → CoversStops model atoms ts alarms
-      → (n : ℕ) (values : List ℤ) (u : StopTree) → IsValid (plain model) values → slice_get (t ∷ ts) n ≡ Some u → IsTrueAt u values
+  one_told : (t : PlainAlarmTree) (ts : List PlainAlarmTree) (rs : List Region) (alarms : List FamilyAlarm) → AreKeyed (t ∷ ts) → Covers model atoms t.tree rs → CoversStops model atoms ts alarms
+      → (n : ℕ) (values : List ℤ) (u : PlainAlarmTree) → IsValid (plain model) values → slice_get (t ∷ ts) n ≡ Some u → IsTrueAt u values
       → TellsOnce (map (alarm_in t.place t.kind) rs ++ alarms) u.place u.kind values
   one_told t ts rs alarms keyed c q zero values u valid e g =
       let same : t ≡ u = cc in
-      let here : IsTrueAt t values = subst (λ (x : StopTree). IsTrueAt x values) (sym same) g in
-      subst (λ (x : StopTree). TellsOnce (map (alarm_in t.place t.kind) rs ++ alarms) x.place x.kind values) same
+      let here : IsTrueAt t values = subst (λ (x : PlainAlarmTree). IsTrueAt x values) (sym same) g in
+      subst (λ (x : PlainAlarmTree). TellsOnce (map (alarm_in t.place t.kind) rs ++ alarms) x.place x.kind values) same
       (front_once t rs alarms values (λ i a f w. unkeyed t ts alarms keyed q.known i a values f w) (c.one values valid here))
   one_told t ts rs alarms keyed c q (suc n) values u valid e g =
       later_once t u rs alarms values (λ p k. differs t u ts n keyed e p k) (q.one values n u valid e g)
 
-  only_front : (t : StopTree) (ts : List StopTree) (rs : List Region) → AreKeyed (t ∷ ts) → Covers model atoms t.tree rs
-      → (n : ℕ) (values : List ℤ) (u : StopTree) (i : ℕ) (a : FamilyAlarm) (r : Region) → IsValid (plain model) values → slice_get (t ∷ ts) n ≡ Some u
+  only_front : (t : PlainAlarmTree) (ts : List PlainAlarmTree) (rs : List Region) → AreKeyed (t ∷ ts) → Covers model atoms t.tree rs
+      → (n : ℕ) (values : List ℤ) (u : PlainAlarmTree) (i : ℕ) (a : FamilyAlarm) (r : Region) → IsValid (plain model) values → slice_get (t ∷ ts) n ≡ Some u
       → slice_get rs i ≡ Some r → alarm_in t.place t.kind r ≡ a → Tells a u.place u.kind values → IsTrueAt u values
   only_front t ts rs keyed c zero values u i a r valid e f g w =
       let same : t ≡ u = cc in
-      subst (λ (x : StopTree). IsTrueAt x values) same (c.only values i r valid f (region_of_alarm t.place t.kind r a values g w.met))
+      subst (λ (x : PlainAlarmTree). IsTrueAt x values) same (c.only values i r valid f (region_of_alarm t.place t.kind r a values g w.met))
   only_front t ts rs keyed c (suc n) values u i a r valid e f g w =
       absurd (differs t u ts n keyed e (ap (λ (x : FamilyAlarm). x.place) g ∙ w.place_is) (ap (λ (x : FamilyAlarm). x.kind) g ∙ w.kind_is))
 
-  only_later : (t : StopTree) (ts : List StopTree) (alarms : List FamilyAlarm) → AreKeyed (t ∷ ts) → CoversStops model atoms ts alarms
-      → (n : ℕ) (values : List ℤ) (u : StopTree) (i : ℕ) (a : FamilyAlarm) → IsValid (plain model) values → slice_get (t ∷ ts) n ≡ Some u
+  only_later : (t : PlainAlarmTree) (ts : List PlainAlarmTree) (alarms : List FamilyAlarm) → AreKeyed (t ∷ ts) → CoversStops model atoms ts alarms
+      → (n : ℕ) (values : List ℤ) (u : PlainAlarmTree) (i : ℕ) (a : FamilyAlarm) → IsValid (plain model) values → slice_get (t ∷ ts) n ≡ Some u
       → slice_get alarms i ≡ Some a → Tells a u.place u.kind values → IsTrueAt u values
   only_later t ts alarms keyed q zero values u i a valid e f w =
       let same : t ≡ u = cc in
-      absurd (unkeyed t ts alarms keyed q.known i a values f (subst (λ (x : StopTree). Tells a x.place x.kind values) (sym same) w))
+      absurd (unkeyed t ts alarms keyed q.known i a values f (subst (λ (x : PlainAlarmTree). Tells a x.place x.kind values) (sym same) w))
   only_later t ts alarms keyed q (suc n) values u i a valid e f w = q.only values n u i a valid e f w
 
-  only_told : (t : StopTree) (ts : List StopTree) (rs : List Region) (alarms : List FamilyAlarm) → AreKeyed (t ∷ ts) → Covers model atoms t.tree rs → CoversStops model atoms ts alarms
-      → (n : ℕ) (values : List ℤ) (u : StopTree) (i : ℕ) (a : FamilyAlarm) → IsValid (plain model) values → slice_get (t ∷ ts) n ≡ Some u
+  only_told : (t : PlainAlarmTree) (ts : List PlainAlarmTree) (rs : List Region) (alarms : List FamilyAlarm) → AreKeyed (t ∷ ts) → Covers model atoms t.tree rs → CoversStops model atoms ts alarms
+      → (n : ℕ) (values : List ℤ) (u : PlainAlarmTree) (i : ℕ) (a : FamilyAlarm) → IsValid (plain model) values → slice_get (t ∷ ts) n ≡ Some u
       → slice_get (map (alarm_in t.place t.kind) rs ++ alarms) i ≡ Some a → Tells a u.place u.kind values → IsTrueAt u values
   only_told t ts rs alarms keyed c q n values u i a valid e f w =
       elim (parted_at (map (alarm_in t.place t.kind) rs) alarms i a f) [
@@ -150,7 +150,7 @@ module _ (model : Model) (atoms : List Atom) where
         | inr k ↦ only_later t ts alarms keyed q n values u k.0 a valid e k.1 w
       ]
 
-  known_in : (t : StopTree) (ts : List StopTree) (rs : List Region) (alarms : List FamilyAlarm) → AreKnown ts alarms → AreKnown (t ∷ ts) (map (alarm_in t.place t.kind) rs ++ alarms)
+  known_in : (t : PlainAlarmTree) (ts : List PlainAlarmTree) (rs : List Region) (alarms : List FamilyAlarm) → AreKnown ts alarms → AreKnown (t ∷ ts) (map (alarm_in t.place t.kind) rs ++ alarms)
   known_in t ts rs alarms known = λ i a e.
       elim (parted_at (map (alarm_in t.place t.kind) rs) alarms i a e) [
         | inl k ↦ (let m = mapped_at (alarm_in t.place t.kind) rs i a k in
@@ -162,7 +162,7 @@ module _ (model : Model) (atoms : List Atom) where
   abbrev IsLeast : FamilyAlarm → Type 0
   IsLeast a = IsFirst model (all_hold a.region.literals) a.region.example.values
 
-  least_in : (t : StopTree) (ts : List StopTree) (rs : List Region) (alarms : List FamilyAlarm) → Covers model atoms t.tree rs → CoversStops model atoms ts alarms
+  least_in : (t : PlainAlarmTree) (ts : List PlainAlarmTree) (rs : List Region) (alarms : List FamilyAlarm) → Covers model atoms t.tree rs → CoversStops model atoms ts alarms
       → (i : ℕ) (a : FamilyAlarm) → slice_get (map (alarm_in t.place t.kind) rs ++ alarms) i ≡ Some a → IsLeast a
   least_in t ts rs alarms c q i a e =
       elim (parted_at (map (alarm_in t.place t.kind) rs) alarms i a e) [
@@ -171,13 +171,13 @@ module _ (model : Model) (atoms : List Atom) where
       ]
 
   -- the trees' tests are numbers of the atoms
-  abbrev pub AreBelow : List StopTree → Type 0
-  AreBelow ts = All (λ (t : StopTree). TestsBelow (length atoms) t.tree) ts
+  abbrev pub AreBelow : List PlainAlarmTree → Type 0
+  AreBelow ts = All (λ (t : PlainAlarmTree). TestsBelow (length atoms) t.tree) ts
 
-  abbrev IsBelow : StopTree → Type 0
+  abbrev IsBelow : PlainAlarmTree → Type 0
   IsBelow t = TestsBelow (length atoms) t.tree
 
-  pub covers_stops : (ts : List StopTree) (alarms : List FamilyAlarm) → AreBelow ts → AreKeyed ts → AreAlarms model atoms ts alarms → CoversStops model atoms ts alarms
+  pub covers_stops : (ts : List PlainAlarmTree) (alarms : List FamilyAlarm) → AreBelow ts → AreKeyed ts → AreAlarms model atoms ts alarms → CoversStops model atoms ts alarms
   covers_stops _ _ below keyed stops.no_tree = record {
     one = λ values n t valid e g. cc;
     only = λ values n t i a valid e f w. cc;
@@ -206,18 +206,18 @@ fit_joined n p k (r ∷ rs) alarms h g =
     let P : Region → Type 0 = λ x. AreLiterals n x.literals in
     All-cons (Fits n) (alarm_in p k r) (map (alarm_in p k) rs ++ alarms) (All-head P r rs h) (fit_joined n p k rs alarms (All-tail P r rs h) g)
 
-pub alarms_fit : (model : Model) (atoms : List Atom) (n : ℕ) (ts : List StopTree) (alarms : List FamilyAlarm) → AreAtoms n atoms → AreBelow model atoms ts
+pub alarms_fit : (model : Model) (atoms : List Atom) (n : ℕ) (ts : List PlainAlarmTree) (alarms : List FamilyAlarm) → AreAtoms n atoms → AreBelow model atoms ts
     → AreAlarms model atoms ts alarms → All (Fits n) alarms
 alarms_fit model atoms n _ _ fit below stops.no_tree = All-nil (Fits n)
 alarms_fit model atoms n _ _ fit below (stops.tree t ts rs alarms h rest) =
-    let P : StopTree → Type 0 = λ x. TestsBelow (length atoms) x.tree in
+    let P : PlainAlarmTree → Type 0 = λ x. TestsBelow (length atoms) x.tree in
     fit_joined n t.place t.kind rs alarms
     (regions_fit model atoms n (paths_of t.tree) rs fit (all_below (length atoms) t.tree (All-head P t ts below)) h)
     (alarms_fit model atoms n ts alarms fit (All-tail P t ts below) rest)
 
 -- the trees as a contract has them
-pub seen_below : (m : ℕ) (ts : List AlarmTree) → All (λ (t : AlarmTree). TestsBelow m (shared.plain t.tree)) ts → All (λ (t : StopTree). TestsBelow m t.tree) (map stop_tree ts)
-seen_below m [] h = All-nil (λ (t : StopTree). TestsBelow m t.tree)
+pub seen_below : (m : ℕ) (ts : List AlarmTree) → All (λ (t : AlarmTree). TestsBelow m (shared.plain t.tree)) ts → All (λ (t : PlainAlarmTree). TestsBelow m t.tree) (map plain_alarm_tree ts)
+seen_below m [] h = All-nil (λ (t : PlainAlarmTree). TestsBelow m t.tree)
 seen_below m (t ∷ ts) h =
     let P : AlarmTree → Type 0 = λ x. TestsBelow m (shared.plain x.tree) in
-    All-cons (λ (x : StopTree). TestsBelow m x.tree) (stop_tree t) (map stop_tree ts) (All-head P t ts h) (seen_below m ts (All-tail P t ts h))
+    All-cons (λ (x : PlainAlarmTree). TestsBelow m x.tree) (plain_alarm_tree t) (map plain_alarm_tree ts) (All-head P t ts h) (seen_below m ts (All-tail P t ts h))

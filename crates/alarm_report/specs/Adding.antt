@@ -6,7 +6,7 @@ use Rattle.cpp_conditions.specs.declared.models.Model.{Model}
 use Rattle.leaf_domain.specs.Leaves.{LeafValue}
 use Rattle.alarm_report.specs.declared.alarms.FamilyAlarm.{FamilyAlarm}
 use Rattle.alarm_report.specs.declared.region.Region.{Region}
-use Rattle.alarm_report.specs.Alarms.{StopTree, AreAlarms}
+use Rattle.alarm_report.specs.Alarms.{PlainAlarmTree, AreAlarms}
 use Rattle.alarm_report.specs.Invariants.{LeafTree, Invariant, AreOfPaths, AreInvariants}
 use Rattle.alarm_report.specs.Regions.{AreRegionsOf}
 
@@ -19,8 +19,8 @@ abbrev pub Adds : Model → List Atom → List (ℕ × Bool) × Bool → List Re
 Adds model atoms p old new = (paths : List (List (ℕ × Bool))) → AreRegionsOf model atoms paths old → AreRegionsOf model atoms (paths ++ if_true p) new
 
 -- where the old alarms are those of some trees, the new ones are those of these and one more
-abbrev pub AddsTree : Model → List Atom → StopTree → List FamilyAlarm → List FamilyAlarm → Type 0
-AddsTree model atoms t old new = (ts : List StopTree) → AreAlarms model atoms ts old → AreAlarms model atoms (ts ++ t ∷ []) new
+abbrev pub AddsTree : Model → List Atom → PlainAlarmTree → List FamilyAlarm → List FamilyAlarm → Type 0
+AddsTree model atoms t old new = (ts : List PlainAlarmTree) → AreAlarms model atoms ts old → AreAlarms model atoms (ts ++ t ∷ []) new
 
 -- the same of the invariants of paths, and of trees
 abbrev pub AddsPath : Model → List Atom → Place → List (ℕ × Bool) × LeafValue → List Invariant → List Invariant → Type 0

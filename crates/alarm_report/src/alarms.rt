@@ -10,7 +10,7 @@ ghost use Rattle.lifted_analysis.specs.declared.findings.AlarmTree.{AlarmTree};
 ghost use Rattle.alarm_report.specs.declared.alarms.FamilyAlarm.{FamilyAlarm};
 ghost use Rattle.alarm_report.specs.Adding.{AddsTree};
 ghost use Rattle.alarm_report.specs.Known.{AreKnown};
-ghost use Rattle.alarm_report.specs.Alarms.{AreAlarms, AreKeyed, CoversStops, stop_tree, alarm_in};
+ghost use Rattle.alarm_report.specs.Alarms.{AreAlarms, AreKeyed, CoversStops, plain_alarm_tree, alarm_in};
 
 use crate::finding::regions_known;
 use crate::known::Known;
@@ -96,7 +96,7 @@ fn push_alarms(
     requires tests { TestsBelow (length atoms.now) (plain tree.now.tree) }
     requires known { AreKnown prepared.now atoms.now known.old }
     ensures added { IfOk result (λ _. AddsTree prepared.now atoms.now
-        (stop_tree tree.now) list.old.items list.new.items) }
+        (plain_alarm_tree tree.now) list.old.items list.new.items) }
     ensures known { OnOk result (AreKnown prepared.now atoms.now known.new) }
 {
     let regions = regions_known(alloc, known, prepared, atoms, &tree.tree)?;
@@ -118,9 +118,9 @@ pub fn alarms_of(
 ) -> Result<FamilyAlarms, NoMemory>
     requires atoms { AreAtoms (length prepared.now.features) atoms.now }
     requires tests { All (λ (t : AlarmTree). TestsBelow (length atoms.now) (plain t.tree)) trees.now }
-    ensures alarms { IfOk result (λ made. AreAlarms prepared.now atoms.now (map stop_tree trees.now) made) }
-    ensures cover { IfOk result (λ made. AreKeyed (map stop_tree trees.now)
-        → CoversStops prepared.now atoms.now (map stop_tree trees.now) made) }
+    ensures alarms { IfOk result (λ made. AreAlarms prepared.now atoms.now (map plain_alarm_tree trees.now) made) }
+    ensures cover { IfOk result (λ made. AreKeyed (map plain_alarm_tree trees.now)
+        → CoversStops prepared.now atoms.now (map plain_alarm_tree trees.now) made) }
     ensures fit { IfOk result (λ made. All
         (λ (a : FamilyAlarm). AreLiterals (length prepared.now.features) a.region.literals) made) }
 {

@@ -16,7 +16,7 @@ use Rattle.leaf_domain.specs.Leaves.{LeafValue}
 use Rattle.plain_analysis.specs.Places.{is_same_place}
 use Rattle.plain_analysis.proofs.Located.{same_place_self, before_other}
 use Rattle.alarm_report.specs.declared.alarms.FamilyAlarm.{FamilyAlarm}
-use Rattle.alarm_report.specs.Alarms.{StopTree, alarm_in, AreAlarms}
+use Rattle.alarm_report.specs.Alarms.{PlainAlarmTree, alarm_in, AreAlarms}
 use Rattle.alarm_report.specs.Alarms as stops
 use Rattle.alarm_report.specs.Invariants.{LeafTree, Invariant, AreOfPaths, AreInvariants, HasOnce}
 use Rattle.alarm_report.specs.Invariants as invs
@@ -123,21 +123,21 @@ module _ (model : Model) (atoms : List Atom) (values : List ℤ) (valid : IsVali
 
   -- ---- alarms
 
-  abbrev IsStopBelow : StopTree → Type 0
+  abbrev IsStopBelow : PlainAlarmTree → Type 0
   IsStopBelow t = TestsBelow (length atoms) t.tree
 
   abbrev IsToldAt : Place → Kind → List FamilyAlarm → Type 0
   IsToldAt place kind alarms = (a : FamilyAlarm) × IsIn a alarms × (a.place ≡ place) × (a.kind ≡ kind) × Meets a.region values
 
   -- one of the alarms of each tree that is true is met
-  pub told_here : (ts : List StopTree) (alarms : List FamilyAlarm) → AreAlarms model atoms ts alarms → AllByRecursion IsStopBelow ts → (t : StopTree) → IsIn t ts
+  pub told_here : (ts : List PlainAlarmTree) (alarms : List FamilyAlarm) → AreAlarms model atoms ts alarms → AllByRecursion IsStopBelow ts → (t : PlainAlarmTree) → IsIn t ts
       → leaf_of t.tree (vector_at atoms values) ≡ true → IsToldAt t.place t.kind alarms
   told_here _ _ stops.no_tree below t i g = absurd i
   told_here _ _ (stops.tree u ts rs alarms h rest) below t (inl e) g =
       let c : Covers model atoms u.tree rs = covers model atoms u.tree rs (all_below (length atoms) u.tree below.0) (takes_one u.tree) h in
-      let m : MeetsOne rs values = c.one values valid (subst (λ (x : StopTree). leaf_of x.tree (vector_at atoms values) ≡ true) (sym e) g) in
+      let m : MeetsOne rs values = c.one values valid (subst (λ (x : PlainAlarmTree). leaf_of x.tree (vector_at atoms values) ≡ true) (sym e) g) in
       let a = alarm_in u.place u.kind m.region in
-      subst (λ (x : StopTree). IsToldAt x.place x.kind (map (alarm_in u.place u.kind) rs ++ alarms)) e
+      subst (λ (x : PlainAlarmTree). IsToldAt x.place x.kind (map (alarm_in u.place u.kind) rs ++ alarms)) e
       (a, in_left a (map (alarm_in u.place u.kind) rs) alarms (in_map (alarm_in u.place u.kind) m.region rs (in_at m.region rs m.place m.there)), refl, refl, m.met)
   told_here _ _ (stops.tree u ts rs alarms h rest) below t (inr i) g =
       let k = told_here ts alarms rest below.1 t i g in (k.0, in_right k.0 (map (alarm_in u.place u.kind) rs) alarms k.1, k.2, k.3, k.4)

@@ -5,7 +5,7 @@ use Rattle.fam_outer.specs.declared.faults.Place.{Place}
 use Rattle.c_tree.specs.declared.tree.Mode.{Mode}
 use Rattle.c_tree.specs.Fit.{IsTermOf, IsCodeOf}
 use Rattle.c_tree.specs.Tree.{Term, Code, Done, Assign, Input, Assert, If, While, Block, Skip, Cond}
-use Rattle.leaf_domain.specs.Leaves.{LeafValue, LeafMeaning, LeafLaws, Answers}
+use Rattle.leaf_domain.specs.Leaves.{LeafValue, LeafMeaning, LeafLaws, IsLeafLike}
 use Rattle.leaf_domain.specs.Soundness.{Suits, TransferAnswers}
 use Rattle.leaf_domain.specs.Transfer.{assumed, assigned, forgotten}
 use Rattle.leaf_domain.proofs.Answered.{answers_then}
@@ -41,10 +41,10 @@ module _ (M : LeafMeaning) (laws : LeafLaws M) (o : Options) (A : TransferAnswer
   own : (e : Term) (v : LeafValue) → M.valid v → IsTermOf v.variables e → Suits M e v
   own e v h t = record { valid = h; term = t }
 
-  over : (c : Code) (v w : LeafValue) → Answers M v w → IsCodeOf v.variables c → IsCodeOf w.variables c
+  over : (c : Code) (v w : LeafValue) → IsLeafLike M v w → IsCodeOf v.variables c → IsCodeOf w.variables c
   over c v w a n = subst (λ m. IsCodeOf m c) (sym a.same) n
 
-  after : (c : Code) (v w : LeafValue) → Answers M v w → IsCodeOf v.variables c → Answers M v (after_of M o c w)
+  after : (c : Code) (v w : LeafValue) → IsLeafLike M v w → IsCodeOf v.variables c → IsLeafLike M v (after_of M o c w)
   after c v w a n = answers_then v w _ a (after_answers M laws o A c w a.valid (over c v w a n))
 
   loop_good : (place : Place) (e : Term) (body : Code) (v : LeafValue) → M.valid v → IsTermOf v.variables e → IsCodeOf v.variables body

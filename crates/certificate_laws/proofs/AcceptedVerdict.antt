@@ -33,7 +33,7 @@ use Rattle.lifted_analysis.specs.Lines.{bounded_by, given_at, set_from}
 use Rattle.lifted_analysis.specs.Promises.{truths_of, variant_at, begin_at, leaf_at, stop_at, by_kind}
 use Rattle.lifted_analysis.specs.Turns.{Turn, turns_by, inductive_in, loop_places}
 use Rattle.lifted_analysis.specs.Turns as turn
-use Rattle.alarm_report.specs.Alarms.{StopTree}
+use Rattle.alarm_report.specs.Alarms.{PlainAlarmTree}
 use Rattle.alarm_report.specs.Invariants.{LeafTree}
 use Rattle.certificate_reader.specs.declared.certificates.Certificate.{Certificate}
 use Rattle.certificate_text.specs.Loops.{trees_at}
@@ -52,7 +52,7 @@ use Rattle.certificate_laws.proofs.AcceptedPasses.{IsSame, same_pass, placed}
 use Rattle.certificate_laws.proofs.AcceptedTrees.{place_of, kept_trees, trees_placed, all_right_here, met_here, told_here}
 use Rattle.certificate_laws.proofs.AcceptedTurns.{IsGood, IsFoundIn, good_turns, heads_found}
 
-abbrev key_of : StopTree → Place × Kind
+abbrev key_of : PlainAlarmTree → Place × Kind
 key_of t = (t.place, t.kind)
 
 never_both : (b : Bool) → b ≡ true → not b ≡ true → ⊥
@@ -123,20 +123,20 @@ module _ (M : LeafMeaning) (laws : LeafLaws M) (transfer : (m : Mode) → Transf
   abbrev IsLeafTree : LeafTree → Type 0
   IsLeafTree t = IsTreeOf (length atoms) (leaf_at M o p conditions h.leaves_are.plausible t.place) t.tree
 
-  abbrev IsStopTree : StopTree → Type 0
-  IsStopTree t = IsTreeOf (length atoms) (stop_at M o p conditions h.stops_are.plausible (t.place, t.kind)) t.tree
+  abbrev IsAlarmTreeOf : PlainAlarmTree → Type 0
+  IsAlarmTreeOf t = IsTreeOf (length atoms) (stop_at M o p conditions h.stops_are.plausible (t.place, t.kind)) t.tree
 
   leaf_trees : AllByRecursion IsLeafTree (trees_at (loop_places p.body) h.places)
   leaf_trees = kept_trees IsLeafTree (loop_places p.body) h.places (recursion_from_All IsLeafTree h.places h.leaves_are.are)
 
-  stop_trees : AllByRecursion IsStopTree h.stops
-  stop_trees = recursion_from_All IsStopTree h.stops h.stops_are.are
+  stop_trees : AllByRecursion IsAlarmTreeOf h.stops
+  stop_trees = recursion_from_All IsAlarmTreeOf h.stops h.stops_are.are
 
   leaves_below : AllByRecursion (λ (t : LeafTree). TestsBelow (length atoms) t.tree) (trees_at (loop_places p.body) h.places)
   leaves_below = all_mapped IsLeafTree (λ (t : LeafTree). TestsBelow (length atoms) t.tree) (λ t k. k.tests) (trees_at (loop_places p.body) h.places) leaf_trees
 
-  stops_below : AllByRecursion (λ (t : StopTree). TestsBelow (length atoms) t.tree) h.stops
-  stops_below = all_mapped IsStopTree (λ (t : StopTree). TestsBelow (length atoms) t.tree) (λ t k. k.tests) h.stops stop_trees
+  stops_below : AllByRecursion (λ (t : PlainAlarmTree). TestsBelow (length atoms) t.tree) h.stops
+  stops_below = all_mapped IsAlarmTreeOf (λ (t : PlainAlarmTree). TestsBelow (length atoms) t.tree) (λ t k. k.tests) h.stops stop_trees
 
   leaves_there : AllByRecursion (λ (t : LeafTree). leaf_of t.tree v ≡ F t.place) (trees_at (loop_places p.body) h.places)
   leaves_there =
@@ -212,7 +212,7 @@ module _ (M : LeafMeaning) (laws : LeafLaws M) (transfer : (m : Mode) → Transf
   stop_listed : (at : Place × Kind) → IsIn at (by_kind (program_places p)) → alarm_of M o q d at.0 at.1 ≡ true → is_listed c.alarms.items at v ≡ true
   stop_listed at i e =
       let t = in_mapped key_of at h.stops (subst (IsIn at) (sym h.stops_are.keys) i) in
-      let tree : IsStopTree t.0 = one_of_all IsStopTree t.0 h.stops stop_trees t.1 in
+      let tree : IsAlarmTreeOf t.0 = one_of_all IsAlarmTreeOf t.0 h.stops stop_trees t.1 in
       let true_there : leaf_of t.0.tree v ≡ true =
       tree.leads v vector_length ∙ (ap (λ x. alarm_of M o q x t.0.place t.0.kind) (begins h.stops_are.plausible (h.stops_are.valid values valid)) ∙ subst (λ (x : Place × Kind). alarm_of M o q d x.0 x.1 ≡ true) (sym t.2) e) in
       let a = told_here model atoms values valid h.stops h.alarms h.alarms_are stops_below t.0 t.1 true_there in

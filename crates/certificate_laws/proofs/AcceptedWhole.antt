@@ -20,7 +20,7 @@ use Rattle.lifted_analysis.specs.Canon.{IsTreeOf}
 use Rattle.lifted_analysis.specs.Promises.{leaf_at, stop_at, by_kind}
 use Rattle.lifted_analysis.specs.Turns.{loop_places}
 use Rattle.plain_analysis.specs.declared.options.Options.{Options}
-use Rattle.alarm_report.specs.Alarms.{StopTree}
+use Rattle.alarm_report.specs.Alarms.{PlainAlarmTree}
 use Rattle.alarm_report.specs.Invariants.{LeafTree}
 use Rattle.certificate_reader.specs.declared.certificates.Certificate.{Certificate}
 use Rattle.certificate_reader.specs.declared.certificates.CertificateFault.{CertificateFault}
@@ -77,16 +77,16 @@ module _ (transfer : (m : Mode) → TransferAnswers intervals m) (o : Options) (
       (λ t k l. record { place = k; tests = l.tests; leaves = tree_over intervals interval_laws o (transfer o.mode) p program conditions h.leaves_are.plausible (length atoms) t.place t.tree l }) h.places
       (mapped_places place_of h.places (program_places p) h.leaves_are.keys places_at) (recursion_from_All IsLeafTree h.places h.leaves_are.are)
 
-  abbrev IsStopTree : StopTree → Type 0
-  IsStopTree t = IsTreeOf (length atoms) (λ v. stop_at intervals o p conditions h.stops_are.plausible (t.place, t.kind) v) t.tree
+  abbrev IsAlarmTreeOf : PlainAlarmTree → Type 0
+  IsAlarmTreeOf t = IsTreeOf (length atoms) (λ v. stop_at intervals o p conditions h.stops_are.plausible (t.place, t.kind) v) t.tree
 
   stop_trees : AllByRecursion (IsAlarmTree (length atoms)) h.stops
   stop_trees =
-      joined (λ (t : StopTree). IsPlace t.place) IsStopTree (IsAlarmTree (length atoms)) (λ t k l. record { place = k; tests = l.tests }) h.stops
-      (mapped_places (λ (t : StopTree). t.place) h.stops (map (λ (k : Place × Kind). k.0) (by_kind (program_places p)))
-      (sym (map_map (λ (t : StopTree). (t.place, t.kind)) (λ (k : Place × Kind). k.0) h.stops) ∙ ap (map (λ (k : Place × Kind). k.0)) h.stops_are.keys)
+      joined (λ (t : PlainAlarmTree). IsPlace t.place) IsAlarmTreeOf (IsAlarmTree (length atoms)) (λ t k l. record { place = k; tests = l.tests }) h.stops
+      (mapped_places (λ (t : PlainAlarmTree). t.place) h.stops (map (λ (k : Place × Kind). k.0) (by_kind (program_places p)))
+      (sym (map_map (λ (t : PlainAlarmTree). (t.place, t.kind)) (λ (k : Place × Kind). k.0) h.stops) ∙ ap (map (λ (k : Place × Kind). k.0)) h.stops_are.keys)
       (kinds_placed (program_places p) places_at))
-      (recursion_from_All IsStopTree h.stops h.stops_are.are)
+      (recursion_from_All IsAlarmTreeOf h.stops h.stops_are.are)
 
   of_trees : AreOfTrees model atoms p.names h.invariants h.alarms
   of_trees = record {

@@ -17,11 +17,11 @@ use Rattle.leaf_domain.specs.Soundness.{TransferAnswers}
 use Rattle.lifted_analysis.specs.Promises.{by_kind}
 use Rattle.plain_analysis.specs.declared.options.Options.{Options}
 use Rattle.plain_analysis.specs.Places.{is_same_place}
-use Rattle.alarm_report.specs.Alarms.{StopTree}
+use Rattle.alarm_report.specs.Alarms.{PlainAlarmTree}
 use Rattle.alarm_report.specs.Invariants.{LeafTree}
 use Rattle.certificate_reader.specs.Lines.{IsPlace}
 use Rattle.certificate_text.specs.Loops.{trees_at}
-use Rattle.certificate_laws.specs.Laws.{IsFamilyOver, IsLeafTree, IsStopTree, FamilyCertificatesAreReadBack}
+use Rattle.certificate_laws.specs.Laws.{IsFamilyOver, IsLeafTree, IsAlarmTreeOf, FamilyCertificatesAreReadBack}
 use Rattle.certificate_laws.specs.Written.{IsLoopTree, IsAlarmTree}
 use Rattle.certificate_laws.proofs.Intervals.{intervals_are_read_back}
 use Rattle.certificate_laws.proofs.LeavesOver.{tree_over}
@@ -52,7 +52,7 @@ module _ (A : (m : Mode) → TransferAnswers intervals m) (model : Model) (text 
 
   -- ---- the trees of stops
 
-  alarm_trees : (ts : List StopTree) → AllByRecursion (λ (k : Place × Kind). IsPlace k.0) (map (λ (t : StopTree). (t.place, t.kind)) ts) → AllByRecursion (IsStopTree o f plausible) ts → AllByRecursion (IsAlarmTree (length f.atoms)) ts
+  alarm_trees : (ts : List PlainAlarmTree) → AllByRecursion (λ (k : Place × Kind). IsPlace k.0) (map (λ (t : PlainAlarmTree). (t.place, t.kind)) ts) → AllByRecursion (IsAlarmTreeOf o f plausible) ts → AllByRecursion (IsAlarmTree (length f.atoms)) ts
   alarm_trees [] h k = tt
   alarm_trees (t ∷ ts) h k = (record { place = h.0; tests = k.0.tests }, alarm_trees ts h.1 k.1)
 
@@ -69,7 +69,7 @@ families_are_read_back A model text f o loops mode is alarms bytes result over a
     let leaves = loop_trees A model text f over o a.plausible a.places (subst (AllByRecursion IsPlace) (sym a.places_are) placed) (recursion_from_All (IsLeafTree o f a.plausible) a.places a.leaf_trees) in
     let own = IsLoopTree intervals (length f.atoms) (whole f.code).names in
     let kinds = subst (AllByRecursion (λ (k : Place × Kind). IsPlace k.0)) (sym a.stops_are) (kinds_placed (program_places (whole f.code)) placed) in
-    let stops = alarm_trees A model text f over o a.plausible a.stops kinds (recursion_from_All (IsStopTree o f a.plausible) a.stops a.stop_trees) in
+    let stops = alarm_trees A model text f over o a.plausible a.stops kinds (recursion_from_All (IsAlarmTreeOf o f a.plausible) a.stops a.stop_trees) in
     intervals_are_read_back model f.atoms (whole f.code).names mode is alarms bytes result
     (record { named = over.named; distinct = over.distinct; well = over.atoms; lines = told.lines })
     (record {

@@ -14,7 +14,7 @@ use Rattle.cpp_conditions.specs.Propositions.{true_on}
 use Rattle.cpp_conditions.specs.View.{formula}
 use Rattle.decision_tree.specs.Plain.{Plain, leaf, node, leaf_of, HasLeaf}
 use Rattle.decision_tree.proofs.Reached.{reached}
-use Rattle.leaf_domain.specs.Leaves.{LeafValue, LeafMeaning, LeafLaws, Answers, nothing_of}
+use Rattle.leaf_domain.specs.Leaves.{LeafValue, LeafMeaning, LeafLaws, IsLeafLike, nothing_of}
 use Rattle.leaf_domain.specs.Transfer.{assumed, assigned, forgotten}
 use Rattle.leaf_domain.specs.Soundness.{Suits, TransferAnswers}
 use Rattle.leaf_domain.proofs.Answered.{answers_self, answers_then}
@@ -34,7 +34,7 @@ use Rattle.certificate_laws.proofs.Trees.{all_both}
 module _ (M : LeafMeaning) (laws : LeafLaws M) (o : Options) (A : TransferAnswers M o.mode) (u : LeafValue) where
   -- the leaf is of the kind, over the variables of the first
   abbrev IsOver : LeafValue → Type 0
-  IsOver v = Answers M u v
+  IsOver v = IsLeafLike M u v
 
   suits : (e : Term) (v : LeafValue) → IsOver v → IsTermOf u.variables e → Suits M e v
   suits e v a t = record { valid = a.valid; term = subst (λ m. IsTermOf m e) (sym a.same) t }
@@ -98,12 +98,12 @@ either : {X : Type 0} (P : X → Type 0) (b : Bool) (x y : X) → P x → P y �
 either P true x y p q = p
 either P false x y p q = q
 
-at_over : (M : LeafMeaning) → LeafLaws M → (o : Options) → TransferAnswers M o.mode → (p : Whole) (d : LeafValue) (place : Place) → IsProgram p → M.valid d → d.variables ≡ length p.names → Answers M d (at_of M o p d place)
+at_over : (M : LeafMeaning) → LeafLaws M → (o : Options) → TransferAnswers M o.mode → (p : Whole) (d : LeafValue) (place : Place) → IsProgram p → M.valid d → d.variables ≡ length p.names → IsLeafLike M d (at_of M o p d place)
 at_over M laws o A p d place program valid e =
     let code : IsCodeOf d.variables p.body = subst (λ m. IsCodeOf m p.body) (sym e) program.names in
     let self = answers_self d valid in
-    let none : Answers M d (nothing_of d.variables) = record { valid = laws.nothing_valid d.variables (laws.valid_few d valid); same = refl } in
-    found_over M laws o A d (entries_of M o p.body d) place _ (entries_over M laws o A d p.body d self code) (either (λ v. Answers M d v) (is_same_place p.end place) (after_of M o p.body d) (nothing_of d.variables) (after_over M laws o A d p.body d self code) none)
+    let none : IsLeafLike M d (nothing_of d.variables) = record { valid = laws.nothing_valid d.variables (laws.valid_few d valid); same = refl } in
+    found_over M laws o A d (entries_of M o p.body d) place _ (entries_over M laws o A d p.body d self code) (either (λ v. IsLeafLike M d v) (is_same_place p.end place) (after_of M o p.body d) (nothing_of d.variables) (after_over M laws o A d p.body d self code) none)
 
 module _ (M : LeafMeaning) (laws : LeafLaws M) (o : Options) (A : TransferAnswers M o.mode) (p : Whole) (program : IsProgram p) (cs : List Formula) (pl : Formula) where
   begin_over : (v : List Bool) → IsLeafOver M p.names (begin_at M p cs pl v)

@@ -13,7 +13,7 @@ use Rattle.decision_tree.specs.Plain.{Plain, leaf, node, TestsBelow}
 use Rattle.leaf_domain.specs.Leaves.{LeafValue, LeafMeaning}
 use Rattle.alarm_report.specs.declared.alarms.FamilyAlarm.{FamilyAlarm}
 use Rattle.alarm_report.specs.declared.region.Region.{Region}
-use Rattle.alarm_report.specs.Alarms.{StopTree, alarm_in, AreAlarms}
+use Rattle.alarm_report.specs.Alarms.{PlainAlarmTree, alarm_in, AreAlarms}
 use Rattle.alarm_report.specs.Alarms as alarms
 use Rattle.alarm_report.specs.Invariants.{LeafTree, Invariant, AreOfPaths, AreInvariants}
 use Rattle.alarm_report.specs.Invariants as invariants
@@ -113,7 +113,7 @@ module _ (model : Model) (atoms : List Atom) (place : Place) (kind : Kind) (is_p
       (record { place = is_place; over = region_over model atoms turns r h.0.turns region }, regions_written ps xs h.1 rest)
 
 -- the alarms of trees of stops can be written
-pub alarms_written : (model : Model) (atoms : List Atom) (ts : List StopTree) (made : List FamilyAlarm) → AllByRecursion (IsAlarmTree (length atoms)) ts → AreAlarms model atoms ts made → AllByRecursion (IsAlarmWritten atoms) made
+pub alarms_written : (model : Model) (atoms : List Atom) (ts : List PlainAlarmTree) (made : List FamilyAlarm) → AllByRecursion (IsAlarmTree (length atoms)) ts → AreAlarms model atoms ts made → AllByRecursion (IsAlarmWritten atoms) made
 alarms_written model atoms [] _ h alarms.no_tree = tt
 alarms_written model atoms (t ∷ ts) _ h (alarms.tree u us rs more covered rest) =
     all_both (IsAlarmWritten atoms) (map (alarm_in t.place t.kind) rs) more

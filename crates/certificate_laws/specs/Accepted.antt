@@ -11,14 +11,14 @@ use Rattle.cpp_conditions.specs.Numbering.{vector_at}
 use Rattle.cpp_conditions.specs.Propositions.{true_on}
 use Rattle.cpp_conditions.specs.Validity.{plain, IsValid}
 use Rattle.cpp_conditions.specs.View.{formula}
-use Rattle.leaf_domain.specs.Leaves.{LeafValue, LeafMeaning, Alike, Answers, is_nothing_of}
+use Rattle.leaf_domain.specs.Leaves.{LeafValue, LeafMeaning, Alike, IsLeafLike, is_nothing_of}
 use Rattle.lifted_analysis.specs.Canon.{IsTreeOf}
 use Rattle.lifted_analysis.specs.Lines.{set_from}
 use Rattle.lifted_analysis.specs.Promises.{leaf_at, stop_at, by_kind}
 use Rattle.lifted_analysis.specs.Turns.{loop_places}
 use Rattle.plain_analysis.specs.declared.options.Options.{Options}
 use Rattle.alarm_report.specs.declared.alarms.FamilyAlarm.{FamilyAlarm}
-use Rattle.alarm_report.specs.Alarms.{StopTree, AreAlarms}
+use Rattle.alarm_report.specs.Alarms.{PlainAlarmTree, AreAlarms}
 use Rattle.alarm_report.specs.Invariants.{LeafTree, Invariant, AreInvariants}
 use Rattle.certificate_reader.specs.declared.certificates.Certificate.{Certificate}
 use Rattle.certificate_text.specs.Loops.{trees_at}
@@ -41,7 +41,7 @@ AreToldByBounds M = (names : List (List ℕ)) (d v : LeafValue) → IsSome M nam
 
 -- what has a join below it has both leaves below it
 abbrev pub AreBelowJoins : LeafMeaning → Type 0
-AreBelowJoins M = (a b x : LeafValue) → Alike M a b → Answers M a x → M.leq (M.join a b) x ≡ true → (M.leq a x ≡ true) × (M.leq b x ≡ true)
+AreBelowJoins M = (a b x : LeafValue) → Alike M a b → IsLeafLike M a x → M.leq (M.join a b) x ≡ true → (M.leq a x ≡ true) × (M.leq b x ≡ true)
 
 -- ---- analyses and their certificates
 
@@ -55,20 +55,20 @@ module _ (M : LeafMeaning) (o : Options) (model : Model) (p : Whole) (conditions
     pub are : All (λ (t : LeafTree). IsTreeOf (length atoms) (leaf_at M o p conditions plausible t.place) t.tree) places
 
   -- the same of each place and kind
-  pub record AreStops (stops : List StopTree) : Type 0 where
+  pub record AreAlarmTrees (stops : List PlainAlarmTree) : Type 0 where
     pub plausible : Formula
     pub valid : (values : List ℤ) → IsValid (plain model) values → true_on (vector_at atoms values) (formula plausible) ≡ true
-    pub keys : map (λ (t : StopTree). (t.place, t.kind)) stops ≡ by_kind (program_places p)
-    pub are : All (λ (t : StopTree). IsTreeOf (length atoms) (stop_at M o p conditions plausible (t.place, t.kind)) t.tree) stops
+    pub keys : map (λ (t : PlainAlarmTree). (t.place, t.kind)) stops ≡ by_kind (program_places p)
+    pub are : All (λ (t : PlainAlarmTree). IsTreeOf (length atoms) (stop_at M o p conditions plausible (t.place, t.kind)) t.tree) stops
 
   -- the certificate says the invariants of the loops and the alarms of such an analysis
   pub record IsOfAnalysis (c : Certificate) : Type 0 where
     pub places : List LeafTree
-    pub stops : List StopTree
+    pub stops : List PlainAlarmTree
     pub invariants : List Invariant
     pub alarms : List FamilyAlarm
     pub leaves_are : AreLeaves places
-    pub stops_are : AreStops stops
+    pub stops_are : AreAlarmTrees stops
     pub loops_are : AreInvariants model atoms (trees_at (loop_places p.body) places) invariants
     pub alarms_are : AreAlarms model atoms stops alarms
     pub read : IsReadBack M model atoms p.names o.mode invariants alarms c

@@ -13,7 +13,7 @@ use Rattle.interval_leaf.specs.Intervals.{intervals}
 use Rattle.lifted_analysis.specs.Turns.{loop_places}
 use Rattle.plain_analysis.specs.declared.options.Options.{Options}
 use Rattle.alarm_report.specs.declared.alarms.FamilyAlarm.{FamilyAlarm}
-use Rattle.alarm_report.specs.Alarms.{StopTree, AreAlarms}
+use Rattle.alarm_report.specs.Alarms.{PlainAlarmTree, AreAlarms}
 use Rattle.alarm_report.specs.Invariants.{LeafTree, Invariant, AreInvariants}
 use Rattle.certificate_reader.specs.declared.certificates.Certificate.{Certificate}
 use Rattle.certificate_reader.specs.declared.certificates.CertificateFault.{CertificateFault}
@@ -26,18 +26,18 @@ use Rattle.certificate_text.specs.Texts.{certificate_text}
 use Rattle.invariant_certificate.specs.declared.verdicts.Verdict.{Verdict}
 use Rattle.invariant_certificate.specs.declared.verdicts.Verdict.TheVariants.{Yes}
 use Rattle.invariant_certificate.specs.Verdicts.{IsVerdict}
-use Rattle.certificate_laws.specs.Accepted.{AreLeaves, AreStops}
+use Rattle.certificate_laws.specs.Accepted.{AreLeaves, AreAlarmTrees}
 use Rattle.certificate_laws.specs.Laws.{AreNames}
 
 module _ (o : Options) (model : Model) (p : Whole) (conditions : List Formula) (atoms : List Atom) where
   -- the text of the invariants of the loops and of the alarms that an analysis by intervals finds of a family
   pub record IsWrittenOf (bytes : List ℕ) : Type 0 where
     pub places : List LeafTree
-    pub stops : List StopTree
+    pub stops : List PlainAlarmTree
     pub invariants : List Invariant
     pub alarms : List FamilyAlarm
     pub leaves_are : AreLeaves intervals o model p conditions atoms places
-    pub stops_are : AreStops intervals o model p conditions atoms stops
+    pub stops_are : AreAlarmTrees intervals o model p conditions atoms stops
     pub loops_are : AreInvariants model atoms (trees_at (loop_places p.body) places) invariants
     pub alarms_are : AreAlarms model atoms stops alarms
     pub text : bytes ≡ certificate_text intervals model.features p.names o.mode invariants alarms

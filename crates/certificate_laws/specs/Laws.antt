@@ -21,7 +21,7 @@ use Rattle.lifted_analysis.specs.Canon.{IsTreeOf}
 use Rattle.lifted_analysis.specs.Promises.{leaf_at, stop_at, by_kind}
 use Rattle.plain_analysis.specs.declared.options.Options.{Options}
 use Rattle.alarm_report.specs.declared.alarms.FamilyAlarm.{FamilyAlarm}
-use Rattle.alarm_report.specs.Alarms.{StopTree, AreAlarms}
+use Rattle.alarm_report.specs.Alarms.{PlainAlarmTree, AreAlarms}
 use Rattle.alarm_report.specs.Invariants.{LeafTree, Invariant, AreInvariants}
 use Rattle.certificate_reader.specs.declared.certificates.Certificate.{Certificate}
 use Rattle.certificate_reader.specs.declared.certificates.CertificateFault.{CertificateFault}
@@ -65,7 +65,7 @@ pub record AreNames (model : Model) (atoms : List Atom) (names : List (List ℕ)
 -- the invariants of trees of loops, and the alarms of trees of stops
 pub record AreOfTrees (model : Model) (atoms : List Atom) (names : List (List ℕ)) (is : List Invariant) (alarms : List FamilyAlarm) : Type 0 where
   pub loops : List LeafTree
-  pub stops : List StopTree
+  pub stops : List PlainAlarmTree
   pub loop_trees : All (IsLoopTree intervals (length atoms) names) loops
   pub alarm_trees : All (IsAlarmTree (length atoms)) stops
   pub invariants_are : AreInvariants model atoms loops is
@@ -93,18 +93,18 @@ abbrev pub IsLeafTree : Options → Family → Formula → LeafTree → Type 0
 IsLeafTree o f plausible t = IsTreeOf (length f.atoms) (leaf_at intervals o (whole f.code) f.conditions plausible t.place) t.tree
 
 -- the tree is true where that analysis has an alarm of its kind at its place
-abbrev pub IsStopTree : Options → Family → Formula → StopTree → Type 0
-IsStopTree o f plausible t = IsTreeOf (length f.atoms) (stop_at intervals o (whole f.code) f.conditions plausible (t.place, t.kind)) t.tree
+abbrev pub IsAlarmTreeOf : Options → Family → Formula → PlainAlarmTree → Type 0
+IsAlarmTreeOf o f plausible t = IsTreeOf (length f.atoms) (stop_at intervals o (whole f.code) f.conditions plausible (t.place, t.kind)) t.tree
 
 -- the invariants of the loops at these places, and the alarms, of an analysis of a family
 pub record AreOfAnalysis (model : Model) (o : Options) (f : Family) (loops : List Place) (is : List Invariant) (alarms : List FamilyAlarm) : Type 0 where
   pub plausible : Formula
   pub places : List LeafTree
-  pub stops : List StopTree
+  pub stops : List PlainAlarmTree
   pub places_are : map (λ (t : LeafTree). t.place) places ≡ program_places (whole f.code)
-  pub stops_are : map (λ (t : StopTree). (t.place, t.kind)) stops ≡ by_kind (program_places (whole f.code))
+  pub stops_are : map (λ (t : PlainAlarmTree). (t.place, t.kind)) stops ≡ by_kind (program_places (whole f.code))
   pub leaf_trees : All (IsLeafTree o f plausible) places
-  pub stop_trees : All (IsStopTree o f plausible) stops
+  pub stop_trees : All (IsAlarmTreeOf o f plausible) stops
   pub invariants_are : AreInvariants model f.atoms (trees_at loops places) is
   pub alarms_are : AreAlarms model f.atoms stops alarms
 

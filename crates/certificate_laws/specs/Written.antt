@@ -3,7 +3,7 @@ use Rattle.std.specs.Prelude.{◌≡◌, ◌≢◌, ℕ, List, length}
 use Rattle.std.specs.List.{AllByRecursion}
 use Rattle.decision_tree.specs.Plain.{Plain, leaf, node, TestsBelow}
 use Rattle.leaf_domain.specs.Leaves.{LeafValue, LeafMeaning}
-use Rattle.alarm_report.specs.Alarms.{StopTree}
+use Rattle.alarm_report.specs.Alarms.{PlainAlarmTree}
 use Rattle.alarm_report.specs.Invariants.{LeafTree}
 use Rattle.certificate_reader.specs.Lines.{IsPlace}
 
@@ -28,6 +28,6 @@ pub record IsLoopTree (M : LeafMeaning) (count : ℕ) (names : List (List ℕ)) 
   pub leaves : AllLeaves (IsLeafOver M names) t.tree
 
 -- the tree of a stop, with tests of so many atoms
-pub record IsAlarmTree (count : ℕ) (t : StopTree) : Type 0 where
+pub record IsAlarmTree (count : ℕ) (t : PlainAlarmTree) : Type 0 where
   pub place : IsPlace t.place
   pub tests : TestsBelow count t.tree

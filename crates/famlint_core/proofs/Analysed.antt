@@ -22,10 +22,10 @@ use Rattle.lifted_analysis.specs.Canon.{IsTreeOf}
 use Rattle.lifted_analysis.specs.Promises.{variant_at, begin_at, leaf_at, stop_at, by_kind, valued, AreBelow}
 use Rattle.plain_analysis.specs.declared.options.Options.{Options}
 use Rattle.plain_analysis.specs.Promises.{RunsForeseen}
-use Rattle.alarm_report.specs.Alarms.{StopTree, stop_tree}
+use Rattle.alarm_report.specs.Alarms.{PlainAlarmTree, plain_alarm_tree}
 use Rattle.alarm_report.specs.Invariants.{LeafTree, leaf_tree}
 use Rattle.famlint_core.specs.declared.product_line.ProductLine.{ProductLine}
-use Rattle.famlint_core.specs.FamilyReports.{IsStopTree, IsLeafTree}
+use Rattle.famlint_core.specs.FamilyReports.{IsAlarmTreeOf, IsLeafTree}
 use Rattle.famlint_core.specs.Found.{IsFound, AreTested}
 use Rattle.famlint_core.specs.ProductLines.{IsUsableLine}
 
@@ -91,8 +91,8 @@ module _ {L : Type 0} (value : L → LeafValue) (M : LeafMeaning) (o : Options) 
     plausible = p;
     plausible_is = h.plausible;
     valid = h.valid;
-    kinds = map_map stop_tree (λ (t : StopTree). (t.place, t.kind)) f.alarms.items ∙ h.kinds;
-    stops = all_mapped (IsStopTree M o l p) stop_tree f.alarms.items (h.alarms (length l.family.atoms) count_below);
+    kinds = map_map plain_alarm_tree (λ (t : PlainAlarmTree). (t.place, t.kind)) f.alarms.items ∙ h.kinds;
+    stops = all_mapped (IsAlarmTreeOf M o l p) plain_alarm_tree f.alarms.items (h.alarms (length l.family.atoms) count_below);
     places = map_map (leaf_tree value) (λ (t : LeafTree). t.place) f.places.items ∙ h.places;
     leaves = all_mapped (IsLeafTree M o l p) (leaf_tree value) f.places.items (h.trees (length l.family.atoms) count_below);
     runs = h.runs;

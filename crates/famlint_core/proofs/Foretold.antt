@@ -32,7 +32,7 @@ use Rattle.plain_analysis.specs.Promises.{IsForeseen, RunsForeseen}
 use Rattle.c_parser.specs.FamilyReading.{IsFamilyOf}
 use Rattle.c_parser.specs.Variants.{VariantsAreRead, projection, truths_in}
 use Rattle.alarm_report.specs.declared.alarms.FamilyAlarm.{FamilyAlarm}
-use Rattle.alarm_report.specs.Alarms.{StopTree, stop_tree, AreAlarms, AreKeyed, CoversStops, Tells, TellsOnce}
+use Rattle.alarm_report.specs.Alarms.{PlainAlarmTree, plain_alarm_tree, AreAlarms, AreKeyed, CoversStops, Tells, TellsOnce}
 use Rattle.alarm_report.specs.Invariants.{LeafTree, leaf_tree, Invariant, AreInvariants, ArePlaced, CoversPlaces, HasOnce}
 use Rattle.configuration_advice.specs.declared.comparing.Advice.{Advice}
 use Rattle.configuration_advice.specs.Nearest.{differing, are_false, is_quiet, Advises}
@@ -41,11 +41,11 @@ use Rattle.famlint_core.specs.Advised.{HasAlarmAt, IsAdvice, IsGood, trees_of}
 use Rattle.famlint_core.specs.Report.{NeverStops}
 use Rattle.famlint_core.specs.declared.request.FamilyTask.{FamilyTask}
 use Rattle.famlint_core.specs.declared.request.FamilyTask.TheVariants as tasks
-use Rattle.famlint_core.specs.FamilyReports.{IsStopTree, IsLeafTree, IsFamilyDone, family_status}
+use Rattle.famlint_core.specs.FamilyReports.{IsAlarmTreeOf, IsLeafTree, IsFamilyDone, family_status}
 use Rattle.famlint_core.specs.Found.{IsFound, AreGoodAlarms, AreGoodInvariants, IsGoodText}
 use Rattle.famlint_core.specs.Headline.{AreItsAlarms, AreItsInvariants, AreAlarmsOfAll, HasState, Reaches, PromisedOfAll}
 use Rattle.famlint_core.specs.ProductLines.{IsUsableLine}
-use Rattle.famlint_core.proofs.Keys.{all_at, keyed, placed, place_there, stop_tree_there, leaf_tree_there}
+use Rattle.famlint_core.proofs.Keys.{all_at, keyed, placed, place_there, alarm_tree_there, leaf_tree_there}
 use Rattle.famlint_core.proofs.Reached.{alarm_there, leaf_there}
 use Rattle.famlint_core.proofs.Selecting.{is_program_at}
 
@@ -113,9 +113,9 @@ not_fewer : (n m : ℕ) → n < m → m ≤ n → ⊥
 not_fewer n m h k = omega arith
 
 -- a tree of the list that is true at the vector
-record IsTrueAt (trees : List StopTree) (v : List Bool) : Type 0 where
+record IsTrueAt (trees : List PlainAlarmTree) (v : List Bool) : Type 0 where
   index : ℕ
-  one : StopTree
+  one : PlainAlarmTree
   there : slice_get trees index ≡ Some one
   truth : leaf_of one.tree v ≡ true
 
@@ -123,8 +123,8 @@ record IsTrueAt (trees : List StopTree) (v : List Bool) : Type 0 where
 
 module _ {L : Type 0} (value : L → LeafValue) (M : LeafMeaning) (laws : LeafLaws M) (o : Options) (l : ProductLine) (f : FamilyFindings L) (found : IsFound value M o l f)
     (rising : IsRising (program_places (whole l.family.code))) (law : VariantsAreRead) (spelled : IsFamilyOf l.model l.text l.family) where
-  abbrev stops : List StopTree
-  stops = map stop_tree f.alarms.items
+  abbrev stops : List PlainAlarmTree
+  stops = map plain_alarm_tree f.alarms.items
 
   abbrev leaves : List LeafTree
   leaves = map (leaf_tree value) f.places.items
@@ -144,10 +144,10 @@ module _ {L : Type 0} (value : L → LeafValue) (M : LeafMeaning) (laws : LeafLa
   long : (values : List ℤ) → length (vector values) ≡ length l.family.atoms
   long values = length-map l.family.atoms _
 
-  stop_says : (values : List ℤ) → IsValid (plain l.model) values → (n : ℕ) (t : StopTree) → slice_get stops n ≡ Some t
+  stop_says : (values : List ℤ) → IsValid (plain l.model) values → (n : ℕ) (t : PlainAlarmTree) → slice_get stops n ≡ Some t
       → leaf_of t.tree (vector values) ≡ alarm_of M o (program values) (start values) t.place t.kind
   stop_says values valid n t there =
-      (all_at (IsStopTree M o l found.plausible) stops n t found.stops there).leads (vector values) (long values)
+      (all_at (IsAlarmTreeOf M o l found.plausible) stops n t found.stops there).leads (vector values) (long values)
       ∙ ap (λ d. alarm_of M o (program values) d t.place t.kind) (begins values valid)
 
   leaf_says : (values : List ℤ) → IsValid (plain l.model) values → (n : ℕ) (t : LeafTree) → slice_get leaves n ≡ Some t
@@ -168,7 +168,7 @@ module _ {L : Type 0} (value : L → LeafValue) (M : LeafMeaning) (laws : LeafLa
     told_once : (values : List ℤ) → IsValid (plain l.model) values → (place : Place) (kind : Kind)
         → alarm_of M o (program values) (start values) place kind ≡ true → TellsOnce alarms place kind values
     told_once values valid place kind h =
-        let there = stop_tree_there stops (program_places (whole l.family.code)) found.kinds place kind
+        let there = alarm_tree_there stops (program_places (whole l.family.code)) found.kinds place kind
         (alarm_there M o (whole l.family.code) (truths_in l.family values) (start values) place kind h) in
         let t = there.one in
         let at_tree : alarm_of M o (program values) (start values) t.place t.kind ≡ true =
@@ -219,16 +219,16 @@ module _ {L : Type 0} (value : L → LeafValue) (M : LeafMeaning) (laws : LeafLa
 
   -- ---- advice
 
-  false_at : (trees : List StopTree) (v : List Bool) → are_false (trees_of trees) v ≡ true → (n : ℕ) (t : StopTree) → slice_get trees n ≡ Some t → leaf_of t.tree v ≡ false
+  false_at : (trees : List PlainAlarmTree) (v : List Bool) → are_false (trees_of trees) v ≡ true → (n : ℕ) (t : PlainAlarmTree) → slice_get trees n ≡ Some t → leaf_of t.tree v ≡ false
   false_at [] v h n t e = absurd (none-some t e)
-  false_at (x ∷ trees) v h zero t e = let f : x ≡ t = cc in subst (λ (y : StopTree). leaf_of y.tree v ≡ false) f (not_true (leaf_of x.tree v) (both_first _ _ h))
+  false_at (x ∷ trees) v h zero t e = let f : x ≡ t = cc in subst (λ (y : PlainAlarmTree). leaf_of y.tree v ≡ false) f (not_true (leaf_of x.tree v) (both_first _ _ h))
   false_at (x ∷ trees) v h (suc n) t e = false_at trees v (both_second (not (leaf_of x.tree v)) _ h) n t e
 
-  some_by : (x : StopTree) (trees : List StopTree) (v : List Bool) (b : Bool) → leaf_of x.tree v ≡ b → (not b && are_false (trees_of trees) v) ≡ false → (are_false (trees_of trees) v ≡ false → IsTrueAt trees v) → IsTrueAt (x ∷ trees) v
+  some_by : (x : PlainAlarmTree) (trees : List PlainAlarmTree) (v : List Bool) (b : Bool) → leaf_of x.tree v ≡ b → (not b && are_false (trees_of trees) v) ≡ false → (are_false (trees_of trees) v ≡ false → IsTrueAt trees v) → IsTrueAt (x ∷ trees) v
   some_by x trees v true e h k = record { index = 0; one = x; there = refl; truth = e }
   some_by x trees v false e h k = let r = k h in record { index = suc r.index; one = r.one; there = r.there; truth = r.truth }
 
-  some_true : (trees : List StopTree) (v : List Bool) → are_false (trees_of trees) v ≡ false → IsTrueAt trees v
+  some_true : (trees : List PlainAlarmTree) (v : List Bool) → are_false (trees_of trees) v ≡ false → IsTrueAt trees v
   some_true [] v h = absurd (never_false h)
   some_true (x ∷ trees) v h = some_by x trees v (leaf_of x.tree v) refl h (some_true trees v)
 
@@ -238,7 +238,7 @@ module _ {L : Type 0} (value : L → LeafValue) (M : LeafMeaning) (laws : LeafLa
       let listed : Contains (alarms_of M o (program values) (start values)) (record { place = place; kind = kind }) =
       subst (IsForeseen M at (program values).end (alarms_of M o (program values) (start values))) stopped (foreseen values valid inputs n ints) in
       let alarm = listed_is (alarm_of M o (program values) (start values)) (program_places (program values)) (record { place = place; kind = kind }) listed in
-      let there = stop_tree_there stops (program_places (whole l.family.code)) found.kinds place kind
+      let there = alarm_tree_there stops (program_places (whole l.family.code)) found.kinds place kind
       (alarm_there M o (whole l.family.code) (truths_in l.family values) (start values) place kind alarm) in
       let t = there.one in
       let at_tree : alarm_of M o (program values) (start values) t.place t.kind ≡ true =
@@ -317,8 +317,8 @@ module _ {L : Type 0} (value : L → LeafValue) (M : LeafMeaning) (laws : LeafLa
 -- ---- what a call has answered, over the atoms of the product line
 
 pub record AreAlarmsFrom (model : Model) (atoms : List Atom) (trees : List AlarmTree) (alarms : List FamilyAlarm) : Type 0 where
-  pub regions : AreAlarms model atoms (map stop_tree trees) alarms
-  pub cover : AreKeyed (map stop_tree trees) → CoversStops model atoms (map stop_tree trees) alarms
+  pub regions : AreAlarms model atoms (map plain_alarm_tree trees) alarms
+  pub cover : AreKeyed (map plain_alarm_tree trees) → CoversStops model atoms (map plain_alarm_tree trees) alarms
 
 pub record AreInvariantsFrom {L : Type 0} (value : L → LeafValue) (model : Model) (atoms : List Atom) (trees : List (PlaceTree L)) (invariants : List Invariant) : Type 0 where
   pub regions : AreInvariants model atoms (map (leaf_tree value) trees) invariants
@@ -349,12 +349,12 @@ pub record IsAdvised (M : LeafMeaning) (o : Options) (l : ProductLine) (given : 
   pub good : IsGood M o l given advice
 
 pub advised : {L : Type 0} (value : L → LeafValue) (M : LeafMeaning) (laws : LeafLaws M) (o : Options) (l : ProductLine) (f : FamilyFindings L) → IsFound value M o l f → IsUsableLine l → VariantsAreRead
-    → (model : Model) (atoms : List Atom) (trees : List (Plain Bool)) (given : List ℤ) (advice : Option Advice) → model ≡ l.model → atoms ≡ l.family.atoms → trees ≡ trees_of (map stop_tree f.alarms.items)
+    → (model : Model) (atoms : List Atom) (trees : List (Plain Bool)) (given : List ℤ) (advice : Option Advice) → model ≡ l.model → atoms ≡ l.family.atoms → trees ≡ trees_of (map plain_alarm_tree f.alarms.items)
     → Advises model atoms trees given advice → IsAdvised M o l given advice
 advised value M laws o l f found u law model atoms trees given advice same_model same_atoms same_trees h =
-    let here : Advises l.model l.family.atoms (trees_of (map stop_tree f.alarms.items)) given advice =
-    subst (λ m. Advises m l.family.atoms (trees_of (map stop_tree f.alarms.items)) given advice) same_model
-    (subst (λ xs. Advises model xs (trees_of (map stop_tree f.alarms.items)) given advice) same_atoms (subst (λ ts. Advises model atoms ts given advice) same_trees h)) in
+    let here : Advises l.model l.family.atoms (trees_of (map plain_alarm_tree f.alarms.items)) given advice =
+    subst (λ m. Advises m l.family.atoms (trees_of (map plain_alarm_tree f.alarms.items)) given advice) same_model
+    (subst (λ xs. Advises model xs (trees_of (map plain_alarm_tree f.alarms.items)) given advice) same_atoms (subst (λ ts. Advises model atoms ts given advice) same_trees h)) in
     record {
       answer = is_advice value M laws o l f found u.family.program.rising law u.spelled given advice here;
       good = good_advice value M laws o l f found u.family.program.rising law u.spelled given advice here;

@@ -10,7 +10,7 @@ use Rattle.c_tree.specs.Whole.{is_before, IsBeforeAll, IsRising}
 use Rattle.lifted_analysis.specs.Promises.{by_kind}
 use Rattle.plain_analysis.specs.Places.{is_same_place}
 use Rattle.plain_analysis.proofs.Located.{same_place_self}
-use Rattle.alarm_report.specs.Alarms.{StopTree, AreKeyed, HasKey}
+use Rattle.alarm_report.specs.Alarms.{PlainAlarmTree, AreKeyed, HasKey}
 use Rattle.alarm_report.specs.Invariants.{LeafTree, ArePlaced, HasPlace}
 use Rattle.famlint_core.proofs.Reached.{IsIn}
 
@@ -109,13 +109,13 @@ apart_kinds (p ∷ ps) h = (
 
 -- ---- trees with their keys
 
-abbrev pub key : StopTree → Place × Kind
+abbrev pub key : PlainAlarmTree → Place × Kind
 key t = (t.place, t.kind)
 
 same_key : (p q : Place) (a b : Kind) → p ≡ q → a ≡ b → (let x : Place × Kind = (p, a) in x) ≡ (q, b)
 same_key p q a b e f = ap (λ (x : Place). let k : Place × Kind = (x, a) in k) e ∙ ap (λ (x : Kind). let k : Place × Kind = (q, x) in k) f
 
-pub keyed : (ts : List StopTree) (ps : List Place) → map key ts ≡ by_kind ps → IsRising ps → AreKeyed ts
+pub keyed : (ts : List PlainAlarmTree) (ps : List Place) → map key ts ≡ by_kind ps → IsRising ps → AreKeyed ts
 keyed ts ps e h i j t u a b p k =
     one_place (map key ts) i j (key t) (subst AreApart (sym e) (apart_kinds ps h)) (read_map key ts i t a)
     (subst (λ x. slice_get (map key ts) j ≡ Some x) (same_key u.place t.place u.kind t.kind (sym p) (sym k)) (read_map key ts j u b))
@@ -142,8 +142,8 @@ place_there [] x h = absurd h
 place_there (p ∷ ps) x (inl e) = (zero, ap (λ q. Some q) e)
 place_there (p ∷ ps) x (inr h) = let found = place_there ps x h in (suc found.0, found.1)
 
-pub stop_tree_there : (ts : List StopTree) (ps : List Place) → map key ts ≡ by_kind ps → (x : Place) (kind : Kind) → IsIn x ps → HasKey ts x kind
-stop_tree_there ts ps e x kind h =
+pub alarm_tree_there : (ts : List PlainAlarmTree) (ps : List Place) → map key ts ≡ by_kind ps → (x : Place) (kind : Kind) → IsIn x ps → HasKey ts x kind
+alarm_tree_there ts ps e x kind h =
     let found = kind_there ps x kind h in
     let back = read_back key ts found.0 (x, kind) (subst (λ l. slice_get l found.0 ≡ Some (x, kind)) (sym e) found.1) in
     record {

@@ -14,13 +14,13 @@ use Rattle.leaf_domain.specs.Leaves.{LeafMeaning}
 use Rattle.lifted_analysis.specs.Promises.{by_kind}
 use Rattle.plain_analysis.specs.declared.options.Options.{Options}
 use Rattle.plain_analysis.specs.Places.{alarm_of}
-use Rattle.alarm_report.specs.Alarms.{StopTree}
+use Rattle.alarm_report.specs.Alarms.{PlainAlarmTree}
 use Rattle.configuration_advice.specs.declared.comparing.Advice.{Advice}
 use Rattle.configuration_advice.specs.Nearest.{differing, Advises}
 use Rattle.configuration_advice.specs.Texts.{advice_text}
 use Rattle.famlint_core.specs.declared.fault.Done.{Done}
 use Rattle.famlint_core.specs.declared.product_line.ProductLine.{ProductLine}
-use Rattle.famlint_core.specs.FamilyReports.{IsPlausibleFor, IsStopTree}
+use Rattle.famlint_core.specs.FamilyReports.{IsPlausibleFor, IsAlarmTreeOf}
 use Rattle.famlint_core.specs.ProductLines.{IsProgramAt}
 use Rattle.famlint_core.specs.Report.{NeverStops}
 
@@ -29,16 +29,16 @@ abbrev pub advice_status : Option Advice → ℕ
 advice_status None = 1
 advice_status (Some advice) = 0
 
-abbrev pub trees_of : List StopTree → List (Plain Bool)
-trees_of stops = map (λ (t : StopTree). t.tree) stops
+abbrev pub trees_of : List PlainAlarmTree → List (Plain Bool)
+trees_of stops = map (λ (t : PlainAlarmTree). t.tree) stops
 
 -- the nearest valid configuration to the given one at which the one tree of each place and kind is false
 pub record IsAdvice (M : LeafMeaning) (o : Options) (l : ProductLine) (given : List ℤ) (found : Option Advice) : Type 0 where
   pub plausible : Formula
   pub plausible_is : IsPlausibleFor l plausible
-  pub trees : List StopTree
-  pub keys : map (λ (t : StopTree). (t.place, t.kind)) trees ≡ by_kind (program_places (whole l.family.code))
-  pub are : All (IsStopTree M o l plausible) trees
+  pub trees : List PlainAlarmTree
+  pub keys : map (λ (t : PlainAlarmTree). (t.place, t.kind)) trees ≡ by_kind (program_places (whole l.family.code))
+  pub are : All (IsAlarmTreeOf M o l plausible) trees
   pub advises : Advises l.model l.family.atoms (trees_of trees) given found
 
 -- the line of such advice, with its status

@@ -15,7 +15,7 @@ use Rattle.cpp_conditions.specs.Validity.{plain, IsValid}
 use Rattle.cpp_conditions.specs.View.{formula}
 use Rattle.interval_leaf.specs.Intervals.{intervals}
 use Rattle.lifted_analysis.specs.declared.lines.LoopLine.{LoopLine}
-use Rattle.lifted_analysis.specs.Lines.{AreBounds, AreRegionsBelow}
+use Rattle.lifted_analysis.specs.Lines.{AreVariableBounds, AreRegionsBelow}
 use Rattle.plain_analysis.specs.declared.options.Options.{Options}
 use Rattle.setting_texts.specs.Settings.{config_text}
 use Rattle.alarm_report.specs.Texts.{place_text, kind_text}
@@ -47,7 +47,7 @@ IsCertificateFor l bytes (Err other) = ⊥
 -- what is known of a certificate that was read over a product line
 pub record IsUsableCertificate (l : ProductLine) (c : Certificate) : Type 0 where
   pub regions : AreRegionsBelow (length l.family.atoms) c.loops.items
-  pub bounds : All (λ (line : LoopLine). AreBounds (length (whole l.family.code).names) line.bounds) c.loops.items
+  pub bounds : All (λ (line : LoopLine). AreVariableBounds (length (whole l.family.code).names) line.bounds) c.loops.items
   pub alarms : All (λ (line : AlarmLine). IsBelow (length l.family.atoms) (formula line.region)) c.alarms.items
 
 -- ---- answers

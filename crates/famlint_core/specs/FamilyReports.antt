@@ -13,7 +13,7 @@ use Rattle.lifted_analysis.specs.Promises.{leaf_at, stop_at, by_kind}
 use Rattle.lifted_analysis.specs.Turns.{loop_places}
 use Rattle.plain_analysis.specs.declared.options.Options.{Options}
 use Rattle.alarm_report.specs.declared.alarms.FamilyAlarm.{FamilyAlarm}
-use Rattle.alarm_report.specs.Alarms.{StopTree, AreAlarms}
+use Rattle.alarm_report.specs.Alarms.{PlainAlarmTree, AreAlarms}
 use Rattle.alarm_report.specs.Invariants.{LeafTree, Invariant, AreInvariants}
 use Rattle.alarm_report.specs.LeafTexts.{invariant_text}
 use Rattle.alarm_report.specs.Texts.{alarm_text}
@@ -29,8 +29,8 @@ abbrev pub IsPlausibleFor : ProductLine → Formula → Type 0
 IsPlausibleFor l plausible = IsPlausible l.model.constraints l.family.atoms (formula plausible)
 
 -- the tree is the one reduced tree of the function 'the analysis of this vector's variant has an alarm of the kind at the place'
-abbrev pub IsStopTree : LeafMeaning → Options → ProductLine → Formula → StopTree → Type 0
-IsStopTree M o l plausible t = IsTreeOf (length l.family.atoms) (stop_at M o (whole l.family.code) l.family.conditions plausible (t.place, t.kind)) t.tree
+abbrev pub IsAlarmTreeOf : LeafMeaning → Options → ProductLine → Formula → PlainAlarmTree → Type 0
+IsAlarmTreeOf M o l plausible t = IsTreeOf (length l.family.atoms) (stop_at M o (whole l.family.code) l.family.conditions plausible (t.place, t.kind)) t.tree
 
 -- the tree is the one reduced tree of the function 'the leaf at the place in the analysis of this vector's variant'
 abbrev pub IsLeafTree : LeafMeaning → Options → ProductLine → Formula → LeafTree → Type 0
@@ -40,9 +40,9 @@ IsLeafTree M o l plausible t = IsTreeOf (length l.family.atoms) (leaf_at M o (wh
 pub record AreAlarmsOf (M : LeafMeaning) (o : Options) (l : ProductLine) (alarms : List FamilyAlarm) : Type 0 where
   pub plausible : Formula
   pub plausible_is : IsPlausibleFor l plausible
-  pub trees : List StopTree
-  pub keys : map (λ (t : StopTree). (t.place, t.kind)) trees ≡ by_kind (program_places (whole l.family.code))
-  pub are : All (IsStopTree M o l plausible) trees
+  pub trees : List PlainAlarmTree
+  pub keys : map (λ (t : PlainAlarmTree). (t.place, t.kind)) trees ≡ by_kind (program_places (whole l.family.code))
+  pub are : All (IsAlarmTreeOf M o l plausible) trees
   pub regions : AreAlarms l.model l.family.atoms trees alarms
 
 -- the invariants of a product line: the regions of the one tree of each place, in the order of the text, with their leaves

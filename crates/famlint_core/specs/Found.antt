@@ -18,7 +18,7 @@ use Rattle.lifted_analysis.specs.Promises.{variant_at, begin_at, by_kind}
 use Rattle.plain_analysis.specs.declared.options.Options.{Options}
 use Rattle.plain_analysis.specs.Promises.{RunsForeseen}
 use Rattle.alarm_report.specs.declared.alarms.FamilyAlarm.{FamilyAlarm}
-use Rattle.alarm_report.specs.Alarms.{StopTree, stop_tree}
+use Rattle.alarm_report.specs.Alarms.{PlainAlarmTree, plain_alarm_tree}
 use Rattle.alarm_report.specs.Invariants.{LeafTree, Invariant, leaf_tree}
 use Rattle.alarm_report.specs.LeafTexts.{invariant_text}
 use Rattle.alarm_report.specs.Texts.{alarm_text}
@@ -26,7 +26,7 @@ use Rattle.certificate_text.specs.Texts.{certificate_text}
 use Rattle.famlint_core.specs.declared.product_line.ProductLine.{ProductLine}
 use Rattle.famlint_core.specs.declared.request.FamilyTask.{FamilyTask}
 use Rattle.famlint_core.specs.declared.request.FamilyTask.TheVariants.{Alarms, Invariants, Certificate, Sizes}
-use Rattle.famlint_core.specs.FamilyReports.{IsPlausibleFor, IsStopTree, IsLeafTree, AreAlarmsOf, AreInvariantsOf, AreLoopsOf, sizes_text, family_status}
+use Rattle.famlint_core.specs.FamilyReports.{IsPlausibleFor, IsAlarmTreeOf, IsLeafTree, AreAlarmsOf, AreInvariantsOf, AreLoopsOf, sizes_text, family_status}
 use Rattle.famlint_core.specs.Headline.{AreAlarmsOfAll, AreInvariantsOfAll}
 
 -- the trees of stops and of leaves, of one analysis
@@ -34,8 +34,8 @@ pub record IsFound {L : Type 0} (value : L → LeafValue) (M : LeafMeaning) (o :
   pub plausible : Formula
   pub plausible_is : IsPlausibleFor l plausible
   pub valid : (values : List ℤ) → IsValid (plain l.model) values → true_on (vector_at l.family.atoms values) (formula plausible) ≡ true
-  pub kinds : map (λ (t : StopTree). (t.place, t.kind)) (map stop_tree f.alarms.items) ≡ by_kind (program_places (whole l.family.code))
-  pub stops : All (IsStopTree M o l plausible) (map stop_tree f.alarms.items)
+  pub kinds : map (λ (t : PlainAlarmTree). (t.place, t.kind)) (map plain_alarm_tree f.alarms.items) ≡ by_kind (program_places (whole l.family.code))
+  pub stops : All (IsAlarmTreeOf M o l plausible) (map plain_alarm_tree f.alarms.items)
   pub places : map (λ (t : LeafTree). t.place) (map (leaf_tree value) f.places.items) ≡ program_places (whole l.family.code)
   pub leaves : All (IsLeafTree M o l plausible) (map (leaf_tree value) f.places.items)
   pub runs : (v : List Bool)

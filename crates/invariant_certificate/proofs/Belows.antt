@@ -10,12 +10,6 @@ use Rattle.decision_tree.specs.Plain.{Plain, leaf, node, TestsBelow}
 use Rattle.lifted_analysis.specs.declared.lines.LoopLine.{LoopLine}
 use Rattle.lifted_analysis.specs.Lines.{AreRegionsBelow}
 use Rattle.lifted_analysis.specs.Promises.{AreBelow}
-use Rattle.decision_tree.proofs.Reduced.{tests_below}
-use Rattle.tree_unify.specs.Formulas.{IsTreeOf}
-use Rattle.lifted_analysis.proofs.ConditionLemmas.{number_below}
-
-pub tests_under : (count : ℕ) (p : Proposition ℕ) (t : Plain Bool) → IsBelow count p → IsTreeOf p t → TestsBelow count t
-tests_under count p t h w = tests_below count t (λ k x. number_below count k p h (w.tests k x))
 
 pub more_tests : (m n : ℕ) → m ≤ n → (p : Proposition ℕ) → IsBelow m p → IsBelow n p
 more_tests m n le (Const b) h = tt

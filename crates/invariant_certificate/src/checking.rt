@@ -17,7 +17,7 @@ ghost use Rattle.decision_tree.specs.View as tree;
 ghost use Rattle.lifted_analysis.specs.declared.findings.AlarmTree.{AlarmTree};
 ghost use Rattle.lifted_analysis.specs.declared.findings.LoopTree.{LoopTree};
 ghost use Rattle.lifted_analysis.specs.declared.lines.LoopLine.{LoopLine};
-ghost use Rattle.lifted_analysis.specs.Lines.{AreBounds, AreRegionsBelow};
+ghost use Rattle.lifted_analysis.specs.Lines.{AreVariableBounds, AreRegionsBelow};
 ghost use Rattle.certificate_reader.specs.declared.certificates.AlarmLine.{AlarmLine};
 ghost use Rattle.invariant_certificate.specs.declared.verdicts.Verdict.TheVariants.{Yes};
 ghost use Rattle.invariant_certificate.specs.FirstFailing.{IsJudged};
@@ -91,7 +91,7 @@ pub fn check<L: Leaf>(
     requires few { length atoms.now ≤ 64 }
     requires below { All (λ (c : Formula). IsBelow (length atoms.now) (formula c)) conditions.now }
     requires regions { AreRegionsBelow (length atoms.now) certificate.now.loops.items }
-    requires bounds { All (λ (l : LoopLine). AreBounds (length code.now.names) l.bounds) certificate.now.loops.items }
+    requires bounds { All (λ (l : LoopLine). AreVariableBounds (length code.now.names) l.bounds) certificate.now.loops.items }
     requires listed { All (λ (l : AlarmLine). IsBelow (length atoms.now) (formula l.region)) certificate.now.alarms.items }
     ensures verdict { IfOk result (λ verdict. IsVerdict L.meaning model.now
         (whole code.now) conditions.now atoms.now certificate.now verdict) }

@@ -13,7 +13,7 @@ use Rattle.leaf_domain.specs.declared.compare.Compare.TheVariants as compares
 use Rattle.leaf_domain.specs.Ranges.{Within, IsInInt, is_empty_range}
 use Rattle.leaf_domain.specs.Compares.{holds_between, mirror_of, cut_of}
 use Rattle.leaf_domain.specs.Forms.{IsForm}
-use Rattle.leaf_domain.specs.Leaves.{LeafValue, LeafMeaning, LeafLaws, Answers, nothing_of, is_nothing_of}
+use Rattle.leaf_domain.specs.Leaves.{LeafValue, LeafMeaning, LeafLaws, IsLeafLike, nothing_of, is_nothing_of}
 use Rattle.leaf_domain.specs.Transfer.{where_some, variable_of, form_where, met, form_met, compared}
 use Rattle.leaf_domain.proofs.Answered.{answers_self, answers_then}
 use Rattle.leaf_domain.proofs.CutLemmas.{cut_in_int, cut_holds, mirrored}
@@ -62,26 +62,26 @@ module _ (M : LeafMeaning) (laws : LeafLaws M) where
   pub held : (v : LeafValue) (s : List ℤ) → M.holds v s → is_nothing_of v ≡ false
   held v s h = held_content v.variables v.content s h
 
-  pub term_over : (e : Term) (v w : LeafValue) → Answers M v w → IsTermOf v.variables e → IsTermOf w.variables e
+  pub term_over : (e : Term) (v w : LeafValue) → IsLeafLike M v w → IsTermOf v.variables e → IsTermOf w.variables e
   term_over e v w h o = subst (λ (n : ℕ). IsTermOf n e) (sym h.same) o
 
-  forms_over : (f : Option Form) (v w : LeafValue) → Answers M v w → AreForms v.variables f → AreForms w.variables f
+  forms_over : (f : Option Form) (v w : LeafValue) → IsLeafLike M v w → AreForms v.variables f → AreForms w.variables f
   forms_over f v w h o d e = subst (λ (n : ℕ). IsForm n d) (sym h.same) (o d e)
 
-  pub where_answers : (v w : LeafValue) → M.valid v → Answers M v w → Answers M v (where_some v w)
+  pub where_answers : (v w : LeafValue) → M.valid v → IsLeafLike M v w → IsLeafLike M v (where_some v w)
   where_answers v w h k = by_test (is_nothing_of v)
     where
-      by_test : (t : Bool) → Answers M v (if t then v else w)
+      by_test : (t : Bool) → IsLeafLike M v (if t then v else w)
       by_test true = answers_self v h
       by_test false = k
 
   pub where_holds : (v w : LeafValue) (s : List ℤ) → M.holds v s → M.holds w s → M.holds (where_some v w) s
   where_holds v w s h k = rw (held v s h) k
 
-  pub nothing_answers : (v : LeafValue) → M.valid v → Answers M v (nothing_of v.variables)
+  pub nothing_answers : (v : LeafValue) → M.valid v → IsLeafLike M v (nothing_of v.variables)
   nothing_answers v h = record { valid = laws.nothing_valid v.variables (laws.valid_few v h); same = refl }
 
-  met_answers : (e : Term) (r : Range) (v : LeafValue) → M.valid v → IsTermOf v.variables e → IsInInt r → Answers M v (met M (variable_of e) r v)
+  met_answers : (e : Term) (r : Range) (v : LeafValue) → M.valid v → IsTermOf v.variables e → IsInInt r → IsLeafLike M v (met M (variable_of e) r v)
   met_answers (Var x) r v h o i = laws.meet_answers v x r h o i
   met_answers (Number n) r v h o i = answers_self v h
   met_answers (Neg a) r v h o i = answers_self v h
@@ -95,7 +95,7 @@ module _ (M : LeafMeaning) (laws : LeafLaws M) where
   met_holds mode (Not a) r v s n h o i k g w = k
   met_holds mode (Binary op a b) r v s n h o i k g w = k
 
-  form_met_answers : (f : Option Form) (op : Compare) (v : LeafValue) → M.valid v → AreForms v.variables f → Answers M v (form_met M f op v)
+  form_met_answers : (f : Option Form) (op : Compare) (v : LeafValue) → M.valid v → AreForms v.variables f → IsLeafLike M v (form_met M f op v)
   form_met_answers None op v h k = answers_self v h
   form_met_answers (Some d) op v h k = laws.meet_form_answers v d op h (k d refl)
 
@@ -107,22 +107,22 @@ module _ (M : LeafMeaning) (laws : LeafLaws M) where
   abbrev narrowed : Compare → Term → Term → Range → Range → LeafValue → LeafValue
   narrowed op a b p q v = met M (variable_of b) (cut_of (mirror_of op) q p) (met M (variable_of a) (cut_of op p q) (M.best v))
 
-  first_answers : (op : Compare) (a : Term) (p q : Range) (v : LeafValue) → M.valid v → IsTermOf v.variables a → IsInInt p → IsInInt q → Answers M v (met M (variable_of a) (cut_of op p q) (M.best v))
+  first_answers : (op : Compare) (a : Term) (p q : Range) (v : LeafValue) → M.valid v → IsTermOf v.variables a → IsInInt p → IsInInt q → IsLeafLike M v (met M (variable_of a) (cut_of op p q) (M.best v))
   first_answers op a p q v h o i j =
       let t = laws.best_answers v h in
       answers_then v (M.best v) _ t (met_answers a (cut_of op p q) (M.best v) t.valid (term_over a v (M.best v) t o) (cut_in_int op p q i j))
 
-  narrowed_answers : (op : Compare) (a b : Term) (p q : Range) (v : LeafValue) → M.valid v → IsTermOf v.variables a → IsTermOf v.variables b → IsInInt p → IsInInt q → Answers M v (narrowed op a b p q v)
+  narrowed_answers : (op : Compare) (a b : Term) (p q : Range) (v : LeafValue) → M.valid v → IsTermOf v.variables a → IsTermOf v.variables b → IsInInt p → IsInInt q → IsLeafLike M v (narrowed op a b p q v)
   narrowed_answers op a b p q v h oa ob i j =
       let t = first_answers op a p q v h oa i j in
       answers_then v _ _ t (met_answers b (cut_of (mirror_of op) q p) _ t.valid (term_over b v _ t ob) (cut_in_int (mirror_of op) q p j i))
 
-  pub compared_answers : (op : Compare) (a b : Term) (p q : Range) (f : Option Form) (v : LeafValue) → M.valid v → IsTermOf v.variables a → IsTermOf v.variables b → IsInInt p → IsInInt q → AreForms v.variables f → Answers M v (compared M op (variable_of a) (variable_of b) p q f v)
+  pub compared_answers : (op : Compare) (a b : Term) (p q : Range) (f : Option Form) (v : LeafValue) → M.valid v → IsTermOf v.variables a → IsTermOf v.variables b → IsInInt p → IsInInt q → AreForms v.variables f → IsLeafLike M v (compared M op (variable_of a) (variable_of b) p q f v)
   compared_answers op a b p q f v h oa ob i j k =
       let t = narrowed_answers op a b p q v h oa ob i j in
       by_test (is_empty_range p || is_empty_range q || is_empty_range (cut_of op p q)) (answers_then v _ _ t (form_met_answers f op (narrowed op a b p q v) t.valid (forms_over f v _ t k)))
     where
-      by_test : (t : Bool) → Answers M v (form_met M f op (narrowed op a b p q v)) → Answers M v (if t then nothing_of v.variables else form_met M f op (narrowed op a b p q v))
+      by_test : (t : Bool) → IsLeafLike M v (form_met M f op (narrowed op a b p q v)) → IsLeafLike M v (if t then nothing_of v.variables else form_met M f op (narrowed op a b p q v))
       by_test true g = nothing_answers v h
       by_test false g = g
 
@@ -139,13 +139,13 @@ module _ (M : LeafMeaning) (laws : LeafLaws M) where
       cut : Within n (cut_of op p q)
       cut = cut_holds op p q n m wp wq e
 
-      best : Answers M v (M.best v)
+      best : IsLeafLike M v (M.best v)
       best = laws.best_answers v h
 
-      first : Answers M v (met M (variable_of a) (cut_of op p q) (M.best v))
+      first : IsLeafLike M v (met M (variable_of a) (cut_of op p q) (M.best v))
       first = first_answers op a p q v h oa i j
 
-      last : Answers M v (narrowed op a b p q v)
+      last : IsLeafLike M v (narrowed op a b p q v)
       last = narrowed_answers op a b p q v h oa ob i j
 
       first_holds : (M.holds v s → M.holds (M.best v) s) → M.holds (met M (variable_of a) (cut_of op p q) (M.best v)) s

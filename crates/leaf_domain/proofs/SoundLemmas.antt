@@ -13,7 +13,7 @@ use Rattle.leaf_domain.specs.declared.range.Range.{Range}
 use Rattle.leaf_domain.specs.declared.compare.Compare.TheVariants as compares
 use Rattle.leaf_domain.specs.Ranges.{Within, IsInInt, exact, range_at, is_empty_range, whole_int, clip_of, arithmetic_range}
 use Rattle.leaf_domain.specs.Forms.{form_of_term}
-use Rattle.leaf_domain.specs.Leaves.{LeafValue, LeafMeaning, LeafLaws, Answers, nothing_of, is_nothing_of}
+use Rattle.leaf_domain.specs.Leaves.{LeafValue, LeafMeaning, LeafLaws, IsLeafLike, nothing_of, is_nothing_of}
 use Rattle.leaf_domain.specs.Transfer.{transfer, fits_in, form_where, numeric, negated_range, range_of_term, fits_term, assumed, assigned, form_set, forgotten}
 use Rattle.leaf_domain.specs.Soundness.{FormsAreForms, IsWanted, Suits, TransferAnswers}
 use Rattle.leaf_domain.proofs.ArithmeticLemmas.{arithmetic_holds, not_empty}
@@ -180,11 +180,11 @@ module _ (M : LeafMeaning) (laws : LeafLaws M) (mode : Mode) (forms : FormsAreFo
   assumed_holds e true v s n u w g z = (transfer_sound e).true_holds v s n u.valid u.term w g z
   assumed_holds e false v s n u w g z = (transfer_sound e).false_holds v s u.valid u.term w (g ∙ ap gives z)
 
-  pub assumed_answers : (e : Term) (want : Bool) (v : LeafValue) → Suits M e v → Answers M v (assumed M mode e want v)
+  pub assumed_answers : (e : Term) (want : Bool) (v : LeafValue) → Suits M e v → IsLeafLike M v (assumed M mode e want v)
   assumed_answers e true v u = (transfer_sound e).true_answers v u.valid u.term
   assumed_answers e false v u = (transfer_sound e).false_answers v u.valid u.term
 
-  form_set_answers : (x : ℕ) (f : Option Form) (r : Range) (v : LeafValue) → x < v.variables → M.valid v → AreForms v.variables f → IsInInt r → Answers M v (form_set M x f r v)
+  form_set_answers : (x : ℕ) (f : Option Form) (r : Range) (v : LeafValue) → x < v.variables → M.valid v → AreForms v.variables f → IsInInt r → IsLeafLike M v (form_set M x f r v)
   form_set_answers x None r v l h k i = laws.set_answers v x r h l i
   form_set_answers x (Some d) r v l h k i = laws.set_form_answers v x d r h l (k d refl) i
 
@@ -196,10 +196,10 @@ module _ (M : LeafMeaning) (laws : LeafLaws M) (mode : Mode) (forms : FormsAreFo
   set_forms : (e : Term) (v : LeafValue) → Suits M e v → AreForms v.variables (form_where (fits_term M mode e v) (form_of_term e))
   set_forms e v u = forms_where v.variables (fits_term M mode e v) (form_of_term e) (λ d g. forms v.variables e d u.term g)
 
-  assigned_answers : (x : ℕ) (e : Term) (v : LeafValue) → x < v.variables → Suits M e v → Answers M v (assigned M mode x e v)
+  assigned_answers : (x : ℕ) (e : Term) (v : LeafValue) → x < v.variables → Suits M e v → IsLeafLike M v (assigned M mode x e v)
   assigned_answers x e v l u = by_test (is_empty_range (range_of_term M mode e v))
     where
-      by_test : (t : Bool) → Answers M v (if t then nothing_of v.variables else form_set M x (form_where (fits_term M mode e v) (form_of_term e)) (range_of_term M mode e v) v)
+      by_test : (t : Bool) → IsLeafLike M v (if t then nothing_of v.variables else form_set M x (form_where (fits_term M mode e v) (form_of_term e)) (range_of_term M mode e v) v)
       by_test true = nothing_answers M laws v u.valid
       by_test false = form_set_answers x _ (range_of_term M mode e v) v l u.valid (set_forms e v u) ((transfer_sound e).range_in_int v u.valid u.term)
 

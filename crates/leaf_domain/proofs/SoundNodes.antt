@@ -15,7 +15,7 @@ use Rattle.leaf_domain.specs.declared.compare.Compare.TheVariants as compares
 use Rattle.leaf_domain.specs.Ranges.{Within, IsInInt, empty_range}
 use Rattle.leaf_domain.specs.Compares.{holds_between, negation_of}
 use Rattle.leaf_domain.specs.Forms.{form_of_term}
-use Rattle.leaf_domain.specs.Leaves.{LeafValue, LeafMeaning, LeafLaws, Alike, Answers, is_nothing_of}
+use Rattle.leaf_domain.specs.Leaves.{LeafValue, LeafMeaning, LeafLaws, Alike, IsLeafLike, is_nothing_of}
 use Rattle.leaf_domain.specs.Transfer.{Transfer, where_some, range_where_some, range_of_sides, fits_in, logical, variable_of, form_where, compared, comparison, numeric, zero_range, form_less_zero, is_inside, results_in, narrowed_by, raw_of_sum, modular, both, either}
 use Rattle.leaf_domain.specs.Soundness.{FormsAreForms}
 use Rattle.leaf_domain.proofs.CutLemmas.{negation_holds}
@@ -27,8 +27,8 @@ use Rattle.leaf_domain.proofs.Comparisons.{AreForms, forms_where, comes_where, h
 -- what is shown of each node
 pub record Sound (M : LeafMeaning) (mode : Mode) (e : Term) (T : Transfer) : Type 0 where
   pub range_in_int : (v : LeafValue) → M.valid v → IsTermOf v.variables e → IsInInt (T.range v)
-  pub true_answers : (v : LeafValue) → M.valid v → IsTermOf v.variables e → Answers M v (T.when_true v)
-  pub false_answers : (v : LeafValue) → M.valid v → IsTermOf v.variables e → Answers M v (T.when_false v)
+  pub true_answers : (v : LeafValue) → M.valid v → IsTermOf v.variables e → IsLeafLike M v (T.when_true v)
+  pub false_answers : (v : LeafValue) → M.valid v → IsTermOf v.variables e → IsLeafLike M v (T.when_false v)
   pub range_holds : (v : LeafValue) (s : List ℤ) (n : ℤ) → M.valid v → IsTermOf v.variables e → M.holds v s → value_of e s mode ≡ Ok n → Within n (T.range v)
   pub true_holds : (v : LeafValue) (s : List ℤ) (n : ℤ) → M.valid v → IsTermOf v.variables e → M.holds v s → value_of e s mode ≡ Ok n → n ≢ pos 0 → M.holds (T.when_true v) s
   pub false_holds : (v : LeafValue) (s : List ℤ) → M.valid v → IsTermOf v.variables e → M.holds v s → value_of e s mode ≡ Ok (pos 0) → M.holds (T.when_false v) s
@@ -112,7 +112,7 @@ module _ (M : LeafMeaning) (laws : LeafLaws M) (mode : Mode) (forms : FormsAreFo
     form_comes = comes;
   }
     where
-      side_answers : (op : Compare) (v : LeafValue) → M.valid v → IsTermOf v.variables e → Answers M v (compared M op (variable_of e) None (range v) zero_range (form_where (fits v) (form_less_zero (form_of_term e))) v)
+      side_answers : (op : Compare) (v : LeafValue) → M.valid v → IsTermOf v.variables e → IsLeafLike M v (compared M op (variable_of e) None (range v) zero_range (form_where (fits v) (form_less_zero (form_of_term e))) v)
       side_answers op v h o =
           compared_answers M laws op e zero_term (range v) zero_range (form_where (fits v) (form_less_zero (form_of_term e))) v h o zero_over (int v h o) zero_in_int
           (forms_where v.variables (fits v) (form_less_zero (form_of_term e)) (less_zero_forms e v.variables o))
@@ -128,8 +128,8 @@ module _ (M : LeafMeaning) (laws : LeafLaws M) (mode : Mode) (forms : FormsAreFo
   pub logical_sound : (e : Term) (t f : LeafValue → LeafValue)
       → form_of_term e ≡ None
       → ((s : List ℤ) (n : ℤ) → value_of e s mode ≡ Ok n → (n ≡ pos 1) ⊎ (n ≡ pos 0))
-      → ((v : LeafValue) → M.valid v → IsTermOf v.variables e → Answers M v (t v))
-      → ((v : LeafValue) → M.valid v → IsTermOf v.variables e → Answers M v (f v))
+      → ((v : LeafValue) → M.valid v → IsTermOf v.variables e → IsLeafLike M v (t v))
+      → ((v : LeafValue) → M.valid v → IsTermOf v.variables e → IsLeafLike M v (f v))
       → ((v : LeafValue) (s : List ℤ) → M.valid v → IsTermOf v.variables e → M.holds v s → value_of e s mode ≡ Ok (pos 1) → M.holds (t v) s)
       → ((v : LeafValue) (s : List ℤ) → M.valid v → IsTermOf v.variables e → M.holds v s → value_of e s mode ≡ Ok (pos 0) → M.holds (f v) s)
       → Sound M mode e (logical mode t f)
@@ -212,7 +212,7 @@ module _ (M : LeafMeaning) (laws : LeafLaws M) (mode : Mode) (forms : FormsAreFo
       (λ v s h o w g. let t = both_give (value_of a s mode) (value_of b s mode) (λ n m. gives (truth_of (holds_between op n m))) (pos 0) (sym (is s) ∙ g) in
       side_holds (negation_of op) v s t.first t.second h o w t.first_is t.second_is (negation_holds op t.first t.second (truth_zero (holds_between op t.first t.second) t.is)))
     where
-      side_answers : (c : Compare) (v : LeafValue) → M.valid v → IsTermOf v.variables e → Answers M v (compared M c (variable_of a) (variable_of b) (A.range v) (B.range v) (form_where (A.fits v && B.fits v) (form_of_term (Binary Sub a b))) v)
+      side_answers : (c : Compare) (v : LeafValue) → M.valid v → IsTermOf v.variables e → IsLeafLike M v (compared M c (variable_of a) (variable_of b) (A.range v) (B.range v) (form_where (A.fits v && B.fits v) (form_of_term (Binary Sub a b))) v)
       side_answers c v h o =
           let p = over v.variables o in
           compared_answers M laws c a b (A.range v) (B.range v) (form_where (A.fits v && B.fits v) (form_of_term (Binary Sub a b))) v h p.0 p.1 (da.range_in_int v h p.0) (db.range_in_int v h p.1)
@@ -230,7 +230,7 @@ module _ (M : LeafMeaning) (laws : LeafLaws M) (mode : Mode) (forms : FormsAreFo
 
   module _ (e a b : Term) (A B : Transfer) (none : form_of_term e ≡ None) (over : (n : ℕ) → IsTermOf n e → IsTermOf n a × IsTermOf n b) (da : Sound M mode a A) (db : Sound M mode b B) where
     -- the leaf after the left side, and the right side in it
-    next_over : (v w : LeafValue) → Answers M v w → IsTermOf v.variables e → IsTermOf w.variables b
+    next_over : (v w : LeafValue) → IsLeafLike M v w → IsTermOf v.variables e → IsTermOf w.variables b
     next_over v w h o = term_over M laws b v w h (over v.variables o).1
 
     pub both_sound : ((s : List ℤ) (k : ℤ) → value_of e s mode ≡ Ok k → BothTaken (value_of a s mode) (value_of b s mode) k) → Sound M mode e (both M mode A B)
@@ -241,19 +241,19 @@ module _ (M : LeafMeaning) (laws : LeafLaws M) (mode : Mode) (forms : FormsAreFo
         two s k (left_zero p q) = inr q
         two s k (both_taken n m p z q g) = truth_two _ k g
 
-        first : (v : LeafValue) → M.valid v → IsTermOf v.variables e → Answers M v (A.when_true v)
+        first : (v : LeafValue) → M.valid v → IsTermOf v.variables e → IsLeafLike M v (A.when_true v)
         first v h o = da.true_answers v h (over v.variables o).0
 
-        second : (v : LeafValue) → M.valid v → IsTermOf v.variables e → Answers M v (B.when_false (A.when_true v))
+        second : (v : LeafValue) → M.valid v → IsTermOf v.variables e → IsLeafLike M v (B.when_false (A.when_true v))
         second v h o = let t = first v h o in answers_then v _ _ t (db.false_answers _ t.valid (next_over v _ t o))
 
-        true_answers : (v : LeafValue) → M.valid v → IsTermOf v.variables e → Answers M v (B.when_true (A.when_true v))
+        true_answers : (v : LeafValue) → M.valid v → IsTermOf v.variables e → IsLeafLike M v (B.when_true (A.when_true v))
         true_answers v h o = let t = first v h o in answers_then v _ _ t (db.true_answers _ t.valid (next_over v _ t o))
 
         alike : (v : LeafValue) → M.valid v → IsTermOf v.variables e → Alike M (A.when_false v) (B.when_false (A.when_true v))
         alike v h o = let p = da.false_answers v h (over v.variables o).0 in record { first = p.valid; second = (second v h o).valid; same = p.same ∙ sym (second v h o).same }
 
-        false_answers : (v : LeafValue) → M.valid v → IsTermOf v.variables e → Answers M v (M.join (A.when_false v) (B.when_false (A.when_true v)))
+        false_answers : (v : LeafValue) → M.valid v → IsTermOf v.variables e → IsLeafLike M v (M.join (A.when_false v) (B.when_false (A.when_true v)))
         false_answers v h o = answers_then v _ _ (da.false_answers v h (over v.variables o).0) (laws.join_answers _ _ (alike v h o))
 
         true_holds : (v : LeafValue) (s : List ℤ) → M.valid v → IsTermOf v.variables e → M.holds v s → BothTaken (value_of a s mode) (value_of b s mode) (pos 1) → M.holds (B.when_true (A.when_true v)) s
@@ -276,19 +276,19 @@ module _ (M : LeafMeaning) (laws : LeafLaws M) (mode : Mode) (forms : FormsAreFo
         two s k (left_nonzero n p z q) = inl q
         two s k (right_taken m p q g) = truth_two _ k g
 
-        first : (v : LeafValue) → M.valid v → IsTermOf v.variables e → Answers M v (A.when_false v)
+        first : (v : LeafValue) → M.valid v → IsTermOf v.variables e → IsLeafLike M v (A.when_false v)
         first v h o = da.false_answers v h (over v.variables o).0
 
-        second : (v : LeafValue) → M.valid v → IsTermOf v.variables e → Answers M v (B.when_true (A.when_false v))
+        second : (v : LeafValue) → M.valid v → IsTermOf v.variables e → IsLeafLike M v (B.when_true (A.when_false v))
         second v h o = let t = first v h o in answers_then v _ _ t (db.true_answers _ t.valid (next_over v _ t o))
 
-        false_answers : (v : LeafValue) → M.valid v → IsTermOf v.variables e → Answers M v (B.when_false (A.when_false v))
+        false_answers : (v : LeafValue) → M.valid v → IsTermOf v.variables e → IsLeafLike M v (B.when_false (A.when_false v))
         false_answers v h o = let t = first v h o in answers_then v _ _ t (db.false_answers _ t.valid (next_over v _ t o))
 
         alike : (v : LeafValue) → M.valid v → IsTermOf v.variables e → Alike M (A.when_true v) (B.when_true (A.when_false v))
         alike v h o = let p = da.true_answers v h (over v.variables o).0 in record { first = p.valid; second = (second v h o).valid; same = p.same ∙ sym (second v h o).same }
 
-        true_answers : (v : LeafValue) → M.valid v → IsTermOf v.variables e → Answers M v (M.join (A.when_true v) (B.when_true (A.when_false v)))
+        true_answers : (v : LeafValue) → M.valid v → IsTermOf v.variables e → IsLeafLike M v (M.join (A.when_true v) (B.when_true (A.when_false v)))
         true_answers v h o = answers_then v _ _ (da.true_answers v h (over v.variables o).0) (laws.join_answers _ _ (alike v h o))
 
         true_holds : (v : LeafValue) (s : List ℤ) → M.valid v → IsTermOf v.variables e → M.holds v s → EitherTaken (value_of a s mode) (value_of b s mode) (pos 1) → M.holds (M.join (A.when_true v) (B.when_true (A.when_false v))) s

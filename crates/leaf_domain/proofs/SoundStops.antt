@@ -17,7 +17,7 @@ use Rattle.c_tree.specs.Run.{Outcome, Moved, Stopped, with_value, with_input, st
 use Rattle.leaf_domain.specs.declared.range.Range.{Range}
 use Rattle.leaf_domain.specs.Ranges.{Within, is_empty_range}
 use Rattle.leaf_domain.specs.Forms.{form_of_term}
-use Rattle.leaf_domain.specs.Leaves.{LeafValue, LeafMeaning, LeafLaws, Answers}
+use Rattle.leaf_domain.specs.Leaves.{LeafValue, LeafMeaning, LeafLaws, IsLeafLike}
 use Rattle.leaf_domain.specs.Transfer.{transfer, raw_of_term, range_of_term, assumed, is_inside, negated_range}
 use Rattle.leaf_domain.specs.Stops.{has_number, may_leave, stops_at, either_stops, unless_nothing, may_term, is_of_value, may_fail, may_at}
 use Rattle.leaf_domain.specs.Soundness.{FormsAreForms}
@@ -259,7 +259,7 @@ module _ (M : LeafMeaning) (laws : LeafLaws M) (mode : Mode) (forms : FormsAreFo
   unfolding Stops
   and_stops a b sa sb kind v s h o w g = by_cause (both_stops (value_of a s mode) (value_of b s mode) kind g)
     where
-      first : Answers M v (assumed M mode a true v)
+      first : IsLeafLike M v (assumed M mode a true v)
       first = assumed_answers M laws mode forms a true v (record { valid = h; term = o.0 })
 
       by_cause : BothStop (value_of a s mode) (value_of b s mode) kind → MayStop M mode kind (Binary And a b) v
@@ -272,7 +272,7 @@ module _ (M : LeafMeaning) (laws : LeafLaws M) (mode : Mode) (forms : FormsAreFo
   unfolding Stops
   or_stops a b sa sb kind v s h o w g = by_cause (either_stop (value_of a s mode) (value_of b s mode) kind g)
     where
-      first : Answers M v (assumed M mode a false v)
+      first : IsLeafLike M v (assumed M mode a false v)
       first = assumed_answers M laws mode forms a false v (record { valid = h; term = o.0 })
 
       by_cause : EitherStop (value_of a s mode) (value_of b s mode) kind → MayStop M mode kind (Binary Or a b) v

@@ -52,7 +52,7 @@ pub record Alike (M : LeafMeaning) (a b : LeafValue) : Type 0 where
   pub same : a.variables ≡ b.variables
 
 -- a leaf that an operation answers for a leaf
-pub record Answers (M : LeafMeaning) (a r : LeafValue) : Type 0 where
+pub record IsLeafLike (M : LeafMeaning) (a r : LeafValue) : Type 0 where
   pub valid : M.valid r
   pub same : r.variables ≡ a.variables
 
@@ -68,7 +68,7 @@ pub record LeafLaws (M : LeafMeaning) : Type 0 where
   pub some_holds : (a : LeafValue) → M.valid a → is_nothing_of a ≡ false → (s : List ℤ) × M.holds a s
   pub holds_length : (a : LeafValue) (s : List ℤ) → M.valid a → M.holds a s → length s ≡ a.variables
   -- the same stores
-  pub best_answers : (a : LeafValue) → M.valid a → Answers M a (M.best a)
+  pub best_answers : (a : LeafValue) → M.valid a → IsLeafLike M a (M.best a)
   pub best_holds : (a : LeafValue) (s : List ℤ) → M.valid a → (M.holds (M.best a) s) ↔ (M.holds a s)
   pub best_nothing : (n : ℕ) → is_nothing_of (M.best (nothing_of n)) ≡ true
   -- each store of the lesser leaf; Nothing is below all, and alone below Nothing
@@ -76,17 +76,17 @@ pub record LeafLaws (M : LeafMeaning) : Type 0 where
   pub nothing_leq : (n : ℕ) (a : LeafValue) → M.leq (nothing_of n) a ≡ true
   pub leq_nothing : (n : ℕ) (a : LeafValue) → M.leq a (nothing_of n) ≡ true → is_nothing_of a ≡ true
   -- each store of either; Nothing is the unit of `join`, number for number
-  pub join_answers : (a b : LeafValue) → Alike M a b → Answers M a (M.join a b)
+  pub join_answers : (a b : LeafValue) → Alike M a b → IsLeafLike M a (M.join a b)
   pub join_holds : (a b : LeafValue) (s : List ℤ) → Alike M a b → M.holds a s ⊎ M.holds b s → M.holds (M.join a b) s
   pub join_nothing : (a : LeafValue) → M.join (nothing_of a.variables) a ≡ a
   pub nothing_join : (a : LeafValue) → M.join a (nothing_of a.variables) ≡ a
   -- each store of either; a leaf that does not hold the other has fewer bounds of its own after it
-  pub widen_answers : (a b : LeafValue) → Alike M a b → Answers M a (M.widen a b)
+  pub widen_answers : (a b : LeafValue) → Alike M a b → IsLeafLike M a (M.widen a b)
   pub widen_holds : (a b : LeafValue) (s : List ℤ) → Alike M a b → M.holds a s ⊎ M.holds b s → M.holds (M.widen a b) s
   pub widen_grows : (a b : LeafValue) → Alike M a b → is_nothing_of a ≡ false → is_nothing_of b ≡ false → M.leq b a ≡ false → M.own_bounds (M.widen a b) < M.own_bounds a
   pub own_bounds_le : (a : LeafValue) → M.valid a → M.own_bounds a ≤ M.bound_count a.variables
   -- each store of the second, where it is below the first
-  pub narrow_answers : (a b : LeafValue) → Alike M a b → Answers M a (M.narrow a b)
+  pub narrow_answers : (a b : LeafValue) → Alike M a b → IsLeafLike M a (M.narrow a b)
   pub narrow_holds : (a b : LeafValue) (s : List ℤ) → Alike M a b → M.leq b a ≡ true → M.holds b s → M.holds (M.narrow a b) s
   pub narrow_nothing : (n : ℕ) (a : LeafValue) → is_nothing_of (M.narrow (nothing_of n) a) ≡ true
   -- the values at each store
@@ -96,17 +96,17 @@ pub record LeafLaws (M : LeafMeaning) : Type 0 where
   pub form_holds : (a : LeafValue) (f : Form) (r : Range) (s : List ℤ) → M.valid a → IsForm a.variables f → M.holds a s → M.form_range a f ≡ Some r → Within (form_at f s) r
   pub form_nothing : (n : ℕ) (f : Form) (r : Range) → M.form_range (nothing_of n) f ≡ Some r → is_empty_range r ≡ true
   -- each store that meets the range or the comparison with 0
-  pub meet_answers : (a : LeafValue) (x : ℕ) (r : Range) → M.valid a → x < a.variables → IsInInt r → Answers M a (M.meet_range a x r)
+  pub meet_answers : (a : LeafValue) (x : ℕ) (r : Range) → M.valid a → x < a.variables → IsInInt r → IsLeafLike M a (M.meet_range a x r)
   pub meet_holds : (a : LeafValue) (x : ℕ) (r : Range) (s : List ℤ) → M.valid a → x < a.variables → IsInInt r → M.holds a s → Within (at_store s x) r → M.holds (M.meet_range a x r) s
   pub meet_nothing : (n x : ℕ) (r : Range) → M.meet_range (nothing_of n) x r ≡ nothing_of n
-  pub meet_form_answers : (a : LeafValue) (f : Form) (op : Compare) → M.valid a → IsForm a.variables f → Answers M a (M.meet_form a f op)
+  pub meet_form_answers : (a : LeafValue) (f : Form) (op : Compare) → M.valid a → IsForm a.variables f → IsLeafLike M a (M.meet_form a f op)
   pub meet_form_holds : (a : LeafValue) (f : Form) (op : Compare) (s : List ℤ) → M.valid a → IsForm a.variables f → M.holds a s → holds_between op (form_at f s) (pos 0) ≡ true → M.holds (M.meet_form a f op) s
   pub meet_form_nothing : (n : ℕ) (f : Form) (op : Compare) → M.meet_form (nothing_of n) f op ≡ nothing_of n
   -- each store with a variable replaced by a number of the range, or by the value of the form
-  pub set_answers : (a : LeafValue) (x : ℕ) (r : Range) → M.valid a → x < a.variables → IsInInt r → Answers M a (M.set_range a x r)
+  pub set_answers : (a : LeafValue) (x : ℕ) (r : Range) → M.valid a → x < a.variables → IsInInt r → IsLeafLike M a (M.set_range a x r)
   pub set_holds : (a : LeafValue) (x : ℕ) (r : Range) (s : List ℤ) (n : ℤ) → M.valid a → x < a.variables → IsInInt r → M.holds a s → Within n r → M.holds (M.set_range a x r) (slice_set s x n)
   pub set_nothing : (n x : ℕ) (r : Range) → M.set_range (nothing_of n) x r ≡ nothing_of n
-  pub set_form_answers : (a : LeafValue) (x : ℕ) (f : Form) (r : Range) → M.valid a → x < a.variables → IsForm a.variables f → IsInInt r → Answers M a (M.set_form a x f r)
+  pub set_form_answers : (a : LeafValue) (x : ℕ) (f : Form) (r : Range) → M.valid a → x < a.variables → IsForm a.variables f → IsInInt r → IsLeafLike M a (M.set_form a x f r)
   pub set_form_holds : (a : LeafValue) (x : ℕ) (f : Form) (r : Range) (s : List ℤ) → M.valid a → x < a.variables → IsForm a.variables f → IsInInt r → M.holds a s → Within (form_at f s) r → M.holds (M.set_form a x f r) (slice_set s x (form_at f s))
   pub set_form_nothing : (n x : ℕ) (f : Form) (r : Range) → M.set_form (nothing_of n) x f r ≡ nothing_of n
 

@@ -11,7 +11,7 @@ use Rattle.c_tree.specs.Run.{step_of, Stopped}
 use Rattle.leaf_domain.specs.declared.form.Form.{Form}
 use Rattle.leaf_domain.specs.Ranges.{Within, IsInInt, empty_range}
 use Rattle.leaf_domain.specs.Forms.{form_of_term, IsForm}
-use Rattle.leaf_domain.specs.Leaves.{LeafValue, LeafMeaning, Answers, is_nothing_of}
+use Rattle.leaf_domain.specs.Leaves.{LeafValue, LeafMeaning, IsLeafLike, is_nothing_of}
 use Rattle.leaf_domain.specs.Transfer.{range_of_term, fits_term, assumed, assigned, forgotten}
 use Rattle.leaf_domain.specs.Stops.{may_at}
 
@@ -32,9 +32,9 @@ FormsAreForms = (count : ℕ) (e : Term) (f : Form) → IsTermOf count e → for
 -- the transfer functions answer leaves of the kind, and ranges within `int`; on Nothing they answer Nothing
 pub record TransferAnswers (M : LeafMeaning) (mode : Mode) : Type 0 where
   pub range_in_int : (e : Term) (v : LeafValue) → Suits M e v → IsInInt (range_of_term M mode e v)
-  pub assumed_answers : (e : Term) (want : Bool) (v : LeafValue) → Suits M e v → Answers M v (assumed M mode e want v)
-  pub assigned_answers : (x : ℕ) (e : Term) (v : LeafValue) → x < v.variables → Suits M e v → Answers M v (assigned M mode x e v)
-  pub forgotten_answers : (x : ℕ) (v : LeafValue) → x < v.variables → M.valid v → Answers M v (forgotten M x v)
+  pub assumed_answers : (e : Term) (want : Bool) (v : LeafValue) → Suits M e v → IsLeafLike M v (assumed M mode e want v)
+  pub assigned_answers : (x : ℕ) (e : Term) (v : LeafValue) → x < v.variables → Suits M e v → IsLeafLike M v (assigned M mode x e v)
+  pub forgotten_answers : (x : ℕ) (v : LeafValue) → x < v.variables → M.valid v → IsLeafLike M v (forgotten M x v)
   pub range_of_nothing : (e : Term) (v : LeafValue) → is_nothing_of v ≡ true → range_of_term M mode e v ≡ empty_range
   pub assumed_of_nothing : (e : Term) (want : Bool) (v : LeafValue) → is_nothing_of v ≡ true → assumed M mode e want v ≡ v
   pub assigned_of_nothing : (x : ℕ) (e : Term) (v : LeafValue) → is_nothing_of v ≡ true → is_nothing_of (assigned M mode x e v) ≡ true

@@ -17,7 +17,7 @@ use Rattle.leaf_domain.specs.Leaves.{LeafValue, LeafMeaning, LeafLaws, nothing_o
 use Rattle.leaf_domain.specs.Soundness.{TransferAnswers}
 use Rattle.plain_analysis.specs.Statements.{after_of}
 use Rattle.plain_analysis.proofs.Nothing.{after_stays, after_nothing, loop_nothing, nothing_value}
-use Rattle.lifted_analysis.specs.declared.family.Family.{Family}
+use Rattle.lifted_analysis.specs.declared.family_context.FamilyContext.{FamilyContext}
 use Rattle.lifted_analysis.specs.declared.operations.Combination.TheVariants.{Join}
 use Rattle.lifted_analysis.specs.States.{IsFamily, IsState, IsLifted, IsJoint, truths_in}
 use Rattle.lifted_analysis.specs.Steps.{combined_by, after_at, final_at}
@@ -26,7 +26,7 @@ use Rattle.lifted_analysis.proofs.StateLemmas.{if_ok_by, counted, lifted_same, l
 pub front-Skip : (place : Place) → front (variant.Skip place) Done ≡ Skip place Done
 front-Skip place = rw (front_out, outs-Skip) refl
 
-module _ {L : Type 0} (value : L → LeafValue) (family : Family) where
+module _ {L : Type 0} (value : L → LeafValue) (family : FamilyContext) where
   -- the same tree, for a function that changes no leaf of it
   pub shared_made : {E : Type 0} (made : Result (Tree L) E) (forest : List (Plain L)) (f : List Bool → LeafValue → LeafValue) (t : Numbered L)
       → IsState value family forest t → ((v : List Bool) → value (leaf_of (erase t) v) ≡ f v (value (leaf_of (erase t) v)))

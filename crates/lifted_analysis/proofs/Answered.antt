@@ -29,14 +29,14 @@ use Rattle.plain_analysis.specs.Promises.{RunsForeseen}
 use Rattle.plain_analysis.specs.Statements.{Heads, passed, final_heads}
 use Rattle.plain_analysis.proofs.Held.{analysis_foresees}
 use Rattle.tree_unify.specs.Formulas as formulas
-use Rattle.lifted_analysis.specs.declared.entries.Found.{Found}
-use Rattle.lifted_analysis.specs.declared.family.Family.{Family}
+use Rattle.lifted_analysis.specs.declared.entries.Noted.{Noted}
+use Rattle.lifted_analysis.specs.declared.family_context.FamilyContext.{FamilyContext}
 use Rattle.lifted_analysis.specs.declared.findings.AlarmTree.{AlarmTree}
 use Rattle.lifted_analysis.specs.declared.findings.PlaceTree.{PlaceTree}
 use Rattle.lifted_analysis.specs.Canon.{IsTreeOf}
 use Rattle.lifted_analysis.specs.Conditions.{AreTreesOf}
 use Rattle.lifted_analysis.specs.Entries.{visits_at, leaves_in, stops_in, turns_in, leaf_there, stop_there, turn_there, IsReducedTree, AreReduced, AreReducedStops, IsSizedTurn, AreSized, entered_with, HasEntered}
-use Rattle.lifted_analysis.specs.Findings.{HasEnded, HasFound, AreFindings}
+use Rattle.lifted_analysis.specs.Findings.{HasEnded, HasNoted, AreFindings}
 use Rattle.lifted_analysis.specs.Promises.{truths_of, variant_at, begin_at, leaf_at, stop_at, by_kind, valued, Occurs}
 use Rattle.lifted_analysis.specs.Start.{start_at}
 use Rattle.lifted_analysis.specs.declared.entries.TurnTree.{TurnTree}
@@ -102,7 +102,7 @@ leaf_kept (kept n y) x e = let h : y ≡ x = cc in (n, ap (kept n) h)
 leaf_kept (branch n k low high) x e = cc
 
 -- the trees of places, and trees of truths, over so many tests
-module _ (family : Family) (m : ℕ) (small : (k : ℕ) → IsTest family k → k < m) where
+module _ (family : FamilyContext) (m : ℕ) (small : (k : ℕ) → IsTest family k → k < m) where
   below : {A : Type 0} (t : Plain A) → IsReducedTree family t → TestsBelow m t
   below t r = tests_below m t (λ k w. small k (r.tests k w))
 
@@ -135,9 +135,9 @@ twice : {X Y Z : Type 0} (f : X → Y) (g : Y → Z) (xs : List X) → map (λ (
 twice f g [] = refl
 twice f g (x ∷ xs) = ap (λ l. g (f x) ∷ l) (twice f g xs)
 
-module _ {L : Type 0} (value : L → LeafValue) (family : Family) where
+module _ {L : Type 0} (value : L → LeafValue) (family : FamilyContext) where
   -- the last place, after a tree and three alarm trees
-  pub ended_made : {E : Type 0} (made : Result (Unit {0}) E) (a c d z : Found L) (ps : List (PlaceTree L)) (place : Place) (tree : Tree L)
+  pub ended_made : {E : Type 0} (made : Result (Unit {0}) E) (a c d z : Noted L) (ps : List (PlaceTree L)) (place : Place) (tree : Tree L)
       → IsReducedTree family (plain tree) → ps ≡ a.places.items ++ record { place = place; tree = tree } ∷ [] → c.places.items ≡ ps
       → ((v : List Bool) → map (stop_there v) c.alarms.items ≡ map (stop_there v) a.alarms.items ++ ((place, Overflow), false) ∷ [])
       → (AreReducedStops family a.alarms.items → AreReducedStops family c.alarms.items)
@@ -177,13 +177,13 @@ module _ {L : Type 0} (value : L → LeafValue) (family : Family) where
     start_count v = begin_count (leaf_of (plain family.plausible.now) v) (truths_in family.choices.now v)
 
     -- all that is found
-    pub found_made : (K H : List Bool → Heads) (a b z : Found L) (c : Code) (start tree : Plain L) → ((v : List Bool) → K v ≡ H v) → ((v : List Bool) → AreFit M family.options.mode (length p.names) (H v))
+    pub noted_made : (K H : List Bool → Heads) (a b z : Noted L) (c : Code) (start tree : Plain L) → ((v : List Bool) → K v ≡ H v) → ((v : List Bool) → AreFit M family.options.mode (length p.names) (H v))
         → c ≡ p.body → a.places.items ≡ [] → a.alarms.items ≡ [] → a.turns.items ≡ []
         → HasEntered value M family a b (entered_with value M family K c start)
         → ((v : List Bool) → value (leaf_of start v) ≡ start_at M family p.start p.declared v)
         → ((v : List Bool) → value (leaf_of tree v) ≡ passed_with M family K c v (value (leaf_of start v)))
-        → HasEnded value family p.end tree b z → HasFound value M family p H z
-    found_made K H a b z c start tree heads fit body none no_alarms no_turns entered started after ended =
+        → HasEnded value family p.end tree b z → HasNoted value M family p H z
+    noted_made K H a b z c start tree heads fit body none no_alarms no_turns entered started after ended =
         let mode = family.options.mode in
         let d : List Bool → LeafValue = λ v. start_at M family p.start p.declared v in
         let ts : List Bool → List Bool = λ v. truths_in family.choices.now v in
@@ -222,21 +222,21 @@ module _ {L : Type 0} (value : L → LeafValue) (family : Family) where
 -- ---- over formulas
 
 -- start values by formulas
-pub begins : (M : LeafMeaning) (family : Family) (p : Whole) (cs : List Formula) (pl : Formula) → AreTreesOf cs family.choices.now → formulas.IsTreeOf (formula pl) (plain family.plausible.now) → family.variables ≡ length p.names
+pub begins : (M : LeafMeaning) (family : FamilyContext) (p : Whole) (cs : List Formula) (pl : Formula) → AreTreesOf cs family.choices.now → formulas.IsTreeOf (formula pl) (plain family.plausible.now) → family.variables ≡ length p.names
     → (v : List Bool) → start_at M family p.start p.declared v ≡ begin_at M p cs pl v
 begins M family p cs pl trees plausible count v =
     ap (λ (b : Bool). if b then M.start (projected_start (truths_in family.choices.now v) p.declared p.start) else nothing_of family.variables) (plausible.truth v)
     ∙ (ap (λ ts. if true_on v (formula pl) then M.start (projected_start ts p.declared p.start) else nothing_of family.variables) (truths_same cs family.choices.now v trees)
     ∙ ap (λ n. if true_on v (formula pl) then M.start (projected_start (truths_of cs v) p.declared p.start) else nothing_of n) count)
 
-module _ {L : Type 0} (value : L → LeafValue) (exact : (a b : L) → value a ≡ value b → a ≡ b) (M : LeafMeaning) (family : Family) (p : Whole) (cs : List Formula) (pl : Formula)
+module _ {L : Type 0} (value : L → LeafValue) (exact : (a b : L) → value a ≡ value b → a ≡ b) (M : LeafMeaning) (family : FamilyContext) (p : Whole) (cs : List Formula) (pl : Formula)
     (trees : AreTreesOf cs family.choices.now) (plausible : formulas.IsTreeOf (formula pl) (plain family.plausible.now)) (count : family.variables ≡ length p.names) (no_lines : family.lines.now ≡ []) where
   occurs : (k : ℕ) → IsTest family k → Occurs cs pl k
   occurs k (inl w) = inl (plausible.tests k w)
   occurs k (inr (inl w)) = inr (tests_each cs family.choices.now k trees w)
   occurs k (inr (inr w)) = absurd (subst (HasRegionNumber k) no_lines w)
 
-  module _ (f : Found L) (h : HasFound value M family p (λ v. final_heads M family.options) f) where
+  module _ (f : Noted L) (h : HasNoted value M family p (λ v. final_heads M family.options) f) where
     leaves_at : (v : List Bool) → map (leaf_there value v) f.places.items ≡ map (λ (q : Place). (q, leaf_at M family.options p cs pl q v)) (program_places p)
     leaves_at v =
         let H = final_heads M family.options in

@@ -5,12 +5,13 @@ use Rattle.std.specs.List.{All}
 use Rattle.std.proofs.lemmas.List.{take_more}
 use Rattle.std.proofs.lemmas.List.Elements.{All-head, All-tail}
 use Rattle.cpp_conditions.specs.declared.formulas.Formula.{Formula}
-use Rattle.cpp_conditions.specs.Propositions.{Proposition, Const, Test, Not, And, Or, IsBelow, true_on}
+use Rattle.cpp_conditions.specs.Propositions.{IsBelow, true_on}
 use Rattle.cpp_conditions.specs.View.{formula}
 use Rattle.decision_tree.specs.declared.tree.Tree.{Tree}
 use Rattle.decision_tree.specs.Listed.{IsNumberedTree}
 use Rattle.decision_tree.specs.View.{numbered, plain}
-use Rattle.tree_unify.specs.Formulas.{HasNumber, IsTreeOf}
+use Rattle.tree_unify.specs.Formulas.{IsTreeOf}
+use Rattle.tree_unify.proofs.FormulaTrees.{number_below}
 use Rattle.lifted_analysis.specs.Conditions.{AreTreesOf}
 use Rattle.lifted_analysis.specs.Promises.{truths_of, HasNumberIn, Occurs, AreBelow}
 use Rattle.lifted_analysis.specs.States.{truths_in, HasTestIn}
@@ -46,15 +47,6 @@ pub trees_more : (cs : List Formula) (i : ℕ) (c : Formula) (ts us : List (Tree
     → AreTreesOf (take i cs) ts → IsTreeOf (formula c) (plain t) → IsNumberedTree 0 64 (numbered t) → AreTreesOf (take (i + 1) cs) us
 trees_more cs i c ts us t l e f h k n =
     subst (λ x. AreTreesOf x us) (sym (take_more cs i c l ∙ ap (λ x. take i cs ++ x ∷ []) (sym e))) (subst (AreTreesOf (take i cs ++ c ∷ [])) (sym f) (trees_push (take i cs) ts c t h k n))
-
-pub number_below : (m k : ℕ) (p : Proposition ℕ) → IsBelow m p → HasNumber k p → k < m
-number_below m k (Const b) h w = absurd w
-number_below m k (Test n) h w = subst (λ (j : ℕ). j < m) (sym w) h
-number_below m k (Not p) h w = number_below m k p h w
-number_below m k (And p q) h (inl w) = number_below m k p h.0 w
-number_below m k (And p q) h (inr w) = number_below m k q h.1 w
-number_below m k (Or p q) h (inl w) = number_below m k p h.0 w
-number_below m k (Or p q) h (inr w) = number_below m k q h.1 w
 
 numbers_below : (m k : ℕ) (cs : List Formula) → All (λ (c : Formula). IsBelow m (formula c)) cs → HasNumberIn k cs → k < m
 numbers_below m k [] h w = absurd w

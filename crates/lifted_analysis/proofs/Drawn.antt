@@ -8,7 +8,7 @@ use Rattle.c_tree.specs.Tree.{Term, Code, followed, Done, Assign, Input, Assert,
 use Rattle.c_tree.specs.Project.{projected}
 use Rattle.c_tree.specs.Fit.{IsCodeOf}
 use Rattle.c_tree.specs.Whole.{is_before, IsBeforeAll, IsRising}
-use Rattle.leaf_domain.specs.Leaves.{LeafValue, LeafMeaning, LeafLaws, Answers, nothing_of}
+use Rattle.leaf_domain.specs.Leaves.{LeafValue, LeafMeaning, LeafLaws, IsLeafLike, nothing_of}
 use Rattle.leaf_domain.specs.Soundness.{TransferAnswers}
 use Rattle.leaf_domain.specs.Transfer.{assumed, assigned, forgotten}
 use Rattle.leaf_domain.specs.Stops.{may_at}
@@ -198,7 +198,7 @@ module _ (M : LeafMeaning) (mode : Mode) (n : ℕ) where
         (at_nothing rest _ (off (if b then projected ts p else projected ts q)) (nothing_visits rest)))
 
     module _ (H : Heads) (fit : AreFit M mode n H) where
-      keeps_on : (c : Code) (x : LeafValue) → M.valid x → x.variables ≡ n → IsCodeOf n c → Answers M x (passed M mode H c x)
+      keeps_on : (c : Code) (x : LeafValue) → M.valid x → x.variables ≡ n → IsCodeOf n c → IsLeafLike M x (passed M mode H c x)
       keeps_on c x h k f = passed_keeps M laws mode A n H fit c f x h k
 
       -- the entries and loops of a projected list are among the statements of the list

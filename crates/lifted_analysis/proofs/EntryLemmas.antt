@@ -27,9 +27,9 @@ use Rattle.c_tree.specs.declared.tree.Mode.{Mode}
 use Rattle.plain_analysis.specs.Statements.{Heads, passed}
 use Rattle.plain_analysis.proofs.Listed.{front-If, front-While, front-Block}
 use Rattle.tree_unify.specs.Leafwise.{TestsAreOf}
-use Rattle.lifted_analysis.specs.declared.entries.Found.{Found}
+use Rattle.lifted_analysis.specs.declared.entries.Noted.{Noted}
 use Rattle.lifted_analysis.specs.declared.entries.TurnTree.{TurnTree}
-use Rattle.lifted_analysis.specs.declared.family.Family.{Family}
+use Rattle.lifted_analysis.specs.declared.family_context.FamilyContext.{FamilyContext}
 use Rattle.lifted_analysis.specs.Entries.{Visit, visits_at, loop_visit, leaves_in, stops_in, turn_of, turns_in, leaf_there, stop_there, turn_there, IsReducedTree, AreReduced, AreReducedStops, AreSized, HasEntered}
 use Rattle.lifted_analysis.specs.Rules.{heads_where}
 use Rattle.lifted_analysis.specs.States.{IsState, IsSized}
@@ -63,17 +63,17 @@ turns_in-append [] ys = refl
 turns_in-append (x ∷ xs) ys =
     ap (λ l. turn_of x.place x.leaf x.turn ++ l) (turns_in-append xs ys) ∙ sym (append_assoc (turn_of x.place x.leaf x.turn) (turns_in xs) (turns_in ys))
 
-pub state_reduced : {L : Type 0} (value : L → LeafValue) (family : Family) (forest : List (Plain L)) (t : Numbered L) → IsState value family forest t → IsReducedTree family (erase t)
+pub state_reduced : {L : Type 0} (value : L → LeafValue) (family : FamilyContext) (forest : List (Plain L)) (t : Numbered L) → IsState value family forest t → IsReducedTree family (erase t)
 state_reduced value family forest t s = record { reduced = s.tree.reduced; tests = s.tests }
 
 -- a tree of truths that is made of a state leaf by leaf
-pub stops_reduced : {L E : Type 0} (made : Result (Tree Bool) E) (value : L → LeafValue) (family : Family) (forest : List (Plain L)) (truths : List (Plain Bool)) (t : Numbered L)
+pub stops_reduced : {L E : Type 0} (made : Result (Tree Bool) E) (value : L → LeafValue) (family : FamilyContext) (forest : List (Plain L)) (truths : List (Plain Bool)) (t : Numbered L)
     → IsState value family forest t → IfOk made (λ r. TestsAreOf (erase t) (plain r)) → IfOk made (λ r. IsTreeIn 0 64 truths (numbered r)) → IfOk made (λ r. IsReducedTree family (plain r))
 stops_reduced (Ok r) value family forest truths t s q own = record { reduced = own.reduced; tests = λ k h. s.tests k (q.each k h) }
 stops_reduced (Err e) value family forest truths t s q own = tt
 
-module _ {L : Type 0} (value : L → LeafValue) (M : LeafMeaning) (family : Family) where
-  pub none_entered : (a : Found L) → HasEntered value M family a a (λ v. [])
+module _ {L : Type 0} (value : L → LeafValue) (M : LeafMeaning) (family : FamilyContext) where
+  pub none_entered : (a : Noted L) → HasEntered value M family a a (λ v. [])
   none_entered a = record {
     leaves = λ v. sym (append-nil (map (leaf_there value v) a.places.items));
     stops = λ v. sym (append-nil (map (stop_there v) a.alarms.items));
@@ -83,7 +83,7 @@ module _ {L : Type 0} (value : L → LeafValue) (M : LeafMeaning) (family : Fami
     sized = λ h. h;
   }
 
-  pub entered_then : (a b c : Found L) (xs ys zs : List Bool → List Visit) → ((v : List Bool) → xs v ++ ys v ≡ zs v) → HasEntered value M family a b xs → HasEntered value M family b c ys → HasEntered value M family a c zs
+  pub entered_then : (a b c : Noted L) (xs ys zs : List Bool → List Visit) → ((v : List Bool) → xs v ++ ys v ≡ zs v) → HasEntered value M family a b xs → HasEntered value M family b c ys → HasEntered value M family a c zs
   entered_then a b c xs ys zs e h k = record {
     leaves = λ v. onward (map (leaf_there value v) a.places.items) (map (leaf_there value v) b.places.items) (map (leaf_there value v) c.places.items) (leaves_in (xs v)) (leaves_in (ys v)) (leaves_in (zs v)) (h.leaves v) (k.leaves v) (ap leaves_in (sym (e v)) ∙ leaves_in-append (xs v) (ys v));
     stops = λ v. onward (map (stop_there v) a.alarms.items) (map (stop_there v) b.alarms.items) (map (stop_there v) c.alarms.items) (stops_in M family.options.mode (xs v)) (stops_in M family.options.mode (ys v)) (stops_in M family.options.mode (zs v)) (h.stops v) (k.stops v) (ap (stops_in M family.options.mode) (sym (e v)) ∙ stops_in-append M family.options.mode (xs v) (ys v));
@@ -93,7 +93,7 @@ module _ {L : Type 0} (value : L → LeafValue) (M : LeafMeaning) (family : Fami
     sized = λ r. k.sized (h.sized r);
   }
 
-  pub entered_as : (a b : Found L) (xs ys : List Bool → List Visit) → ((v : List Bool) → xs v ≡ ys v) → HasEntered value M family a b xs → HasEntered value M family a b ys
+  pub entered_as : (a b : Noted L) (xs ys : List Bool → List Visit) → ((v : List Bool) → xs v ≡ ys v) → HasEntered value M family a b xs → HasEntered value M family a b ys
   entered_as a b xs ys e h = record {
     leaves = λ v. h.leaves v ∙ ap (λ l. map (leaf_there value v) a.places.items ++ leaves_in l) (e v);
     stops = λ v. h.stops v ∙ ap (λ l. map (stop_there v) a.alarms.items ++ stops_in M family.options.mode l) (e v);
@@ -104,7 +104,7 @@ module _ {L : Type 0} (value : L → LeafValue) (M : LeafMeaning) (family : Fami
   }
 
   -- a statement whose tree and three alarm trees were added
-  pub entered_at_last : {E : Type 0} (made : Result (Unit {0}) E) (a b c d z : Found L) (place : Place) (s : Code) (x : List Bool → LeafValue)
+  pub entered_at_last : {E : Type 0} (made : Result (Unit {0}) E) (a b c d z : Noted L) (place : Place) (s : Code) (x : List Bool → LeafValue)
       → ((v : List Bool) → map (leaf_there value v) b.places.items ≡ map (leaf_there value v) a.places.items ++ (place, x v) ∷ [])
       → (AreReduced family a.places.items → AreReduced family b.places.items) → b.alarms.items ≡ a.alarms.items → b.turns.items ≡ a.turns.items → c.turns.items ≡ b.turns.items → d.turns.items ≡ c.turns.items → z.turns.items ≡ d.turns.items
       → ((v : List Bool) → map (stop_there v) c.alarms.items ≡ map (stop_there v) b.alarms.items ++ ((place, Overflow), may_at M family.options.mode Overflow s (x v)) ∷ [])
@@ -129,7 +129,7 @@ module _ {L : Type 0} (value : L → LeafValue) (M : LeafMeaning) (family : Fami
       }
 
   -- a loop, and the statements in its body, before which it was added
-  pub loop_entered : (a b c z : Found L) (at : ℕ) (place : Place) (s : Code) (x e g : List Bool → LeafValue) (ys : List Bool → List Visit) → at ≡ length a.turns.items
+  pub loop_entered : (a b c z : Noted L) (at : ℕ) (place : Place) (s : Code) (x e g : List Bool → LeafValue) (ys : List Bool → List Visit) → at ≡ length a.turns.items
       → HasEntered value M family a b (λ v. record { place = place; statement = s; leaf = x v; turn = None } ∷ []) → HasEntered value M family b c ys
       → z.places.items ≡ c.places.items → z.alarms.items ≡ c.alarms.items
       → ((v : List Bool) → map (turn_there value v) z.turns.items ≡ insert (map (turn_there value v) c.turns.items) at (record { place = place; entered = e v; head = x v; again = g v }))
@@ -150,7 +150,7 @@ module _ {L : Type 0} (value : L → LeafValue) (M : LeafMeaning) (family : Fami
       }
 
   -- the loops so far come first
-  pub turns_before : (a b : Found L) (xs : List Bool → List Visit) → HasEntered value M family a b xs → length a.turns.items ≤ length b.turns.items
+  pub turns_before : (a b : Noted L) (xs : List Bool → List Visit) → HasEntered value M family a b xs → length a.turns.items ≤ length b.turns.items
   turns_before a b xs h =
       let ts = map (turn_there value []) a.turns.items in
       let e : length (map (turn_there value []) b.turns.items) ≡ length ts + length (turns_in (xs [])) = ap length (h.turns []) ∙ length-append ts (turns_in (xs [])) in
@@ -246,7 +246,7 @@ module _ {L : Type 0} (value : L → LeafValue) where
       ∙ (map_insert (turn_there value v) before i (record { place = place; entered = entered; head = head; again = again })
       ∙ (ap (λ x. insert (map (turn_there value v) before) i (t x (numbered head))) same ∙ ap (λ y. insert (map (turn_there value v) before) i (t e y)) also))
 
-  pub sized_as : (family : Family) (t u : Numbered L) → u ≡ t → IsSized value family t → IsSized value family u
+  pub sized_as : (family : FamilyContext) (t u : Numbered L) → u ≡ t → IsSized value family t → IsSized value family u
   sized_as family t u e s = subst (IsSized value family) (sym e) s
 
 pub all_inserted : {X : Type 0} (P : X → Type 0) (xs ys : List X) (i : ℕ) (x : X) → ys ≡ insert xs i x → P x → All P xs → All P ys

@@ -27,14 +27,14 @@ use Rattle.plain_analysis.proofs.Listed.{after_of-followed, front-If, front-Whil
 use Rattle.plain_analysis.proofs.Nothing.{after_nothing}
 use Rattle.plain_analysis.proofs.Sizes.{size_of}
 use Rattle.tree_unify.proofs.Within.{numbered_leaf}
-use Rattle.lifted_analysis.specs.declared.family.Family.{Family}
+use Rattle.lifted_analysis.specs.declared.family_context.FamilyContext.{FamilyContext}
 use Rattle.lifted_analysis.specs.States.{truths_in, HasTestIn, IsFamily, IsTruth}
 use Rattle.lifted_analysis.specs.Steps.{kept_by, after_at, if_at, final_at}
 
 pub front-Cond : (number : ℕ) (p q : Vec Stmt Global) → front (variant.Cond number p q) Done ≡ Cond number (code p.items) (code q.items) Done
 front-Cond number p q = rw (front_out, outs-Cond) refl
 
-module _ (M : LeafMeaning) (family : Family) where
+module _ (M : LeafMeaning) (family : FamilyContext) where
   -- one more statement of a list
   pub after_at-more : (list : List Stmt) (i : ℕ) (s : Stmt) (v : List Bool) (x : LeafValue) → i < length list → s ≡ get_or list i s
       → after_at M family (code (take (i + 1) list)) v x ≡ after_at M family (front s Done) v (after_at M family (code (take i list)) v x)
@@ -110,15 +110,15 @@ tests_in k [] i c e h = cc
 tests_in k (x ∷ cs) zero c e h = let f : c ≡ x = cc in inl (subst (λ t. HasTest k (plain t)) f h)
 tests_in k (x ∷ cs) (suc i) c e h = inr (tests_in k cs i c e h)
 
-pub choice_truth : (family : Family) (i : ℕ) (c : Tree Bool) → IsFamily family → slice_get family.choices.now i ≡ Some c → IsTruth family (numbered c)
+pub choice_truth : (family : FamilyContext) (i : ℕ) (c : Tree Bool) → IsFamily family → slice_get family.choices.now i ≡ Some c → IsTruth family (numbered c)
 choice_truth family i c f e = record { tree = f.choices i c e; tests = λ k h. inr (inl (tests_in k family.choices.now i c e h)) }
 
-pub never_truth : (family : Family) → IsFamily family → IsTruth family (numbered family.never.now)
+pub never_truth : (family : FamilyContext) → IsFamily family → IsTruth family (numbered family.never.now)
 never_truth family f =
     let n = f.never in
     subst (IsTruth family) (sym n.1) (record { tree = record { reduced = tt; small = tt; numbered = numbered_leaf (kept n.0 false) n.0 false refl }; tests = λ k h. absurd h })
 
-pub never_at : (family : Family) (v : List Bool) → IsFamily family → leaf_of (plain family.never.now) v ≡ false
+pub never_at : (family : FamilyContext) (v : List Bool) → IsFamily family → leaf_of (plain family.never.now) v ≡ false
 never_at family v f = ap (λ t. leaf_of (erase t) v) f.never.1
 
 -- ---- sizes

@@ -17,7 +17,7 @@ use Rattle.plain_analysis.specs.Stated.{IsLoopAt}
 use Rattle.plain_analysis.proofs.FinalsLemmas.{same_numbers, of_eqb, left_of, right_of}
 use Rattle.plain_analysis.proofs.StatedLemmas.{one_loop}
 use Rattle.plain_analysis.proofs.TableLemmas.{found_entry, inserted_entry}
-use Rattle.lifted_analysis.specs.declared.family.Family.{Family}
+use Rattle.lifted_analysis.specs.declared.family_context.FamilyContext.{FamilyContext}
 use Rattle.lifted_analysis.specs.declared.finals.Entered.{Entered}
 use Rattle.lifted_analysis.specs.declared.finals.Finals.{Finals}
 use Rattle.lifted_analysis.specs.Finals.{same_entered, IsFinal, Remembers}
@@ -31,7 +31,7 @@ same_key j k e =
     let number : j.number ≡ k.number = of_eqb j.number k.number (right_of (eqb j.place.line k.place.line && eqb j.place.column k.place.column) (eqb j.number k.number) e) in
     ap (λ p. let i : Entered = record { place = p; number = j.number } in i) place ∙ ap (λ n. let i : Entered = record { place = k.place; number = n } in i) number
 
-module _ {L : Type 0} (value : L → LeafValue) (M : LeafMeaning) (family : Family) where
+module _ {L : Type 0} (value : L → LeafValue) (M : LeafMeaning) (family : FamilyContext) where
   -- ---- the forest grows
 
   final_stays : (a b : List (Plain L)) (k : Entered) (last : Tree L) → Keeps a b → IsFinal value M family a k last → IsFinal value M family b k last

@@ -31,23 +31,24 @@ use Rattle.plain_analysis.specs.Statements.{Heads, passed}
 use Rattle.plain_analysis.proofs.JoinLemmas.{join_answer}
 use Rattle.plain_analysis.proofs.Promised.{runs}
 use Rattle.tree_unify.specs.Formulas as formulas
-use Rattle.lifted_analysis.specs.declared.entries.Found.{Found}
+use Rattle.lifted_analysis.specs.declared.entries.Noted.{Noted}
 use Rattle.lifted_analysis.specs.declared.entries.TurnTree.{TurnTree}
-use Rattle.lifted_analysis.specs.declared.family.Family.{Family}
+use Rattle.lifted_analysis.specs.declared.family_context.FamilyContext.{FamilyContext}
 use Rattle.lifted_analysis.specs.declared.findings.AlarmTree.{AlarmTree}
 use Rattle.lifted_analysis.specs.declared.findings.LoopTree.{LoopTree}
 use Rattle.lifted_analysis.specs.declared.lines.LoopLine.{LoopLine}
 use Rattle.lifted_analysis.specs.Conditions.{AreTreesOf}
 use Rattle.lifted_analysis.specs.Entries.{leaf_there, stop_there, turn_there, IsReducedTree, IsSizedTurn, AreSized}
-use Rattle.lifted_analysis.specs.Findings.{HasFound}
-use Rattle.lifted_analysis.specs.Lines.{AreBounds, AreRegionsBelow, given_heads}
+use Rattle.lifted_analysis.specs.Findings.{HasNoted}
+use Rattle.lifted_analysis.specs.Lines.{AreVariableBounds, AreRegionsBelow, given_heads}
 use Rattle.lifted_analysis.specs.Pass.{heads_at, passed_at, pass_stop_at, turns_at_vector, inductive_at, loop_there, ArePassFindings}
 use Rattle.lifted_analysis.specs.Promises.{truths_of, variant_at, begin_at, by_kind, AreBelow}
 use Rattle.lifted_analysis.specs.Start.{start_at}
 use Rattle.lifted_analysis.specs.States.{truths_in, IsTest, HasRegionNumber}
 use Rattle.lifted_analysis.specs.Turns.{Turn, turns_by, is_inductive, AreInductive, inductive_in, loop_places}
 use Rattle.lifted_analysis.proofs.Answered.{keys_are, leaf_findings, truth_findings, begins}
-use Rattle.lifted_analysis.proofs.ConditionLemmas.{truths_same, tests_each, occurs_below, number_below}
+use Rattle.tree_unify.proofs.FormulaTrees.{number_below}
+use Rattle.lifted_analysis.proofs.ConditionLemmas.{truths_same, tests_each, occurs_below}
 use Rattle.lifted_analysis.proofs.PassedLemmas.{AreFit, given_fit, passed_keeps, suits, within_count}
 
 -- ---- loops that are inductive
@@ -131,7 +132,7 @@ module _ (M : LeafMeaning) (laws : LeafLaws M) (mode : Mode) (A : TransferAnswer
 -- ---- runs
 
 pub pass_runs : (M : LeafMeaning) → LeafLaws M → (mode : Mode) → TransferAnswers M mode → TransferHolds M mode → (p : Whole) → IsProgram p → (cs : List Formula) (pl : Formula) (lines : List LoopLine)
-    → All (λ (l : LoopLine). AreBounds (length p.names) l.bounds) lines → (v : List Bool) → AreInductive M (turns_at_vector M mode p cs pl lines v)
+    → All (λ (l : LoopLine). AreVariableBounds (length p.names) l.bounds) lines → (v : List Bool) → AreInductive M (turns_at_vector M mode p cs pl lines v)
     → RunsForeseenBy M mode (heads_at M p cs pl lines v) (variant_at p cs v) (begin_at M p cs pl v)
 pass_runs M laws mode A T p program cs pl lines bounds v inductive =
     let ts = truths_of cs v in
@@ -139,7 +140,7 @@ pass_runs M laws mode A T p program cs pl lines bounds v inductive =
     let well = IsProgram-projected ts p program in
     let is_valid = valid (true_on v (formula pl)) in
     let counts : d.variables ≡ length p.names = count (true_on v (formula pl)) in
-    let fit = subst (λ m. AreFit M mode m (given_heads M lines v d)) counts (given_fit M laws mode lines v d is_valid (subst (λ m. All (λ (l : LoopLine). AreBounds m l.bounds) lines) (sym counts) bounds)) in
+    let fit = subst (λ m. AreFit M mode m (given_heads M lines v d)) counts (given_fit M laws mode lines v d is_valid (subst (λ m. All (λ (l : LoopLine). AreVariableBounds m l.bounds) lines) (sym counts) bounds)) in
     runs M mode (heads_at M p cs pl lines v) (variant_at p cs v) d well (record { body = IsPlain-projected ts p.body; declared = refl }) laws A T is_valid counts
     (inductive_heads_hold M laws mode A (length p.names) (heads_at M p cs pl lines v) fit (variant_at p cs v).body well.names d is_valid counts inductive)
   where
@@ -160,14 +161,14 @@ regions_below m k [] h w = absurd w
 regions_below m k (l ∷ ls) h (inl w) = number_below m k (formula l.region) (All-head (λ (l : LoopLine). IsBelow m (formula l.region)) l ls h) w
 regions_below m k (l ∷ ls) h (inr w) = regions_below m k ls (All-tail (λ (l : LoopLine). IsBelow m (formula l.region)) l ls h) w
 
-module _ {L : Type 0} (value : L → LeafValue) (exact : (a b : L) → value a ≡ value b → a ≡ b) (M : LeafMeaning) (family : Family) (p : Whole) (cs : List Formula) (pl : Formula) (lines : List LoopLine)
+module _ {L : Type 0} (value : L → LeafValue) (exact : (a b : L) → value a ≡ value b → a ≡ b) (M : LeafMeaning) (family : FamilyContext) (p : Whole) (cs : List Formula) (pl : Formula) (lines : List LoopLine)
     (trees : AreTreesOf cs family.choices.now) (plausible : formulas.IsTreeOf (formula pl) (plain family.plausible.now)) (count : family.variables ≡ length p.names) (same : family.lines.now ≡ lines) where
   small : (m : ℕ) → AreBelow m cs pl → AreRegionsBelow m lines → (k : ℕ) → IsTest family k → k < m
   small m b r k (inl w) = occurs_below m k cs pl b (inl (plausible.tests k w))
   small m b r k (inr (inl w)) = occurs_below m k cs pl b (inr (tests_each cs family.choices.now k trees w))
   small m b r k (inr (inr w)) = regions_below m k lines r (subst (HasRegionNumber k) same w)
 
-  module _ (f : Found L) (loops : Vec LoopTree Global) (h : HasFound value M family p (λ v. given_heads M family.lines.now v (start_at M family p.start p.declared v)) f)
+  module _ (f : Noted L) (loops : Vec LoopTree Global) (h : HasNoted value M family p (λ v. given_heads M family.lines.now v (start_at M family p.start p.declared v)) f)
       (at_loops : (v : List Bool) → map (loop_there v) loops.items ≡ map {B = Place × Bool} (λ (t : TurnTree L). (t.place, is_inductive M (turn_there value v t))) f.turns.items)
       (reduced : All (λ (l : LoopTree). IsReducedTree family (plain l.tree)) loops.items) where
     abbrev mode : Mode
@@ -220,7 +221,7 @@ loop_more {L} value M turns i turn before now tree v l e pushed is so_far =
     ∙ sym (map_more f turns i turn l)))))
 
 -- the same loops by another name
-pub sized_by : {L : Type 0} (value : L → LeafValue) (family : Family) (xs ys : List (TurnTree L)) → xs ≡ ys → AreSized value family ys → AreSized value family xs
+pub sized_by : {L : Type 0} (value : L → LeafValue) (family : FamilyContext) (xs ys : List (TurnTree L)) → xs ≡ ys → AreSized value family ys → AreSized value family xs
 sized_by {L} value family xs ys e h = subst (λ ts. All (λ (t : TurnTree L). IsSizedTurn value family t) ts) (sym e) h
 
 pub loops_by : {L : Type 0} (value : L → LeafValue) (M : LeafMeaning) (loops : List LoopTree) (xs ys : List (TurnTree L)) → xs ≡ ys

@@ -9,7 +9,7 @@ use Rattle.c_tree.specs.Fit.{IsTermOf, IsCodeOf}
 use Rattle.cpp_conditions.specs.Propositions.{true_on}
 use Rattle.cpp_conditions.specs.View.{formula}
 use Rattle.leaf_domain.specs.declared.range.Range.{Range}
-use Rattle.leaf_domain.specs.Leaves.{LeafValue, LeafMeaning, LeafLaws, Answers, nothing_of}
+use Rattle.leaf_domain.specs.Leaves.{LeafValue, LeafMeaning, LeafLaws, IsLeafLike, nothing_of}
 use Rattle.leaf_domain.specs.Ranges.{IsInInt}
 use Rattle.leaf_domain.specs.Soundness.{Suits, TransferAnswers}
 use Rattle.leaf_domain.specs.Transfer.{assumed, assigned, forgotten}
@@ -21,7 +21,7 @@ use Rattle.plain_analysis.proofs.JoinLemmas.{join_answer}
 use Rattle.plain_analysis.proofs.Nothing.{after_nothing}
 use Rattle.plain_analysis.proofs.Recursion.{final_of_code}
 use Rattle.lifted_analysis.specs.declared.lines.LoopLine.{LoopLine}
-use Rattle.lifted_analysis.specs.Lines.{set_from, bounded_by, given_at, given_heads, AreBounds}
+use Rattle.lifted_analysis.specs.Lines.{set_from, bounded_by, given_at, given_heads, AreVariableBounds}
 use Rattle.lifted_analysis.specs.Rules.{no_heads}
 
 -- ---- one list after another
@@ -43,7 +43,7 @@ module _ (M : LeafMeaning) (mode : Mode) (H : Heads) where
 
 -- heads that are leaves of the kind over n variables, where their loops are entered with such leaves
 pub record AreFit (M : LeafMeaning) (mode : Mode) (n : ℕ) (H : Heads) : Type 0 where
-  pub answers : (place : Place) (e : Term) (body : Code) (x : LeafValue) → M.valid x → x.variables ≡ n → IsTermOf n e → IsCodeOf n body → Answers M x (H place e (passed M mode H body) x)
+  pub answers : (place : Place) (e : Term) (body : Code) (x : LeafValue) → M.valid x → x.variables ≡ n → IsTermOf n e → IsCodeOf n body → IsLeafLike M x (H place e (passed M mode H body) x)
 
 module _ (M : LeafMeaning) (laws : LeafLaws M) (mode : Mode) (A : TransferAnswers M mode) (n : ℕ) (H : Heads) (fit : AreFit M mode n H) where
   pub suits : (e : Term) (v : LeafValue) → M.valid v → v.variables ≡ n → IsTermOf n e → Suits M e v
@@ -52,7 +52,7 @@ module _ (M : LeafMeaning) (laws : LeafLaws M) (mode : Mode) (A : TransferAnswer
   pub within_count : (x : ℕ) (v : LeafValue) → v.variables ≡ n → x < n → x < v.variables
   within_count x v c l = subst (λ m. x < m) (sym c) l
 
-  pub passed_keeps : (c : Code) → IsCodeOf n c → (x : LeafValue) → M.valid x → x.variables ≡ n → Answers M x (passed M mode H c x)
+  pub passed_keeps : (c : Code) → IsCodeOf n c → (x : LeafValue) → M.valid x → x.variables ≡ n → IsLeafLike M x (passed M mode H c x)
   passed_keeps Done over x h c = answers_self x h
   passed_keeps (Assign place y e rest) over x h c =
       let a = A.assigned_answers y e x (within_count y x c over.0) (suits e x h c over.1) in
@@ -120,29 +120,29 @@ final_fit M laws o A n = record {
 }
 
 module _ (M : LeafMeaning) (laws : LeafLaws M) where
-  set_answers : (x : ℕ) (rs : List Range) (d : LeafValue) → M.valid d → x + length rs ≡ d.variables → All IsInInt rs → Answers M d (set_from M x rs d)
+  set_answers : (x : ℕ) (rs : List Range) (d : LeafValue) → M.valid d → x + length rs ≡ d.variables → All IsInInt rs → IsLeafLike M d (set_from M x rs d)
   set_answers x [] d h e i = answers_self d h
   set_answers x (r ∷ rs) d h e i =
       let a = laws.set_answers d x r h (omega arith) (All-head IsInInt r rs i) in
       let f : x + 1 + length rs ≡ (M.set_range d x r).variables = let g : (M.set_range d x r).variables ≡ d.variables = a.same in omega arith in
       answers_then d _ _ a (set_answers (x + 1) rs (M.set_range d x r) a.valid f (All-tail IsInInt r rs i))
 
-  bounded_answers : (b : Option (List Range)) (d : LeafValue) → M.valid d → AreBounds d.variables b → Answers M d (bounded_by M b d)
+  bounded_answers : (b : Option (List Range)) (d : LeafValue) → M.valid d → AreVariableBounds d.variables b → IsLeafLike M d (bounded_by M b d)
   bounded_answers None d h i = record { valid = laws.nothing_valid d.variables (laws.valid_few d h); same = refl }
   bounded_answers (Some rs) d h i = let e : 0 + length rs ≡ d.variables = omega (arith, i.0) in set_answers 0 rs d h e i.1
 
-  either_answers : (b : Bool) (d x y : LeafValue) → Answers M d x → Answers M d y → Answers M d (if b then x else y)
+  either_answers : (b : Bool) (d x y : LeafValue) → IsLeafLike M d x → IsLeafLike M d y → IsLeafLike M d (if b then x else y)
   either_answers true d x y h k = h
   either_answers false d x y h k = k
 
-  pub given_answers : (lines : List LoopLine) (v : List Bool) (d : LeafValue) (q : Place) → M.valid d → All (λ (l : LoopLine). AreBounds d.variables l.bounds) lines → Answers M d (given_at M lines v d q)
+  pub given_answers : (lines : List LoopLine) (v : List Bool) (d : LeafValue) (q : Place) → M.valid d → All (λ (l : LoopLine). AreVariableBounds d.variables l.bounds) lines → IsLeafLike M d (given_at M lines v d q)
   given_answers [] v d q h i = record { valid = laws.nothing_valid d.variables (laws.valid_few d h); same = refl }
   given_answers (l ∷ ls) v d q h i =
       either_answers (is_same_place l.place q && true_on v (formula l.region)) d (bounded_by M l.bounds d) (given_at M ls v d q)
-      (bounded_answers l.bounds d h (All-head (λ (l : LoopLine). AreBounds d.variables l.bounds) l ls i))
-      (given_answers ls v d q h (All-tail (λ (l : LoopLine). AreBounds d.variables l.bounds) l ls i))
+      (bounded_answers l.bounds d h (All-head (λ (l : LoopLine). AreVariableBounds d.variables l.bounds) l ls i))
+      (given_answers ls v d q h (All-tail (λ (l : LoopLine). AreVariableBounds d.variables l.bounds) l ls i))
 
-  pub given_fit : (mode : Mode) (lines : List LoopLine) (v : List Bool) (d : LeafValue) → M.valid d → All (λ (l : LoopLine). AreBounds d.variables l.bounds) lines → AreFit M mode d.variables (given_heads M lines v d)
+  pub given_fit : (mode : Mode) (lines : List LoopLine) (v : List Bool) (d : LeafValue) → M.valid d → All (λ (l : LoopLine). AreVariableBounds d.variables l.bounds) lines → AreFit M mode d.variables (given_heads M lines v d)
   given_fit mode lines v d h i = record {
     answers = λ place e body x g c t k. let a = given_answers lines v d place h i in record { valid = a.valid; same = a.same ∙ sym c };
   }

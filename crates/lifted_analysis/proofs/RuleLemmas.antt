@@ -14,7 +14,7 @@ use Rattle.leaf_domain.specs.Leaves.{LeafValue, LeafMeaning, LeafLaws}
 use Rattle.leaf_domain.specs.Ranges.{IsInInt}
 use Rattle.plain_analysis.specs.Places.{is_same_place}
 use Rattle.tree_unify.specs.Formulas.{HasNumber}
-use Rattle.lifted_analysis.specs.declared.family.Family.{Family}
+use Rattle.lifted_analysis.specs.declared.family_context.FamilyContext.{FamilyContext}
 use Rattle.lifted_analysis.specs.declared.lines.LoopLine.{LoopLine}
 use Rattle.leaf_domain.specs.declared.range.Range.{Range}
 use Rattle.lifted_analysis.specs.Lines.{set_from, bounded_by, given_at}
@@ -27,7 +27,7 @@ region_in k [] i l h e w = absurd (omega arith)
 region_in k (x ∷ ls) zero l h e w = inl (subst (λ (y : LoopLine). HasNumber k (formula y.region)) e w)
 region_in k (x ∷ ls) (suc i) l h e w = inr (region_in k ls i l (omega arith) e w)
 
-module _ {L : Type 0} (value : L → LeafValue) (M : LeafMeaning) (family : Family) where
+module _ {L : Type 0} (value : L → LeafValue) (M : LeafMeaning) (family : FamilyContext) where
   -- a line at another place
   pub line_elsewhere : {E : Type 0} (made : Result (Tree L) E) (forest : List (Plain L)) (b : Bool) (g : List Bool → Bool) (f : LeafValue → LeafValue) (t : Plain L) (u : Numbered L) → b ≡ false → IsState value family forest u
       → IfOk made (λ r. numbered r ≡ u) → IfOk made (λ r. IsJoint value family forest forest (λ v x y. if b && g v then f x else y) t (erase u) (numbered r))

@@ -15,12 +15,12 @@ use Rattle.decision_tree.proofs.Numbers.{numbered_tree}
 use Rattle.decision_tree.proofs.Reached.{reached}
 use Rattle.leaf_domain.specs.Leaves.{LeafValue, LeafMeaning, LeafLaws, nothing_of}
 use Rattle.tree_unify.specs.Leafwise.{IsMapped, IsUnified, LeavesComeFrom, TestsAreOf, TestsAreOfEither}
-use Rattle.lifted_analysis.specs.declared.family.Family.{Family}
+use Rattle.lifted_analysis.specs.declared.family_context.FamilyContext.{FamilyContext}
 use Rattle.lifted_analysis.specs.Start.{IsTreeAt, start_at}
 use Rattle.lifted_analysis.specs.States.{IsState, IsLifted, IsTruth, truths_in}
 use Rattle.lifted_analysis.specs.Steps.{kept_by}
 
-module _ (family : Family) where
+module _ (family : FamilyContext) where
   pub tree_made : {A B C : Type 0} (P : A → B → C → Type 0) (op : A → B → C) (f : List Bool → A) (g : List Bool → B) (forest : List (Plain C)) (t : Tree A) (u : Tree B) (r : Tree C)
       → ((a : A) (b : B) (c : C) → P a b c → c ≡ op a b) → IsTreeAt family f t → IsTreeAt family g u
       → IsUnified P (plain t) (plain u) (plain r) → TestsAreOfEither (plain t) (plain u) (plain r) → IsTreeIn 0 64 forest (numbered r)
@@ -62,7 +62,7 @@ module _ (family : Family) where
         subst (All IsInt) e (ints-start ts declared family.variables 0 start ds ints),
       )
 
-module _ {L : Type 0} (value : L → LeafValue) (M : LeafMeaning) (laws : LeafLaws M) (family : Family) where
+module _ {L : Type 0} (value : L → LeafValue) (M : LeafMeaning) (laws : LeafLaws M) (family : FamilyContext) where
   -- the tree of their leaves
   pub begun : (start : List ℤ) (declared : List Declared) (t : Tree (List ℤ)) (P : List ℤ → L → Type 0) (forest : List (Plain L)) (r : Tree L) → ((a : List ℤ) (b : L) → P a b → value b ≡ M.start a)
       → IsTreeAt family (λ v. projected_start (truths_in family.choices.now v) declared start) t → length start ≡ family.variables → All IsInt start → All (IsDeclaredOf family.variables) declared

@@ -14,7 +14,7 @@ use Rattle.leaf_domain.specs.Leaves.{LeafValue, LeafMeaning, LeafLaws, nothing_o
 use Rattle.leaf_domain.specs.Soundness.{TransferAnswers}
 use Rattle.plain_analysis.proofs.Nothing.{nothing_value, after_stays}
 use Rattle.tree_unify.specs.Leafwise.{IsMapped, IsUnified, LeavesComeFrom, LeavesComeFromBoth, TestsAreOf, TestsAreOfEither}
-use Rattle.lifted_analysis.specs.declared.family.Family.{Family}
+use Rattle.lifted_analysis.specs.declared.family_context.FamilyContext.{FamilyContext}
 use Rattle.lifted_analysis.specs.declared.operations.Combination.TheVariants.{Join}
 use Rattle.lifted_analysis.specs.declared.operations.Step.{Step}
 use Rattle.lifted_analysis.specs.declared.operations.Step.TheVariants as step
@@ -54,7 +54,7 @@ pub kept_is : (want b : Bool) (x : LeafValue) → b ≡ want → x ≡ kept_by w
 kept_is true b x e = ap (λ (c : Bool). if c then x else nothing_of x.variables) (sym e)
 kept_is false b x e = ap (λ (c : Bool). if c then nothing_of x.variables else x) (sym e)
 
-module _ {L : Type 0} (value : L → LeafValue) (family : Family) where
+module _ {L : Type 0} (value : L → LeafValue) (family : FamilyContext) where
   pub state_stays : (before after : List (Plain L)) (t : Numbered L) → Keeps before after → IsState value family before t → IsState value family after t
   state_stays before after t k s = record { tree = tree_stays 0 64 before after t k s.tree; tests = s.tests; leaves = s.leaves }
 

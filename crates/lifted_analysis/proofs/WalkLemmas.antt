@@ -23,13 +23,13 @@ use Rattle.leaf_domain.specs.Soundness.{TransferAnswers}
 use Rattle.leaf_domain.specs.Transfer.{assumed}
 use Rattle.plain_analysis.specs.Statements.{Heads, passed}
 use Rattle.plain_analysis.proofs.Listed.{front-If, front-While, front-Block}
-use Rattle.lifted_analysis.specs.declared.family.Family.{Family}
+use Rattle.lifted_analysis.specs.declared.family_context.FamilyContext.{FamilyContext}
 use Rattle.lifted_analysis.specs.declared.finals.Finals.{Finals}
 use Rattle.lifted_analysis.specs.declared.rule.Rule.{Rule}
 use Rattle.lifted_analysis.specs.declared.rule.Rule.TheVariants as rule
 use Rattle.lifted_analysis.specs.Finals.{Remembers}
 use Rattle.lifted_analysis.specs.declared.lines.LoopLine.{LoopLine}
-use Rattle.lifted_analysis.specs.Lines.{AreBounds, given_heads}
+use Rattle.lifted_analysis.specs.Lines.{AreVariableBounds, given_heads}
 use Rattle.lifted_analysis.specs.Rules.{no_heads, heads_where, IsRuleOf, chosen_heads, ruled_heads, passed_with, sides_with, head_with, IsRuled, Knows}
 use Rattle.lifted_analysis.specs.States.{IsState, IsLifted, IsJoint, truths_in}
 use Rattle.lifted_analysis.specs.Steps.{kept_by}
@@ -37,7 +37,7 @@ use Rattle.lifted_analysis.proofs.FinalsLemmas.{memory_stays}
 use Rattle.lifted_analysis.proofs.PassedLemmas.{AreFit, final_fit, given_fit, passed-followed, passed_nothing}
 use Rattle.lifted_analysis.proofs.StateLemmas.{state_stays, state_as, counted, lifted_as}
 
-module _ (M : LeafMeaning) (family : Family) (H : List Bool → Heads) where
+module _ (M : LeafMeaning) (family : FamilyContext) (H : List Bool → Heads) where
   -- one more statement of a list
   pub passed_with-more : (list : List Stmt) (i : ℕ) (s : Stmt) (v : List Bool) (x : LeafValue) → i < length list → s ≡ get_or list i s
       → passed_with M family H (code (take (i + 1) list)) v x ≡ passed_with M family H (front s Done) v (passed_with M family H (code (take i list)) v x)
@@ -75,7 +75,7 @@ module _ (M : LeafMeaning) (family : Family) (H : List Bool → Heads) where
       ∙ ap (λ c. passed M family.options.mode (H v) c x) (sym (ap (λ s. projected ts (front s Done)) h ∙ projected-Cond ts number p q b e))
 
 -- where two sides are entered with Nothing where they are not kept, their join is what the kept one gives
-pub sides_join : (M : LeafMeaning) → LeafLaws M → (family : Family) → TransferAnswers M family.options.mode → family.variables ≤ 16 → (H : Heads) (ts : List Bool) (p q : Code) (b : Bool) (x : LeafValue) → x.variables ≡ family.variables
+pub sides_join : (M : LeafMeaning) → LeafLaws M → (family : FamilyContext) → TransferAnswers M family.options.mode → family.variables ≤ 16 → (H : Heads) (ts : List Bool) (p q : Code) (b : Bool) (x : LeafValue) → x.variables ≡ family.variables
     → (passed M family.options.mode (heads_where b H) (projected ts p) (kept_by true b x)).variables ≡ family.variables → (passed M family.options.mode (heads_where (not b) H) (projected ts q) (kept_by false b x)).variables ≡ family.variables
     → M.join (passed M family.options.mode (heads_where b H) (projected ts p) (kept_by true b x)) (passed M family.options.mode (heads_where (not b) H) (projected ts q) (kept_by false b x))
     ≡ (if b then passed M family.options.mode H (projected ts p) x else passed M family.options.mode H (projected ts q) x)
@@ -100,30 +100,30 @@ heads_within false true c H e = ap (λ d. heads_where d H) e
 heads_within false false c H e = ap (λ d. heads_where d H) e
 
 -- a list passed with heads that are the same at each vector
-pub lifted_by : {L : Type 0} (value : L → LeafValue) (M : LeafMeaning) (family : Family) (a b : List (Plain L)) (H K : List Bool → Heads) (c : Code) (t : Plain L) (r : Numbered L)
+pub lifted_by : {L : Type 0} (value : L → LeafValue) (M : LeafMeaning) (family : FamilyContext) (a b : List (Plain L)) (H K : List Bool → Heads) (c : Code) (t : Plain L) (r : Numbered L)
     → ((v : List Bool) → K v ≡ H v) → IsLifted value family a b (passed_with M family K c) t r → IsLifted value family a b (passed_with M family H c) t r
 lifted_by value M family a b H K c t r e h =
     lifted_as value family a b (passed_with M family K c) (passed_with M family H c) t r (λ v. ap (λ G. passed M family.options.mode G (projected (truths_in family.choices.now v) c) (value (leaf_of t v))) (e v)) h
 
 -- a step in a forest that has more since
-pub lifted_longer : {L : Type 0} (value : L → LeafValue) (family : Family) (a b z : List (Plain L)) (f : List Bool → LeafValue → LeafValue) (t : Plain L) (r : Numbered L) → Keeps b z → IsLifted value family a b f t r → IsLifted value family a z f t r
+pub lifted_longer : {L : Type 0} (value : L → LeafValue) (family : FamilyContext) (a b z : List (Plain L)) (f : List Bool → LeafValue → LeafValue) (t : Plain L) (r : Numbered L) → Keeps b z → IsLifted value family a b f t r → IsLifted value family a z f t r
 lifted_longer value family a b z f t r k h = record { state = state_stays value family b z r k h.state; keeps = keeps_both a b z h.keeps k; at_each = h.at_each }
 
 -- ---- what is known of loops, in a forest that grows
 
-module _ {L : Type 0} (value : L → LeafValue) (M : LeafMeaning) (family : Family) where
+module _ {L : Type 0} (value : L → LeafValue) (M : LeafMeaning) (family : FamilyContext) where
   ruled_stays : (a b : List (Plain L)) (r : Rule L) → Keeps a b → IsRuled value M family a r → IsRuled value M family b r
   ruled_stays a b rule.Rounds k h = tt
   ruled_stays a b (rule.Lines start) k h = record { state = state_stays value family a b (numbered start) k h.state; valid = h.valid }
 
   -- heads are leaves of the kind
   pub ruled_fit : LeafLaws M → TransferAnswers M family.options.mode → (forest : List (Plain L)) (r : Rule L) (v : List Bool) → IsRuled value M family forest r
-      → All (λ (l : LoopLine). AreBounds family.variables l.bounds) family.lines.now → AreFit M family.options.mode family.variables (ruled_heads value M family r v)
+      → All (λ (l : LoopLine). AreVariableBounds family.variables l.bounds) family.lines.now → AreFit M family.options.mode family.variables (ruled_heads value M family r v)
   ruled_fit laws A forest rule.Rounds v h i = final_fit M laws family.options A family.variables
   ruled_fit laws A forest (rule.Lines start) v h i =
       let d = value (leaf_of (plain start) v) in
       let n : d.variables ≡ family.variables = counted value family forest (numbered start) v h.state in
-      subst (λ m. AreFit M family.options.mode m (given_heads M family.lines.now v d)) n (given_fit M laws family.options.mode family.lines.now v d (h.valid v) (subst (λ m. All (λ (l : LoopLine). AreBounds m l.bounds) family.lines.now) (sym n) i))
+      subst (λ m. AreFit M family.options.mode m (given_heads M family.lines.now v d)) n (given_fit M laws family.options.mode family.lines.now v d (h.valid v) (subst (λ m. All (λ (l : LoopLine). AreVariableBounds m l.bounds) family.lines.now) (sym n) i))
 
   pub known_stays : (r : Rule L) (a b : List (Plain L)) (f : Finals L) → Keeps a b → Knows value M family r a f → Knows value M family r b f
   known_stays r a b f h k = record { memory = memory_stays value M family a b f h k.memory; ruled = ruled_stays a b r h k.ruled }

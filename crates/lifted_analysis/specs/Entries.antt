@@ -13,9 +13,9 @@ use Rattle.leaf_domain.specs.Leaves.{LeafValue, LeafMeaning}
 use Rattle.leaf_domain.specs.Transfer.{assumed, assigned, forgotten}
 use Rattle.leaf_domain.specs.Stops.{may_at}
 use Rattle.plain_analysis.specs.Statements.{Heads, passed}
-use Rattle.lifted_analysis.specs.declared.entries.Found.{Found}
+use Rattle.lifted_analysis.specs.declared.entries.Noted.{Noted}
 use Rattle.lifted_analysis.specs.declared.entries.TurnTree.{TurnTree}
-use Rattle.lifted_analysis.specs.declared.family.Family.{Family}
+use Rattle.lifted_analysis.specs.declared.family_context.FamilyContext.{FamilyContext}
 use Rattle.lifted_analysis.specs.declared.findings.PlaceTree.{PlaceTree}
 use Rattle.lifted_analysis.specs.declared.findings.AlarmTree.{AlarmTree}
 use Rattle.lifted_analysis.specs.Rules.{heads_where, head_with}
@@ -105,49 +105,49 @@ turn_there value v t = record {
 }
 
 -- the three trees of a loop are states, of any forest
-pub record IsSizedTurn {L : Type 0} (value : L → LeafValue) (family : Family) (t : TurnTree L) : Type 0 where
+pub record IsSizedTurn {L : Type 0} (value : L → LeafValue) (family : FamilyContext) (t : TurnTree L) : Type 0 where
   pub entered : IsSized value family (numbered t.entered)
   pub head : IsSized value family (numbered t.head)
   pub again : IsSized value family (numbered t.again)
 
-abbrev pub AreSized : {L : Type 0} → (L → LeafValue) → Family → List (TurnTree L) → Type 0
+abbrev pub AreSized : {L : Type 0} → (L → LeafValue) → FamilyContext → List (TurnTree L) → Type 0
 AreSized {L} value family ts = All (λ (t : TurnTree L). IsSizedTurn value family t) ts
 
 -- a reduced tree whose tests are the family's
-pub record IsReducedTree {L : Type 0} (family : Family) (t : Plain L) : Type 0 where
+pub record IsReducedTree {L : Type 0} (family : FamilyContext) (t : Plain L) : Type 0 where
   pub reduced : IsReduced t
   pub tests : (k : ℕ) → HasTest k t → IsTest family k
 
-abbrev pub AreReduced : {L : Type 0} → Family → List (PlaceTree L) → Type 0
+abbrev pub AreReduced : {L : Type 0} → FamilyContext → List (PlaceTree L) → Type 0
 AreReduced {L} family ps = All (λ (p : PlaceTree L). IsReducedTree family (plain p.tree)) ps
 
-abbrev pub AreReducedStops : Family → List AlarmTree → Type 0
+abbrev pub AreReducedStops : FamilyContext → List AlarmTree → Type 0
 AreReducedStops family stops = All (λ (a : AlarmTree). IsReducedTree family (plain a.tree)) stops
 
 -- the statements of a list that is entered with a tree, at each vector
-abbrev pub entered_with : {L : Type 0} → (L → LeafValue) → LeafMeaning → Family → (List Bool → Heads) → Code → Plain L → List Bool → List Visit
+abbrev pub entered_with : {L : Type 0} → (L → LeafValue) → LeafMeaning → FamilyContext → (List Bool → Heads) → Code → Plain L → List Bool → List Visit
 entered_with value M family H c t v = visits_at M family.options.mode (truths_in family.choices.now v) (H v) c (value (leaf_of t v))
 
 -- those of the two sides of a test, and of the two lists of a section of groups
-abbrev pub entered_sides : {L : Type 0} → (L → LeafValue) → LeafMeaning → Family → (List Bool → Heads) → Term → Code → Code → Plain L → List Bool → List Visit
+abbrev pub entered_sides : {L : Type 0} → (L → LeafValue) → LeafMeaning → FamilyContext → (List Bool → Heads) → Term → Code → Code → Plain L → List Bool → List Visit
 entered_sides value M family H test p q t v =
     visits_at M family.options.mode (truths_in family.choices.now v) (H v) p (assumed M family.options.mode test true (value (leaf_of t v)))
     ++ visits_at M family.options.mode (truths_in family.choices.now v) (H v) q (assumed M family.options.mode test false (value (leaf_of t v)))
 
-abbrev pub entered_group : {L : Type 0} → (L → LeafValue) → LeafMeaning → Family → (List Bool → Heads) → Plain Bool → Code → Code → Plain L → List Bool → List Visit
+abbrev pub entered_group : {L : Type 0} → (L → LeafValue) → LeafMeaning → FamilyContext → (List Bool → Heads) → Plain Bool → Code → Code → Plain L → List Bool → List Visit
 entered_group value M family H choice p q t v =
     visits_at M family.options.mode (truths_in family.choices.now v) (heads_where (leaf_of choice v) (H v)) p (kept_by true (leaf_of choice v) (value (leaf_of t v)))
     ++ visits_at M family.options.mode (truths_in family.choices.now v) (heads_where (not (leaf_of choice v)) (H v)) q (kept_by false (leaf_of choice v) (value (leaf_of t v)))
 
 -- a loop and the statements in its body
-abbrev pub entered_loop : {L : Type 0} → (L → LeafValue) → LeafMeaning → Family → (List Bool → Heads) → Code → Place → Term → Code → Plain L → List Bool → List Visit
+abbrev pub entered_loop : {L : Type 0} → (L → LeafValue) → LeafMeaning → FamilyContext → (List Bool → Heads) → Code → Place → Term → Code → Plain L → List Bool → List Visit
 entered_loop value M family H s place test body t v =
     loop_visit M family.options.mode (truths_in family.choices.now v) (H v) place s test body (value (leaf_of t v))
     ∷ visits_at M family.options.mode (truths_in family.choices.now v) (H v) body
     (assumed M family.options.mode test true (head_with M family H place test body v (value (leaf_of t v))))
 
 -- these statements, each with its tree and its alarm trees, the loops among them, and nothing else
-pub record HasEntered {L : Type 0} (value : L → LeafValue) (M : LeafMeaning) (family : Family) (before now : Found L) (entries : List Bool → List Visit) : Type 0 where
+pub record HasEntered {L : Type 0} (value : L → LeafValue) (M : LeafMeaning) (family : FamilyContext) (before now : Noted L) (entries : List Bool → List Visit) : Type 0 where
   pub leaves : (v : List Bool) → map (leaf_there value v) now.places.items ≡ map (leaf_there value v) before.places.items ++ leaves_in (entries v)
   pub stops : (v : List Bool) → map (stop_there v) now.alarms.items ≡ map (stop_there v) before.alarms.items ++ stops_in M family.options.mode (entries v)
   pub turns : (v : List Bool) → map (turn_there value v) now.turns.items ≡ map (turn_there value v) before.turns.items ++ turns_in (entries v)

@@ -10,7 +10,7 @@ use Rattle.decision_tree.specs.Plain.{Plain, leaf_of}
 use Rattle.decision_tree.specs.View.{numbered, plain}
 use Rattle.leaf_domain.specs.Leaves.{LeafValue, LeafMeaning}
 use Rattle.plain_analysis.specs.Stated.{IsLoopAt}
-use Rattle.lifted_analysis.specs.declared.family.Family.{Family}
+use Rattle.lifted_analysis.specs.declared.family_context.FamilyContext.{FamilyContext}
 use Rattle.lifted_analysis.specs.declared.finals.Entered.{Entered}
 use Rattle.lifted_analysis.specs.declared.finals.Finals.{Finals}
 use Rattle.lifted_analysis.specs.States.{IsState}
@@ -21,7 +21,7 @@ abbrev pub same_entered : Entered → Entered → Bool
 same_entered a b = (a.place.line == b.place.line && a.place.column == b.place.column) && a.number == b.number
 
 -- the final tree of the family's loop at the place, where it is entered with the forest's tree of the number
-pub record IsFinal {L : Type 0} (value : L → LeafValue) (M : LeafMeaning) (family : Family) (forest : List (Plain L)) (k : Entered) (last : Tree L) : Type 0 where
+pub record IsFinal {L : Type 0} (value : L → LeafValue) (M : LeafMeaning) (family : FamilyContext) (forest : List (Plain L)) (k : Entered) (last : Tree L) : Type 0 where
   pub entered : Numbered L
   pub number : root entered ≡ k.number
   pub own : IsOf forest entered
@@ -30,5 +30,5 @@ pub record IsFinal {L : Type 0} (value : L → LeafValue) (M : LeafMeaning) (fam
       → (v : List Bool) → value (leaf_of (plain last) v) ≡ final_at M family test body v (value (leaf_of (erase entered) v))
 
 -- all that is remembered is so
-pub record Remembers {L : Type 0} (value : L → LeafValue) (M : LeafMeaning) (family : Family) (forest : List (Plain L)) (f : Finals L) : Type 0 where
+pub record Remembers {L : Type 0} (value : L → LeafValue) (M : LeafMeaning) (family : FamilyContext) (forest : List (Plain L)) (f : Finals L) : Type 0 where
   pub each : AllByRecursion (λ (e : Entered × Tree L). IsFinal value M family forest e.0 e.1) f.entries.entries

@@ -14,9 +14,9 @@ use Rattle.leaf_domain.specs.Leaves.{LeafValue, LeafMeaning}
 use Rattle.plain_analysis.specs.declared.options.Options.{Options}
 use Rattle.plain_analysis.specs.Places.{at_by, alarm_by}
 use Rattle.plain_analysis.specs.Statements.{Heads}
-use Rattle.lifted_analysis.specs.declared.entries.Found.{Found}
+use Rattle.lifted_analysis.specs.declared.entries.Noted.{Noted}
 use Rattle.lifted_analysis.specs.declared.entries.TurnTree.{TurnTree}
-use Rattle.lifted_analysis.specs.declared.family.Family.{Family}
+use Rattle.lifted_analysis.specs.declared.family_context.FamilyContext.{FamilyContext}
 use Rattle.lifted_analysis.specs.declared.findings.AlarmTree.{AlarmTree}
 use Rattle.lifted_analysis.specs.declared.findings.FamilyFindings.{FamilyFindings}
 use Rattle.lifted_analysis.specs.declared.findings.PlaceTree.{PlaceTree}
@@ -28,7 +28,7 @@ use Rattle.lifted_analysis.specs.States.{truths_in}
 use Rattle.lifted_analysis.specs.Turns.{turns_by, is_inductive, inductive_in, loop_places}
 
 -- the last place with its tree, and three alarm trees that are true nowhere
-pub record HasEnded {L : Type 0} (value : L → LeafValue) (family : Family) (place : Place) (t : Plain L) (before now : Found L) : Type 0 where
+pub record HasEnded {L : Type 0} (value : L → LeafValue) (family : FamilyContext) (place : Place) (t : Plain L) (before now : Noted L) : Type 0 where
   pub leaves : (v : List Bool) → map (leaf_there value v) now.places.items ≡ map (leaf_there value v) before.places.items ++ (place, value (leaf_of t v)) ∷ []
   pub stops : (v : List Bool) → map (stop_there v) now.alarms.items
       ≡ map (stop_there v) before.alarms.items ++ (((place, Overflow), false) ∷ (((place, ZeroDivisor), false) ∷ (((place, Assertion), false) ∷ [])))
@@ -37,7 +37,7 @@ pub record HasEnded {L : Type 0} (value : L → LeafValue) (family : Family) (pl
   pub alarm_trees : AreReducedStops family before.alarms.items → AreReducedStops family now.alarms.items
 
 -- at every vector the leaves, the alarms and the loops of the pass over its program with these heads, in reduced trees
-pub record HasFound {L : Type 0} (value : L → LeafValue) (M : LeafMeaning) (family : Family) (p : Whole) (H : List Bool → Heads) (f : Found L) : Type 0 where
+pub record HasNoted {L : Type 0} (value : L → LeafValue) (M : LeafMeaning) (family : FamilyContext) (p : Whole) (H : List Bool → Heads) (f : Noted L) : Type 0 where
   pub leaves : (v : List Bool) → map (leaf_there value v) f.places.items
       ≡ map (λ (q : Place). (q, at_by M family.options.mode (H v) (projected_program (truths_in family.choices.now v) p) (start_at M family p.start p.declared v) q)) (program_places p)
   pub stops : (v : List Bool) → map (stop_there v) f.alarms.items

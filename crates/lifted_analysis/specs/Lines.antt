@@ -32,9 +32,9 @@ abbrev pub given_heads : LeafMeaning → List LoopLine → List Bool → LeafVal
 given_heads M lines v d place test body x = given_at M lines v d place
 
 -- ranges within `int`, one for each of so many variables, where there are any
-abbrev pub AreBounds : ℕ → Option (List Range) → Type 0
-AreBounds n None = Unit {0}
-AreBounds n (Some rs) = (length rs ≡ n) × All IsInInt rs
+abbrev pub AreVariableBounds : ℕ → Option (List Range) → Type 0
+AreVariableBounds n None = Unit {0}
+AreVariableBounds n (Some rs) = (length rs ≡ n) × All IsInInt rs
 
 -- the numbers of all regions are below this
 abbrev pub AreRegionsBelow : ℕ → List LoopLine → Type 0

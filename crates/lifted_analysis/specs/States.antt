@@ -9,9 +9,9 @@ use Rattle.decision_tree.specs.Listed.{IsNumberedTree, IsTreeIn, Keeps}
 use Rattle.decision_tree.specs.View.{numbered, plain}
 use Rattle.leaf_domain.specs.Leaves.{LeafValue}
 use Rattle.tree_unify.specs.Formulas.{HasNumber}
-use Rattle.lifted_analysis.specs.declared.family.Family.{Family}
+use Rattle.lifted_analysis.specs.declared.family_context.FamilyContext.{FamilyContext}
 use Rattle.lifted_analysis.specs.declared.lines.LoopLine.{LoopLine}
-use Rattle.lifted_analysis.specs.Lines.{AreBounds, AreRegionsBelow}
+use Rattle.lifted_analysis.specs.Lines.{AreVariableBounds, AreRegionsBelow}
 
 -- the truths of the conditions at a vector
 abbrev pub truths_in : List (Tree Bool) → List Bool → List Bool
@@ -28,24 +28,24 @@ HasRegionNumber k [] = ⊥
 HasRegionNumber k (l ∷ ls) = HasNumber k (formula l.region) ⊎ HasRegionNumber k ls
 
 -- k is a test of the conditions, of what is plausible, or of a region
-abbrev pub IsTest : Family → ℕ → Type 0
+abbrev pub IsTest : FamilyContext → ℕ → Type 0
 IsTest family k = HasTest k (plain family.plausible.now) ⊎ (HasTestIn k family.choices.now ⊎ HasRegionNumber k family.lines.now)
 
 -- at most 16 variables, trees of conditions that are reduced and numbered, the tree that is false everywhere, and lines whose
 -- numbers are below 64, with bounds for all variables
-pub record IsFamily (family : Family) : Type 0 where
+pub record IsFamily (family : FamilyContext) : Type 0 where
   pub few : family.variables ≤ 16
   pub never : (x : ℕ) × (numbered family.never.now ≡ kept x false)
   pub regions : AreRegionsBelow 64 family.lines.now
-  pub bounds : All (λ (l : LoopLine). AreBounds family.variables l.bounds) family.lines.now
+  pub bounds : All (λ (l : LoopLine). AreVariableBounds family.variables l.bounds) family.lines.now
   pub choices : (i : ℕ) (c : Tree Bool) → slice_get family.choices.now i ≡ Some c → IsNumberedTree 0 64 (numbered c)
 
 -- a tree of truths whose tests are the family's
-pub record IsTruth (family : Family) (t : Numbered Bool) : Type 0 where
+pub record IsTruth (family : FamilyContext) (t : Numbered Bool) : Type 0 where
   pub tree : IsNumberedTree 0 64 t
   pub tests : (k : ℕ) → HasTest k (erase t) → IsTest family k
 
-module _ {L : Type 0} (value : L → LeafValue) (family : Family) where
+module _ {L : Type 0} (value : L → LeafValue) (family : FamilyContext) where
   -- a reduced tree of the forest whose tests are the family's, and whose leaves are over its variables
   pub record IsState (forest : List (Plain L)) (t : Numbered L) : Type 0 where
     pub tree : IsTreeIn 0 64 forest t

@@ -16,18 +16,19 @@ ghost use Rattle.lifted_analysis.specs.declared.findings.AlarmTree.{AlarmTree};
 ghost use Rattle.lifted_analysis.specs.Canon.{IsTreeOf};
 ghost use Rattle.lifted_analysis.specs.Conditions.{AreTreesOf};
 ghost use Rattle.lifted_analysis.specs.Entries.{stop_there, IsReducedTree, AreReducedStops};
-ghost use Rattle.lifted_analysis.specs.Findings.{HasEnded, HasFound, AreFindings};
+ghost use Rattle.lifted_analysis.specs.Findings.{HasEnded, HasNoted, AreFindings};
 ghost use Rattle.lifted_analysis.specs.Rules.{chosen_heads};
 ghost use Rattle.lifted_analysis.specs.Start.{start_at};
 ghost use Rattle.lifted_analysis.specs.States.{IsFamily, IsTruth};
 ghost use Rattle.lifted_analysis.specs.Promises.{variant_at, begin_at, leaf_at, stop_at, by_kind, valued, Occurs, AreBelow};
 
-use crate::entries::{Found, enter_list};
-use crate::family::{Family, Tables};
+use crate::entries::{Noted, enter_list};
+use crate::family_context::FamilyContext;
 use crate::finals::Finals;
 use crate::findings::{AlarmTree, FamilyFindings, PlaceTree};
 use crate::rule::rule_of;
 use crate::start::start_tree;
+use crate::tables::Tables;
 use c_tree::{Kind, Program};
 use cpp_conditions::Formula;
 use decision_tree::{Forest, Tree};
@@ -59,53 +60,53 @@ pub(crate) fn condition_trees<L: Leaf, K: Ledger>(
 
 /// Adds an alarm tree that is true nowhere.
 fn add_never<L: Leaf>(
-    found: &mut Found<L>,
-    family: &Family,
+    noted: &mut Noted<L>,
+    family: &FamilyContext,
     place: Place,
     kind: Kind,
 ) -> Result<(), NoMemory>
     requires { IsFamily family.now }
     ensures stops { OnOk result ((v : List Bool)
-        → map (stop_there v) found.new.alarms.items
-        ≡ map (stop_there v) found.old.alarms.items ++ ((place, kind), false) ∷ []) }
-    ensures trees { OnOk result (AreReducedStops family.now found.old.alarms.items
-        → AreReducedStops family.now found.new.alarms.items) }
-    ensures places { found.new.places.items ≡ found.old.places.items }
-    ensures turns { found.new.turns.items ≡ found.old.turns.items }
+        → map (stop_there v) noted.new.alarms.items
+        ≡ map (stop_there v) noted.old.alarms.items ++ ((place, kind), false) ∷ []) }
+    ensures trees { OnOk result (AreReducedStops family.now noted.old.alarms.items
+        → AreReducedStops family.now noted.new.alarms.items) }
+    ensures places { noted.new.places.items ≡ noted.old.places.items }
+    ensures turns { noted.new.turns.items ≡ noted.old.turns.items }
 {
     let tree = family.never.share()?;
-    found.alarms.push(AlarmTree { place, kind, tree })?;
+    noted.alarms.push(AlarmTree { place, kind, tree })?;
     Ok(())
 }
 
 /// Adds the tree of the last place, at which nothing stops.
 fn add_end<L: Leaf>(
-    found: &mut Found<L>,
-    family: &Family,
+    noted: &mut Noted<L>,
+    family: &FamilyContext,
     place: Place,
     tree: Tree<L>,
 ) -> Result<(), NoMemory>
     requires family { IsFamily family.now }
     requires tree { IsReducedTree family.now (plain tree) }
-    ensures { OnOk result (HasEnded L.value family.now place (plain tree) found.old found.new) }
+    ensures { OnOk result (HasEnded L.value family.now place (plain tree) noted.old noted.new) }
 {
-    found.places.push(PlaceTree { place, tree })?;
-    add_never(found, family, place, Kind::Overflow)?;
-    add_never(found, family, place, Kind::ZeroDivisor)?;
-    add_never(found, family, place, Kind::Assertion)
+    noted.places.push(PlaceTree { place, tree })?;
+    add_never(noted, family, place, Kind::Overflow)?;
+    add_never(noted, family, place, Kind::ZeroDivisor)?;
+    add_never(noted, family, place, Kind::Assertion)
 }
 
 /// What is found of a family's program, where its loops have at their heads what lines give them, or else their final trees.
-pub(crate) fn found_in<L: Leaf, K: Ledger>(
+pub(crate) fn noted_in<L: Leaf, K: Ledger>(
     tables: &mut Tables<L, K>,
-    family: &Family,
+    family: &FamilyContext,
     is_given: bool,
-) -> Result<Found<L>, NoMemory>
+) -> Result<Noted<L>, NoMemory>
     requires family { IsFamily family.now }
     requires plausible { IsTruth family.now (numbered family.now.plausible.now) }
     requires program { IsProgram (whole family.now.program.now) }
     requires count { family.now.variables ≡ length family.now.program.now.names }
-    ensures { IfOk result (λ f. HasFound L.value L.meaning family.now (whole family.now.program.now)
+    ensures { IfOk result (λ f. HasNoted L.value L.meaning family.now (whole family.now.program.now)
         (λ v. chosen_heads L.meaning family.now is_given v
         (start_at L.meaning family.now family.now.program.now.start family.now.program.now.declared v)) f) }
 {
@@ -114,7 +115,7 @@ pub(crate) fn found_in<L: Leaf, K: Ledger>(
     let code = family.program;
     let start = start_tree(tables, family, code.start.items(), &code.declared)?;
     let rule = rule_of(&start, is_given)?;
-    let mut found = Found {
+    let mut noted = Noted {
         places: Vec::new(alloc),
         alarms: Vec::new(alloc),
         turns: Vec::new(alloc),
@@ -126,15 +127,15 @@ pub(crate) fn found_in<L: Leaf, K: Ledger>(
     let tree = enter_list(
         tables,
         &mut finals,
-        &mut found,
+        &mut noted,
         family,
         &rule,
         &here,
         &code.body,
         &start,
     )?;
-    add_end(&mut found, family, code.end, tree)?;
-    Ok(found)
+    add_end(&mut noted, family, code.end, tree)?;
+    Ok(noted)
 }
 
 /// The analysis of a family, with a counter of its steps.
@@ -164,7 +165,7 @@ fn analyse_counted<L: Leaf, K: Ledger>(
     let choices = condition_trees(&mut tables, conditions)?;
     let plausible = test_tree_in(alloc, &mut tables.truths, plausible, &mut tables.steps)?;
     let never = tables.truths.leaf(false)?;
-    let family = Family {
+    let family = FamilyContext {
         program: code,
         choices: &choices,
         plausible: &plausible,
@@ -173,10 +174,10 @@ fn analyse_counted<L: Leaf, K: Ledger>(
         variables: code.names.items().len() as u32,
         options,
     };
-    let found = found_in(&mut tables, &family, false)?;
+    let noted = noted_in(&mut tables, &family, false)?;
     Ok(FamilyFindings {
-        places: found.places,
-        alarms: found.alarms,
+        places: noted.places,
+        alarms: noted.alarms,
     })
 }
 

@@ -9,21 +9,24 @@ ghost use Rattle.c_tree.specs.Fit.{IsTermOf, IsCodeOf};
 ghost use Rattle.decision_tree.specs.Plain.{leaf_of};
 ghost use Rattle.decision_tree.specs.View.{numbered, plain};
 ghost use Rattle.leaf_domain.specs.Stops.{may_at};
-ghost use Rattle.plain_analysis.specs.Stated.{IsLoopAt, HasLoopsOf};
+ghost use Rattle.plain_analysis.specs.Stated.{IsPartOf, IsLoopOf};
 ghost use Rattle.lifted_analysis.specs.Entries.{leaf_there, stop_there, IsReducedTree, AreReduced, AreReducedStops, entered_with, entered_sides, entered_group, entered_loop, AreSized, turn_there, HasEntered};
-ghost use Rattle.lifted_analysis.specs.Rules.{Knows, heads_in, passed_with, sides_with, group_with, head_with};
+ghost use Rattle.lifted_analysis.specs.Heads.{head_over};
+ghost use Rattle.lifted_analysis.specs.Rules.{Knows, heads_in, passed_with, sides_with, group_with};
 ghost use Rattle.lifted_analysis.specs.States.{IsFamily, IsState, IsSized, IsLifted, IsTruth};
 
-use crate::family::{Family, Tables};
+use crate::family_context::FamilyContext;
 use crate::finals::Finals;
 use crate::findings::{AlarmTree, PlaceTree};
 use crate::operations::Step;
 use crate::rule::{Rule, head_tree};
 use crate::states::{joined, kept, stepped, within};
+use crate::tables::Tables;
 use c_tree::{Expr, Kind, Stmt};
 use decision_tree::Tree;
 use fam_outer::{NoMemory, Place};
 use leaf_domain::{Leaf, may, transfer_is_sound};
+use plain_analysis::Loop;
 use std::sync::ledger::Ledger;
 use tree_unify::map_in;
 
@@ -36,9 +39,9 @@ pub(crate) struct TurnTree<L> {
     pub(crate) again: Tree<L>,
 }
 
-/// The trees found so far, in the order of the text.
+/// The trees noted so far, in the order of the text.
 #[derive(Drop)]
-pub(crate) struct Found<L> {
+pub(crate) struct Noted<L> {
     pub(crate) places: Vec<PlaceTree<L>>,
     pub(crate) alarms: Vec<AlarmTree>,
     pub(crate) turns: Vec<TurnTree<L>>,
@@ -47,7 +50,7 @@ pub(crate) struct Found<L> {
 /// Where a statement may stop with the kind.
 fn may_stop<L: Leaf, K: Ledger>(
     tables: &mut Tables<L, K>,
-    family: &Family,
+    family: &FamilyContext,
     s: &Stmt,
     kind: Kind,
     t: &Tree<L>,
@@ -72,32 +75,32 @@ fn may_stop<L: Leaf, K: Ledger>(
 
 /// Adds the tree with which a statement is entered.
 fn add_tree<L: Leaf>(
-    found: &mut Found<L>,
-    family: &Family,
+    noted: &mut Noted<L>,
+    family: &FamilyContext,
     place: Place,
     t: &Tree<L>,
 ) -> Result<(), NoMemory>
     requires { IsReducedTree family.now (plain t.now) }
     ensures leaves { OnOk result ((v : List Bool)
-        → map (leaf_there L.value v) found.new.places.items
-        ≡ map (leaf_there L.value v) found.old.places.items
+        → map (leaf_there L.value v) noted.new.places.items
+        ≡ map (leaf_there L.value v) noted.old.places.items
         ++ (place, L.value (leaf_of (plain t.now) v)) ∷ []) }
-    ensures trees { OnOk result (AreReduced family.now found.old.places.items
-        → AreReduced family.now found.new.places.items) }
-    ensures alarms { found.new.alarms.items ≡ found.old.alarms.items }
-    ensures turns { found.new.turns.items ≡ found.old.turns.items }
+    ensures trees { OnOk result (AreReduced family.now noted.old.places.items
+        → AreReduced family.now noted.new.places.items) }
+    ensures alarms { noted.new.alarms.items ≡ noted.old.alarms.items }
+    ensures turns { noted.new.turns.items ≡ noted.old.turns.items }
 {
     let _family = family.variables;
     let tree = t.share()?;
-    found.places.push(PlaceTree { place, tree })?;
+    noted.places.push(PlaceTree { place, tree })?;
     Ok(())
 }
 
 /// Adds the tree of the vectors at which a statement may stop with the kind.
 fn add_alarm<L: Leaf, K: Ledger>(
     tables: &mut Tables<L, K>,
-    family: &Family,
-    found: &mut Found<L>,
+    family: &FamilyContext,
+    noted: &mut Noted<L>,
     s: &Stmt,
     place: Place,
     kind: Kind,
@@ -106,36 +109,36 @@ fn add_alarm<L: Leaf, K: Ledger>(
     requires fit { IsCodeOf family.now.variables (front s.now Done) }
     requires state { IsState L.value family.now tables.old.leaves (numbered t.now) }
     ensures stops { OnOk result ((v : List Bool)
-        → map (stop_there v) found.new.alarms.items
-        ≡ map (stop_there v) found.old.alarms.items
+        → map (stop_there v) noted.new.alarms.items
+        ≡ map (stop_there v) noted.old.alarms.items
         ++ (
           (place, kind),
           may_at L.meaning family.now.options.mode kind (front s.now Done)
               (L.value (leaf_of (plain t.now) v)),
         ) ∷ []) }
-    ensures trees { OnOk result (AreReducedStops family.now found.old.alarms.items
-        → AreReducedStops family.now found.new.alarms.items) }
-    ensures places { found.new.places.items ≡ found.old.places.items }
-    ensures turns { found.new.turns.items ≡ found.old.turns.items }
+    ensures trees { OnOk result (AreReducedStops family.now noted.old.alarms.items
+        → AreReducedStops family.now noted.new.alarms.items) }
+    ensures places { noted.new.places.items ≡ noted.old.places.items }
+    ensures turns { noted.new.turns.items ≡ noted.old.turns.items }
     ensures same { tables.new.leaves ≡ tables.old.leaves }
 {
     let tree = may_stop(tables, family, s, kind, t)?;
-    found.alarms.push(AlarmTree { place, kind, tree })?;
+    noted.alarms.push(AlarmTree { place, kind, tree })?;
     Ok(())
 }
 
 /// Adds the tree with which a statement is entered, and its alarm trees.
 fn enter<L: Leaf, K: Ledger>(
     tables: &mut Tables<L, K>,
-    family: &Family,
-    found: &mut Found<L>,
+    family: &FamilyContext,
+    noted: &mut Noted<L>,
     s: &Stmt,
     place: Place,
     t: &Tree<L>,
 ) -> Result<(), NoMemory>
     requires fit { IsCodeOf family.now.variables (front s.now Done) }
     requires state { IsState L.value family.now tables.old.leaves (numbered t.now) }
-    ensures entered { OnOk result (HasEntered L.value L.meaning family.now found.old found.new
+    ensures entered { OnOk result (HasEntered L.value L.meaning family.now noted.old noted.new
         (λ v. record {
           place = place;
           statement = front s.now Done;
@@ -145,43 +148,43 @@ fn enter<L: Leaf, K: Ledger>(
         ∷ [])) }
     ensures same { tables.new.leaves ≡ tables.old.leaves }
 {
-    add_tree(found, family, place, t)?;
-    add_alarm(tables, family, found, s, place, Kind::Overflow, t)?;
-    add_alarm(tables, family, found, s, place, Kind::ZeroDivisor, t)?;
-    add_alarm(tables, family, found, s, place, Kind::Assertion, t)
+    add_tree(noted, family, place, t)?;
+    add_alarm(tables, family, noted, s, place, Kind::Overflow, t)?;
+    add_alarm(tables, family, noted, s, place, Kind::ZeroDivisor, t)?;
+    add_alarm(tables, family, noted, s, place, Kind::Assertion, t)
 }
 
 /// Adds a loop before those in its body, which come behind it in the text.
 fn add_turn<L: Leaf>(
-    found: &mut Found<L>,
-    family: &Family,
+    noted: &mut Noted<L>,
+    family: &FamilyContext,
     at: usize,
     place: Place,
     entered: &Tree<L>,
     head: &Tree<L>,
     again: Tree<L>,
 ) -> Result<(), NoMemory>
-    requires at { at ≤ length found.old.turns.items }
+    requires at { at ≤ length noted.old.turns.items }
     requires entered { IsSized L.value family.now (numbered entered.now) }
     requires head { IsSized L.value family.now (numbered head.now) }
     requires again { IsSized L.value family.now (numbered again) }
     ensures turns { OnOk result ((v : List Bool)
-        → map (turn_there L.value v) found.new.turns.items
-        ≡ insert (map (turn_there L.value v) found.old.turns.items) at (record {
+        → map (turn_there L.value v) noted.new.turns.items
+        ≡ insert (map (turn_there L.value v) noted.old.turns.items) at (record {
           place = place;
           entered = L.value (leaf_of (plain entered.now) v);
           head = L.value (leaf_of (plain head.now) v);
           again = L.value (leaf_of (plain again) v);
         })) }
-    ensures sized { OnOk result (AreSized L.value family.now found.old.turns.items
-        → AreSized L.value family.now found.new.turns.items) }
-    ensures places { found.new.places.items ≡ found.old.places.items }
-    ensures alarms { found.new.alarms.items ≡ found.old.alarms.items }
+    ensures sized { OnOk result (AreSized L.value family.now noted.old.turns.items
+        → AreSized L.value family.now noted.new.turns.items) }
+    ensures places { noted.new.places.items ≡ noted.old.places.items }
+    ensures alarms { noted.new.alarms.items ≡ noted.old.alarms.items }
 {
     let _family = family.variables;
     let entered = entered.share()?;
     let head = head.share()?;
-    found.turns.insert(
+    noted.turns.insert(
         at,
         TurnTree {
             place,
@@ -198,8 +201,8 @@ fn add_turn<L: Leaf>(
 pub(crate) fn enter_list<L: Leaf, K: Ledger>(
     tables: &mut Tables<L, K>,
     finals: &mut Finals<L>,
-    found: &mut Found<L>,
-    family: &Family,
+    noted: &mut Noted<L>,
+    family: &FamilyContext,
     rule: &Rule<L>,
     here: &Tree<bool>,
     list: &[Stmt],
@@ -207,14 +210,13 @@ pub(crate) fn enter_list<L: Leaf, K: Ledger>(
 ) -> Result<Tree<L>, NoMemory>
     requires family { IsFamily family.now }
     requires here { IsTruth family.now (numbered here.now) }
-    requires fit { IsCodeOf family.now.variables (code list.now) }
+    requires part { IsPartOf family.now.variables (whole family.now.program.now) (code list.now) }
     requires state { IsState L.value family.now tables.old.leaves (numbered t.now) }
-    requires loops { HasLoopsOf (whole family.now.program.now) (code list.now) }
     requires memory { Knows L.value L.meaning family.now rule.now tables.old.leaves finals.old }
     ensures lifted { IfOk result (λ r. IsLifted L.value family.now tables.old.leaves tables.new.leaves
         (passed_with L.meaning family.now
         (heads_in L.value L.meaning family.now rule.now (plain here.now)) (code list.now)) (plain t.now) (numbered r)) }
-    ensures entered { OnOk result (HasEntered L.value L.meaning family.now found.old found.new
+    ensures entered { OnOk result (HasEntered L.value L.meaning family.now noted.old noted.new
         (entered_with L.value L.meaning family.now
         (heads_in L.value L.meaning family.now rule.now (plain here.now)) (code list.now) (plain t.now))) }
     ensures memory { OnOk result
@@ -222,7 +224,7 @@ pub(crate) fn enter_list<L: Leaf, K: Ledger>(
 {
     let mut made = t.share()?;
     for s in list {
-        made = enter_stmt(tables, finals, found, family, rule, here, s, &made)?;
+        made = enter_stmt(tables, finals, noted, family, rule, here, s, &made)?;
     }
     Ok(made)
 }
@@ -232,8 +234,8 @@ pub(crate) fn enter_list<L: Leaf, K: Ledger>(
 fn enter_stmt<L: Leaf, K: Ledger>(
     tables: &mut Tables<L, K>,
     finals: &mut Finals<L>,
-    found: &mut Found<L>,
-    family: &Family,
+    noted: &mut Noted<L>,
+    family: &FamilyContext,
     rule: &Rule<L>,
     here: &Tree<bool>,
     s: &Stmt,
@@ -241,14 +243,13 @@ fn enter_stmt<L: Leaf, K: Ledger>(
 ) -> Result<Tree<L>, NoMemory>
     requires family { IsFamily family.now }
     requires here { IsTruth family.now (numbered here.now) }
-    requires fit { IsCodeOf family.now.variables (front s.now Done) }
+    requires part { IsPartOf family.now.variables (whole family.now.program.now) (front s.now Done) }
     requires state { IsState L.value family.now tables.old.leaves (numbered t.now) }
-    requires loops { HasLoopsOf (whole family.now.program.now) (front s.now Done) }
     requires memory { Knows L.value L.meaning family.now rule.now tables.old.leaves finals.old }
     ensures lifted { IfOk result (λ r. IsLifted L.value family.now tables.old.leaves tables.new.leaves
         (passed_with L.meaning family.now
         (heads_in L.value L.meaning family.now rule.now (plain here.now)) (front s.now Done)) (plain t.now) (numbered r)) }
-    ensures entered { OnOk result (HasEntered L.value L.meaning family.now found.old found.new
+    ensures entered { OnOk result (HasEntered L.value L.meaning family.now noted.old noted.new
         (entered_with L.value L.meaning family.now
         (heads_in L.value L.meaning family.now rule.now (plain here.now)) (front s.now Done) (plain t.now))) }
     ensures memory { OnOk result
@@ -260,15 +261,15 @@ fn enter_stmt<L: Leaf, K: Ledger>(
             target,
             value,
         } => {
-            enter(tables, family, found, s, *place, t)?;
+            enter(tables, family, noted, s, *place, t)?;
             stepped(tables, family, &Step::Assign(*target, value), t)
         }
         Stmt::Input { place, target } => {
-            enter(tables, family, found, s, *place, t)?;
+            enter(tables, family, noted, s, *place, t)?;
             stepped(tables, family, &Step::Forget(*target), t)
         }
         Stmt::Assert { place, test } => {
-            enter(tables, family, found, s, *place, t)?;
+            enter(tables, family, noted, s, *place, t)?;
             stepped(tables, family, &Step::Assume(test, true), t)
         }
         Stmt::If {
@@ -277,27 +278,30 @@ fn enter_stmt<L: Leaf, K: Ledger>(
             yes,
             no,
         } => {
-            enter(tables, family, found, s, *place, t)?;
-            enter_if(tables, finals, found, family, rule, here, yes, no, test, t)
+            enter(tables, family, noted, s, *place, t)?;
+            enter_if(tables, finals, noted, family, rule, here, yes, no, test, t)
         }
         Stmt::While { place, test, body } => {
-            let head = enter_loop(
-                tables, finals, found, family, rule, here, s, *place, body, test, t,
-            )?;
+            let the_loop = Loop {
+                place: *place,
+                test,
+                body,
+            };
+            let head = enter_loop(tables, finals, noted, family, rule, here, s, &the_loop, t)?;
             stepped(tables, family, &Step::Assume(test, false), &head)
         }
         Stmt::Block { place, body } => {
-            enter(tables, family, found, s, *place, t)?;
-            enter_list(tables, finals, found, family, rule, here, body, t)
+            enter(tables, family, noted, s, *place, t)?;
+            enter_list(tables, finals, noted, family, rule, here, body, t)
         }
         Stmt::Skip { place } => {
-            enter(tables, family, found, s, *place, t)?;
+            enter(tables, family, noted, s, *place, t)?;
             t.share()
         }
         Stmt::Cond { number, yes, no } => {
             let choice = family.choice(*number);
             enter_group(
-                tables, finals, found, family, rule, here, yes, no, choice, t,
+                tables, finals, noted, family, rule, here, yes, no, choice, t,
             )
         }
     }
@@ -308,8 +312,8 @@ fn enter_stmt<L: Leaf, K: Ledger>(
 fn enter_if<L: Leaf, K: Ledger>(
     tables: &mut Tables<L, K>,
     finals: &mut Finals<L>,
-    found: &mut Found<L>,
-    family: &Family,
+    noted: &mut Noted<L>,
+    family: &FamilyContext,
     rule: &Rule<L>,
     here: &Tree<bool>,
     yes: &[Stmt],
@@ -320,17 +324,15 @@ fn enter_if<L: Leaf, K: Ledger>(
     requires family { IsFamily family.now }
     requires here { IsTruth family.now (numbered here.now) }
     requires test { IsTermOf family.now.variables (term test.now) }
-    requires yes { IsCodeOf family.now.variables (code yes.now) }
-    requires no { IsCodeOf family.now.variables (code no.now) }
+    requires yes { IsPartOf family.now.variables (whole family.now.program.now) (code yes.now) }
+    requires no { IsPartOf family.now.variables (whole family.now.program.now) (code no.now) }
     requires state { IsState L.value family.now tables.old.leaves (numbered t.now) }
-    requires yes_loops { HasLoopsOf (whole family.now.program.now) (code yes.now) }
-    requires no_loops { HasLoopsOf (whole family.now.program.now) (code no.now) }
     requires memory { Knows L.value L.meaning family.now rule.now tables.old.leaves finals.old }
     ensures lifted { IfOk result (λ r. IsLifted L.value family.now tables.old.leaves tables.new.leaves
         (sides_with L.meaning family.now
         (heads_in L.value L.meaning family.now rule.now (plain here.now)) (term test.now) (code yes.now) (code no.now)) (plain t.now)
         (numbered r)) }
-    ensures entered { OnOk result (HasEntered L.value L.meaning family.now found.old found.new
+    ensures entered { OnOk result (HasEntered L.value L.meaning family.now noted.old noted.new
         (entered_sides L.value L.meaning family.now
         (heads_in L.value L.meaning family.now rule.now (plain here.now)) (term test.now) (code yes.now) (code no.now)
         (plain t.now))) }
@@ -339,8 +341,8 @@ fn enter_if<L: Leaf, K: Ledger>(
 {
     let in_yes = stepped(tables, family, &Step::Assume(test, true), t)?;
     let in_no = stepped(tables, family, &Step::Assume(test, false), t)?;
-    let after_yes = enter_list(tables, finals, found, family, rule, here, yes, &in_yes)?;
-    let after_no = enter_list(tables, finals, found, family, rule, here, no, &in_no)?;
+    let after_yes = enter_list(tables, finals, noted, family, rule, here, yes, &in_yes)?;
+    let after_no = enter_list(tables, finals, noted, family, rule, here, no, &in_no)?;
     joined(tables, family, &after_yes, &after_no)
 }
 
@@ -349,8 +351,8 @@ fn enter_if<L: Leaf, K: Ledger>(
 fn enter_group<L: Leaf, K: Ledger>(
     tables: &mut Tables<L, K>,
     finals: &mut Finals<L>,
-    found: &mut Found<L>,
-    family: &Family,
+    noted: &mut Noted<L>,
+    family: &FamilyContext,
     rule: &Rule<L>,
     here: &Tree<bool>,
     yes: &[Stmt],
@@ -361,17 +363,15 @@ fn enter_group<L: Leaf, K: Ledger>(
     requires family { IsFamily family.now }
     requires here { IsTruth family.now (numbered here.now) }
     requires choice { IsTruth family.now (numbered choice.now) }
-    requires yes { IsCodeOf family.now.variables (code yes.now) }
-    requires no { IsCodeOf family.now.variables (code no.now) }
+    requires yes { IsPartOf family.now.variables (whole family.now.program.now) (code yes.now) }
+    requires no { IsPartOf family.now.variables (whole family.now.program.now) (code no.now) }
     requires state { IsState L.value family.now tables.old.leaves (numbered t.now) }
-    requires yes_loops { HasLoopsOf (whole family.now.program.now) (code yes.now) }
-    requires no_loops { HasLoopsOf (whole family.now.program.now) (code no.now) }
     requires memory { Knows L.value L.meaning family.now rule.now tables.old.leaves finals.old }
     ensures lifted { IfOk result (λ r. IsLifted L.value family.now tables.old.leaves tables.new.leaves
         (group_with L.meaning family.now
         (heads_in L.value L.meaning family.now rule.now (plain here.now)) (plain choice.now) (code yes.now) (code no.now)) (plain t.now)
         (numbered r)) }
-    ensures entered { OnOk result (HasEntered L.value L.meaning family.now found.old found.new
+    ensures entered { OnOk result (HasEntered L.value L.meaning family.now noted.old noted.new
         (entered_group L.value L.meaning family.now
         (heads_in L.value L.meaning family.now rule.now (plain here.now)) (plain choice.now) (code yes.now) (code no.now)
         (plain t.now))) }
@@ -383,8 +383,8 @@ fn enter_group<L: Leaf, K: Ledger>(
     let no_here = within(tables, family, here, choice, false)?;
     let in_yes = kept(tables, family, choice, true, t)?;
     let in_no = kept(tables, family, choice, false, t)?;
-    let after_yes = enter_list(tables, finals, found, family, rule, &yes_here, yes, &in_yes)?;
-    let after_no = enter_list(tables, finals, found, family, rule, &no_here, no, &in_no)?;
+    let after_yes = enter_list(tables, finals, noted, family, rule, &yes_here, yes, &in_yes)?;
+    let after_no = enter_list(tables, finals, noted, family, rule, &no_here, no, &in_no)?;
     joined(tables, family, &after_yes, &after_no)
 }
 
@@ -393,42 +393,46 @@ fn enter_group<L: Leaf, K: Ledger>(
 fn enter_loop<L: Leaf, K: Ledger>(
     tables: &mut Tables<L, K>,
     finals: &mut Finals<L>,
-    found: &mut Found<L>,
-    family: &Family,
+    noted: &mut Noted<L>,
+    family: &FamilyContext,
     rule: &Rule<L>,
     here: &Tree<bool>,
     s: &Stmt,
-    place: Place,
-    body: &[Stmt],
-    test: &Expr,
+    the_loop: &Loop<'_>,
     t: &Tree<L>,
 ) -> Result<Tree<L>, NoMemory>
     requires family { IsFamily family.now }
     requires here { IsTruth family.now (numbered here.now) }
     requires fit { IsCodeOf family.now.variables (front s.now Done) }
-    requires test { IsTermOf family.now.variables (term test.now) }
-    requires body { IsCodeOf family.now.variables (code body.now) }
+    requires own { IsLoopOf family.now.variables (whole family.now.program.now) the_loop.now }
     requires state { IsState L.value family.now tables.old.leaves (numbered t.now) }
-    requires loops { HasLoopsOf (whole family.now.program.now) (code body.now) }
-    requires at { IsLoopAt (whole family.now.program.now) place (term test.now) (code body.now) }
     requires memory { Knows L.value L.meaning family.now rule.now tables.old.leaves finals.old }
     ensures lifted { IfOk result (λ r. IsLifted L.value family.now tables.old.leaves tables.new.leaves
-        (head_with L.meaning family.now
-        (heads_in L.value L.meaning family.now rule.now (plain here.now)) place (term test.now) (code body.now))
+        (head_over L.meaning family.now (heads_in L.value L.meaning family.now rule.now (plain here.now)) the_loop.now)
         (plain t.now) (numbered r)) }
-    ensures entered { OnOk result (HasEntered L.value L.meaning family.now found.old found.new
+    ensures entered { OnOk result (HasEntered L.value L.meaning family.now noted.old noted.new
         (entered_loop L.value L.meaning family.now
-        (heads_in L.value L.meaning family.now rule.now (plain here.now)) (front s.now Done) place (term test.now) (code body.now)
+        (heads_in L.value L.meaning family.now rule.now (plain here.now)) (front s.now Done) the_loop.now.place (term the_loop.now.test.now)
+        (code the_loop.now.body.now)
         (plain t.now))) }
     ensures memory { OnOk result
         (Knows L.value L.meaning family.now rule.now tables.new.leaves finals.new) }
 {
-    let turns = found.turns.as_slice();
+    let turns = noted.turns.as_slice();
     let at = turns.len();
-    let head = head_tree(tables, finals, family, rule, here, place, body, test, t)?;
-    enter(tables, family, found, s, place, &head)?;
-    let inside = stepped(tables, family, &Step::Assume(test, true), &head)?;
-    let again = enter_list(tables, finals, found, family, rule, here, body, &inside)?;
-    add_turn(found, family, at, place, t, &head, again)?;
+    let head = head_tree(tables, finals, family, rule, here, the_loop, t)?;
+    enter(tables, family, noted, s, the_loop.place, &head)?;
+    let inside = stepped(tables, family, &Step::Assume(the_loop.test, true), &head)?;
+    let again = enter_list(
+        tables,
+        finals,
+        noted,
+        family,
+        rule,
+        here,
+        the_loop.body,
+        &inside,
+    )?;
+    add_turn(noted, family, at, the_loop.place, t, &head, again)?;
     Ok(head)
 }

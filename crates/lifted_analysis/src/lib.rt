@@ -5,7 +5,7 @@
 mod after;
 pub mod analysis;
 mod entries;
-mod family;
+mod family_context;
 mod finals;
 pub mod findings;
 pub mod laws;
@@ -15,6 +15,7 @@ pub mod pass;
 mod rule;
 mod start;
 mod states;
+mod tables;
 
 pub use analysis::analyse_family;
 pub use findings::{AlarmTree, FamilyFindings, LoopTree, PassFindings, PlaceTree};

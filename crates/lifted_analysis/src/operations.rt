@@ -3,7 +3,7 @@
 
 ghost use Rattle.std.specs.Prelude.{◌≡◌, length, IfOk, All};
 ghost use Rattle.leaf_domain.specs.Ranges.{IsInInt};
-ghost use Rattle.lifted_analysis.specs.Lines.{AreBounds, bounded_by, set_from};
+ghost use Rattle.lifted_analysis.specs.Lines.{AreVariableBounds, bounded_by, set_from};
 ghost use Rattle.lifted_analysis.specs.Steps.{IsStepOf, stepped_by};
 
 use crate::lines::Ranges;
@@ -26,7 +26,7 @@ pub(crate) enum Step<'a> {
 
 /// The leaf with each variable set to its range, or Nothing where there are no ranges.
 fn bounded<L: Leaf>(alloc: Global, leaf: &L, bounds: &Option<Ranges>) -> Result<L, NoMemory>
-    requires { AreBounds (L.value leaf.now).variables bounds.now }
+    requires { AreVariableBounds (L.value leaf.now).variables bounds.now }
     ensures value { IfOk result (λ made. L.value made ≡ bounded_by L.meaning bounds.now (L.value leaf.now)) }
     ensures same { IfOk result (λ made. (L.value made).variables ≡ (L.value leaf.now).variables) }
 {

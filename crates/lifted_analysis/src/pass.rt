@@ -15,17 +15,18 @@ ghost use Rattle.lifted_analysis.specs.declared.findings.LoopTree.{LoopTree};
 ghost use Rattle.lifted_analysis.specs.declared.lines.LoopLine.{LoopLine};
 ghost use Rattle.lifted_analysis.specs.Canon.{IsTreeOf};
 ghost use Rattle.lifted_analysis.specs.Entries.{turn_there, IsReducedTree, AreSized};
-ghost use Rattle.lifted_analysis.specs.Lines.{AreBounds, AreRegionsBelow};
+ghost use Rattle.lifted_analysis.specs.Lines.{AreVariableBounds, AreRegionsBelow};
 ghost use Rattle.lifted_analysis.specs.Pass.{heads_at, passed_at, pass_stop_at, turns_at_vector, inductive_at, loop_there, ArePassFindings};
 ghost use Rattle.lifted_analysis.specs.Promises.{variant_at, begin_at, by_kind, valued, AreBelow};
 ghost use Rattle.lifted_analysis.specs.Turns.{AreInductive, is_inductive, loop_places};
 
-use crate::analysis::{condition_trees, found_in};
+use crate::analysis::{condition_trees, noted_in};
 use crate::entries::TurnTree;
-use crate::family::{Family, Tables};
+use crate::family_context::FamilyContext;
 use crate::findings::{LoopTree, PassFindings};
 use crate::lines::LoopLine;
 use crate::states::{below, within};
+use crate::tables::Tables;
 use c_tree::{Mode, Program};
 use cpp_conditions::Formula;
 use decision_tree::Forest;
@@ -40,7 +41,7 @@ use tree_unify::{Steps, test_tree_in};
 /// The vectors at which each loop is inductive.
 fn loop_trees<L: Leaf, K: Ledger>(
     tables: &mut Tables<L, K>,
-    family: &Family,
+    family: &FamilyContext,
     turns: &[TurnTree<L>],
 ) -> Result<Vec<LoopTree>, NoMemory>
     requires { AreSized L.value family.now turns.now }
@@ -79,7 +80,7 @@ fn pass_counted<L: Leaf, K: Ledger>(
     requires program { IsProgram (whole code.now) }
     requires below { AreBelow 64 conditions.now plausible.now }
     requires regions { AreRegionsBelow 64 lines.now }
-    requires bounds { All (λ (l : LoopLine). AreBounds (length code.now.names) l.bounds) lines.now }
+    requires bounds { All (λ (l : LoopLine). AreVariableBounds (length code.now.names) l.bounds) lines.now }
     ensures { IfOk result (λ f. ArePassFindings L.value L.meaning mode
         (whole code.now) conditions.now plausible.now lines.now f) }
 {
@@ -93,7 +94,7 @@ fn pass_counted<L: Leaf, K: Ledger>(
     let choices = condition_trees(&mut tables, conditions)?;
     let plausible = test_tree_in(alloc, &mut tables.truths, plausible, &mut tables.steps)?;
     let never = tables.truths.leaf(false)?;
-    let family = Family {
+    let family = FamilyContext {
         program: code,
         choices: &choices,
         plausible: &plausible,
@@ -106,11 +107,11 @@ fn pass_counted<L: Leaf, K: Ledger>(
             mode,
         },
     };
-    let found = found_in(&mut tables, &family, true)?;
-    let loops = loop_trees(&mut tables, &family, &found.turns)?;
+    let noted = noted_in(&mut tables, &family, true)?;
+    let loops = loop_trees(&mut tables, &family, &noted.turns)?;
     Ok(PassFindings {
-        places: found.places,
-        alarms: found.alarms,
+        places: noted.places,
+        alarms: noted.alarms,
         loops,
     })
 }
@@ -139,7 +140,7 @@ pub fn pass_family<L: Leaf>(
     requires conditioned { IsConditioned (length conditions.now) (whole code.now) }
     requires below { AreBelow 64 conditions.now plausible.now }
     requires regions { AreRegionsBelow 64 lines.now }
-    requires bounds { All (λ (l : LoopLine). AreBounds (length code.now.names) l.bounds) lines.now }
+    requires bounds { All (λ (l : LoopLine). AreVariableBounds (length code.now.names) l.bounds) lines.now }
     ensures places { IfOk result (λ f. map (λ p. p.place) f.places.items ≡ program_places (whole code.now)) }
     ensures trees { IfOk result (λ f. (m : ℕ) → AreBelow m conditions.now plausible.now
         → AreRegionsBelow m lines.now

@@ -12,9 +12,10 @@ ghost use Rattle.leaf_domain.specs.Leaves.{nothing_of};
 ghost use Rattle.lifted_analysis.specs.States.{IsFamily, IsState, IsTruth, IsTest, truths_in};
 ghost use Rattle.lifted_analysis.specs.Start.{IsTreeAt, start_at};
 
-use crate::family::{Family, Tables};
+use crate::family_context::FamilyContext;
 use crate::operations::Guarded;
 use crate::states::kept;
+use crate::tables::Tables;
 use c_tree::{Declarations, Declared, Guard};
 use decision_tree::{Forest, Tree};
 use fam_outer::NoMemory;
@@ -102,7 +103,7 @@ impl Operation<bool, StartValues, StartValues> for Declare<'_> {
 /// The vectors at which all guards hold.
 fn guards_tree<L: Leaf, K: Ledger>(
     tables: &mut Tables<L, K>,
-    family: &Family,
+    family: &FamilyContext,
     guards: &[Guard],
 ) -> Result<Tree<bool>, NoMemory>
     requires { IsFamily family.now }
@@ -132,7 +133,7 @@ fn guards_tree<L: Leaf, K: Ledger>(
 /// The tree of the start values: at each vector those of the last declarators whose guards hold.
 fn values_tree<L: Leaf, K: Ledger>(
     tables: &mut Tables<L, K>,
-    family: &Family,
+    family: &FamilyContext,
     start: &[i64],
     declared: &Declarations,
 ) -> Result<Tree<StartValues>, NoMemory>
@@ -156,7 +157,7 @@ fn values_tree<L: Leaf, K: Ledger>(
 /// The tree of the leaves of the start values where the vector is plausible, and of Nothing elsewhere.
 pub(crate) fn start_tree<L: Leaf, K: Ledger>(
     tables: &mut Tables<L, K>,
-    family: &Family,
+    family: &FamilyContext,
     start: &[i64],
     declared: &Declarations,
 ) -> Result<Tree<L>, NoMemory>

@@ -11,8 +11,9 @@ ghost use Rattle.lifted_analysis.specs.States.{IsState, IsSized, IsLifted, IsJoi
 ghost use Rattle.lifted_analysis.specs.Rules.{as_wanted};
 ghost use Rattle.lifted_analysis.specs.Steps.{IsStepOf, stepped_by, combined_by, kept_by};
 
-use crate::family::{Family, Tables};
+use crate::family_context::FamilyContext;
 use crate::operations::{Below, Combination, Combine, Guarded, Keep, Step};
+use crate::tables::Tables;
 use decision_tree::Tree;
 use fam_outer::NoMemory;
 use leaf_domain::Leaf;
@@ -22,7 +23,7 @@ use tree_unify::{map_in, unify_in};
 /// The tree after a step, leaf by leaf.
 pub(crate) fn stepped<L: Leaf, K: Ledger>(
     tables: &mut Tables<L, K>,
-    family: &Family,
+    family: &FamilyContext,
     step: &Step,
     t: &Tree<L>,
 ) -> Result<Tree<L>, NoMemory>
@@ -45,7 +46,7 @@ pub(crate) fn stepped<L: Leaf, K: Ledger>(
 /// The combination of two trees, leaf by leaf.
 pub(crate) fn combined<L: Leaf, K: Ledger>(
     tables: &mut Tables<L, K>,
-    family: &Family,
+    family: &FamilyContext,
     how: Combination,
     t: &Tree<L>,
     u: &Tree<L>,
@@ -63,7 +64,7 @@ pub(crate) fn combined<L: Leaf, K: Ledger>(
 /// The join of two trees, leaf by leaf. Where one is Nothing everywhere it is the other, and no leaf is looked at.
 pub(crate) fn joined<L: Leaf, K: Ledger>(
     tables: &mut Tables<L, K>,
-    family: &Family,
+    family: &FamilyContext,
     t: &Tree<L>,
     u: &Tree<L>,
 ) -> Result<Tree<L>, NoMemory>
@@ -84,7 +85,7 @@ pub(crate) fn joined<L: Leaf, K: Ledger>(
 /// Where the leaves of a tree are below those of another.
 pub(crate) fn below<L: Leaf, K: Ledger>(
     tables: &mut Tables<L, K>,
-    family: &Family,
+    family: &FamilyContext,
     t: &Tree<L>,
     u: &Tree<L>,
 ) -> Result<Tree<bool>, NoMemory>
@@ -104,7 +105,7 @@ pub(crate) fn below<L: Leaf, K: Ledger>(
 /// The tree with Nothing where the truth is other than wanted. Where it is so nowhere, no leaf is copied.
 pub(crate) fn kept<L: Leaf, K: Ledger>(
     tables: &mut Tables<L, K>,
-    family: &Family,
+    family: &FamilyContext,
     truth: &Tree<bool>,
     want: bool,
     t: &Tree<L>,
@@ -125,7 +126,7 @@ pub(crate) fn kept<L: Leaf, K: Ledger>(
 /// Where a truth holds and another is as wanted.
 pub(crate) fn within<L: Leaf, K: Ledger>(
     tables: &mut Tables<L, K>,
-    family: &Family,
+    family: &FamilyContext,
     here: &Tree<bool>,
     choice: &Tree<bool>,
     want: bool,
@@ -153,7 +154,7 @@ pub(crate) fn within<L: Leaf, K: Ledger>(
 /// The tree with the leaf of `t` where the truth holds, and that of `u` elsewhere.
 pub(crate) fn selected<L: Leaf, K: Ledger>(
     tables: &mut Tables<L, K>,
-    family: &Family,
+    family: &FamilyContext,
     truth: &Tree<bool>,
     t: &Tree<L>,
     u: &Tree<L>,

@@ -5,7 +5,7 @@ ghost use Rattle.c_tree.specs.View.{whole};
 ghost use Rattle.c_tree.specs.Value.{IsInt};
 ghost use Rattle.cpp_conditions.specs.Propositions.{IsBelow};
 ghost use Rattle.cpp_conditions.specs.View.{formula};
-ghost use Rattle.lifted_analysis.specs.Lines.{AreBounds};
+ghost use Rattle.lifted_analysis.specs.Lines.{AreVariableBounds};
 
 use crate::families::held_family;
 use c_tree::{Kind, Mode};
@@ -38,7 +38,7 @@ fn bounded(
     requires b_low { IsInt b.0 }
     requires b_high { IsInt b.1 }
     ensures region { IfOk result (λ made. made.region ≡ region) }
-    ensures bounds { IfOk result (λ made. AreBounds 2 made.bounds) }
+    ensures bounds { IfOk result (λ made. AreVariableBounds 2 made.bounds) }
 {
     let mut list = Vec::new(alloc);
     list.push(Range {

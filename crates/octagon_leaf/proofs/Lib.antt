@@ -5,5 +5,5 @@ pub mod Below
 pub mod Closed
 pub mod Meanings
 pub mod Full
-pub mod Setting
+pub mod Assigning
 pub mod Moving

@@ -23,7 +23,7 @@ use Rattle.octagon_leaf.specs.Laws.Meets.{bounded-kept, bounded-all, variables-a
 use Rattle.octagon_leaf.specs.Laws.Terms.{bounded-moved, moved-holds, moved-difference, renamed-below, set-own, set-length}
 use Rattle.octagon_leaf.specs.Laws.OctagonLaws.{between-meets, set-met, within-int}
 use Rattle.octagon_leaf.proofs.Full.{best-full, best-large, best-made}
-use Rattle.octagon_leaf.proofs.Setting.{met-within}
+use Rattle.octagon_leaf.proofs.Assigning.{met-within}
 
 -- ---- back to the store before
 set-back : (s : List ℤ) (x : ℕ) (v : ℤ) → slice_set (slice_set s x v) x (slice_index_or s x (pos 0)) ≡ s

@@ -11,7 +11,7 @@ use Rattle.c_tree.specs.Tree.{Done, If, While, Block}
 use Rattle.c_tree.specs.View.{term, front, code}
 use Rattle.leaf_domain.specs.Leaves.{LeafValue, LeafMeaning}
 use Rattle.leaf_domain.specs.Transfer.{assumed}
-use Rattle.plain_analysis.specs.declared.entries.Found.{Found}
+use Rattle.plain_analysis.specs.declared.entries.Noted.{Noted}
 use Rattle.plain_analysis.specs.declared.options.Options.{Options}
 use Rattle.plain_analysis.specs.Loops.{final_leaf}
 use Rattle.plain_analysis.specs.Statements.{Entry, after_of, entries_of}
@@ -39,16 +39,16 @@ on_ok_by (Ok x) P Q f p = f p
 on_ok_by (Err e) P Q f p = tt
 
 module _ {L : Type 0} (value : L → LeafValue) (M : LeafMeaning) (o : Options) where
-  pub none_entered : (a : Found L) → HasEntered value M o a a []
+  pub none_entered : (a : Noted L) → HasEntered value M o a a []
   none_entered a = record { leaves = sym (append-nil (map (place_and_leaf value) a.places.items)); alarms = sym (append-nil a.alarms.items) }
 
-  pub entered_then : (a b c : Found L) (xs ys : List Entry) → HasEntered value M o a b xs → HasEntered value M o b c ys → HasEntered value M o a c (xs ++ ys)
+  pub entered_then : (a b c : Noted L) (xs ys : List Entry) → HasEntered value M o a b xs → HasEntered value M o b c ys → HasEntered value M o a c (xs ++ ys)
   entered_then a b c xs ys h k = record {
     leaves = onward (map (place_and_leaf value) a.places.items) (map (place_and_leaf value) b.places.items) (map (place_and_leaf value) c.places.items) (leaves_in xs) (leaves_in ys) (leaves_in (xs ++ ys)) h.leaves k.leaves (leaves_in-append xs ys);
     alarms = onward a.alarms.items b.alarms.items c.alarms.items (alarms_in M o.mode xs) (alarms_in M o.mode ys) (alarms_in M o.mode (xs ++ ys)) h.alarms k.alarms (alarms_in-append M o xs ys);
   }
 
-  pub entered_as : (a b : Found L) (xs ys : List Entry) → xs ≡ ys → HasEntered value M o a b xs → HasEntered value M o a b ys
+  pub entered_as : (a b : Noted L) (xs ys : List Entry) → xs ≡ ys → HasEntered value M o a b xs → HasEntered value M o a b ys
   entered_as a b xs ys e = subst (HasEntered value M o a b) e
 
 module _ (M : LeafMeaning) (o : Options) where

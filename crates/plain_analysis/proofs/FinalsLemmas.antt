@@ -1,5 +1,5 @@
 -- What is remembered of loops.
-use Rattle.std.proofs.Common.{◌≡◌, ℕ, Bool, true, false, ◌&&◌, eqb, List, Some, refl, ap, sym, subst, ◌∙◌, inl, inr, true≢false, Result, Ok, Err, IfOk}
+use Rattle.std.proofs.Common.{◌≡◌, ℕ, Bool, true, false, ◌&&◌, eqb, Some, refl, ap, sym, subst, ◌∙◌, inl, inr, true≢false, Result, Ok, Err, IfOk}
 use Rattle.std.proofs.lemmas.Bool.Decides.{eqb_tells}
 use Rattle.std.specs.List.{AllByRecursion}
 use Rattle.std.specs.Map.{lookup}

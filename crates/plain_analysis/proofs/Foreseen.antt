@@ -14,7 +14,7 @@ use Rattle.c_tree.specs.Value.{value_of, is_zero, IsInt}
 use Rattle.c_tree.specs.Fit.{IsTermOf, IsCodeOf, IsPlain}
 use Rattle.c_tree.specs.Run.{Outcome, Moved, Stopped, with_value, with_input, step_of, cut_of, onward, steps_of, End}
 use Rattle.c_tree.proofs.Views.{followed-Done}
-use Rattle.leaf_domain.specs.Leaves.{LeafValue, LeafMeaning, LeafLaws, Alike, Answers}
+use Rattle.leaf_domain.specs.Leaves.{LeafValue, LeafMeaning, LeafLaws, Alike, IsLeafLike}
 use Rattle.leaf_domain.specs.Transfer.{assumed, assigned, forgotten}
 use Rattle.leaf_domain.specs.Stops.{may_at}
 use Rattle.leaf_domain.specs.Soundness.{Suits, TransferAnswers, TransferHolds}
@@ -111,17 +111,17 @@ module _ (M : LeafMeaning) (laws : LeafLaws M) (mode : Mode) (H : Heads) (A : Tr
     known : AllByRecursion Known (entries_by M mode H c v)
     held : AreHeld M mode H c v
 
-  good_after : (c : Code) (v w : LeafValue) → Answers M v w → IsCodeOf v.variables c → IsPlain c → AllByRecursion Known (entries_by M mode H c w) → AreHeld M mode H c w → Good c w
+  good_after : (c : Code) (v w : LeafValue) → IsLeafLike M v w → IsCodeOf v.variables c → IsPlain c → AllByRecursion Known (entries_by M mode H c w) → AreHeld M mode H c w → Good c w
   good_after c v w a n p k d = record { valid = a.valid; names = subst (λ m. IsCodeOf m c) (sym a.same) n; plain = p; known = k; held = d }
 
   suits_own : (e : Term) (v : LeafValue) → M.valid v → IsTermOf v.variables e → Suits M e v
   suits_own e v h t = record { valid = h; term = t }
 
-  over_other : (c : Code) (v w : LeafValue) → Answers M v w → IsCodeOf v.variables c → IsCodeOf w.variables c
+  over_other : (c : Code) (v w : LeafValue) → IsLeafLike M v w → IsCodeOf v.variables c → IsCodeOf w.variables c
   over_other c v w a n = subst (λ m. IsCodeOf m c) (sym a.same) n
 
   -- a pass keeps leaves of the kind
-  passed_answers : (c : Code) (v : LeafValue) → M.valid v → IsCodeOf v.variables c → IsPlain c → AreHeld M mode H c v → Answers M v (passed M mode H c v)
+  passed_answers : (c : Code) (v : LeafValue) → M.valid v → IsCodeOf v.variables c → IsPlain c → AreHeld M mode H c v → IsLeafLike M v (passed M mode H c v)
   passed_answers Done v h n p d = answers_self v h
   passed_answers (Assign place x e rest) v h n p d =
       let w = assigned M mode x e v in
@@ -158,7 +158,7 @@ module _ (M : LeafMeaning) (laws : LeafLaws M) (mode : Mode) (H : Heads) (A : Tr
   passed_answers (Skip place rest) v h n p d = passed_answers rest v h n p d
   passed_answers (Cond number p q rest) v h n l d = absurd l
 
-  good_answers : (c : Code) (v : LeafValue) → Good c v → Answers M v (passed M mode H c v)
+  good_answers : (c : Code) (v : LeafValue) → Good c v → IsLeafLike M v (passed M mode H c v)
   good_answers c v g = passed_answers c v g.valid g.names g.plain g.held
 
   -- what is known of a loop at its final leaf x
@@ -243,7 +243,7 @@ module _ (M : LeafMeaning) (laws : LeafLaws M) (mode : Mode) (H : Heads) (A : Tr
 
   module _ (n : ℕ) (S : Sound n) (L : (place : Place) (e : Term) (body k : Code) (x : LeafValue) → GoodLoop place e body x → ((m : ℕ) → m < suc n → Fine m k (assumed M mode e false x)) → Fine (suc n) (While place e body k) x) where
     -- the statements after the first
-    behind : (c : Code) (v w : LeafValue) (k : Code) → Answers M v w → IsCodeOf v.variables c → IsPlain c → AllByRecursion Known (entries_by M mode H c w) → AreHeld M mode H c w → Fine (suc n) k (passed M mode H c w) → Fine n (followed c k) w
+    behind : (c : Code) (v w : LeafValue) (k : Code) → IsLeafLike M v w → IsCodeOf v.variables c → IsPlain c → AllByRecursion Known (entries_by M mode H c w) → AreHeld M mode H c w → Fine (suc n) k (passed M mode H c w) → Fine n (followed c k) w
     behind c v w k a names plain known held f = S.statements c w k (good_after c v w a names plain known held) (less (suc n) n k (passed M mode H c w) (omega arith) f)
 
     assign_next : (place : Place) (x : ℕ) (e : Term) (rest : Code) (v : LeafValue) (k : Code) → Good (Assign place x e rest) v → Fine (suc n) k (passed M mode H (Assign place x e rest) v) → Next n (followed (Assign place x e rest) k) v
@@ -310,10 +310,10 @@ module _ (M : LeafMeaning) (laws : LeafLaws M) (mode : Mode) (H : Heads) (A : Tr
       no_good : Good q no_in
       no_good = good_after q v no_in (A.assumed_answers e false v own) g.names.2 g.plain.1 (all_first Known (entries_by M mode H q no_in) (entries_by M mode H rest both) others) g.held.1
 
-      yes_out : Answers M v (passed M mode H p yes_in)
+      yes_out : IsLeafLike M v (passed M mode H p yes_in)
       yes_out = answers_then v yes_in (passed M mode H p yes_in) (A.assumed_answers e true v own) (good_answers p yes_in yes_good)
 
-      no_out : Answers M v (passed M mode H q no_in)
+      no_out : IsLeafLike M v (passed M mode H q no_in)
       no_out = answers_then v no_in (passed M mode H q no_in) (A.assumed_answers e false v own) (good_answers q no_in no_good)
 
       alike : Alike M (passed M mode H p yes_in) (passed M mode H q no_in)

@@ -3,7 +3,7 @@ use Rattle.std.proofs.Common.{◌≡◌, length, true, false, subst, sym}
 use Rattle.c_tree.specs.Tree.{Term, Code, Done, Assign, Input, Assert, If, While, Block, Skip, Cond, Whole}
 use Rattle.c_tree.specs.Whole.{IsProgram, IsPlainProgram}
 use Rattle.c_tree.specs.Fit.{IsTermOf, IsCodeOf}
-use Rattle.leaf_domain.specs.Leaves.{LeafValue, LeafMeaning, LeafLaws, Answers}
+use Rattle.leaf_domain.specs.Leaves.{LeafValue, LeafMeaning, LeafLaws, IsLeafLike}
 use Rattle.leaf_domain.specs.Transfer.{assumed, assigned, forgotten}
 use Rattle.leaf_domain.specs.Soundness.{Suits, TransferAnswers, TransferHolds}
 use Rattle.leaf_domain.proofs.Answered.{answers_then}
@@ -19,10 +19,10 @@ module _ (M : LeafMeaning) (laws : LeafLaws M) (o : Options) (A : TransferAnswer
   own : (e : Term) (v : LeafValue) → M.valid v → IsTermOf v.variables e → Suits M e v
   own e v h t = record { valid = h; term = t }
 
-  over : (c : Code) (v w : LeafValue) → Answers M v w → IsCodeOf v.variables c → IsCodeOf w.variables c
+  over : (c : Code) (v w : LeafValue) → IsLeafLike M v w → IsCodeOf v.variables c → IsCodeOf w.variables c
   over c v w a n = subst (λ m. IsCodeOf m c) (sym a.same) n
 
-  after : (c : Code) (v w : LeafValue) → Answers M v w → IsCodeOf v.variables c → Answers M v (after_of M o c w)
+  after : (c : Code) (v w : LeafValue) → IsLeafLike M v w → IsCodeOf v.variables c → IsLeafLike M v (after_of M o c w)
   after c v w a n = answers_then v w _ a (after_answers M laws o A c w a.valid (over c v w a n))
 
   pub final_heads_hold : (c : Code) (v : LeafValue) → M.valid v → IsCodeOf v.variables c → AreHeld M o.mode (final_heads M o) c v

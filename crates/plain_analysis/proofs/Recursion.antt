@@ -2,7 +2,7 @@
 use Rattle.std.proofs.Common.{◌≡◌, ℕ, zero, suc, ◌+◌, ◌<◌, Bool, true, false, if◌then◌else◌, nat_lt, List, refl, ap, sym, ◌∙◌, subst, ℤ, inl, inr}
 use Rattle.c_tree.specs.Tree.{Term, Code, Done, Assign, Input, Assert, If, While, Block, Skip, Cond}
 use Rattle.c_tree.specs.Fit.{IsTermOf, IsCodeOf}
-use Rattle.leaf_domain.specs.Leaves.{LeafValue, LeafMeaning, LeafLaws, Alike, Answers, nothing_of, is_nothing_of}
+use Rattle.leaf_domain.specs.Leaves.{LeafValue, LeafMeaning, LeafLaws, Alike, IsLeafLike, nothing_of, is_nothing_of}
 use Rattle.leaf_domain.specs.Transfer.{assumed, assigned, forgotten}
 use Rattle.leaf_domain.specs.Soundness.{Suits, TransferAnswers}
 use Rattle.plain_analysis.specs.declared.options.Options.{Options}
@@ -38,7 +38,7 @@ module _ (M : LeafMeaning) (laws : LeafLaws M) (o : Options) (A : TransferAnswer
 
   -- a function from leaves of n variables to such leaves
   pub Keeps : ℕ → (LeafValue → LeafValue) → Type 0
-  Keeps n f = (x : LeafValue) → M.valid x → x.variables ≡ n → Answers M x (f x)
+  Keeps n f = (x : LeafValue) → M.valid x → x.variables ≡ n → IsLeafLike M x (f x)
 
   module _ (n delay : ℕ) (G : LeafValue → LeafValue) (keeps : Keeps n G) where
     alike : (x : LeafValue) → M.valid x → x.variables ≡ n → Alike M x (G x)
@@ -49,7 +49,7 @@ module _ (M : LeafMeaning) (laws : LeafLaws M) (o : Options) (A : TransferAnswer
     unfolding Keeps
     round_answers k x h c = by_tests (M.leq (G x) x) (nat_lt k delay)
       where
-        by_tests : (t u : Bool) → Answers M x (if t then x else (if u then M.join x (G x) else M.widen x (G x)))
+        by_tests : (t u : Bool) → IsLeafLike M x (if t then x else (if u then M.join x (G x) else M.widen x (G x)))
         by_tests true u = answers_self x h
         by_tests false true = laws.join_answers x (G x) (alike x h c)
         by_tests false false = laws.widen_answers x (G x) (alike x h c)
@@ -64,7 +64,7 @@ module _ (M : LeafMeaning) (laws : LeafLaws M) (o : Options) (A : TransferAnswer
     unfolding Keeps
     narrowing_answers x h c = by_test (M.leq (G (M.narrow x (G x))) (M.narrow x (G x)))
       where
-        by_test : (t : Bool) → Answers M x (if t then M.narrow x (G x) else x)
+        by_test : (t : Bool) → IsLeafLike M x (if t then M.narrow x (G x) else x)
         by_test true = laws.narrow_answers x (G x) (alike x h c)
         by_test false = answers_self x h
 
@@ -82,7 +82,7 @@ module _ (M : LeafMeaning) (laws : LeafLaws M) (o : Options) (A : TransferAnswer
       record { valid = j.valid; same = j.same ∙ sym c }
 
   -- the final leaf of a loop
-  pub final_answers : (test : Term) (f : LeafValue → LeafValue) (x : LeafValue) → M.valid x → IsTermOf x.variables test → Keeps x.variables f → Answers M x (final_leaf M o test f x)
+  pub final_answers : (test : Term) (f : LeafValue → LeafValue) (x : LeafValue) → M.valid x → IsTermOf x.variables test → Keeps x.variables f → IsLeafLike M x (final_leaf M o test f x)
   unfolding Keeps
   final_answers test f x h t k =
       let G = turn_of M o.mode test f x in
@@ -91,7 +91,7 @@ module _ (M : LeafMeaning) (laws : LeafLaws M) (o : Options) (A : TransferAnswer
       answers_then x _ _ w (narrowings_answer x.variables o.delay G g o.narrow (widened_leaf M o.delay G x) w.valid w.same)
 
   -- the leaf after a loop
-  loop_answers : (test : Term) (f : LeafValue → LeafValue) (x : LeafValue) → M.valid x → IsTermOf x.variables test → Keeps x.variables f → Answers M x (assumed M o.mode test false (final_leaf M o test f x))
+  loop_answers : (test : Term) (f : LeafValue → LeafValue) (x : LeafValue) → M.valid x → IsTermOf x.variables test → Keeps x.variables f → IsLeafLike M x (assumed M o.mode test false (final_leaf M o test f x))
   loop_answers test f x h t k =
       let i = final_answers test f x h t k in
       answers_then x _ _ i (A.assumed_answers test false (final_leaf M o test f x) (suits test (final_leaf M o test f x) x.variables i.valid i.same t))
@@ -218,9 +218,9 @@ module _ (M : LeafMeaning) (laws : LeafLaws M) (o : Options) (A : TransferAnswer
       }
 
   -- the same of code over the leaf's own variables
-  pub after_answers : (c : Code) (v : LeafValue) → M.valid v → IsCodeOf v.variables c → Answers M v (after_of M o c v)
+  pub after_answers : (c : Code) (v : LeafValue) → M.valid v → IsCodeOf v.variables c → IsLeafLike M v (after_of M o c v)
   unfolding Keeps
   after_answers c v h n = after_keeps c v.variables n v h refl
 
-  pub final_of_code : (e : Term) (body : Code) (v : LeafValue) → M.valid v → IsTermOf v.variables e → IsCodeOf v.variables body → Answers M v (final_leaf M o e (after_of M o body) v)
+  pub final_of_code : (e : Term) (body : Code) (v : LeafValue) → M.valid v → IsTermOf v.variables e → IsCodeOf v.variables body → IsLeafLike M v (final_leaf M o e (after_of M o body) v)
   final_of_code e body v h t n = final_answers e (after_of M o body) v h t (after_keeps body v.variables n)

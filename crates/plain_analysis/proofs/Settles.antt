@@ -2,7 +2,7 @@
 use Rattle.std.proofs.Common.{◌≡◌, inl, ℕ, zero, suc, ◌+◌, ◌<◌, ◌≤◌, Bool, true, false, if◌then◌else◌, nat_lt, List, Option, Some, None, refl, ap, sym, ◌∙◌, subst, arith, ℤ, zero-add, add_assoc}
 use Rattle.std.proofs.Math.Nat.{suc-add}
 use Rattle.std.proofs.lemmas.Bool.{false≢true}
-use Rattle.leaf_domain.specs.Leaves.{LeafValue, LeafMeaning, LeafLaws, Alike, Answers, is_nothing_of}
+use Rattle.leaf_domain.specs.Leaves.{LeafValue, LeafMeaning, LeafLaws, Alike, IsLeafLike, is_nothing_of}
 use Rattle.plain_analysis.specs.Loops.{round_of, rounds_of, widened_leaf}
 use Rattle.plain_analysis.proofs.Rounds.{rounds_stay}
 
@@ -13,7 +13,7 @@ leq_content M laws m (Some ns) a e = cc
 
 -- a function that keeps what a loop needs of the leaf at its head
 pub record Turns (M : LeafMeaning) (n : ℕ) (G : LeafValue → LeafValue) : Type 0 where
-  pub answers : (x : LeafValue) → M.valid x → x.variables ≡ n → Answers M x (G x)
+  pub answers : (x : LeafValue) → M.valid x → x.variables ≡ n → IsLeafLike M x (G x)
 
 module _ (M : LeafMeaning) (laws : LeafLaws M) (n : ℕ) (delay : ℕ) (G : LeafValue → LeafValue) (turns : Turns M n G) where
   -- an iterate: valid, with n variables

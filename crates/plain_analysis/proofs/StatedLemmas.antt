@@ -1,5 +1,5 @@
 -- The loops of a program, each found at its place, and those of its parts.
-use Rattle.std.proofs.Common.{◌≡◌, ℕ, true, false, List, [], ◌∷◌, ◌++◌, ◌<◌, map, length, get_or, if◌then◌else◌, Some, refl, ap, sym, subst, ◌∙◌}
+use Rattle.std.proofs.Common.{◌≡◌, ℕ, List, [], ◌∷◌, ◌++◌, ◌<◌, map, length, get_or, if◌then◌else◌, Some, refl, ap, sym, subst, ◌∙◌}
 use Rattle.std.specs.List.{AllByRecursion}
 use Rattle.std.proofs.lemmas.List.{map-append}
 use Rattle.fam_outer.specs.declared.faults.Place.{Place}
@@ -15,7 +15,6 @@ use Rattle.c_tree.specs.View.{term, front, code}
 use Rattle.c_tree.specs.Places.{places_of, program_places}
 use Rattle.c_tree.specs.Whole.{IsBeforeAll, IsRising}
 use Rattle.c_tree.proofs.Views.{opened, by_layer, code-at}
-use Rattle.plain_analysis.specs.Places.{is_same_place}
 use Rattle.plain_analysis.specs.Stated.{Statement, statements_of, statement_in, IsLoopAt, HasLoopsOf}
 use Rattle.plain_analysis.proofs.Listed.{front-If, front-While, front-Block}
 use Rattle.plain_analysis.proofs.Located.{same_place_self, before_other}

@@ -7,7 +7,7 @@ use Rattle.c_tree.specs.Value.{IsInt}
 use Rattle.c_tree.specs.Fit.{IsTermOf, IsCodeOf}
 use Rattle.c_tree.specs.Run.{End, AtEnd, StoppedEnd, WaitingEnd, EndedEnd, steps_of}
 use Rattle.fam_outer.specs.declared.faults.Place.{Place}
-use Rattle.leaf_domain.specs.Leaves.{LeafValue, LeafMeaning, Answers}
+use Rattle.leaf_domain.specs.Leaves.{LeafValue, LeafMeaning, IsLeafLike}
 use Rattle.leaf_domain.specs.Transfer.{assumed, assigned, forgotten}
 use Rattle.plain_analysis.specs.declared.alarm.Alarm.{Alarm}
 use Rattle.plain_analysis.specs.declared.options.Options.{Options}
@@ -40,7 +40,7 @@ RunsForeseen M o p d = RunsForeseenBy M o.mode (final_heads M o) p d
 
 -- a loop's head holds each store with which the loop is entered, and each that its body makes of the head's
 pub record IsHeld (M : LeafMeaning) (mode : Mode) (test : Term) (body : LeafValue → LeafValue) (v head : LeafValue) : Type 0 where
-  pub answers : Answers M v head
+  pub answers : IsLeafLike M v head
   pub entered : (store : List ℤ) → M.holds v store → M.holds head store
   pub again : (store : List ℤ) → M.holds (body (assumed M mode test true head)) store → M.holds head store
 

@@ -1,7 +1,10 @@
 -- The statements of a program by their places.
-use Rattle.std.specs.Prelude.{◌≡◌, List, [], ◌∷◌, ◌++◌, Option, Some, None, if◌then◌else◌}
+use Rattle.std.specs.Prelude.{◌≡◌, ℕ, List, [], ◌∷◌, ◌++◌, Option, Some, None, if◌then◌else◌}
+use Rattle.c_tree.specs.Fit.{IsTermOf, IsCodeOf}
+use Rattle.c_tree.specs.View.{term, code}
 use Rattle.c_tree.specs.Tree.{Term, Code, Done, Assign, Input, Assert, If, While, Block, Skip, Cond, Whole}
 use Rattle.fam_outer.specs.declared.faults.Place.{Place}
+use Rattle.plain_analysis.specs.declared.loops.Loop.{Loop}
 use Rattle.plain_analysis.specs.Places.{is_same_place}
 
 -- a statement, alone, and its place
@@ -44,3 +47,14 @@ HasLoopsOf p (While place e body rest) = IsLoopAt p place e body × HasLoopsOf p
 HasLoopsOf p (Block place body rest) = HasLoopsOf p body × HasLoopsOf p rest
 HasLoopsOf p (Skip place rest) = HasLoopsOf p rest
 HasLoopsOf p (Cond number a b rest) = HasLoopsOf p a × HasLoopsOf p b × HasLoopsOf p rest
+
+-- a part of a program over so many variables: its expressions are over them, and its loops are the program's
+abbrev pub IsPartOf : ℕ → Whole → Code → Type 0
+IsPartOf n p c = IsCodeOf n c × HasLoopsOf p c
+
+-- a loop of a program over so many variables
+pub record IsLoopOf (n : ℕ) (p : Whole) (l : Loop) : Type 0 where
+  pub test : IsTermOf n (term l.test.now)
+  pub body : IsCodeOf n (code l.body.now)
+  pub loops : HasLoopsOf p (code l.body.now)
+  pub here : IsLoopAt p l.place (term l.test.now) (code l.body.now)

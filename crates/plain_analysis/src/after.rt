@@ -4,37 +4,34 @@
 ghost use Rattle.std.specs.Prelude.{◌≡◌, IfOk, OnOk, IfSome, IfNone, true, false};
 ghost use Rattle.c_tree.specs.Tree.{Done};
 ghost use Rattle.c_tree.specs.View.{term, front, code, whole};
-ghost use Rattle.c_tree.specs.Fit.{IsTermOf, IsCodeOf};
+ghost use Rattle.c_tree.specs.Fit.{IsTermOf};
 ghost use Rattle.leaf_domain.specs.Transfer.{assumed};
 ghost use Rattle.plain_analysis.specs.Finals.{Remembers};
-ghost use Rattle.plain_analysis.specs.Heads.{IsHead};
-ghost use Rattle.plain_analysis.specs.Loops as loops;
+ghost use Rattle.plain_analysis.specs.Heads.{IsHead, turns_of, final_of};
 ghost use Rattle.plain_analysis.specs.Loops.{widened_leaf, narrowing_of};
-ghost use Rattle.plain_analysis.specs.Stated.{IsLoopAt, HasLoopsOf};
-ghost use Rattle.plain_analysis.specs.Statements.{after_of, loop_turn};
+ghost use Rattle.plain_analysis.specs.Stated.{IsPartOf, IsLoopOf};
+ghost use Rattle.plain_analysis.specs.Statements.{after_of};
 
 use crate::finals::{Entered, Finals, find, remember};
+use crate::loops::Loop;
 use crate::steps::{joined, moved, narrowed_by};
 use crate::task::Task;
 use c_tree::{Expr, Stmt};
-use fam_outer::{NoMemory, Place};
+use fam_outer::NoMemory;
 use leaf_domain::{
     Leaf, assign, assume, equality_is_exact, forget, leaf_is_valid, split, transfer_is_sound,
 };
-use std::alloc::Global;
 
 /// The leaf after a list of statements that is entered with `leaf`. Nothing stays Nothing.
 #[cycle(after)]
 #[tactic(auto, using(crate::proofs::Listed::entered_lists))]
 pub(crate) fn after_list<L: Leaf>(
-    alloc: Global,
     finals: &mut Finals<L>,
     task: &Task<'_>,
     list: &[Stmt],
     leaf: &L,
 ) -> Result<L, NoMemory>
-    requires fit { IsCodeOf (L.value leaf.now).variables (code list.now) }
-    requires loops { HasLoopsOf (whole task.now.program.now) (code list.now) }
+    requires part { IsPartOf (L.value leaf.now).variables (whole task.now.program.now) (code list.now) }
     requires memory { Remembers L.value L.meaning task.now finals.old }
     ensures value { IfOk result (λ made. L.value made
         ≡ after_of L.meaning task.now.options (code list.now) (L.value leaf.now)) }
@@ -44,11 +41,11 @@ pub(crate) fn after_list<L: Leaf>(
     transfer_is_sound::<L>();
     leaf_is_valid(leaf);
     if leaf.is_nothing() {
-        return leaf.copy(alloc);
+        return leaf.copy(task.alloc);
     }
-    let mut made = leaf.copy(alloc)?;
+    let mut made = leaf.copy(task.alloc)?;
     for s in list {
-        made = after_stmt(alloc, finals, task, s, &made)?;
+        made = after_stmt(finals, task, s, &made)?;
     }
     Ok(made)
 }
@@ -56,14 +53,12 @@ pub(crate) fn after_list<L: Leaf>(
 /// The leaf after a statement that is entered with `leaf`. Nothing stays Nothing.
 #[cycle(after)]
 fn after_stmt<L: Leaf>(
-    alloc: Global,
     finals: &mut Finals<L>,
     task: &Task<'_>,
     s: &Stmt,
     leaf: &L,
 ) -> Result<L, NoMemory>
-    requires fit { IsCodeOf (L.value leaf.now).variables (front s.now Done) }
-    requires loops { HasLoopsOf (whole task.now.program.now) (front s.now Done) }
+    requires part { IsPartOf (L.value leaf.now).variables (whole task.now.program.now) (front s.now Done) }
     requires memory { Remembers L.value L.meaning task.now finals.old }
     ensures value { IfOk result (λ made. L.value made
         ≡ after_of L.meaning task.now.options (front s.now Done) (L.value leaf.now)) }
@@ -73,32 +68,36 @@ fn after_stmt<L: Leaf>(
     transfer_is_sound::<L>();
     leaf_is_valid(leaf);
     if leaf.is_nothing() {
-        return leaf.copy(alloc);
+        return leaf.copy(task.alloc);
     }
     match s {
         Stmt::Assign { target, value, .. } => assign(
-            alloc,
+            task.alloc,
             leaf,
             *target,
             value,
             task.options.mode,
         ),
-        Stmt::Input { target, .. } => forget(alloc, leaf, *target),
-        Stmt::Assert { test, .. } => assume(alloc, leaf, test, true, task.options.mode),
-        Stmt::If { test, yes, no, .. } => after_choice(alloc, finals, task, yes, no, test, leaf),
+        Stmt::Input { target, .. } => forget(task.alloc, leaf, *target),
+        Stmt::Assert { test, .. } => assume(task.alloc, leaf, test, true, task.options.mode),
+        Stmt::If { test, yes, no, .. } => after_choice(finals, task, yes, no, test, leaf),
         Stmt::While { place, test, body } => {
-            let last = final_leaf(alloc, finals, task, *place, body, test, leaf)?;
-            assume(alloc, &last, test, false, task.options.mode)
+            let the_loop = Loop {
+                place: *place,
+                test,
+                body,
+            };
+            let last = final_leaf(finals, task, &the_loop, leaf)?;
+            assume(task.alloc, &last, test, false, task.options.mode)
         }
-        Stmt::Block { body, .. } => after_list(alloc, finals, task, body, leaf),
-        Stmt::Skip { .. } | Stmt::Cond { .. } => leaf.copy(alloc),
+        Stmt::Block { body, .. } => after_list(finals, task, body, leaf),
+        Stmt::Skip { .. } | Stmt::Cond { .. } => leaf.copy(task.alloc),
     }
 }
 
 /// The leaf after two lists of statements, of which the first is entered where a test is not 0, and the second where it is.
 #[cycle(after)]
 fn after_choice<L: Leaf>(
-    alloc: Global,
     finals: &mut Finals<L>,
     task: &Task<'_>,
     yes: &[Stmt],
@@ -107,10 +106,8 @@ fn after_choice<L: Leaf>(
     leaf: &L,
 ) -> Result<L, NoMemory>
     requires test { IsTermOf (L.value leaf.now).variables (term test.now) }
-    requires yes { IsCodeOf (L.value leaf.now).variables (code yes.now) }
-    requires no { IsCodeOf (L.value leaf.now).variables (code no.now) }
-    requires yes_loops { HasLoopsOf (whole task.now.program.now) (code yes.now) }
-    requires no_loops { HasLoopsOf (whole task.now.program.now) (code no.now) }
+    requires yes { IsPartOf (L.value leaf.now).variables (whole task.now.program.now) (code yes.now) }
+    requires no { IsPartOf (L.value leaf.now).variables (whole task.now.program.now) (code no.now) }
     requires memory { Remembers L.value L.meaning task.now finals.old }
     ensures value { IfOk result (λ made. L.value made ≡ L.meaning.join
         (after_of L.meaning task.now.options (code yes.now) (assumed L.meaning task.now.options.mode (term test.now) true (L.value leaf.now)))
@@ -118,16 +115,15 @@ fn after_choice<L: Leaf>(
     ensures same { IfOk result (λ made. (L.value made).variables ≡ (L.value leaf.now).variables) }
     ensures memory { OnOk result (Remembers L.value L.meaning task.now finals.new) }
 {
-    let sides = split(alloc, leaf, test, task.options.mode)?;
-    let after_yes = after_list(alloc, finals, task, yes, &sides.when_true)?;
-    let after_no = after_list(alloc, finals, task, no, &sides.when_false)?;
-    joined(alloc, &after_yes, &after_no)
+    let sides = split(task.alloc, leaf, test, task.options.mode)?;
+    let after_yes = after_list(finals, task, yes, &sides.when_true)?;
+    let after_no = after_list(finals, task, no, &sides.when_false)?;
+    joined(task.alloc, &after_yes, &after_no)
 }
 
 /// The leaf after a list of statements that is entered where a test is not 0, or is 0.
 #[cycle(after)]
 fn after_side<L: Leaf>(
-    alloc: Global,
     finals: &mut Finals<L>,
     task: &Task<'_>,
     list: &[Stmt],
@@ -136,8 +132,7 @@ fn after_side<L: Leaf>(
     leaf: &L,
 ) -> Result<L, NoMemory>
     requires test { IsTermOf (L.value leaf.now).variables (term test.now) }
-    requires list { IsCodeOf (L.value leaf.now).variables (code list.now) }
-    requires loops { HasLoopsOf (whole task.now.program.now) (code list.now) }
+    requires part { IsPartOf (L.value leaf.now).variables (whole task.now.program.now) (code list.now) }
     requires memory { Remembers L.value L.meaning task.now finals.old }
     ensures value { IfOk result (λ made. L.value made
         ≡ after_of L.meaning task.now.options (code list.now)
@@ -145,8 +140,8 @@ fn after_side<L: Leaf>(
     ensures same { IfOk result (λ made. (L.value made).variables ≡ (L.value leaf.now).variables) }
     ensures memory { OnOk result (Remembers L.value L.meaning task.now finals.new) }
 {
-    let inside = assume(alloc, leaf, test, want, task.options.mode)?;
-    after_list(alloc, finals, task, list, &inside)
+    let inside = assume(task.alloc, leaf, test, want, task.options.mode)?;
+    after_list(finals, task, list, &inside)
 }
 
 /// The leaf at the head of a loop, and what comes in there with it.
@@ -159,52 +154,42 @@ pub(crate) struct Head<L> {
 /// What comes in at the head of a loop that is entered with `leaf`, where the head has `at`.
 #[cycle(after)]
 fn turn<L: Leaf>(
-    alloc: Global,
     finals: &mut Finals<L>,
     task: &Task<'_>,
-    body: &[Stmt],
-    test: &Expr,
+    the_loop: &Loop<'_>,
     leaf: &L,
     at: &L,
 ) -> Result<L, NoMemory>
     requires count { (L.value at.now).variables ≡ (L.value leaf.now).variables }
-    requires test { IsTermOf (L.value leaf.now).variables (term test.now) }
-    requires body { IsCodeOf (L.value leaf.now).variables (code body.now) }
-    requires loops { HasLoopsOf (whole task.now.program.now) (code body.now) }
+    requires own { IsLoopOf (L.value leaf.now).variables (whole task.now.program.now) the_loop.now }
     requires memory { Remembers L.value L.meaning task.now finals.old }
     ensures value { IfOk result (λ made. L.value made
-        ≡ loop_turn L.meaning task.now.options (term test.now) (code body.now) (L.value leaf.now)
-        (L.value at.now)) }
+        ≡ turns_of L.meaning task.now.options the_loop.now (L.value leaf.now) (L.value at.now)) }
     ensures same { IfOk result (λ made. (L.value made).variables ≡ (L.value leaf.now).variables) }
     ensures memory { OnOk result (Remembers L.value L.meaning task.now finals.new) }
 {
-    let end = after_side(alloc, finals, task, body, test, true, at)?;
-    joined(alloc, leaf, &end)
+    let end = after_side(finals, task, the_loop.body, the_loop.test, true, at)?;
+    joined(task.alloc, leaf, &end)
 }
 
 /// The head of a loop that has `at`.
 #[cycle(after)]
 fn head_at<L: Leaf>(
-    alloc: Global,
     finals: &mut Finals<L>,
     task: &Task<'_>,
-    body: &[Stmt],
-    test: &Expr,
+    the_loop: &Loop<'_>,
     leaf: &L,
     at: L,
 ) -> Result<Head<L>, NoMemory>
     requires count { (L.value at).variables ≡ (L.value leaf.now).variables }
-    requires test { IsTermOf (L.value leaf.now).variables (term test.now) }
-    requires body { IsCodeOf (L.value leaf.now).variables (code body.now) }
-    requires loops { HasLoopsOf (whole task.now.program.now) (code body.now) }
+    requires own { IsLoopOf (L.value leaf.now).variables (whole task.now.program.now) the_loop.now }
     requires memory { Remembers L.value L.meaning task.now finals.old }
     ensures at { IfOk result (λ head. L.value head.at ≡ L.value at) }
     ensures head { IfOk result (λ head. IsHead L.value
-        (loop_turn L.meaning task.now.options (term test.now) (code body.now) (L.value leaf.now))
-        (L.value leaf.now).variables head) }
+        (turns_of L.meaning task.now.options the_loop.now (L.value leaf.now)) (L.value leaf.now).variables head) }
     ensures memory { OnOk result (Remembers L.value L.meaning task.now finals.new) }
 {
-    let next = turn(alloc, finals, task, body, test, leaf, &at)?;
+    let next = turn(finals, task, the_loop, leaf, &at)?;
     Ok(Head { at, next })
 }
 
@@ -212,34 +197,27 @@ fn head_at<L: Leaf>(
 /// the later ones change nothing either.
 #[cycle(after)]
 fn widened<L: Leaf>(
-    alloc: Global,
     finals: &mut Finals<L>,
     task: &Task<'_>,
-    body: &[Stmt],
-    test: &Expr,
+    the_loop: &Loop<'_>,
     leaf: &L,
 ) -> Result<Head<L>, NoMemory>
-    requires test { IsTermOf (L.value leaf.now).variables (term test.now) }
-    requires body { IsCodeOf (L.value leaf.now).variables (code body.now) }
-    requires loops { HasLoopsOf (whole task.now.program.now) (code body.now) }
+    requires own { IsLoopOf (L.value leaf.now).variables (whole task.now.program.now) the_loop.now }
     requires memory { Remembers L.value L.meaning task.now finals.old }
-    ensures value { IfOk result (λ head. L.value head.at
-        ≡ widened_leaf L.meaning task.now.options.delay
-        (loop_turn L.meaning task.now.options (term test.now) (code body.now) (L.value leaf.now))
-        (L.value leaf.now)) }
+    ensures value { IfOk result (λ head. L.value head.at ≡ widened_leaf L.meaning task.now.options.delay
+        (turns_of L.meaning task.now.options the_loop.now (L.value leaf.now)) (L.value leaf.now)) }
     ensures head { IfOk result (λ head. IsHead L.value
-        (loop_turn L.meaning task.now.options (term test.now) (code body.now) (L.value leaf.now))
-        (L.value leaf.now).variables head) }
+        (turns_of L.meaning task.now.options the_loop.now (L.value leaf.now)) (L.value leaf.now).variables head) }
     ensures memory { OnOk result (Remembers L.value L.meaning task.now finals.new) }
 {
     let delay = u64::from(task.options.delay);
     let rounds = delay + u64::from(L::bound_count(leaf.variables())) + 1;
-    let start = leaf.copy(alloc)?;
-    let mut head = head_at(alloc, finals, task, body, test, leaf, start)?;
+    let start = leaf.copy(task.alloc)?;
+    let mut head = head_at(finals, task, the_loop, leaf, start)?;
     for k in 0..rounds {
-        match moved(alloc, &head.at, &head.next, k < delay)? {
+        match moved(task.alloc, &head.at, &head.next, k < delay)? {
             None => return Ok(head),
-            Some(made) => head = head_at(alloc, finals, task, body, test, leaf, made)?,
+            Some(made) => head = head_at(finals, task, the_loop, leaf, made)?,
         }
     }
     Ok(head)
@@ -248,38 +226,30 @@ fn widened<L: Leaf>(
 /// The head of a loop after one round of narrowing, or None where the candidate is not taken, or is what stands there.
 #[cycle(after)]
 fn narrowed<L: Leaf>(
-    alloc: Global,
     finals: &mut Finals<L>,
     task: &Task<'_>,
-    body: &[Stmt],
-    test: &Expr,
+    the_loop: &Loop<'_>,
     leaf: &L,
     head: &Head<L>,
 ) -> Result<Option<Head<L>>, NoMemory>
-    requires head { IsHead L.value (loop_turn L.meaning task.now.options (term test.now) (code body.now)
-        (L.value leaf.now)) (L.value leaf.now).variables head.now }
-    requires test { IsTermOf (L.value leaf.now).variables (term test.now) }
-    requires body { IsCodeOf (L.value leaf.now).variables (code body.now) }
-    requires loops { HasLoopsOf (whole task.now.program.now) (code body.now) }
+    requires head { IsHead L.value
+        (turns_of L.meaning task.now.options the_loop.now (L.value leaf.now)) (L.value leaf.now).variables head.now }
+    requires own { IsLoopOf (L.value leaf.now).variables (whole task.now.program.now) the_loop.now }
     requires memory { Remembers L.value L.meaning task.now finals.old }
-    ensures kept { IfOk result (λ made. IfNone made
-        (narrowing_of L.meaning (loop_turn L.meaning task.now.options (term test.now) (code body.now)
-        (L.value leaf.now)) (L.value head.now.at) ≡ L.value head.now.at)) }
-    ensures taken { IfOk result (λ made. IfSome made
-        (λ next. narrowing_of L.meaning
-        (loop_turn L.meaning task.now.options (term test.now) (code body.now) (L.value leaf.now))
-        (L.value head.now.at) ≡ L.value next.at)) }
-    ensures head { IfOk result (λ made. IfSome made
-        (λ next. IsHead L.value (loop_turn L.meaning task.now.options (term test.now) (code body.now)
-        (L.value leaf.now)) (L.value leaf.now).variables next)) }
+    ensures kept { IfOk result (λ made. IfNone made (narrowing_of L.meaning
+        (turns_of L.meaning task.now.options the_loop.now (L.value leaf.now)) (L.value head.now.at) ≡ L.value head.now.at)) }
+    ensures taken { IfOk result (λ made. IfSome made (λ next. narrowing_of L.meaning
+        (turns_of L.meaning task.now.options the_loop.now (L.value leaf.now)) (L.value head.now.at) ≡ L.value next.at)) }
+    ensures head { IfOk result (λ made. IfSome made (λ next. IsHead L.value
+        (turns_of L.meaning task.now.options the_loop.now (L.value leaf.now)) (L.value leaf.now).variables next)) }
     ensures memory { OnOk result (Remembers L.value L.meaning task.now finals.new) }
 {
     equality_is_exact::<L>();
-    let candidate = narrowed_by(alloc, &head.at, &head.next)?;
+    let candidate = narrowed_by(task.alloc, &head.at, &head.next)?;
     if candidate == head.at {
         return Ok(None);
     }
-    let made = head_at(alloc, finals, task, body, test, leaf, candidate)?;
+    let made = head_at(finals, task, the_loop, leaf, candidate)?;
     if made.next.leq(&made.at) {
         Ok(Some(made))
     } else {
@@ -291,26 +261,21 @@ fn narrowed<L: Leaf>(
 /// nothing.
 #[cycle(after)]
 fn final_by_rounds<L: Leaf>(
-    alloc: Global,
     finals: &mut Finals<L>,
     task: &Task<'_>,
-    body: &[Stmt],
-    test: &Expr,
+    the_loop: &Loop<'_>,
     leaf: &L,
 ) -> Result<L, NoMemory>
-    requires test { IsTermOf (L.value leaf.now).variables (term test.now) }
-    requires body { IsCodeOf (L.value leaf.now).variables (code body.now) }
-    requires loops { HasLoopsOf (whole task.now.program.now) (code body.now) }
+    requires own { IsLoopOf (L.value leaf.now).variables (whole task.now.program.now) the_loop.now }
     requires memory { Remembers L.value L.meaning task.now finals.old }
     ensures value { IfOk result (λ made. L.value made
-        ≡ loops.final_leaf L.meaning task.now.options (term test.now)
-        (after_of L.meaning task.now.options (code body.now)) (L.value leaf.now)) }
+        ≡ final_of L.meaning task.now.options the_loop.now (L.value leaf.now)) }
     ensures same { IfOk result (λ made. (L.value made).variables ≡ (L.value leaf.now).variables) }
     ensures memory { OnOk result (Remembers L.value L.meaning task.now finals.new) }
 {
-    let mut head = widened(alloc, finals, task, body, test, leaf)?;
+    let mut head = widened(finals, task, the_loop, leaf)?;
     for _k in 0..task.options.narrow {
-        match narrowed(alloc, finals, task, body, test, leaf, &head)? {
+        match narrowed(finals, task, the_loop, leaf, &head)? {
             None => return Ok(head.at),
             Some(next) => head = next,
         }
@@ -322,40 +287,33 @@ fn final_by_rounds<L: Leaf>(
 /// made by its rounds and then remembered.
 #[cycle(after)]
 pub(crate) fn final_leaf<L: Leaf>(
-    alloc: Global,
     finals: &mut Finals<L>,
     task: &Task<'_>,
-    place: Place,
-    body: &[Stmt],
-    test: &Expr,
+    the_loop: &Loop<'_>,
     leaf: &L,
 ) -> Result<L, NoMemory>
-    requires test { IsTermOf (L.value leaf.now).variables (term test.now) }
-    requires body { IsCodeOf (L.value leaf.now).variables (code body.now) }
-    requires loops { HasLoopsOf (whole task.now.program.now) (code body.now) }
-    requires here { IsLoopAt (whole task.now.program.now) place (term test.now) (code body.now) }
+    requires own { IsLoopOf (L.value leaf.now).variables (whole task.now.program.now) the_loop.now }
     requires memory { Remembers L.value L.meaning task.now finals.old }
     ensures value { IfOk result (λ made. L.value made
-        ≡ loops.final_leaf L.meaning task.now.options (term test.now)
-        (after_of L.meaning task.now.options (code body.now)) (L.value leaf.now)) }
+        ≡ final_of L.meaning task.now.options the_loop.now (L.value leaf.now)) }
     ensures same { IfOk result (λ made. (L.value made).variables ≡ (L.value leaf.now).variables) }
     ensures memory { OnOk result (Remembers L.value L.meaning task.now finals.new) }
 {
     transfer_is_sound::<L>();
     leaf_is_valid(leaf);
     if leaf.is_nothing() {
-        return leaf.copy(alloc);
+        return leaf.copy(task.alloc);
     }
-    let entered = leaf.copy(alloc)?;
+    let entered = leaf.copy(task.alloc)?;
     let key = Entered {
-        place,
+        place: the_loop.place,
         leaf: entered,
     };
     if let Some(last) = find(&finals.entries, &key) {
-        return last.copy(alloc);
+        return last.copy(task.alloc);
     }
-    let last = final_by_rounds(alloc, finals, task, body, test, leaf)?;
-    let kept = last.copy(alloc)?;
+    let last = final_by_rounds(finals, task, the_loop, leaf)?;
+    let kept = last.copy(task.alloc)?;
     remember(&mut finals.entries, key, kept)?;
     Ok(last)
 }

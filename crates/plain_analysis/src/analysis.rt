@@ -9,7 +9,7 @@ ghost use Rattle.plain_analysis.specs.Places.{at_of, alarms_of};
 ghost use Rattle.plain_analysis.specs.Promises.{LoopsSettle, RunsForeseen};
 
 use crate::alarm::Alarms;
-use crate::entries::{Found, enter_list};
+use crate::entries::{Noted, enter_list};
 use crate::finals::Finals;
 use crate::findings::{Findings, PlaceLeaf, PlaceLeaves};
 use crate::options::Options;
@@ -53,7 +53,7 @@ pub fn analyse_one<L: Leaf>(
     ensures settled { LoopsSettle L.meaning options.now }
 {
     runs_are_foreseen(program, start, options);
-    let mut found = Found {
+    let mut noted = Noted {
         places: Vec::new(alloc),
         alarms: Vec::new(alloc),
     };
@@ -61,15 +61,16 @@ pub fn analyse_one<L: Leaf>(
         entries: IndexMap::new(alloc),
     };
     let task = Task {
+        alloc,
         program,
         options: *options,
     };
-    let leaf = enter_list(alloc, &mut finals, &mut found, &task, &program.body, start)?;
+    let leaf = enter_list(&mut finals, &mut noted, &task, &program.body, start)?;
     let place = program.end;
-    found.places.push(PlaceLeaf { place, leaf })?;
+    noted.places.push(PlaceLeaf { place, leaf })?;
     Ok(Findings {
-        places: PlaceLeaves::from_vec(found.places),
-        alarms: Alarms::from_vec(found.alarms),
+        places: PlaceLeaves::from_vec(noted.places),
+        alarms: Alarms::from_vec(noted.alarms),
     })
 }
 

@@ -3,10 +3,12 @@
 
 use crate::options::Options;
 use c_tree::Program;
+use std::alloc::Global;
 
-/// The program that is analysed, and how.
+/// The program that is analysed, how, and whence memory comes.
 #[derive(Clone, Copy)]
 pub(crate) struct Task<'a> {
+    pub(crate) alloc: Global,
     pub(crate) program: &'a Program,
     pub(crate) options: Options,
 }

@@ -12,7 +12,8 @@ use Rattle.tree_unify.specs.Formulas.{HasNumber, IsTreeOf}
 use Rattle.tree_unify.specs.Leaves.{HoldsLeaves}
 use Rattle.tree_unify.specs.Leafwise.{IsMapped, IsUnified, TestsAreOf, TestsAreOfEither}
 
-number_below : (n k : ℕ) (p : Proposition ℕ) → IsBelow n p → HasNumber k p → k < n
+-- a number of a formula is below what bounds all of them
+pub number_below : (n k : ℕ) (p : Proposition ℕ) → IsBelow n p → HasNumber k p → k < n
 number_below n k (Const b) h w = absurd w
 number_below n k (Test m) h w = subst (λ (j : ℕ). j < n) (sym w) h
 number_below n k (Not p) h w = number_below n k p h w
@@ -21,8 +22,8 @@ number_below n k (And p q) h (inr w) = number_below n k q h.1 w
 number_below n k (Or p q) h (inl w) = number_below n k p h.0 w
 number_below n k (Or p q) h (inr w) = number_below n k q h.1 w
 
-pub tree_below : (p : Proposition ℕ) (t : Plain Bool) → IsBelow 64 p → IsTreeOf p t → TestsBelow 64 t
-tree_below p t h w = tests_below 64 t (λ k x. number_below 64 k p h (w.tests k x))
+pub tree_below : (n : ℕ) (p : Proposition ℕ) (t : Plain Bool) → IsBelow n p → IsTreeOf p t → TestsBelow n t
+tree_below n p t h w = tests_below n t (λ k x. number_below n k p h (w.tests k x))
 
 pub negated : (P : Bool → Bool → Type 0) (p : Proposition ℕ) (t r : Plain Bool) → ((a b : Bool) → P a b → b ≡ not a) → IsTreeOf p t → IsMapped P t r → IsReduced r → TestsAreOf t r → IsTreeOf (Not p) r
 negated P p t r says w m reduced tests = record {

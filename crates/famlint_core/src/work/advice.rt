@@ -7,7 +7,7 @@ ghost use Rattle.cpp_conditions.specs.Validity.{IsConfig};
 ghost use Rattle.decision_tree.specs.Plain.{TestsBelow};
 ghost use Rattle.decision_tree.specs.View as tree;
 ghost use Rattle.lifted_analysis.specs.declared.findings.AlarmTree.{AlarmTree};
-ghost use Rattle.alarm_report.specs.Alarms.{stop_tree};
+ghost use Rattle.alarm_report.specs.Alarms.{plain_alarm_tree};
 ghost use Rattle.configuration_advice.specs.declared.comparing.Advice.{Advice};
 ghost use Rattle.famlint_core.specs.Advised.{IsAdvice, IsGood, IsAdviceDone, IsAdviceText, advice_status as status_of, trees_of};
 ghost use Rattle.famlint_core.specs.Answers.{AnswersAdvice, PromisedAdvice, Contents, meaning_of};
@@ -35,7 +35,7 @@ use std::alloc::Global;
 
 /// The trees of stops alone, each with one more owner.
 fn trees_of(alloc: Global, alarms: &[AlarmTree]) -> Result<Vec<Tree<bool>>, NoMemory>
-    ensures trees { IfOk result (λ made. map tree.plain made.items ≡ trees_of (map stop_tree alarms.now)) }
+    ensures trees { IfOk result (λ made. map tree.plain made.items ≡ trees_of (map plain_alarm_tree alarms.now)) }
     ensures tests { IfOk result (λ made. (count : ℕ)
         → All (λ (t : AlarmTree). TestsBelow count (tree.plain t.tree)) alarms.now
         → All (λ (t : Tree Bool). TestsBelow count (tree.plain t)) made.items) }

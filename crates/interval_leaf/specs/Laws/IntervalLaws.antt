@@ -6,7 +6,7 @@ use Rattle.std.proofs.lemmas.List.{length-map}
 use Rattle.leaf_domain.specs.declared.range.Range.{Range}
 use Rattle.leaf_domain.specs.Ranges.{Within, IsInInt, is_empty_range, empty_range, cover_of, meet_of}
 use Rattle.leaf_domain.specs.Forms.{form_at}
-use Rattle.leaf_domain.specs.Leaves.{LeafValue, LeafLaws, Answers, nothing_of, is_nothing_of}
+use Rattle.leaf_domain.specs.Leaves.{LeafValue, LeafLaws, IsLeafLike, nothing_of, is_nothing_of}
 use Rattle.interval_leaf.specs.Intervals.{intervals, pairs_of, interval_of, IsInterval, AllWithinRanges, ContentHolds, interval_holds, interval_start, interval_leq, interval_join, interval_widen, interval_narrow, interval_bounds, interval_meet, interval_with, interval_own_bounds, covers, widened, widened_all, narrowed, narrowed_all, settled, point_of, AllOwn, IsOwn, HasEnds}
 use Rattle.interval_leaf.specs.Laws.RangeLists.{pairs_numbers, length_zipped, is_interval, covers_own, widened_all_own, narrowed_all_ends, own_from_all_ends, own_from_ends, own_set, own_points, covers_first, covers_second, inside_holds, widened_all_first, widened_all_second, narrowed_all_hold, none_empty, points_hold, points_alone, lows, lows_hold, held_length, widened_all_fewer, own_bounds_le, read_within, read_own, set_within, kept_within, length_replaced}
 
@@ -18,7 +18,7 @@ made_holds : (rs : List Range) (s : List ℤ) → AllWithinRanges rs s → inter
 made_holds rs s h = rw (pairs_numbers rs) h
 
 -- a leaf that is made of as many ranges
-made_answers : (n : ℕ) (c : Option (List ℤ)) (rs : List Range) → n ≤ 16 → n ≡ length rs → AllOwn rs → Answers intervals (at n c) (interval_of rs)
+made_answers : (n : ℕ) (c : Option (List ℤ)) (rs : List Range) → n ≤ 16 → n ≡ length rs → AllOwn rs → IsLeafLike intervals (at n c) (interval_of rs)
 made_answers n c rs h e k = record { valid = is_interval rs (omega arith) k; same = sym e }
 
 -- ---- start
@@ -32,7 +32,7 @@ leq_holds n m (Some us) None s p q e f h = cc
 leq_holds n m (Some us) (Some bs) s p q e f h = inside_holds (pairs_of us) (pairs_of bs) s (sym p.1.1 ∙ e ∙ q.1.1) f h
 
 -- ---- join
-join_answers : (n m : ℕ) (c d : Option (List ℤ)) → IsInterval (at n c) → IsInterval (at m d) → n ≡ m → Answers intervals (at n c) (interval_join (at n c) (at m d))
+join_answers : (n m : ℕ) (c d : Option (List ℤ)) → IsInterval (at n c) → IsInterval (at m d) → n ≡ m → IsLeafLike intervals (at n c) (interval_join (at n c) (at m d))
 join_answers n m None d p q e = record { valid = q; same = sym e }
 join_answers n m (Some us) None p q e = record { valid = p; same = refl }
 join_answers n m (Some us) (Some bs) p q e =
@@ -51,7 +51,7 @@ nothing_join n None = refl
 nothing_join n (Some us) = refl
 
 -- ---- widen
-widen_answers : (n m : ℕ) (c d : Option (List ℤ)) → IsInterval (at n c) → IsInterval (at m d) → n ≡ m → Answers intervals (at n c) (interval_widen (at n c) (at m d))
+widen_answers : (n m : ℕ) (c d : Option (List ℤ)) → IsInterval (at n c) → IsInterval (at m d) → n ≡ m → IsLeafLike intervals (at n c) (interval_widen (at n c) (at m d))
 widen_answers n m None d p q e = record { valid = q; same = sym e }
 widen_answers n m (Some us) None p q e = record { valid = p; same = refl }
 widen_answers n m (Some us) (Some bs) p q e =
@@ -75,11 +75,11 @@ own_le n None p = omega arith
 own_le n (Some us) p = omega (arith, own_bounds_le (pairs_of us), p.1.1)
 
 -- ---- narrow
-settled_answers : (n : ℕ) (c : Option (List ℤ)) (rs : List Range) (t : Bool) → list_any is_empty_range rs ≡ t → n ≤ 16 → n ≡ length rs → (list_any is_empty_range rs ≡ false → AllOwn rs) → Answers intervals (at n c) (if t then nothing_of (length rs) else interval_of rs)
+settled_answers : (n : ℕ) (c : Option (List ℤ)) (rs : List Range) (t : Bool) → list_any is_empty_range rs ≡ t → n ≤ 16 → n ≡ length rs → (list_any is_empty_range rs ≡ false → AllOwn rs) → IsLeafLike intervals (at n c) (if t then nothing_of (length rs) else interval_of rs)
 settled_answers n c rs true f h e k = record { valid = (omega arith, tt); same = sym e }
 settled_answers n c rs false f h e k = made_answers n c rs h e (k f)
 
-narrow_answers : (n m : ℕ) (c d : Option (List ℤ)) → IsInterval (at n c) → IsInterval (at m d) → n ≡ m → Answers intervals (at n c) (interval_narrow (at n c) (at m d))
+narrow_answers : (n m : ℕ) (c d : Option (List ℤ)) → IsInterval (at n c) → IsInterval (at m d) → n ≡ m → IsLeafLike intervals (at n c) (interval_narrow (at n c) (at m d))
 narrow_answers n m None d p q e = record { valid = p; same = refl }
 narrow_answers n m (Some us) None p q e = record { valid = q; same = sym e }
 narrow_answers n m (Some us) (Some bs) p q e =
@@ -95,7 +95,7 @@ narrow_holds n m None (Some bs) s p q e f h = cc
 narrow_holds n m (Some us) (Some bs) s p q e f h = settled_holds _ s (narrowed_all_hold (pairs_of us) (pairs_of bs) s (sym p.1.1 ∙ e ∙ q.1.1) f h)
 
 -- ---- one variable
-with_answers : (n : ℕ) (c : Option (List ℤ)) (x : ℕ) (r : Range) (t : Bool) → is_empty_range r ≡ t → IsInterval (at n c) → HasEnds r → Answers intervals (at n c) (interval_with (at n c) x r)
+with_answers : (n : ℕ) (c : Option (List ℤ)) (x : ℕ) (r : Range) (t : Bool) → is_empty_range r ≡ t → IsInterval (at n c) → HasEnds r → IsLeafLike intervals (at n c) (interval_with (at n c) x r)
 with_answers n None x r t e p k = record { valid = p; same = refl }
 with_answers n (Some us) x r true e p k = rw e (record { valid = (p.0, tt); same = refl })
 with_answers n (Some us) x r false e p k =

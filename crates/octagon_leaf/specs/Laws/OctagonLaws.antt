@@ -10,7 +10,7 @@ use Rattle.leaf_domain.specs.declared.compare.Compare.{Compare}
 use Rattle.leaf_domain.specs.Compares.{holds_between}
 use Rattle.leaf_domain.specs.Ranges.{Within, IsInInt, is_empty_range, empty_range, range_at}
 use Rattle.leaf_domain.specs.Forms.{form_at, IsForm}
-use Rattle.leaf_domain.specs.Leaves.{LeafValue, LeafLaws, Answers, nothing_of, is_nothing_of, at_store}
+use Rattle.leaf_domain.specs.Leaves.{LeafValue, LeafLaws, IsLeafLike, nothing_of, is_nothing_of, at_store}
 use Rattle.octagon_matrix.specs.Terms.{type_bound}
 use Rattle.octagon_matrix.specs.Matrices.{MatrixValue, entry_of, IsMatrix}
 use Rattle.octagon_matrix.specs.Stores.{value_at, term_value, IsStore, Holds}
@@ -36,10 +36,10 @@ abbrev at : ℕ → Option (List ℤ) → LeafValue
 at n c = record { variables = n; content = c }
 
 -- ---- the leaf of the best bounds of a matrix
-of-best-answers : (a : LeafValue) (m : MatrixValue) → IsBounded m → m.variables ≡ a.variables → Answers octagons a (best_of m)
+of-best-answers : (a : LeafValue) (m : MatrixValue) → IsBounded m → m.variables ≡ a.variables → IsLeafLike octagons a (best_of m)
 of-best-answers a m p e = by_answer (answered m p)
   where
-    by_answer : Answered m → Answers octagons a (best_of m)
+    by_answer : Answered m → IsLeafLike octagons a (best_of m)
     by_answer (unmet u f g) = rw f (record { valid = (p.few, tt); same = e })
     by_answer (held x q k f g) = rw f (record { valid = (k.few, (k, (q.met.0, stores-best m x q.met.0 q q.met.1))); same = q.variables ∙ e })
 
@@ -57,10 +57,10 @@ holds-best-of m s p h = by_answer (answered m p)
     by_answer (unmet u f g) = absurd (rw f at h)
     by_answer (held x q k f g) = best-stores m x s q (rw f at h)
 
-standing-answers : (a : LeafValue) (m : MatrixValue) → IsMatrix m → m.variables ≡ a.variables → Answers octagons a (standing m)
+standing-answers : (a : LeafValue) (m : MatrixValue) → IsMatrix m → m.variables ≡ a.variables → IsLeafLike octagons a (standing m)
 standing-answers a m p e = by_answer (answered m (bounded-kept m p))
   where
-    by_answer : Answered m → Answers octagons a (standing m)
+    by_answer : Answered m → IsLeafLike octagons a (standing m)
     by_answer (unmet u f g) = rw g (record { valid = (p.few, tt); same = e })
     by_answer (held x q k f g) = rw g (record { valid = (p.few, (p, q.met)); same = e })
 
@@ -97,7 +97,7 @@ holds-length : (n : ℕ) (c : Option (List ℤ)) (s : List ℤ) → ContentHolds
 holds-length n None s h = absurd h
 holds-length n (Some ns) s h = h.size
 
-best-answers : (n : ℕ) (c : Option (List ℤ)) → IsOctagon (at n c) → Answers octagons (at n c) (octagon_best (at n c))
+best-answers : (n : ℕ) (c : Option (List ℤ)) → IsOctagon (at n c) → IsLeafLike octagons (at n c) (octagon_best (at n c))
 best-answers n None p = record { valid = p; same = refl }
 best-answers n (Some ns) p = of-best-answers (at n (Some ns)) (matrix_at n ns) (bounded-kept (matrix_at n ns) p.1.0) refl
 
@@ -131,7 +131,7 @@ leq-nothing n k None e = refl
 leq-nothing n k (Some us) e = cc
 
 -- ---- join
-join-answers : (n k : ℕ) (c d : Option (List ℤ)) → IsOctagon (at n c) → IsOctagon (at k d) → n ≡ k → Answers octagons (at n c) (octagon_join (at n c) (at k d))
+join-answers : (n k : ℕ) (c d : Option (List ℤ)) → IsOctagon (at n c) → IsOctagon (at k d) → n ≡ k → IsLeafLike octagons (at n c) (octagon_join (at n c) (at k d))
 join-answers n k None d p q e = record { valid = q; same = sym e }
 join-answers n k (Some us) None p q e = record { valid = p; same = refl }
 join-answers n k (Some us) (Some vs) p q e =
@@ -169,7 +169,7 @@ nothing-join n None = refl
 nothing-join n (Some us) = refl
 
 -- ---- widen
-widen-answers : (n k : ℕ) (c d : Option (List ℤ)) → IsOctagon (at n c) → IsOctagon (at k d) → n ≡ k → Answers octagons (at n c) (octagon_widen (at n c) (at k d))
+widen-answers : (n k : ℕ) (c d : Option (List ℤ)) → IsOctagon (at n c) → IsOctagon (at k d) → n ≡ k → IsLeafLike octagons (at n c) (octagon_widen (at n c) (at k d))
 widen-answers n k None d p q e = let a = best-answers k d q in record { valid = a.valid; same = a.same ∙ sym e }
 widen-answers n k (Some us) None p q e = record { valid = p; same = refl }
 widen-answers n k (Some us) (Some vs) p q e =
@@ -223,7 +223,7 @@ own-le n (Some us) =
     rw (← e) (count-most (2 * n) (λ a b. not (int_eq (entry_of (matrix_at n us) a b) (type_bound a b))))
 
 -- ---- narrow
-narrow-answers : (n k : ℕ) (c d : Option (List ℤ)) → IsOctagon (at n c) → IsOctagon (at k d) → n ≡ k → Answers octagons (at n c) (octagon_narrow (at n c) (at k d))
+narrow-answers : (n k : ℕ) (c d : Option (List ℤ)) → IsOctagon (at n c) → IsOctagon (at k d) → n ≡ k → IsLeafLike octagons (at n c) (octagon_narrow (at n c) (at k d))
 narrow-answers n k None d p q e = record { valid = p; same = refl }
 narrow-answers n k (Some us) None p q e = record { valid = q; same = sym e }
 narrow-answers n k (Some us) (Some vs) p q e =
@@ -334,11 +334,11 @@ between-met x r s w = (
 not-empty : (v : ℤ) (r : Range) → Within v r → is_empty_range r ≡ false
 not-empty v r w = grind (arith, ints)
 
-unless-empty : (n : ℕ) (us : List ℤ) (r : Range) (m : MatrixValue) (t : Bool) → n ≤ 16 → IsBounded m → m.variables ≡ n → Answers octagons (at n (Some us)) (if t then nothing_of n else best_of m)
+unless-empty : (n : ℕ) (us : List ℤ) (r : Range) (m : MatrixValue) (t : Bool) → n ≤ 16 → IsBounded m → m.variables ≡ n → IsLeafLike octagons (at n (Some us)) (if t then nothing_of n else best_of m)
 unless-empty n us r m true l p e = record { valid = (l, tt); same = refl }
 unless-empty n us r m false l p e = of-best-answers (at n (Some us)) m p e
 
-meet-answers : (n : ℕ) (c : Option (List ℤ)) (x : ℕ) (r : Range) → IsOctagon (at n c) → Answers octagons (at n c) (octagon_meet_range (at n c) x r)
+meet-answers : (n : ℕ) (c : Option (List ℤ)) (x : ℕ) (r : Range) → IsOctagon (at n c) → IsLeafLike octagons (at n c) (octagon_meet_range (at n c) x r)
 meet-answers n None x r p = record { valid = p; same = refl }
 meet-answers n (Some us) x r p =
     let z : IsClosed n us = closed n us p in
@@ -353,11 +353,11 @@ meet-holds n (Some us) x r s p l h w =
     (best-of-holds (met_all z.matrix (between x r)) s (bounded-all z.matrix (between x r) b)
     (all-holds z.matrix (between x r) s b (between-meets z.matrix.variables x r (rw (z.best.variables) l)) (closed-holds n us z s h) (between-met x r s w)))
 
-if-answers : (n : ℕ) (us : List ℤ) (t : Bool) → IsOctagon (at n (Some us)) → Answers octagons (at n (Some us)) (if t then octagon_best (at n (Some us)) else nothing_of n)
+if-answers : (n : ℕ) (us : List ℤ) (t : Bool) → IsOctagon (at n (Some us)) → IsLeafLike octagons (at n (Some us)) (if t then octagon_best (at n (Some us)) else nothing_of n)
 if-answers n us true p = best-answers n (Some us) p
 if-answers n us false p = record { valid = (p.0, tt); same = refl }
 
-meet-shape-answers : (n : ℕ) (us : List ℤ) (g : Shape) (op : Compare) → IsOctagon (at n (Some us)) → Answers octagons (at n (Some us)) (meet_shape (at n (Some us)) g op)
+meet-shape-answers : (n : ℕ) (us : List ℤ) (g : Shape) (op : Compare) → IsOctagon (at n (Some us)) → IsLeafLike octagons (at n (Some us)) (meet_shape (at n (Some us)) g op)
 meet-shape-answers n us Other op p = best-answers n (Some us) p
 meet-shape-answers n us (Constant c) op p = if-answers n us (holds_between op c (pos 0)) p
 meet-shape-answers n us (Terms e) op p =
@@ -365,7 +365,7 @@ meet-shape-answers n us (Terms e) op p =
     let es : List Meet = compared e op (edge_range (entry_of z.matrix) e) in
     rw (z.is) (of-best-answers (at n (Some us)) (met_all z.matrix es) (bounded-all z.matrix es (bounded-kept z.matrix z.kept)) (variables-all z.matrix es ∙ z.best.variables))
 
-meet-form-answers : (n : ℕ) (c : Option (List ℤ)) (f : Form) (op : Compare) → IsOctagon (at n c) → Answers octagons (at n c) (octagon_meet_form (at n c) f op)
+meet-form-answers : (n : ℕ) (c : Option (List ℤ)) (f : Form) (op : Compare) → IsOctagon (at n c) → IsLeafLike octagons (at n c) (octagon_meet_form (at n c) f op)
 meet-form-answers n None f op p = record { valid = p; same = refl }
 meet-form-answers n (Some us) f op p = meet-shape-answers n us (shape_of f) op p
 
@@ -400,11 +400,11 @@ dropped-met y es x s v k h l i q a =
     let b : IsBounded y = bounded-kept y k in
     best-of-holds (met_all (dropped y x) es) (slice_set s x v) (bounded-all (dropped y x) es (bounded-dropped y x b)) (all-holds (dropped y x) es (slice_set s x v) (bounded-dropped y x b) q (dropped-holds y s x v b h l i) a)
 
-dropped-answers : (n : ℕ) (us : List ℤ) (z : IsClosed n us) (x : ℕ) (es : List Meet) → Answers octagons (at n (Some us)) (best_of (met_all (dropped z.matrix x) es))
+dropped-answers : (n : ℕ) (us : List ℤ) (z : IsClosed n us) (x : ℕ) (es : List Meet) → IsLeafLike octagons (at n (Some us)) (best_of (met_all (dropped z.matrix x) es))
 dropped-answers n us z x es =
     of-best-answers (at n (Some us)) (met_all (dropped z.matrix x) es) (bounded-all (dropped z.matrix x) es (bounded-dropped z.matrix x (bounded-kept z.matrix z.kept))) (variables-all (dropped z.matrix x) es ∙ z.best.variables)
 
-set-answers : (n : ℕ) (c : Option (List ℤ)) (x : ℕ) (r : Range) → IsOctagon (at n c) → Answers octagons (at n c) (octagon_set_range (at n c) x r)
+set-answers : (n : ℕ) (c : Option (List ℤ)) (x : ℕ) (r : Range) → IsOctagon (at n c) → IsLeafLike octagons (at n c) (octagon_set_range (at n c) x r)
 set-answers n None x r p = record { valid = p; same = refl }
 set-answers n (Some us) x r p =
     let z : IsClosed n us = closed n us p in
@@ -429,11 +429,11 @@ pub set-term-variables : (y : MatrixValue) (x t : ℕ) (c : ℤ) (r : Range) (b 
 set-term-variables y x t c r true = variables-all (moved y x t c) (between x r)
 set-term-variables y x t c r false = variables-all (dropped y x) (equal_to x t c ++ between x r)
 
-if-double-answers : (n : ℕ) (us : List ℤ) (x : ℕ) (m : MatrixValue) (r : Range) (d : Bool) → IsOctagon (at n (Some us)) → IsBounded m → m.variables ≡ n → Answers octagons (at n (Some us)) (if d then best_of m else octagon_set_range (at n (Some us)) x r)
+if-double-answers : (n : ℕ) (us : List ℤ) (x : ℕ) (m : MatrixValue) (r : Range) (d : Bool) → IsOctagon (at n (Some us)) → IsBounded m → m.variables ≡ n → IsLeafLike octagons (at n (Some us)) (if d then best_of m else octagon_set_range (at n (Some us)) x r)
 if-double-answers n us x m r true p b e = of-best-answers (at n (Some us)) m b e
 if-double-answers n us x m r false p b e = set-answers n (Some us) x r p
 
-set-shape-answers : (n : ℕ) (us : List ℤ) (x : ℕ) (g : Shape) (r : Range) → IsOctagon (at n (Some us)) → Answers octagons (at n (Some us)) (set_shape (at n (Some us)) x g r)
+set-shape-answers : (n : ℕ) (us : List ℤ) (x : ℕ) (g : Shape) (r : Range) → IsOctagon (at n (Some us)) → IsLeafLike octagons (at n (Some us)) (set_shape (at n (Some us)) x g r)
 set-shape-answers n us x Other r p = set-answers n (Some us) x r p
 set-shape-answers n us x (Constant c) r p =
     let z : IsClosed n us = closed n us p in rw (z.is) (dropped-answers n us z x (between x (range_at c c) ++ between x r))
@@ -443,11 +443,11 @@ set-shape-answers n us x (Terms e) r p =
     (set-term-bounded (best_matrix (at n (Some us))) x e.first e.constant r (has_variable x e.first) (rw (z.is) (bounded-kept z.matrix z.kept)))
     (set-term-variables (best_matrix (at n (Some us))) x e.first e.constant r (has_variable x e.first) ∙ rw (z.is) (z.best.variables))
 
-if-set-answers : (n : ℕ) (us : List ℤ) (w : LeafValue) (t : Bool) → n ≤ 16 → Answers octagons (at n (Some us)) w → Answers octagons (at n (Some us)) (if t then nothing_of n else w)
+if-set-answers : (n : ℕ) (us : List ℤ) (w : LeafValue) (t : Bool) → n ≤ 16 → IsLeafLike octagons (at n (Some us)) w → IsLeafLike octagons (at n (Some us)) (if t then nothing_of n else w)
 if-set-answers n us w true l a = record { valid = (l, tt); same = refl }
 if-set-answers n us w false l a = a
 
-set-form-answers : (n : ℕ) (c : Option (List ℤ)) (x : ℕ) (f : Form) (r : Range) → IsOctagon (at n c) → Answers octagons (at n c) (octagon_set_form (at n c) x f r)
+set-form-answers : (n : ℕ) (c : Option (List ℤ)) (x : ℕ) (f : Form) (r : Range) → IsOctagon (at n c) → IsLeafLike octagons (at n c) (octagon_set_form (at n c) x f r)
 set-form-answers n None x f r p = record { valid = p; same = refl }
 set-form-answers n (Some us) x f r p = if-set-answers n us (set_shape (at n (Some us)) x (shape_of f) r) (is_empty_range r) p.0 (set-shape-answers n us x (shape_of f) r p)
 

@@ -7,7 +7,7 @@ use Rattle.leaf_domain.specs.declared.form.Form.{Form}
 use Rattle.leaf_domain.specs.declared.range.Range.{Range}
 use Rattle.leaf_domain.specs.Ranges.{Within, IsInInt, is_empty_range}
 use Rattle.leaf_domain.specs.Forms.{form_at, IsForm}
-use Rattle.leaf_domain.specs.Leaves.{LeafValue, LeafLaws, Answers, nothing_of, is_nothing_of}
+use Rattle.leaf_domain.specs.Leaves.{LeafValue, LeafLaws, IsLeafLike, nothing_of, is_nothing_of}
 use Rattle.strides.specs.declared.strided.Strided.{Strided}
 use Rattle.strides.specs.Strides.{stride_at, HasStride}
 use Rattle.strides.specs.Strided.{least, greatest, strided_at, Has, is_bare, point_at, reduced, IsOwn, joined, widened, narrowed}
@@ -27,10 +27,10 @@ made_back : (bs : List Strided) (s : List ℤ) → stride_holds (leaf_of bs) s �
 made_back bs s h = subst (λ xs. AllHave xs s) (fours_numbers bs) h
 
 -- a leaf that is made of as many parts
-made_answers : (n : ℕ) (c : Option (List ℤ)) (bs : List Strided) → n ≤ 16 → n ≡ length bs → AllOwn bs → Answers strides (at n c) (leaf_of bs)
+made_answers : (n : ℕ) (c : Option (List ℤ)) (bs : List Strided) → n ≤ 16 → n ≡ length bs → AllOwn bs → IsLeafLike strides (at n c) (leaf_of bs)
 made_answers n c bs h e k = record { valid = is_leaf bs (omega arith) k; same = sym e }
 
-nothing_answers : (n m : ℕ) (c : Option (List ℤ)) → n ≤ 16 → n ≡ m → Answers strides (at n c) (nothing_of m)
+nothing_answers : (n m : ℕ) (c : Option (List ℤ)) → n ≤ 16 → n ≡ m → IsLeafLike strides (at n c) (nothing_of m)
 nothing_answers n m c h e = record { valid = (omega arith, tt); same = sym e }
 
 -- ---- start
@@ -38,10 +38,10 @@ start_holds : (s t : List ℤ) → (stride_holds (stride_start s) t) ↔ (t ≡ 
 start_holds s t = (λ h. points_alone s t (made_back (map point_at s) t h), λ e. rw (e, fours_numbers (map point_at s)) (points_have s))
 
 -- ---- best
-best_of_answers : (n : ℕ) (c : Option (List ℤ)) (bs : List Strided) → n ≤ 16 → n ≡ length bs → AllLimited bs → Answers strides (at n c) (best_of bs)
+best_of_answers : (n : ℕ) (c : Option (List ℤ)) (bs : List Strided) → n ≤ 16 → n ≡ length bs → AllLimited bs → IsLeafLike strides (at n c) (best_of bs)
 best_of_answers n c bs h e k = by_test (list_any is_bare bs) refl
   where
-    by_test : (t : Bool) → list_any is_bare bs ≡ t → Answers strides (at n c) (if t then nothing_of (length bs) else leaf_of (map reduced bs))
+    by_test : (t : Bool) → list_any is_bare bs ≡ t → IsLeafLike strides (at n c) (if t then nothing_of (length bs) else leaf_of (map reduced bs))
     by_test true f = nothing_answers n (length bs) c h e
     by_test false f = made_answers n c (map reduced bs) h (e ∙ sym (length_best bs)) (best_own bs k f)
 
@@ -55,7 +55,7 @@ best_of_back bs s = by_test (list_any is_bare bs)
     by_test true h = absurd h
     by_test false h = best_back bs s (made_back (map reduced bs) s h)
 
-best_answers : (n : ℕ) (c : Option (List ℤ)) → IsStrideLeaf (at n c) → Answers strides (at n c) (stride_best (at n c))
+best_answers : (n : ℕ) (c : Option (List ℤ)) → IsStrideLeaf (at n c) → IsLeafLike strides (at n c) (stride_best (at n c))
 best_answers n None p = record { valid = p; same = refl }
 best_answers n (Some us) p = best_of_answers n (Some us) (fours_of us) p.0 p.1.1 (limited_own (fours_of us) p.1.2)
 
@@ -71,7 +71,7 @@ leq_holds n m (Some us) (Some bs) s p q e f h =
     inside_has (map reduced (fours_of us)) (fours_of bs) s (length_best (fours_of us) ∙ sym p.1.1 ∙ e ∙ q.1.1) f (best_keeps (fours_of us) s h)
 
 -- ---- join
-join_answers : (n m : ℕ) (c d : Option (List ℤ)) → IsStrideLeaf (at n c) → IsStrideLeaf (at m d) → n ≡ m → Answers strides (at n c) (stride_join (at n c) (at m d))
+join_answers : (n m : ℕ) (c d : Option (List ℤ)) → IsStrideLeaf (at n c) → IsStrideLeaf (at m d) → n ≡ m → IsLeafLike strides (at n c) (stride_join (at n c) (at m d))
 join_answers n m None d p q e = record { valid = q; same = sym e }
 join_answers n m (Some us) None p q e = record { valid = p; same = refl }
 join_answers n m (Some us) (Some bs) p q e =
@@ -100,8 +100,8 @@ nothing_join n (Some us) = refl
 same_length : (n m : ℕ) (us bs : List ℤ) → IsStrideLeaf (at n (Some us)) → IsStrideLeaf (at m (Some bs)) → n ≡ m → length (fours_of us) ≡ length (map reduced (fours_of bs))
 same_length n m us bs p q e = sym p.1.1 ∙ e ∙ q.1.1 ∙ sym (length_best (fours_of bs))
 
-widen_answers : (n m : ℕ) (c d : Option (List ℤ)) → IsStrideLeaf (at n c) → IsStrideLeaf (at m d) → n ≡ m → Answers strides (at n c) (stride_widen (at n c) (at m d))
-widen_answers n m None d p q e = let r : Answers strides (at m d) (stride_best (at m d)) = best_answers m d q in record { valid = r.valid; same = r.same ∙ sym e }
+widen_answers : (n m : ℕ) (c d : Option (List ℤ)) → IsStrideLeaf (at n c) → IsStrideLeaf (at m d) → n ≡ m → IsLeafLike strides (at n c) (stride_widen (at n c) (at m d))
+widen_answers n m None d p q e = let r : IsLeafLike strides (at m d) (stride_best (at m d)) = best_answers m d q in record { valid = r.valid; same = r.same ∙ sym e }
 widen_answers n m (Some us) None p q e = record { valid = p; same = refl }
 widen_answers n m (Some us) (Some bs) p q e =
     made_answers n (Some us) (widened_all (fours_of us) (map reduced (fours_of bs))) p.0
@@ -130,7 +130,7 @@ own_le n None p = omega arith
 own_le n (Some us) p = omega (arith, own_count_le (fours_of us) p.1.2, p.1.1)
 
 -- ---- narrow
-narrow_answers : (n m : ℕ) (c d : Option (List ℤ)) → IsStrideLeaf (at n c) → IsStrideLeaf (at m d) → n ≡ m → Answers strides (at n c) (stride_narrow (at n c) (at m d))
+narrow_answers : (n m : ℕ) (c d : Option (List ℤ)) → IsStrideLeaf (at n c) → IsStrideLeaf (at m d) → n ≡ m → IsLeafLike strides (at n c) (stride_narrow (at n c) (at m d))
 narrow_answers n m None d p q e = record { valid = p; same = refl }
 narrow_answers n m (Some us) None p q e = record { valid = q; same = sym e }
 narrow_answers n m (Some us) (Some bs) p q e = by_test (list_any is_bare rs) refl
@@ -141,7 +141,7 @@ narrow_answers n m (Some us) (Some bs) p q e = by_test (list_any is_bare rs) ref
     l : n ≡ length (narrowed_all (fours_of us) (map reduced (fours_of bs)))
     l = p.1.1 ∙ sym (length_zipped narrowed (fours_of us) (map reduced (fours_of bs)) (same_length n m us bs p q e))
 
-    by_test : (t : Bool) → list_any is_bare (narrowed_all (fours_of us) (map reduced (fours_of bs))) ≡ t → Answers strides (at n (Some us)) (if t then nothing_of (length (narrowed_all (fours_of us) (map reduced (fours_of bs)))) else leaf_of (narrowed_all (fours_of us) (map reduced (fours_of bs))))
+    by_test : (t : Bool) → list_any is_bare (narrowed_all (fours_of us) (map reduced (fours_of bs))) ≡ t → IsLeafLike strides (at n (Some us)) (if t then nothing_of (length (narrowed_all (fours_of us) (map reduced (fours_of bs)))) else leaf_of (narrowed_all (fours_of us) (map reduced (fours_of bs))))
     by_test true f = nothing_answers n _ (Some us) p.0 l
     by_test false f = made_answers n (Some us) _ p.0 l (narrowed_all_own (fours_of us) (map reduced (fours_of bs)) p.1.2 (own_best (fours_of bs) q.1.2) f)
 
@@ -155,7 +155,7 @@ narrow_holds n m (Some us) (Some bs) s p q e f h =
     settled_holds _ s (narrowed_have (fours_of us) (map reduced (fours_of bs)) s (same_length n m us bs p q e) f (best_keeps (fours_of bs) s h))
 
 -- ---- one variable
-with_answers : (n : ℕ) (c : Option (List ℤ)) (x : ℕ) (b : Strided) → IsStrideLeaf (at n c) → (AllOwn (parts_in c) → IsLimited b) → Answers strides (at n c) (stride_with (at n c) x b)
+with_answers : (n : ℕ) (c : Option (List ℤ)) (x : ℕ) (b : Strided) → IsStrideLeaf (at n c) → (AllOwn (parts_in c) → IsLimited b) → IsLeafLike strides (at n c) (stride_with (at n c) x b)
 with_answers n None x b p k = record { valid = p; same = refl }
 with_answers n (Some us) x b p k =
     best_of_answers n (Some us) (slice_set (fours_of us) x b) p.0 (p.1.1 ∙ sym (length_replaced (fours_of us) x b)) (limited_set (fours_of us) x b p.1.2 (k p.1.2))
@@ -189,7 +189,7 @@ met_has b r n h w =
     let q : n ≤ℤ b.high = h.high in
     record { low = omega (arith, ints, clamps); high = omega (arith, ints, clamps); stride = h.stride }
 
-meet_answers : (n : ℕ) (c : Option (List ℤ)) (x : ℕ) (r : Range) → IsStrideLeaf (at n c) → x < n → IsInInt r → Answers strides (at n c) (stride_meet (at n c) x r)
+meet_answers : (n : ℕ) (c : Option (List ℤ)) (x : ℕ) (r : Range) → IsStrideLeaf (at n c) → x < n → IsInInt r → IsLeafLike strides (at n c) (stride_meet (at n c) x r)
 meet_answers n None x r p l i = record { valid = p; same = refl }
 meet_answers n (Some us) x r p l i =
     with_answers n (Some us) x (met_part (part_at (fours_of us) x) r) p (λ o. meet_limited (part_at (fours_of us) x) r (read_own (fours_of us) x (omega (arith, p.1.1)) o) i)

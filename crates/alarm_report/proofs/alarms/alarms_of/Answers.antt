@@ -1,5 +1,5 @@
 use Rattle.std.proofs.Common.{length, map, sym, subst, ap, []}
-use Rattle.alarm_report.specs.Alarms.{AreAlarms, stop_tree}
+use Rattle.alarm_report.specs.Alarms.{AreAlarms, plain_alarm_tree}
 use Rattle.alarm_report.specs.Alarms as stops
 use Rattle.alarm_report.proofs.Dropped.{taken}
 use Rattle.alarm_report.proofs.Recalled.{none_known}
@@ -16,20 +16,20 @@ pub returns-clause-alarms : goal.returns-clause-alarms
 returns-clause-alarms c =
     let m = c.args.prepared.now in
     let atoms = c.args.atoms.now in
-    let all = ap (map stop_tree) (taken c.args.trees.now c.trees.tree-index c.trees-test.false) in
-    subst (λ xs. AreAlarms m atoms (map stop_tree c.args.trees.now) xs) (sym c.from_vec.ensures)
+    let all = ap (map plain_alarm_tree) (taken c.args.trees.now c.trees.tree-index c.trees-test.false) in
+    subst (λ xs. AreAlarms m atoms (map plain_alarm_tree c.args.trees.now) xs) (sym c.from_vec.ensures)
     (subst (λ ts. AreAlarms m atoms ts c.trees.list.items) all c.trees.invariant.alarms)
 
 pub returns-clause-cover : goal.returns-clause-cover
 returns-clause-cover c =
     let m = c.args.prepared.now in
     let atoms = c.args.atoms.now in
-    let ts = map stop_tree c.args.trees.now in
+    let ts = map plain_alarm_tree c.args.trees.now in
     λ keyed. covers_stops m atoms ts c.from_vec.result (seen_below (length atoms) c.args.trees.now c.requires.tests) keyed (returns-clause-alarms c)
 
 pub returns-clause-fit : goal.returns-clause-fit
 returns-clause-fit c =
     let m = c.args.prepared.now in
     let atoms = c.args.atoms.now in
-    let ts = map stop_tree c.args.trees.now in
+    let ts = map plain_alarm_tree c.args.trees.now in
     alarms_fit m atoms (length m.features) ts c.from_vec.result c.requires.atoms (seen_below (length atoms) c.args.trees.now c.requires.tests) (returns-clause-alarms c)

@@ -7,7 +7,7 @@ use Rattle.certificate_reader.specs.declared.certificates.AlarmLine.{AlarmLine}
 use Rattle.decision_tree.specs.Plain.{TestsBelow}
 use Rattle.decision_tree.specs.View.{plain}
 use Rattle.tree_unify.specs.Formulas.{IsTreeOf}
-use Rattle.invariant_certificate.proofs.Belows.{tests_under}
+use Rattle.tree_unify.proofs.FormulaTrees.{tree_below}
 use Rattle.invariant_certificate.proofs.listing.covered.Goals as goal
 
 pub reduced-requires : goal.reduced-requires
@@ -19,6 +19,6 @@ returns-clause-tests c =
     let p = formula c.in_ok-wanted.wanted in
     IfOk-weaker c.reduced.result (λ t. IsTreeOf p (plain t))
     (λ t. (count : ℕ) → TestsBelow count (plain c.args.alarm.now.tree) → All (λ (l : AlarmLine). IsBelow count (formula l.region)) c.args.lines.now → TestsBelow count (plain t))
-    (λ t is count tree lines. tests_under count p (plain t)
+    (λ t is count tree lines. tree_below count p (plain t)
     (subst (IsBelow count) (sym c.in_ok-wanted.ensures) (c.in_ok-quiet.ensures.below count tree, c.in_ok-listed.ensures.below count lines)) is)
     c.reduced.ensures

@@ -5,5 +5,5 @@ pub returns : goal.returns
 returns g c =
     let one = c.in_ok-add_never.ensures in
     let two = c.in_ok-add_never-2.ensures in
-    ended_made g.L.Leaf.value c.args.family.now c.add_never-3.result c.args.found.now c.add_never.new.found c.add_never-2.new.found c.add_never-3.new.found c.push.new.self.items c.args.place c.args.tree
+    ended_made g.L.Leaf.value c.args.family.now c.add_never-3.result c.args.noted.now c.add_never.new.noted c.add_never-2.new.noted c.add_never-3.new.noted c.push.new.self.items c.args.place c.args.tree
     c.requires.tree c.in_ok-push.ensures.items one.places one.stops one.trees two.stops two.trees two.places c.add_never-3.ensures.stops c.add_never-3.ensures.trees c.add_never-3.ensures.places one.turns two.turns c.add_never-3.ensures.turns

@@ -15,12 +15,12 @@ returns-clause-stops g c =
     let x : AlarmTree = record { place = c.args.place; kind = c.args.kind; tree = c.in_ok-tree.tree } in
     let e : leaf_of (plain c.in_ok-tree.tree) v ≡ false = ap (λ t. leaf_of (erase t) v) c.in_ok-tree.ensures ∙ never_at c.args.family.now v c.requires in
     ap (map (stop_there v)) c.in_ok-push.ensures.items
-    ∙ (map-append (stop_there v) c.args.found.now.alarms.items (x ∷ []) ∙ ap (λ b. map (stop_there v) c.args.found.now.alarms.items ++ ((c.args.place, c.args.kind), b) ∷ []) e)
+    ∙ (map-append (stop_there v) c.args.noted.now.alarms.items (x ∷ []) ∙ ap (λ b. map (stop_there v) c.args.noted.now.alarms.items ++ ((c.args.place, c.args.kind), b) ∷ []) e)
 
 pub returns-clause-trees : goal.returns-clause-trees
 returns-clause-trees g c =
     let family = c.args.family.now in
     let never = never_truth family c.requires in
     let reduced : IsReducedTree family (plain family.never.now) = record { reduced = never.tree.reduced; tests = never.tests } in
-    reduced_push (λ (a : AlarmTree). IsReducedTree family (plain a.tree)) c.args.found.now.alarms.items c.push.new.self.items (record { place = c.args.place; kind = c.args.kind; tree = c.in_ok-tree.tree })
+    reduced_push (λ (a : AlarmTree). IsReducedTree family (plain a.tree)) c.args.noted.now.alarms.items c.push.new.self.items (record { place = c.args.place; kind = c.args.kind; tree = c.in_ok-tree.tree })
     c.in_ok-push.ensures.items (subst (λ t. IsReducedTree family (erase t)) (sym c.in_ok-tree.ensures) reduced)

@@ -69,8 +69,8 @@ enter_group-returns-clause-entered g t c =
     let ps = entered_with value M family (heads_in value M family c.args.rule.now (plain c.in_ok-yes_here.yes_here)) p (plain c.in_ok-in_yes.in_yes) in
     let qs = entered_with value M family (heads_in value M family c.args.rule.now (plain c.in_ok-no_here.no_here)) q (plain c.in_ok-in_no.in_no) in
     let all = entered_group value M family H choice p q (plain c.args.t.now) in
-    on_ok c.joined.result (HasEntered value M family c.args.found.now c.enter_list-2.new.found all)
-    (entered_then value M family c.args.found.now c.enter_list.new.found c.enter_list-2.new.found ps qs all
+    on_ok c.joined.result (HasEntered value M family c.args.noted.now c.enter_list-2.new.noted all)
+    (entered_then value M family c.args.noted.now c.enter_list.new.noted c.enter_list-2.new.noted ps qs all
     (λ v.
     let ts = truths_in family.choices.now v in
     let x = value (leaf_of (plain c.args.t.now) v) in
@@ -108,8 +108,8 @@ enter_if-returns-clause-entered g t c =
     let ps = entered_with value M family H p (plain c.in_ok-in_yes.in_yes) in
     let qs = entered_with value M family H q (plain c.in_ok-in_no.in_no) in
     let all = entered_sides value M family H e p q (plain c.args.t.now) in
-    on_ok c.joined.result (HasEntered value M family c.args.found.now c.enter_list-2.new.found all)
-    (entered_then value M family c.args.found.now c.enter_list.new.found c.enter_list-2.new.found ps qs all
+    on_ok c.joined.result (HasEntered value M family c.args.noted.now c.enter_list-2.new.noted all)
+    (entered_then value M family c.args.noted.now c.enter_list.new.noted c.enter_list-2.new.noted ps qs all
     (λ v.
     ap (λ x. visits_at M family.options.mode (truths_in family.choices.now v) (H v) p x ++ qs v) (c.in_ok-in_yes.ensures.at_each v)
     ∙ ap (λ x. visits_at M family.options.mode (truths_in family.choices.now v) (H v) p (assumed M family.options.mode e true (value (leaf_of (plain c.args.t.now) v))) ++ visits_at M family.options.mode (truths_in family.choices.now v) (H v) q x) (c.in_ok-in_no.ensures.at_each v))
@@ -118,10 +118,10 @@ enter_if-returns-clause-entered g t c =
 pub enter_list-enter_stmt-requires : goal.enter_list-enter_stmt-requires
 enter_list-enter_stmt-requires g t c κs within =
     let s = c.s-item.result in
-    let fit : IsCodeOf c.args.family.now.variables (front s Done) = IsCodeOf-at c.args.family.now.variables c.args.list.now c.loop-s.s-index s c.loop-s-test.true c.s-item.is c.requires.fit in
+    let fit : IsCodeOf c.args.family.now.variables (front s Done) = IsCodeOf-at c.args.family.now.variables c.args.list.now c.loop-s.s-index s c.loop-s-test.true c.s-item.is c.requires.part.0 in
     let state = c.loop-s.invariant.made.state in
     let p = whole c.args.family.now.program.now in
-    let loops : HasLoopsOf p (front s Done) = loops-at p c.args.list.now c.loop-s.s-index s c.loop-s-test.true c.s-item.is c.requires.loops in
+    let loops : HasLoopsOf p (front s Done) = loops-at p c.args.list.now c.loop-s.s-index s c.loop-s-test.true c.s-item.is c.requires.part.1 in
     let memory = c.loop-s.invariant.memory in
     (omega (arith, size-at c.args.list.now c.loop-s.s-index s c.loop-s-test.true c.s-item.is), search rules)
 
@@ -145,7 +145,7 @@ enter_list-loop-s-preserved g t c =
       made = lifted_as value family c.args.tables.now.leaves z (λ v x. here v (so_far v x)) (passed_with M family H (code (take (i + 1) list))) t made
           (λ v. sym (passed_with-more M family H list i s v (value (leaf_of t v)) c.loop-s-test.true c.s-item.is))
           (lifted_then value family c.args.tables.now.leaves b z so_far here t (numbered c.loop-s.made) made c.loop-s.invariant.made new.lifted);
-      entered = entered_then value M family c.args.found.now c.loop-s.found c.enter_stmt.new.found (entered_with value M family H (code (take i list)) t) (entered_with value M family H (front s Done) (plain c.loop-s.made)) (entered_with value M family H (code (take (i + 1) list)) t)
+      entered = entered_then value M family c.args.noted.now c.loop-s.noted c.enter_stmt.new.noted (entered_with value M family H (code (take i list)) t) (entered_with value M family H (front s Done) (plain c.loop-s.made)) (entered_with value M family H (code (take (i + 1) list)) t)
           (λ v.
           let ts = truths_in family.choices.now v in
           let x = value (leaf_of t v) in
@@ -162,9 +162,9 @@ enter_stmt-returns-in_ok-enter-in-If-clause-entered g t c =
     let family = c.args.family.now in
     let H = heads_in value M family c.args.rule.now (plain c.args.here.now) in
     let i = c.in-If in
-    let a = c.args.found.now in
-    let b = c.enter-in-If.new.found in
-    let z = c.enter_if.new.found in
+    let a = c.args.noted.now in
+    let b = c.enter-in-If.new.noted in
+    let z = c.enter_if.new.noted in
     let t = plain c.args.t.now in
     let e = term i.test in
     let sides = entered_sides value M family H e (code c.deref.result.now) (code c.deref-in-If.result.now) t in
@@ -188,9 +188,9 @@ enter_stmt-returns-in_ok-enter-in-Block-clause-entered g t c =
     let H = heads_in value M family c.args.rule.now (plain c.args.here.now) in
     let w = c.in-Block in
     let t = plain c.args.t.now in
-    let a = c.args.found.now in
-    let b = c.enter-in-Block.new.found in
-    let z = c.enter_list.new.found in
+    let a = c.args.noted.now in
+    let b = c.enter-in-Block.new.noted in
+    let z = c.enter_list.new.noted in
     let body = entered_with value M family H (code c.deref-in-Block.result.now) t in
     let all = entered_with value M family H (front c.args.s.now Done) t in
     on_ok_by c.enter_list.result (HasEntered value M family b z body) (HasEntered value M family a z all)
@@ -330,8 +330,8 @@ enter_stmt-returns-in_ok-head-in-While-clause-entered g t c =
     let t = plain c.args.t.now in
     let s = front c.args.s.now Done in
     let all = entered_with value M family H s t in
-    on_ok c.stepped-in-While.result (HasEntered value M family c.args.found.now c.enter_loop.new.found all)
-    (entered_as value M family c.args.found.now c.enter_loop.new.found (entered_loop value M family H s w.place (term w.test) (code c.deref-in-While.result.now) t) all
+    on_ok c.stepped-in-While.result (HasEntered value M family c.args.noted.now c.enter_loop.new.noted all)
+    (entered_as value M family c.args.noted.now c.enter_loop.new.noted (entered_loop value M family H s w.place (term w.test) (code c.deref-in-While.result.now) t) all
     (λ v.
     let x = value (leaf_of t v) in
     ap (λ l. entered_loop value M family H s w.place (term w.test) (code l) t v) c.deref-in-While.ensures.value
@@ -353,7 +353,7 @@ enter_loop-returns-clause-lifted g t c =
     let d = c.enter.new.tables.leaves in
     let e = c.stepped.new.tables.leaves in
     let z = c.enter_list.new.tables.leaves in
-    lifted_longer value family c.args.tables.now.leaves b z (head_with M family H c.args.place (term c.args.test.now) (code c.args.body.now)) (plain c.args.t.now) (numbered c.in_ok-head.head)
+    lifted_longer value family c.args.tables.now.leaves b z (head_with M family H c.args.the_loop.now.place (term c.args.the_loop.now.test.now) (code c.args.the_loop.now.body.now)) (plain c.args.t.now) (numbered c.in_ok-head.head)
     (keeps_both b e z (keeps_both b d e (keeps_same b d c.in_ok-enter.ensures.same) c.in_ok-inside.ensures.keeps) c.in_ok-again.ensures.lifted.keeps) c.in_ok-head.ensures.lifted
 
 pub enter_loop-returns-clause-entered : goal.enter_loop-returns-clause-entered
@@ -364,14 +364,14 @@ enter_loop-returns-clause-entered g t c =
     let mode = family.options.mode in
     let H = heads_in value M family c.args.rule.now (plain c.args.here.now) in
     let t = plain c.args.t.now in
-    let place = c.args.place in
+    let place = c.args.the_loop.now.place in
     let s = front c.args.s.now Done in
-    let e = term c.args.test.now in
-    let body = code c.args.body.now in
-    let a = c.args.found.now in
-    let b = c.enter.new.found in
-    let d = c.enter_list.new.found in
-    let z = c.add_turn.new.found in
+    let e = term c.args.the_loop.now.test.now in
+    let body = code c.args.the_loop.now.body.now in
+    let a = c.args.noted.now in
+    let b = c.enter.new.noted in
+    let d = c.enter_list.new.noted in
+    let z = c.add_turn.new.noted in
     let x : List Bool → LeafValue = λ v. value (leaf_of (plain c.in_ok-head.head) v) in
     let y : List Bool → LeafValue = λ v. value (leaf_of (plain c.in_ok-inside.inside) v) in
     let k : List Bool → LeafValue = λ v. value (leaf_of (plain c.in_ok-again.again) v) in
@@ -409,8 +409,8 @@ enter_loop-add_turn-requires-clause-at g t c =
     let value = g.L.Leaf.value in
     let M = g.L.Leaf.meaning in
     let family = c.args.family.now in
-    let one = turns_before value M family c.args.found.now c.enter.new.found _ c.in_ok-enter.ensures.entered in
-    let two = turns_before value M family c.enter.new.found c.enter_list.new.found _ c.in_ok-again.ensures.entered in
+    let one = turns_before value M family c.args.noted.now c.enter.new.noted _ c.in_ok-enter.ensures.entered in
+    let two = turns_before value M family c.enter.new.noted c.enter_list.new.noted _ c.in_ok-again.ensures.entered in
     omega (arith, ap length c.as_slice-turns.ensures.value, one, two)
 
 pub enter_loop-add_turn-requires-clause-entered : goal.enter_loop-add_turn-requires-clause-entered

@@ -15,7 +15,7 @@ invariant-enter_list-loop-s g l =
     let M = g.L.Leaf.meaning in
     record {
       made : IsLifted value l.family l.fn.tables.leaves l.tables.leaves (passed_with M l.family (heads_in value M l.family l.rule (plain l.here)) (code (take l.s-index l.list))) (plain l.t) (numbered l.made);
-      entered : HasEntered value M l.family l.fn.found l.found (entered_with value M l.family (heads_in value M l.family l.rule (plain l.here)) (code (take l.s-index l.list)) (plain l.t));
+      entered : HasEntered value M l.family l.fn.noted l.noted (entered_with value M l.family (heads_in value M l.family l.rule (plain l.here)) (code (take l.s-index l.list)) (plain l.t));
       memory : Knows value M l.family l.rule l.tables.leaves l.finals;
     }
 
@@ -33,4 +33,4 @@ abbrev pub decreases-enter_group : goal.decreases-enter_group
 decreases-enter_group g l = 4 * (size_of (code l.yes.now) + size_of (code l.no.now)) + 2
 
 abbrev pub decreases-enter_loop : goal.decreases-enter_loop
-decreases-enter_loop g l = 4 * size_of (code l.body.now) + 2
+decreases-enter_loop g l = 4 * size_of (code l.the_loop.now.body.now) + 2

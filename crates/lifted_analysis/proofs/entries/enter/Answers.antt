@@ -6,5 +6,5 @@ returns-clause-entered g c =
     let tree = c.in_ok-add_tree.ensures in
     let one = c.in_ok-add_alarm.ensures in
     let two = c.in_ok-add_alarm-2.ensures in
-    entered_at_last g.L.Leaf.value g.L.Leaf.meaning c.args.family.now c.add_alarm-3.result c.args.found.now c.add_tree.new.found c.add_alarm.new.found c.add_alarm-2.new.found c.add_alarm-3.new.found c.args.place _ _
+    entered_at_last g.L.Leaf.value g.L.Leaf.meaning c.args.family.now c.add_alarm-3.result c.args.noted.now c.add_tree.new.noted c.add_alarm.new.noted c.add_alarm-2.new.noted c.add_alarm-3.new.noted c.args.place _ _
     tree.leaves tree.trees tree.alarms tree.turns one.turns two.turns c.add_alarm-3.ensures.turns one.stops one.trees one.places two.stops two.trees two.places c.add_alarm-3.ensures.stops c.add_alarm-3.ensures.trees c.add_alarm-3.ensures.places

@@ -3,7 +3,7 @@ use Rattle.octagon_leaf.specs.Greatest.{matrix_of}
 use Rattle.octagon_closure.specs.Best.{IsBest}
 use Rattle.octagon_leaf.specs.Filling.{set_entry}
 use Rattle.octagon_leaf.proofs.Full.{best-full, best-large, best-result}
-use Rattle.octagon_leaf.proofs.Setting.{SetMatrix, set-bounded, set-best}
+use Rattle.octagon_leaf.proofs.Assigning.{SetMatrix, set-bounded, set-best}
 use Rattle.octagon_leaf.proofs.filled.with_range.Goals as goal
 
 pub filled-requires-clause-callable : goal.filled-requires-clause-callable

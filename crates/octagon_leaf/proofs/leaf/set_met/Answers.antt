@@ -5,7 +5,7 @@ use Rattle.octagon_leaf.specs.Laws.Meets.{bounded-kept}
 use Rattle.octagon_leaf.specs.Laws.Terms.{bounded-dropped}
 use Rattle.octagon_leaf.specs.Laws.OctagonLaws.{between-meets}
 use Rattle.octagon_leaf.proofs.Closed.{settled-set}
-use Rattle.octagon_leaf.proofs.Setting.{SetMatrix}
+use Rattle.octagon_leaf.proofs.Assigning.{SetMatrix}
 use Rattle.octagon_leaf.proofs.leaf.set_met.Goals as goal
 
 pub met-requires-clause-best : goal.met-requires-clause-best

@@ -18,9 +18,9 @@ use Rattle.plain_analysis.proofs.after.+after.Goals as goal
 pub after_list-after_stmt-requires : goal.after_list-after_stmt-requires
 after_list-after_stmt-requires g t c κs within =
     let s = c.s-item.result in
-    let at_entry = IsCodeOf-at (g.L.Leaf.value c.args.leaf.now).variables c.args.list.now c.loop-s.s-index s c.loop-s-test.true c.s-item.is c.requires.fit in
+    let at_entry = IsCodeOf-at (g.L.Leaf.value c.args.leaf.now).variables c.args.list.now c.loop-s.s-index s c.loop-s-test.true c.s-item.is c.requires.part.0 in
     let fit : IsCodeOf (g.L.Leaf.value c.loop-s.made).variables (front s Done) = subst (λ n. IsCodeOf n (front s Done)) (sym c.loop-s.invariant.same) at_entry in
-    let loops : HasLoopsOf (whole c.args.task.now.program.now) (front s Done) = loops-at (whole c.args.task.now.program.now) c.args.list.now c.loop-s.s-index s c.loop-s-test.true c.s-item.is c.requires.loops in
+    let loops : HasLoopsOf (whole c.args.task.now.program.now) (front s Done) = loops-at (whole c.args.task.now.program.now) c.args.list.now c.loop-s.s-index s c.loop-s-test.true c.s-item.is c.requires.part.1 in
     let memory = c.loop-s.invariant.memory in
     (omega (arith, size-at c.args.list.now c.loop-s.s-index s c.loop-s-test.true c.s-item.is), search rules)
 
@@ -28,9 +28,9 @@ pub after_stmt-after_choice-requires : goal.after_stmt-after_choice-requires
 after_stmt-after_choice-requires g t c κs within =
     let n = (g.L.Leaf.value c.args.leaf.now).variables in
     let i = c.in-If in
-    let fit = fit_If n c.args.s.now i.place i.test i.yes i.no i.is c.requires.fit in
+    let fit = fit_If n c.args.s.now i.place i.test i.yes i.no i.is c.requires.part.0 in
     let p = whole c.args.task.now.program.now in
-    let own = loops_If p c.args.s.now i.place i.test i.yes i.no i.is c.requires.loops in
+    let own = loops_If p c.args.s.now i.place i.test i.yes i.no i.is c.requires.part.1 in
     let yes_loops : HasLoopsOf p (code c.deref.result.now) = loops_same p _ _ c.deref.ensures.value own.0 in
     let no_loops : HasLoopsOf p (code c.deref-in-If.result.now) = loops_same p _ _ c.deref-in-If.ensures.value own.1 in
     let test : IsTermOf n (term i.test) = fit.0 in
@@ -42,9 +42,9 @@ pub after_stmt-final_leaf-requires : goal.after_stmt-final_leaf-requires
 after_stmt-final_leaf-requires g t c κs within =
     let n = (g.L.Leaf.value c.args.leaf.now).variables in
     let i = c.in-While in
-    let fit = fit_While n c.args.s.now i.place i.test i.body i.is c.requires.fit in
+    let fit = fit_While n c.args.s.now i.place i.test i.body i.is c.requires.part.0 in
     let p = whole c.args.task.now.program.now in
-    let own = loops_While p c.args.s.now i.place i.test i.body i.is c.requires.loops in
+    let own = loops_While p c.args.s.now i.place i.test i.body i.is c.requires.part.1 in
     let here : IsLoopAt p i.place (term i.test) (code c.deref-in-While.result.now) = loop_same p i.place (term i.test) _ _ c.deref-in-While.ensures.value own.0 in
     let inner : HasLoopsOf p (code c.deref-in-While.result.now) = loops_same p _ _ c.deref-in-While.ensures.value own.1 in
     let test : IsTermOf n (term i.test) = fit.0 in
@@ -56,8 +56,8 @@ after_stmt-after_list-requires g t c κs within =
     let n = (g.L.Leaf.value c.args.leaf.now).variables in
     let i = c.in-Block in
     let p = whole c.args.task.now.program.now in
-    let fit : IsCodeOf n (code c.deref-in-Block.result.now) = fit_same n _ _ c.deref-in-Block.ensures.value (fit_Block n c.args.s.now i.place i.body i.is c.requires.fit) in
-    let loops : HasLoopsOf p (code c.deref-in-Block.result.now) = loops_same p _ _ c.deref-in-Block.ensures.value (loops_Block p c.args.s.now i.place i.body i.is c.requires.loops) in
+    let fit : IsCodeOf n (code c.deref-in-Block.result.now) = fit_same n _ _ c.deref-in-Block.ensures.value (fit_Block n c.args.s.now i.place i.body i.is c.requires.part.0) in
+    let loops : HasLoopsOf p (code c.deref-in-Block.result.now) = loops_same p _ _ c.deref-in-Block.ensures.value (loops_Block p c.args.s.now i.place i.body i.is c.requires.part.1) in
     (omega (arith, block_smaller c.args.s.now i.place i.body c.deref-in-Block.result.now i.is c.deref-in-Block.ensures.value), search rules)
 
 pub after_stmt-returns-then-is_nothing-clause-value : goal.after_stmt-returns-then-is_nothing-clause-value
@@ -82,14 +82,14 @@ pub final_by_rounds-returns-in-None-clause-value : goal.final_by_rounds-returns-
 final_by_rounds-returns-in-None-clause-value g t c =
     let M = g.L.Leaf.meaning in
     let o = c.args.task.now.options in
-    let G = loop_turn M o (term c.args.test.now) (code c.args.body.now) (g.L.Leaf.value c.args.leaf.now) in
+    let G = loop_turn M o (term c.args.the_loop.now.test.now) (code c.args.the_loop.now.body.now) (g.L.Leaf.value c.args.leaf.now) in
     sym (narrowings_stay M G (o.narrow - c.loop-k._k) (g.L.Leaf.value c.loop-k.head.at) (rw c.in-None.is at c.in_ok-narrowed.ensures.kept)) ∙ c.loop-k.invariant.rest
 
 pub final_by_rounds-loop-k-preserved : goal.final_by_rounds-loop-k-preserved
 final_by_rounds-loop-k-preserved g t c =
     let M = g.L.Leaf.meaning in
     let o = c.args.task.now.options in
-    let G = loop_turn M o (term c.args.test.now) (code c.args.body.now) (g.L.Leaf.value c.args.leaf.now) in
+    let G = loop_turn M o (term c.args.the_loop.now.test.now) (code c.args.the_loop.now.body.now) (g.L.Leaf.value c.args.leaf.now) in
     record {
       rest = narrowings_move M G o.narrow c.loop-k._k (g.L.Leaf.value c.loop-k.head.at) (g.L.Leaf.value c.in-Some.next.at) _ c.loop-k-test.true (rw c.in-Some.is at c.in_ok-narrowed.ensures.taken) c.loop-k.invariant.rest;
       head = rw c.in-Some.is at c.in_ok-narrowed.ensures.head;
@@ -100,7 +100,7 @@ pub widened-returns-in-None-clause-value : goal.widened-returns-in-None-clause-v
 widened-returns-in-None-clause-value g t c =
     let M = g.L.Leaf.meaning in
     let o = c.args.task.now.options in
-    let G = loop_turn M o (term c.args.test.now) (code c.args.body.now) (g.L.Leaf.value c.args.leaf.now) in
+    let G = loop_turn M o (term c.args.the_loop.now.test.now) (code c.args.the_loop.now.body.now) (g.L.Leaf.value c.args.leaf.now) in
     let at = g.L.Leaf.value c.loop-k.head.at in
     let stable = ap (λ v. M.leq v at) (sym c.loop-k.invariant.head.next) ∙ (rw c.in-None.is at c.in_ok-moved.ensures.stable) in
     sym (rounds_stay M o.delay G (c.from-delay.result + c.from.result + 1 - c.loop-k.k) c.loop-k.k at stable) ∙ c.loop-k.invariant.rest
@@ -110,7 +110,7 @@ widened-loop-k-preserved g t c =
     let M = g.L.Leaf.meaning in
     let o = c.args.task.now.options in
     let value = g.L.Leaf.value in
-    let G = loop_turn M o (term c.args.test.now) (code c.args.body.now) (value c.args.leaf.now) in
+    let G = loop_turn M o (term c.args.the_loop.now.test.now) (code c.args.the_loop.now.body.now) (value c.args.leaf.now) in
     let x = value c.loop-k.head.at in
     let w = value c.loop-k.head.next in
     let next = c.in_ok-head-in-Some.ensures in
@@ -143,7 +143,7 @@ final_leaf-returns-then-is_nothing-clause-value g t c =
     let value = g.L.Leaf.value in
     let v = value c.args.leaf.now in
     let o = c.args.task.now.options in
-    let stays = loop_stays g.L.Leaf.meaning g.met.L.Leaf.laws o (c.transfer_is_sound.ensures.answers o.mode) v c.leaf_is_valid.ensures.few (sym c.is_nothing.ensures ∙ c.if-is_nothing.true) (term c.args.test.now) (code c.args.body.now) in
+    let stays = loop_stays g.L.Leaf.meaning g.met.L.Leaf.laws o (c.transfer_is_sound.ensures.answers o.mode) v c.leaf_is_valid.ensures.few (sym c.is_nothing.ensures ∙ c.if-is_nothing.true) (term c.args.the_loop.now.test.now) (code c.args.the_loop.now.body.now) in
     subst (λ u. IfOk c.copy.result (λ made. value made ≡ u)) (sym stays) c.copy.ensures
 
 pub final_leaf-returns-in-Some-clause-value : goal.final_leaf-returns-in-Some-clause-value
@@ -151,16 +151,16 @@ final_leaf-returns-in-Some-clause-value g t c =
     let value = g.L.Leaf.value in
     let M = g.L.Leaf.meaning in
     let o = c.args.task.now.options in
-    let test = term c.args.test.now in
-    let body = code c.args.body.now in
-    let known = recalled g.L.PartialEq.eq g.met.L.Leaf.exact value M c.args.task.now c.args.finals.now c.args.place c.in_ok-entered.entered c.in-Some.last.now c.requires.memory (search rules) in
-    let is = known.final test body c.requires.here ∙ ap (final_leaf M o test (after_of M o body)) c.in_ok-entered.ensures in
+    let test = term c.args.the_loop.now.test.now in
+    let body = code c.args.the_loop.now.body.now in
+    let known = recalled g.L.PartialEq.eq g.met.L.Leaf.exact value M c.args.task.now c.args.finals.now c.args.the_loop.now.place c.in_ok-entered.entered c.in-Some.last.now c.requires.memory (search rules) in
+    let is = known.final test body c.requires.own.here ∙ ap (final_leaf M o test (after_of M o body)) c.in_ok-entered.ensures in
     subst (λ u. IfOk c.copy-in-Some.result (λ made. value made ≡ u)) is c.copy-in-Some.ensures
 
 pub final_leaf-returns-in-Some-clause-same : goal.final_leaf-returns-in-Some-clause-same
 final_leaf-returns-in-Some-clause-same g t c =
     let value = g.L.Leaf.value in
-    let known = recalled g.L.PartialEq.eq g.met.L.Leaf.exact value g.L.Leaf.meaning c.args.task.now c.args.finals.now c.args.place c.in_ok-entered.entered c.in-Some.last.now c.requires.memory (search rules) in
+    let known = recalled g.L.PartialEq.eq g.met.L.Leaf.exact value g.L.Leaf.meaning c.args.task.now c.args.finals.now c.args.the_loop.now.place c.in_ok-entered.entered c.in-Some.last.now c.requires.memory (search rules) in
     same_made value c.copy-in-Some.result (value c.in-Some.last.now) (value c.args.leaf.now).variables (known.same ∙ ap (λ (v : LeafValue). v.variables) c.in_ok-entered.ensures) c.copy-in-Some.ensures
 
 pub final_leaf-returns-clause-memory : goal.final_leaf-returns-clause-memory
@@ -168,10 +168,10 @@ final_leaf-returns-clause-memory g t c =
     let value = g.L.Leaf.value in
     let M = g.L.Leaf.meaning in
     let o = c.args.task.now.options in
-    let test = term c.args.test.now in
-    let body = code c.args.body.now in
+    let test = term c.args.the_loop.now.test.now in
+    let body = code c.args.the_loop.now.body.now in
     let last = c.in_ok-last.ensures in
     let same : (value c.in_ok-kept.kept).variables ≡ (value c.in_ok-entered.entered).variables = ap (λ (v : LeafValue). v.variables) c.in_ok-kept.ensures ∙ (last.same ∙ ap (λ (v : LeafValue). v.variables) (sym c.in_ok-entered.ensures)) in
     let is : value c.in_ok-kept.kept ≡ final_leaf M o test (after_of M o body) (value c.in_ok-entered.entered) = c.in_ok-kept.ensures ∙ (last.value ∙ ap (final_leaf M o test (after_of M o body)) (sym c.in_ok-entered.ensures)) in
-    remembered g.L.PartialEq.eq g.met.L.Leaf.exact value M c.args.task.now c.final_by_rounds.new.finals _ c.args.place c.in_ok-entered.entered c.in_ok-kept.kept last.memory
-    (is_final value M c.args.task.now c.args.place c.in_ok-entered.entered c.in_ok-kept.kept test body c.requires.here same is) c.in_ok-remember.ensures
+    remembered g.L.PartialEq.eq g.met.L.Leaf.exact value M c.args.task.now c.final_by_rounds.new.finals _ c.args.the_loop.now.place c.in_ok-entered.entered c.in_ok-kept.kept last.memory
+    (is_final value M c.args.task.now c.args.the_loop.now.place c.in_ok-entered.entered c.in_ok-kept.kept test body c.requires.own.here same is) c.in_ok-remember.ensures

@@ -1,4 +1,4 @@
-use Rattle.std.proofs.Common.{◌++◌, map, ap, ◌∙◌, refl}
+use Rattle.std.proofs.Common.{rules, ◌++◌, map, ap, ◌∙◌, refl}
 use Rattle.c_tree.specs.View.{code, whole}
 use Rattle.plain_analysis.specs.Statements.{after_of, entries_of, final_heads}
 use Rattle.plain_analysis.specs.Entered.{place_and_leaf, leaves_in, alarms_in}
@@ -17,7 +17,7 @@ returns-clause-places g c =
     ∙ (ap (λ l. map (place_and_leaf value) l ++ leaves_in (entries_of M o (code c.deref.result.now) d)) c.new.ensures.items
     ∙ ap (λ l. leaves_in (entries_of M o (code l) d)) c.deref.ensures.value) in
     ap (map (λ at. at.place)) (c.from_vec.ensures ∙ c.in_ok-push.ensures.items)
-    ∙ places M o.mode (final_heads M o) (whole c.args.program.now) d c.requires.program c.requires.plain value c.enter_list.new.found.places.items (record { place = c.args.program.now.end; leaf = c.in_ok-leaf.leaf }) entered refl after
+    ∙ places M o.mode (final_heads M o) (whole c.args.program.now) d c.requires.program c.requires.plain value c.enter_list.new.noted.places.items (record { place = c.args.program.now.end; leaf = c.in_ok-leaf.leaf }) entered refl after
 
 pub returns-clause-leaves : goal.returns-clause-leaves
 returns-clause-leaves g c =
@@ -30,7 +30,7 @@ returns-clause-leaves g c =
     ∙ (ap (λ l. map (place_and_leaf value) l ++ leaves_in (entries_of M o (code c.deref.result.now) d)) c.new.ensures.items
     ∙ ap (λ l. leaves_in (entries_of M o (code l) d)) c.deref.ensures.value) in
     ap (map (λ at. value at.leaf)) (c.from_vec.ensures ∙ c.in_ok-push.ensures.items)
-    ∙ leaves M o.mode (final_heads M o) (whole c.args.program.now) d c.requires.program c.requires.plain value c.enter_list.new.found.places.items (record { place = c.args.program.now.end; leaf = c.in_ok-leaf.leaf }) entered refl after
+    ∙ leaves M o.mode (final_heads M o) (whole c.args.program.now) d c.requires.program c.requires.plain value c.enter_list.new.noted.places.items (record { place = c.args.program.now.end; leaf = c.in_ok-leaf.leaf }) entered refl after
 
 pub returns-clause-alarms : goal.returns-clause-alarms
 returns-clause-alarms g c =
@@ -43,7 +43,7 @@ returns-clause-alarms g c =
     ∙ (ap (λ l. alarms_in M o.mode (entries_of M o (code l) d)) c.deref.ensures.value
     ∙ alarms M o.mode (final_heads M o) (whole c.args.program.now) d c.requires.program c.requires.plain)))
 
-pub enter_list-requires-clause-loops : goal.enter_list-requires-clause-loops
-enter_list-requires-clause-loops g c =
+pub enter_list-requires-clause-part : goal.enter_list-requires-clause-part
+enter_list-requires-clause-part g c =
     let p = whole c.args.program.now in
-    loops_same p _ _ c.deref.ensures.value (has_its_loops p c.requires.program.rising)
+    (search rules, loops_same p _ _ c.deref.ensures.value (has_its_loops p c.requires.program.rising))

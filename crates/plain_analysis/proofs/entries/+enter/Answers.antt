@@ -6,21 +6,21 @@ use Rattle.c_tree.specs.Fit.{IsCodeOf}
 use Rattle.leaf_domain.specs.Leaves.{LeafValue}
 use Rattle.leaf_domain.specs.Transfer.{assumed}
 use Rattle.plain_analysis.specs.Loops.{final_leaf}
-use Rattle.plain_analysis.specs.Stated.{IsLoopAt, HasLoopsOf}
+use Rattle.plain_analysis.specs.Stated.{HasLoopsOf}
 use Rattle.plain_analysis.specs.Statements.{after_of, entries_of}
 use Rattle.plain_analysis.specs.Entered.{HasEntered}
 use Rattle.plain_analysis.proofs.Listed.{IsCodeOf-at, after_of-take_more, entries_of-take_more, front-While}
 use Rattle.plain_analysis.proofs.Sizes.{size-at}
-use Rattle.plain_analysis.proofs.StatedLemmas.{loops-at, loops_If, loops_While, loops_Block, loops_same, loop_same}
+use Rattle.plain_analysis.proofs.StatedLemmas.{loops-at}
 use Rattle.plain_analysis.proofs.EnteredLemmas.{on_ok, on_ok_by, entered_then, entered_as, entries-If, entries-While, entries-Block}
 use Rattle.plain_analysis.proofs.entries.+enter.Goals as goal
 
 pub enter_list-enter_stmt-requires : goal.enter_list-enter_stmt-requires
 enter_list-enter_stmt-requires g t c κs within =
     let s = c.s-item.result in
-    let at_entry = IsCodeOf-at (g.L.Leaf.value c.args.leaf.now).variables c.args.list.now c.loop-s.s-index s c.loop-s-test.true c.s-item.is c.requires.fit in
+    let at_entry = IsCodeOf-at (g.L.Leaf.value c.args.leaf.now).variables c.args.list.now c.loop-s.s-index s c.loop-s-test.true c.s-item.is c.requires.part.0 in
     let fit : IsCodeOf (g.L.Leaf.value c.loop-s.made).variables (front s Done) = subst (λ n. IsCodeOf n (front s Done)) (sym c.loop-s.invariant.same) at_entry in
-    let loops : HasLoopsOf (whole c.args.task.now.program.now) (front s Done) = loops-at (whole c.args.task.now.program.now) c.args.list.now c.loop-s.s-index s c.loop-s-test.true c.s-item.is c.requires.loops in
+    let loops : HasLoopsOf (whole c.args.task.now.program.now) (front s Done) = loops-at (whole c.args.task.now.program.now) c.args.list.now c.loop-s.s-index s c.loop-s-test.true c.s-item.is c.requires.part.1 in
     let memory = c.loop-s.invariant.memory in
     (omega (arith, size-at c.args.list.now c.loop-s.s-index s c.loop-s-test.true c.s-item.is), search rules)
 
@@ -36,12 +36,12 @@ enter_list-loop-s-preserved g t c =
     let so_far = entries_of M o (code (take i list)) v in
     let here = entries_of M o (front s Done) (after_of M o (code (take i list)) v) in
     let new = c.in_ok-made-2.ensures in
-    let entered = entered_as value M o c.loop-s.found c.enter_stmt.new.found _ here (ap (entries_of M o (front s Done)) c.loop-s.invariant.made) new.entered in
+    let entered = entered_as value M o c.loop-s.noted c.enter_stmt.new.noted _ here (ap (entries_of M o (front s Done)) c.loop-s.invariant.made) new.entered in
     record {
       made = new.value ∙ (ap (after_of M o (front s Done)) c.loop-s.invariant.made ∙ sym (after_of-take_more M o list i s v c.loop-s-test.true c.s-item.is));
       same = new.same ∙ c.loop-s.invariant.same;
-      entered = entered_as value M o c.args.found.now c.enter_stmt.new.found _ (entries_of M o (code (take (i + 1) list)) v) (sym (entries_of-take_more M o list i s v c.loop-s-test.true c.s-item.is))
-          (entered_then value M o c.args.found.now c.loop-s.found c.enter_stmt.new.found so_far here c.loop-s.invariant.entered entered);
+      entered = entered_as value M o c.args.noted.now c.enter_stmt.new.noted _ (entries_of M o (code (take (i + 1) list)) v) (sym (entries_of-take_more M o list i s v c.loop-s-test.true c.s-item.is))
+          (entered_then value M o c.args.noted.now c.loop-s.noted c.enter_stmt.new.noted so_far here c.loop-s.invariant.entered entered);
       memory = new.memory;
     }
 
@@ -52,10 +52,10 @@ enter_stmt-returns-in_ok-after_no-in-If-clause-entered g t c =
     let o = c.args.task.now.options in
     let v = value c.args.leaf.now in
     let i = c.in-If in
-    let a = c.args.found.now in
-    let b = c.enter-in-If.new.found in
-    let d = c.enter_side.new.found in
-    let z = c.enter_side-in-If.new.found in
+    let a = c.args.noted.now in
+    let b = c.enter-in-If.new.noted in
+    let d = c.enter_side.new.noted in
+    let z = c.enter_side-in-If.new.noted in
     let ps = entries_of M o (code i.yes.items) (assumed M o.mode (term i.test) true v) in
     let qs = entries_of M o (code i.no.items) (assumed M o.mode (term i.test) false v) in
     let yes_side = entered_as value M o b d _ ps (ap (λ l. entries_of M o (code l) (assumed M o.mode (term i.test) true v)) c.deref.ensures.value) c.in_ok-after_yes-in-If.ensures.entered in
@@ -81,9 +81,9 @@ enter_stmt-returns-in_ok-enter_side-in-While-clause-entered g t c =
     let o = c.args.task.now.options in
     let v = value c.args.leaf.now in
     let w = c.in-While in
-    let a = c.args.found.now in
-    let b = c.enter-in-While.new.found in
-    let z = c.enter_side-in-While.new.found in
+    let a = c.args.noted.now in
+    let b = c.enter-in-While.new.noted in
+    let z = c.enter_side-in-While.new.noted in
     let F = final_leaf M o (term w.test) (after_of M o (code w.body.items)) v in
     let last = c.in_ok-last-in-While.ensures.value ∙ ap (λ l. final_leaf M o (term w.test) (after_of M o (code l)) v) c.deref-in-While.ensures.value in
     let first = entered_as value M o a b _ (record { place = w.place; statement = front c.args.s.now Done; leaf = F } ∷ [])
@@ -101,9 +101,9 @@ enter_stmt-returns-in_ok-enter-in-Block-clause-entered g t c =
     let o = c.args.task.now.options in
     let v = value c.args.leaf.now in
     let w = c.in-Block in
-    let a = c.args.found.now in
-    let b = c.enter-in-Block.new.found in
-    let z = c.enter_list.new.found in
+    let a = c.args.noted.now in
+    let b = c.enter-in-Block.new.noted in
+    let z = c.enter_list.new.noted in
     on_ok_by c.enter_list.result (HasEntered value M o b z (entries_of M o (code c.deref-in-Block.result.now) v)) (HasEntered value M o a z (entries_of M o (front c.args.s.now Done) v))
     (λ h. entered_as value M o a z _ _ (entries-Block M o c.args.s.now w.place w.body v w.is)
     (entered_then value M o a b z _ _ c.in_ok-enter-in-Block.ensures

@@ -16,7 +16,7 @@ invariant-enter_list-loop-s g l =
     record {
       made : value l.made ≡ after_of M o (code (take l.s-index l.list)) (value l.leaf);
       same : (value l.made).variables ≡ (value l.leaf).variables;
-      entered : HasEntered value M o l.initial.found l.found (entries_of M o (code (take l.s-index l.list)) (value l.leaf));
+      entered : HasEntered value M o l.initial.noted l.noted (entries_of M o (code (take l.s-index l.list)) (value l.leaf));
       memory : Remembers value M l.task l.finals;
     }
 

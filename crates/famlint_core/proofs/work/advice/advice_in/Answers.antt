@@ -5,7 +5,7 @@ use Rattle.decision_tree.specs.Plain.{TestsBelow}
 use Rattle.decision_tree.specs.View.{plain}
 use Rattle.linear_atoms.specs.declared.atoms.Atom.{Atom}
 use Rattle.lifted_analysis.specs.declared.findings.AlarmTree.{AlarmTree}
-use Rattle.alarm_report.specs.Alarms.{stop_tree}
+use Rattle.alarm_report.specs.Alarms.{plain_alarm_tree}
 use Rattle.famlint_core.specs.Advised.{trees_of}
 use Rattle.famlint_core.proofs.Foretold.{advised}
 use Rattle.famlint_core.proofs.work.advice.advice_in.Goals as goal
@@ -26,5 +26,5 @@ returns-clause-good g c =
     (advised g.L.Leaf.value g.L.Leaf.meaning g.met.L.Leaf.laws c.args.options.now l f c.in_ok-findings.ensures.found c.requires.line
     c.variants_are_projections.ensures.read l.model c.items-atoms.result.now (map plain c.deref-2.result.now) c.args.given.now.values c.in_ok-found.found
     refl c.items-atoms.ensures
-    (ap (map plain) c.deref-2.ensures.value ∙ (c.in_ok-trees.ensures.trees ∙ ap (λ (ts : List AlarmTree). trees_of (map stop_tree ts)) c.deref.ensures.value))
+    (ap (map plain) c.deref-2.ensures.value ∙ (c.in_ok-trees.ensures.trees ∙ ap (λ (ts : List AlarmTree). trees_of (map plain_alarm_tree ts)) c.deref.ensures.value))
     c.in_ok-found.ensures).good

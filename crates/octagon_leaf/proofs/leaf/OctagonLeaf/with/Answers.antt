@@ -4,7 +4,7 @@ use Rattle.octagon_leaf.specs.Octagons.{dropped}
 use Rattle.octagon_leaf.specs.Shapes.{between}
 use Rattle.octagon_leaf.proofs.Closed.{settled-best, settled-is}
 use Rattle.octagon_leaf.proofs.Meanings.{set-range-is}
-use Rattle.octagon_leaf.proofs.Setting.{SetMatrix, set-bounded}
+use Rattle.octagon_leaf.proofs.Assigning.{SetMatrix, set-bounded}
 use Rattle.octagon_leaf.proofs.leaf.OctagonLeaf.with.Goals as goal
 
 pub from_best-requires-clause-best : goal.from_best-requires-clause-best

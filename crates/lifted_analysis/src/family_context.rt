@@ -8,17 +8,13 @@ ghost use Rattle.lifted_analysis.specs.States.{IsFamily, IsTruth, truths_in};
 
 use crate::lines::LoopLine;
 use c_tree::Program;
-use decision_tree::{Forest, Tree};
-use leaf_domain::Leaf;
+use decision_tree::Tree;
 use plain_analysis::Options;
-use std::alloc::Global;
-use std::sync::ledger::Ledger;
-use tree_unify::Steps;
 
 /// What is known of a family: its program, the trees of its conditions, that of the vectors that are plausible, that of no
 /// vector, what lines say of its loops, how many variables it has, and how it is analysed.
 #[derive(Clone, Copy)]
-pub(crate) struct Family<'a> {
+pub(crate) struct FamilyContext<'a> {
     pub(crate) program: &'a Program,
     pub(crate) choices: &'a [Tree<bool>],
     pub(crate) plausible: &'a Tree<bool>,
@@ -28,7 +24,7 @@ pub(crate) struct Family<'a> {
     pub(crate) options: Options,
 }
 
-impl Family<'_> {
+impl FamilyContext<'_> {
     /// The tree of the condition with this number.
     #[tactic(auto, using(crate::proofs::FamilyLemmas::choice_truth, crate::proofs::FamilyLemmas::never_truth, crate::proofs::FamilyLemmas::truth_at, crate::proofs::FamilyLemmas::truth_none, crate::proofs::FamilyLemmas::never_at))]
     pub(crate) fn choice(&self, number: u32) -> &Tree<bool>
@@ -42,13 +38,4 @@ impl Family<'_> {
             None => self.never,
         }
     }
-}
-
-/// The forests of leaves and of truths, and the count of the steps.
-#[derive(Drop)]
-pub(crate) struct Tables<L: Leaf, K: Ledger> {
-    pub(crate) alloc: Global,
-    pub(crate) leaves: Forest<L>,
-    pub(crate) truths: Forest<bool>,
-    pub(crate) steps: Steps<K>,
 }

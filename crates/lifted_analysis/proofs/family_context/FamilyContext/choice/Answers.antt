@@ -1,5 +1,5 @@
 use Rattle.lifted_analysis.proofs.FamilyLemmas.{got, choice_truth}
-use Rattle.lifted_analysis.proofs.family.Family.choice.Goals as goal
+use Rattle.lifted_analysis.proofs.family_context.FamilyContext.choice.Goals as goal
 
 pub returns-in-Some-clause-truth : goal.returns-in-Some-clause-truth
 returns-in-Some-clause-truth c =

@@ -9,13 +9,13 @@ use Rattle.decision_tree.specs.View.{numbered, plain}
 use Rattle.plain_analysis.proofs.StatedLemmas.{has_its_loops, loops_same}
 use Rattle.lifted_analysis.specs.Rules.{IsRuled, chosen_heads, heads_in, heads_where, ruled_heads}
 use Rattle.lifted_analysis.specs.Start.{start_at}
-use Rattle.lifted_analysis.proofs.Answered.{found_made, start_valid}
+use Rattle.lifted_analysis.proofs.Answered.{noted_made, start_valid}
 use Rattle.lifted_analysis.proofs.EntryLemmas.{state_reduced}
 use Rattle.lifted_analysis.proofs.FinalsLemmas.{memory_empty}
 use Rattle.lifted_analysis.proofs.PassedLemmas.{AreFit}
 use Rattle.lifted_analysis.proofs.StartLemmas.{leaf_tree, truth_of_tree}
 use Rattle.lifted_analysis.proofs.WalkLemmas.{ruled_fit, rule_known, rule_heads}
-use Rattle.lifted_analysis.proofs.analysis.found_in.Goals as goal
+use Rattle.lifted_analysis.proofs.analysis.noted_in.Goals as goal
 
 pub start_tree-requires-clause-count : goal.start_tree-requires-clause-count
 start_tree-requires-clause-count g c = ap length c.items.ensures ∙ (c.requires.program.starts ∙ sym c.requires.count)
@@ -26,14 +26,11 @@ start_tree-requires-clause-ints g c = subst (All IsInt) (sym c.items.ensures) c.
 pub start_tree-requires-clause-declared : goal.start_tree-requires-clause-declared
 start_tree-requires-clause-declared g c = subst (λ n. All (IsDeclaredOf n) c.args.family.now.program.now.declared) (sym c.requires.count) c.requires.program.declared
 
-pub enter_list-requires-clause-fit : goal.enter_list-requires-clause-fit
-enter_list-requires-clause-fit g c =
-    subst (λ l. IsCodeOf c.args.family.now.variables (code l)) (sym c.deref.ensures.value) (subst (λ n. IsCodeOf n (code c.args.family.now.program.now.body.items)) (sym c.requires.count) c.requires.program.names)
-
-pub enter_list-requires-clause-loops : goal.enter_list-requires-clause-loops
-enter_list-requires-clause-loops g c =
+pub enter_list-requires-clause-part : goal.enter_list-requires-clause-part
+enter_list-requires-clause-part g c =
     let p = whole c.args.family.now.program.now in
-    loops_same p _ _ c.deref.ensures.value (has_its_loops p c.requires.program.rising)
+    (subst (λ l. IsCodeOf c.args.family.now.variables (code l)) (sym c.deref.ensures.value) (subst (λ n. IsCodeOf n (code c.args.family.now.program.now.body.items)) (sym c.requires.count) c.requires.program.names),
+    loops_same p _ _ c.deref.ensures.value (has_its_loops p c.requires.program.rising))
 
 pub enter_list-requires-clause-here : goal.enter_list-requires-clause-here
 enter_list-requires-clause-here g c =
@@ -74,9 +71,9 @@ returns g c =
     (λ v. subst M.valid (sym (started v)) (start_valid value family M laws A N p c.requires.program c.requires.count v)) in
     let same : (v : List Bool) → ruled_heads value M family r v ≡ chosen_heads M family c.args.is_given v (start_at M family p.start p.declared v) =
     λ v. rule_heads value M family c.args.is_given c.in_ok-start.start r v (start_at M family p.start p.declared v) c.in_ok-rule.ensures (started v) in
-    found_made value family M laws A N p c.requires.program c.requires.count
+    noted_made value family M laws A N p c.requires.program c.requires.count
     (heads_in value M family r (plain c.in_ok-here.here)) (λ v. chosen_heads M family c.args.is_given v (start_at M family p.start p.declared v))
-    (record { places = c.new.result; alarms = c.new-2.result; turns = c.new-3.result }) c.enter_list.new.found c.add_end.new.found (code c.deref.result.now) (plain c.in_ok-start.start) (plain c.in_ok-tree.tree)
+    (record { places = c.new.result; alarms = c.new-2.result; turns = c.new-3.result }) c.enter_list.new.noted c.add_end.new.noted (code c.deref.result.now) (plain c.in_ok-start.start) (plain c.in_ok-tree.tree)
     (λ v. ap (λ t. heads_where (leaf_of t v) (ruled_heads value M family r v)) c.in_ok-here.ensures.same ∙ same v)
     (λ v. subst (λ G. AreFit M family.options.mode (length p.names) G) (same v) (subst (λ n. AreFit M family.options.mode n (ruled_heads value M family r v)) c.requires.count (ruled_fit value M family laws A c.start_tree.new.tables.leaves r v known c.requires.family.bounds)))
     (ap code c.deref.ensures.value) c.new.ensures.items c.new-2.ensures.items c.new-3.ensures.items c.in_ok-tree.ensures.entered started c.in_ok-tree.ensures.lifted.at_each c.in_ok-add_end.ensures
