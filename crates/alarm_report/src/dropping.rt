@@ -1,7 +1,7 @@
 //! Literals that others imply.
 #![tactic(auto)]
 
-ghost use Rattle.std.specs.Prelude.{◌≡◌, ◌<◌, [], length, IfOk};
+ghost use Rattle.std.specs.Prelude.{◌<◌, [], length, IfOk};
 ghost use Rattle.linear_atoms.specs.Atoms.{AreLiterals};
 ghost use Rattle.alarm_report.specs.Dropping.{IsDroppedAt};
 ghost use Rattle.alarm_report.specs.Regions.{AreStanding};

@@ -1,7 +1,7 @@
 //! The invariants of a family, with their regions.
 #![tactic(auto)]
 
-ghost use Rattle.std.specs.Prelude.{◌≡◌, ◌<◌, length, map, IfOk, OnOk};
+ghost use Rattle.std.specs.Prelude.{◌<◌, length, map, IfOk, OnOk};
 ghost use Rattle.std.specs.List.{All};
 ghost use Rattle.linear_atoms.specs.Atoms.{AreAtoms, AreLiterals};
 ghost use Rattle.decision_tree.specs.Paths.{paths_of};

@@ -1,7 +1,7 @@
 //! Texts one after another.
 #![tactic(auto)]
 
-ghost use Rattle.std.specs.Prelude.{◌≡◌, ◌++◌, length, map, IfOk};
+ghost use Rattle.std.specs.Prelude.{◌≡◌, length, map, IfOk};
 ghost use Rattle.linear_atoms.specs.Atoms.{AreLiterals};
 ghost use Rattle.linear_atoms.specs.Texts.{literal_text};
 ghost use Rattle.alarm_report.specs.Texts.{joined as joined_by};

@@ -1,7 +1,7 @@
 //! The texts of leaves, and of invariants.
 #![tactic(auto)]
 
-ghost use Rattle.std.specs.Prelude.{◌≡◌, ◌≤◌, ◌<◌, ◌+◌, ◌++◌, ◌∷◌, ℤ, IsTrue, length, map, take, IfOk};
+ghost use Rattle.std.specs.Prelude.{◌≡◌, ◌≤◌, ◌<◌, ◌+◌, ◌++◌, ◌∷◌, IsTrue, length, map, take, IfOk};
 ghost use Rattle.std.specs.List.{All};
 ghost use Rattle.leaf_domain.specs.Ranges.{is_arithmetic};
 ghost use Rattle.linear_atoms.specs.Atoms.{AreLiterals};

@@ -3,8 +3,6 @@
 ghost use Rattle.std.specs.Prelude.{◌≡◌, ◌<◌, ◌≤◌, length, unsigned_abs, IfOk};
 ghost use Rattle.linear_atoms.specs.Atoms.{AreRanges, AreAtoms, IsAtom};
 ghost use Rattle.cpp_conditions.specs.Validity.{AreFit};
-ghost use Rattle.decision_tree.specs.Plain.{TestsBelow, IsReducedFrom};
-ghost use Rattle.decision_tree.specs.View.{plain};
 
 use crate::alarms::alarms_of;
 use crate::finding::regions;

@@ -1,8 +1,7 @@
 //! The ends of ranges as linear forms that are at least 0.
 #![tactic(auto)]
 
-ghost use Rattle.std.specs.Int.{w64};
-ghost use Rattle.std.specs.Prelude.{◌≡◌, ◌<◌, ◌≤◌, FitsSigned, pos, length, unsigned_abs, IfOk, MatchOption};
+ghost use Rattle.std.specs.Prelude.{◌≡◌, ◌<◌, length, IfOk, MatchOption};
 ghost use Rattle.linear_atoms.specs.Atoms.{AreRanges};
 ghost use Rattle.atom_solver.specs.Facts.{AddsWithin, AreMetWithin, IsLine, IsMetWithin};
 ghost use Rattle.atom_solver.specs.Spans.{ranges};

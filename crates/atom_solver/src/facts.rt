@@ -2,7 +2,7 @@
 #![tactic(auto)]
 
 ghost use Rattle.std.specs.Int.{w64};
-ghost use Rattle.std.specs.Prelude.{◌≡◌, FitsSigned, pos, neg_ℤ, ◌-ℤ◌, Bool, true, false, ◌++◌, [], ◌∷◌, IfOk, MatchOption, Option, None, slice_index_or};
+ghost use Rattle.std.specs.Prelude.{◌≡◌, FitsSigned, pos, neg_ℤ, ◌-ℤ◌, true, false, [], ◌∷◌, IfOk, MatchOption, Option, None, slice_index_or};
 ghost use Rattle.linear_atoms.specs.Forms.{IsRising};
 ghost use Rattle.cpp_conditions.specs.Propositions.{Test};
 ghost use Rattle.cpp_conditions.specs.View.{proposition};

@@ -1,7 +1,7 @@
 //! Parts of a model that share no feature: each is solved alone, and its features keep the values that are found.
 #![tactic(auto)]
 
-ghost use Rattle.std.specs.Prelude.{◌≡◌, ◌∷◌, ◌++◌, List, Some, true, false, if◌then◌else◌, IfOk, MatchOption, slice_index_or};
+ghost use Rattle.std.specs.Prelude.{◌≡◌, ◌∷◌, ◌++◌, List, Some, true, false, if◌then◌else◌, IfOk, MatchOption};
 ghost use Rattle.linear_atoms.specs.Atoms.{AreRanges};
 ghost use Rattle.cpp_conditions.specs.Propositions.{Const};
 ghost use Rattle.cpp_conditions.specs.View.{proposition};

@@ -1,7 +1,7 @@
 //! Sums of linear forms that are at least 0: where one is a number below 0, the forms clash.
 #![tactic(auto)]
 
-ghost use Rattle.std.specs.Prelude.{◌≡◌, ℤ, pos, ◌≤ℤ◌, ◌<ℤ◌, List, [], ◌∷◌, true, false, IfOk, MatchOption};
+ghost use Rattle.std.specs.Prelude.{◌≡◌, ℤ, pos, ◌≤ℤ◌, ◌<ℤ◌, List, [], true, false, IfOk, MatchOption};
 ghost use Rattle.linear_atoms.specs.Atoms.{AreRanges, IsWithin};
 ghost use Rattle.linear_atoms.specs.Forms.{IsRising, form_at};
 ghost use Rattle.cpp_conditions.specs.View.{proposition};

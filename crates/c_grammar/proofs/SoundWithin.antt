@@ -7,7 +7,7 @@ use Rattle.c_tree.specs.Tree.{Term, Code, Done, If, While, Block, Cond}
 use Rattle.c_grammar.specs.declared.items.Sign.TheVariants as signs
 use Rattle.c_grammar.specs.declared.items.Item.{Item}
 use Rattle.c_grammar.specs.Ahead.{IsLooser, Loose, IsList, NoElse}
-use Rattle.c_grammar.specs.Grammar.{at, tighter, Prefix, Positive, Negative, Inverse, prefix_sign, applied, Expresses, number, name, group, prefix, loose, binary, update_sign, count_sign, updated, Shape, Listed, Stated, Chained, Writes, File}
+use Rattle.c_grammar.specs.Grammar.{at, tighter, Prefix, Positive, Negative, Inverse, prefix_sign, Expresses, number, name, group, prefix, loose, binary, update_sign, Shape, Listed, Stated, Chained, Writes, File}
 use Rattle.c_grammar.specs.Grammar as plain
 use Rattle.c_grammar.specs.Machine.{Frame, Paren, Pre, Left, room, Stack, Braces, Yes, No, ThenOf, ElseOf, LoopOf, Use, ToAssign, ToUpdate, ToAssert, ToChoose, ToLoop, ReadingState, Ready, Ended, Wants, Has, Named, Opens, folded, step}
 use Rattle.c_grammar.specs.Deep.{depth, opens_more, around, counted, is_deep, is_nested, is_long, Fault, went, guarded}

@@ -1,7 +1,7 @@
 //! The program of a file with groups.
 #![tactic(auto)]
 
-ghost use Rattle.std.specs.Prelude.{◌≡◌, ◌≤◌, length, IfOk};
+ghost use Rattle.std.specs.Prelude.{◌≤◌, length, IfOk};
 ghost use Rattle.std.specs.List.{All};
 ghost use Rattle.linear_atoms.specs.Atoms.{AreAtoms};
 ghost use Rattle.cpp_conditions.specs.Distinct.{HaveFewAtoms};

@@ -1,7 +1,7 @@
 //! The items of tokens, with the names numbered by their first occurrence.
 #![tactic(auto)]
 
-ghost use Rattle.std.specs.Prelude.{◌≡◌, ◌+◌, ◌≤◌, ◌<◌, ◌^◌, [], ◌∷◌, ◌++◌, length, IfOk, MatchOption};
+ghost use Rattle.std.specs.Prelude.{◌≡◌, ◌+◌, ◌<◌, ◌^◌, length, IfOk};
 ghost use Rattle.c_parser.specs.Items as specs;
 ghost use Rattle.c_parser.specs.Signing.{HasSign, HasName, AreWithin, AreListed, IsListed};
 

@@ -1,7 +1,7 @@
 //! Laws of reading tokens, for the crates above: each function does nothing, and its contract is the law.
 #![tactic(auto)]
 
-ghost use Rattle.std.specs.Prelude.{◌≡◌, ℕ, ℤ, ◌<◌, ◌≤◌, pos, List, [], ◌∷◌, ◌++◌, length, Option, Some, None, Result, Ok, Err};
+ghost use Rattle.std.specs.Prelude.{◌≡◌, ℕ, ℤ, ◌≤◌, pos, List, ◌∷◌, ◌++◌, Some, Result};
 ghost use Rattle.std.specs.Fmt.{decimal};
 ghost use Rattle.fam_outer.specs.declared.faults.FileCode.{FileCode};
 ghost use Rattle.fam_outer.specs.declared.faults.Place as outer;

@@ -1,7 +1,7 @@
 //! The longest lexeme at the front of a list of bytes, and its kind.
 #![tactic(auto)]
 
-ghost use Rattle.std.specs.Prelude.{◌≡◌, length, take, Option, Some, None, Result, Ok, Err, IfOk, ◌<◌, ◌≤◌};
+ghost use Rattle.std.specs.Prelude.{◌≡◌, length, Option, Some, None, Result, Ok, Err, IfOk, ◌<◌, ◌≤◌};
 ghost use Rattle.c_tokens.specs.Lexemes.{IsLongest, is_mark, lexeme_of, literal_of};
 ghost use Rattle.std.specs.List.{prefix_len};
 ghost use Rattle.c_words.specs.Bytes.{is_word_byte as is_word};

@@ -1,8 +1,7 @@
 //! The tokens of a text.
 #![tactic(auto)]
 
-ghost use Rattle.std.specs.Prelude.{◌≡◌, ℕ, ◌<◌, ◌≤◌, ◌+◌, ◌^◌, List, [], ◌∷◌, ◌++◌, length, MatchOption};
-ghost use Rattle.fam_outer.specs.Places.{end_place};
+ghost use Rattle.std.specs.Prelude.{◌<◌, ◌≤◌, ◌+◌, [], ◌++◌, length};
 ghost use Rattle.c_tokens.specs.Reading.{tokens_of};
 ghost use Rattle.fam_outer.specs.Refusals.{Gives};
 

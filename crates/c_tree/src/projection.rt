@@ -1,7 +1,7 @@
 //! The program of one choice of truths.
 #![tactic(auto)]
 
-ghost use Rattle.std.specs.Prelude.{◌≡◌, length, slice_index_or, slice_set, false, true, IfOk, OnOk, if◌then◌else◌};
+ghost use Rattle.std.specs.Prelude.{◌≡◌, length, slice_index_or, slice_set, false, IfOk, OnOk, if◌then◌else◌};
 ghost use Rattle.c_tree.specs.Tree.{Done, followed};
 ghost use Rattle.c_tree.specs.View.{front, code, whole};
 ghost use Rattle.c_tree.specs.Whole.{IsProgram, IsPlainProgram};

@@ -1,8 +1,8 @@
 //! Calls with ample memory, compared with lines and values found by hand.
 
-ghost use Rattle.std.specs.Prelude.{◌≡◌, ◌<◌, IfOk, List, [], ◌∷◌, ℤ, pos, true, false};
+ghost use Rattle.std.specs.Prelude.{◌≡◌, ◌<◌, IfOk, [], ◌∷◌, pos, true, false};
 ghost use Rattle.c_tree.specs.Tree.{Done, Skip, Cond};
-ghost use Rattle.c_tree.specs.View.{front, code, whole};
+ghost use Rattle.c_tree.specs.View.{code, whole};
 ghost use Rattle.c_tree.specs.Whole.{IsProgram};
 ghost use Rattle.c_tree.specs.Project.{IsConditioned};
 

@@ -35,7 +35,7 @@ use Rattle.certificate_reader.proofs.Shapes.{one_loop, not_both}
 use Rattle.certificate_text.specs.Texts.{loop_line, alarm_line, certificate_text}
 use Rattle.certificate_laws.proofs.Naming.{HaveNames}
 use Rattle.certificate_laws.specs.Laws.{AnswersBack}
-use Rattle.certificate_laws.specs.ReadBack.{IsBoundsOf, SaysRegion, SaysInvariant, SaysAlarm, SayInvariants, SayAlarms, IsReadBack}
+use Rattle.certificate_laws.specs.ReadBack.{IsBoundsOf, SaysInvariant, SaysAlarm, SayInvariants, SayAlarms}
 use Rattle.certificate_laws.specs.ReadBack as back
 use Rattle.certificate_laws.specs.Written.{IsOneLine}
 use Rattle.certificate_laws.proofs.Writable.{AreOver, TellsNoForm, IsLoopWritten, IsAlarmWritten}

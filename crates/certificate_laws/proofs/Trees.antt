@@ -17,7 +17,7 @@ use Rattle.alarm_report.specs.Alarms.{PlainAlarmTree, alarm_in, AreAlarms}
 use Rattle.alarm_report.specs.Alarms as alarms
 use Rattle.alarm_report.specs.Invariants.{LeafTree, Invariant, AreOfPaths, AreInvariants}
 use Rattle.alarm_report.specs.Invariants as invariants
-use Rattle.alarm_report.specs.Regions.{literal_of, literals_of, AreStanding, IsRegionOf, AreRegionsOf}
+use Rattle.alarm_report.specs.Regions.{literals_of, AreStanding, IsRegionOf, AreRegionsOf}
 use Rattle.alarm_report.specs.Regions as regions
 use Rattle.certificate_reader.specs.Lines.{IsPlace}
 use Rattle.certificate_laws.specs.Written.{AllLeaves, IsLeafOver, IsLoopTree, IsAlarmTree}

@@ -1,5 +1,5 @@
 -- What is chosen by the words of values that are spelled right.
-use Rattle.std.proofs.Common.{◌≡◌, ◌≢◌, ◌≤◌, ◌<◌, ◌^◌, ◌∙◌, ◌⊎◌, ℕ, ℤ, List, [], Bool, true, false, refl, sym, ap, ap₂, codes, inl, inr, arith}
+use Rattle.std.proofs.Common.{◌≡◌, ◌≢◌, ◌≤◌, ◌<◌, ◌^◌, ◌∙◌, ◌⊎◌, ℕ, List, [], Bool, true, false, refl, sym, ap, ap₂, codes, inl, inr, arith}
 use Rattle.std.specs.Prelude.{Option, Some, None, Err, unwrap_or, is_some, ok_or}
 use Rattle.std.specs.Str.Parse.{digits_value}
 use Rattle.std.proofs.lemmas.Bool.{and_parts, and_cases, leb-true}

@@ -1,5 +1,5 @@
 -- The command that reads the options other than `--inputs`.
-use Rattle.std.specs.Prelude.{ℕ, ℤ, Bool, true, ◌≡◌, ◌&&◌, ◌<◌, List, [], ◌∷◌, ◌++◌, codes, Option, Some, None, is_some}
+use Rattle.std.specs.Prelude.{ℕ, Bool, true, ◌≡◌, ◌&&◌, ◌<◌, List, [], ◌∷◌, ◌++◌, codes, Option, Some, None, is_some}
 use Rattle.std.specs.Str.Parse.{digits_value}
 use Rattle.clap.specs.Words.{App, Rule, Row, Text, new_app, new_rule, with_rule, one_of, first_of}
 use Rattle.clap.specs.Simple.{on_top}

@@ -1,7 +1,7 @@
 //! The words as a whole.
 #![tactic(auto)]
 
-ghost use Rattle.std.specs.Prelude.{◌≡◌, IfOk};
+ghost use Rattle.std.specs.Prelude.{IfOk};
 ghost use Rattle.command_words.specs.Arguments.{arguments_of, settings_of, texts_of, AreInRange, AnswersWords};
 
 use crate::inputs::inputs_given;

@@ -1,7 +1,7 @@
 //! Expressions of conditions, read from their tokens.
 #![tactic(auto)]
 
-ghost use Rattle.std.specs.Prelude.{◌≡◌, ◌<◌, ◌≤◌, ◌+◌, suc, [], ◌∷◌, length, MatchOption, IfOk, IfSome};
+ghost use Rattle.std.specs.Prelude.{◌≡◌, ◌<◌, suc, [], ◌∷◌, length, MatchOption, IfOk, IfSome};
 ghost use Rattle.cpp_conditions.specs.Expressions.{Unary, Binary};
 ghost use Rattle.cpp_conditions.specs.Grammar.{tighter, sign};
 ghost use Rattle.cpp_conditions.specs.Machine.{read, Wants};

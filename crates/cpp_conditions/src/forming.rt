@@ -1,7 +1,7 @@
 //! Linear forms of expressions that are numbers.
 #![tactic(auto)]
 
-ghost use Rattle.std.specs.Prelude.{◌≡◌, ◌≤◌, ◌<◌, pos, true, [], ◌∷◌, IfOk, MatchOption};
+ghost use Rattle.std.specs.Prelude.{◌≡◌, ◌≤◌, ◌<◌, pos, true, IfOk};
 ghost use Rattle.cpp_conditions.specs.declared.operators.Operator.TheVariants as operators;
 ghost use Rattle.linear_atoms.specs.Forms as forms;
 ghost use Rattle.cpp_conditions.specs.Descent.{expression};

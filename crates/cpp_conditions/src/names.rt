@@ -1,7 +1,7 @@
 //! The features of a model, found by their names.
 #![tactic(auto)]
 
-ghost use Rattle.std.specs.Prelude.{◌≡◌, ◌≤◌, ◌+◌, ◌<◌, ◌^◌, length, IfOk};
+ghost use Rattle.std.specs.Prelude.{◌≡◌, ◌+◌, ◌<◌, ◌^◌, length, IfOk};
 ghost use Rattle.linear_atoms.specs.Atoms.{AreRanges};
 ghost use Rattle.linear_atoms.specs.Texts.{boolean_at};
 ghost use Rattle.cpp_conditions.specs.Expressions.{found};

@@ -18,7 +18,7 @@ use Rattle.cpp_lines.specs.Lines.{line_place}
 use Rattle.cpp_lines.specs.Nesting.{named_in, opens_section, ends_before, ends_of, opened_by}
 use Rattle.cpp_lines.specs.Opens.{flags, first_after, first_of}
 use Rattle.cpp_lines.specs.Sections as sections
-use Rattle.cpp_lines.specs.Sections.{Told, AreRead, TextIsRead, IsRead, HasFault, line_at, in_front}
+use Rattle.cpp_lines.specs.Sections.{Told, AreRead, TextIsRead, IsRead, line_at, in_front}
 use Rattle.cpp_lines.specs.Taking.{meant, IsTaken, IsFaulty, IsFollowed, Takes, ReadsLines, earlier, is_short}
 use Rattle.fam_outer.specs.declared.faults.FileRefusal.{FileRefusal}
 use Rattle.fam_outer.specs.declared.faults.FileRefusal.TheVariants.{NoMemory, Fault}

@@ -1,7 +1,7 @@
 //! Bytes at the front of a text, and the place behind one.
 #![tactic(auto)]
 
-ghost use Rattle.std.specs.Prelude.{◌≡◌, ℕ, ◌<◌, ◌≤◌, ◌+◌, ◌^◌, List, [], ◌∷◌, ◌++◌, length, take, drop, MatchOption};
+ghost use Rattle.std.specs.Prelude.{◌≡◌, ◌≤◌, [], length, take, drop};
 ghost use Rattle.std.specs.List.{prefix_len};
 ghost use Rattle.c_words.specs.Bytes as words;
 ghost use Rattle.cpp_lines.specs.Bytes as kinds;

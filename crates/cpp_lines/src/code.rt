@@ -1,7 +1,7 @@
 //! The code of a blanked text.
 #![tactic(auto)]
 
-ghost use Rattle.std.specs.Prelude.{◌≡◌, ◌≤◌, ◌++◌, [], ◌∷◌, length, IfOk, OnOk, MatchOption};
+ghost use Rattle.std.specs.Prelude.{◌≡◌, ◌≤◌, ◌++◌, length, IfOk, OnOk};
 ghost use Rattle.cpp_lines.specs.Code as specs;
 ghost use Rattle.cpp_lines.specs.Lines as lists;
 

@@ -3,7 +3,7 @@
 
 ghost use Rattle.std.specs.Prelude.{◌≡◌, ◌≤◌, ◌+◌, ◌-◌, ◌&&◌, ◌||◌, ℕ, List, length, take, drop};
 ghost use Rattle.std.specs.List.{list_any};
-ghost use Rattle.fam_outer.specs.Places.{is_newline, last_line, place_at};
+ghost use Rattle.fam_outer.specs.Places.{is_newline, last_line};
 ghost use Rattle.fam_outer.specs.Refusals.{Gives};
 ghost use Rattle.cpp_lines.specs.Comments as comments;
 ghost use Rattle.cpp_lines.specs.Directives as directives;

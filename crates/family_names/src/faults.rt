@@ -1,9 +1,9 @@
 //! The fault of a name, by what is known of the items before it.
 #![tactic(auto)]
 
-ghost use Rattle.std.specs.Prelude.{◌≡◌, ℕ, ℤ, Bool, true, false, not, ◌&&◌, List, IfOk, OnOk};
+ghost use Rattle.std.specs.Prelude.{◌≡◌, true, false, ◌&&◌, IfOk, OnOk};
 ghost use Rattle.atom_solver.specs.Solutions.{Finds};
-ghost use Rattle.family_names.specs.Names.{is_among, truths_at, with_number, new_name_fault};
+ghost use Rattle.family_names.specs.Names.{is_among, with_number, new_name_fault};
 ghost use Rattle.family_names.specs.NameContexts.{plain, IsFit};
 ghost use Rattle.family_names.specs.Judging as judging;
 

@@ -2,7 +2,7 @@
 #![tactic(auto)]
 
 ghost use Rattle.std.specs.Prelude.{◌≡◌, Bool, true, false, List, [], ◌∷◌, ◌++◌, Some, reverse, IfOk, OnOk, MatchOption};
-ghost use Rattle.cpp_groups.specs.Kept.{all_kept, sections_after};
+ghost use Rattle.cpp_groups.specs.Kept.{sections_after};
 ghost use Rattle.family_names.specs.Groups as specs;
 
 use cpp_groups::GroupDirective;

@@ -1,7 +1,7 @@
 //! Formulas that say what is kept.
 #![tactic(auto)]
 
-ghost use Rattle.std.specs.Prelude.{◌≡◌, ℕ, ◌≤◌, Bool, List, reverse, IfOk};
+ghost use Rattle.std.specs.Prelude.{◌≡◌, ℕ, Bool, List, reverse, IfOk};
 ghost use Rattle.std.specs.List.{All};
 ghost use Rattle.cpp_conditions.specs.Propositions.{IsBelow, true_on};
 ghost use Rattle.cpp_conditions.specs.View.{formula};

@@ -1,8 +1,7 @@
 //! The features of a model, and the first fault among them.
 #![tactic(auto)]
 
-ghost use Rattle.std.specs.Prelude.{◌≡◌, ◌+◌, ◌≤◌, ◌<◌, ◌^◌, [], ◌∷◌, None, map, take, drop, length, MatchOption, IfOk};
-ghost use Rattle.linear_atoms.specs.Atoms.{AreRanges};
+ghost use Rattle.std.specs.Prelude.{◌≡◌, ◌+◌, ◌≤◌, ◌<◌, ◌^◌, None, map, take, drop, length, IfOk};
 ghost use Rattle.feature_model.specs.declared.shapes.Entry.{Entry};
 ghost use Rattle.feature_model.specs.Features as features;
 ghost use Rattle.feature_model.specs.Names.{is_misnamed};

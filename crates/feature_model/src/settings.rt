@@ -1,7 +1,7 @@
 //! Configurations read from settings.
 #![tactic(auto)]
 
-ghost use Rattle.std.specs.Prelude.{◌≡◌, ◌+◌, ◌≤◌, [], ◌∷◌, map, length, string_bytes, IfOk, OnOk, MatchOption};
+ghost use Rattle.std.specs.Prelude.{◌≡◌, ◌+◌, ◌≤◌, [], ◌∷◌, map, length, string_bytes, IfOk, MatchOption};
 ghost use Rattle.std.specs.declared.alloc.Global.{Global};
 ghost use Rattle.linear_atoms.specs.Atoms.{AreValues};
 ghost use Rattle.cpp_conditions.specs.Naming.{AreFeatures};

@@ -1,5 +1,5 @@
 -- What lines list, by halves.
-use Rattle.std.proofs.Common.{◌≡◌, ℕ, zero, suc, Bool, true, false, not, ◌||◌, List, [], ◌∷◌, ◌++◌, take, drop, length, get_or, ◌<◌, ◌+◌, refl, ap, sym, subst, ◌∙◌, arith, suc-add}
+use Rattle.std.proofs.Common.{◌≡◌, ℕ, zero, suc, Bool, true, false, ◌||◌, List, [], ◌∷◌, ◌++◌, take, drop, length, get_or, ◌<◌, ◌+◌, refl, ap, sym, subst, ◌∙◌, arith, suc-add}
 use Rattle.fam_outer.specs.declared.faults.Place.{Place}
 use Rattle.c_tree.specs.declared.tree.Kind.{Kind}
 use Rattle.certificate_reader.specs.declared.certificates.AlarmLine.{AlarmLine}

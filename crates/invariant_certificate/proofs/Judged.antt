@@ -1,5 +1,5 @@
 -- The verdict of the trees of a pass is that of the pass.
-use Rattle.std.proofs.Common.{◌≡◌, ℤ, Bool, List, map, true, length, refl, ap, subst, ◌∙◌}
+use Rattle.std.proofs.Common.{◌≡◌, ℤ, List, map, true, length, ap, subst, ◌∙◌}
 use Rattle.std.specs.List.{All}
 use Rattle.fam_outer.specs.declared.faults.Place.{Place}
 use Rattle.c_tree.specs.declared.tree.Kind.{Kind}
@@ -26,7 +26,7 @@ use Rattle.lifted_analysis.specs.Turns.{loop_places}
 use Rattle.invariant_certificate.specs.declared.verdicts.Verdict.{Verdict}
 use Rattle.invariant_certificate.specs.declared.verdicts.Verdict.TheVariants.{Yes, NotInductive, Unlisted}
 use Rattle.invariant_certificate.specs.Failing.{AllHold, IsFirstFailing}
-use Rattle.invariant_certificate.specs.FirstFailing.{loop_holds, stop_holds, IsJudged, IsFirstLoop, IsFirstStop}
+use Rattle.invariant_certificate.specs.FirstFailing.{loop_holds, stop_holds, IsJudged}
 use Rattle.invariant_certificate.specs.Passes.{is_inductive, is_covered}
 use Rattle.invariant_certificate.specs.Verdicts.{AllInductive, IsVerdict, StopsAreListed}
 use Rattle.invariant_certificate.proofs.First.{all_hold_said, first_said}

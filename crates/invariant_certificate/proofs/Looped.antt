@@ -1,5 +1,5 @@
 -- The loops and the places of a variant are among the family's.
-use Rattle.std.proofs.Common.{◌≡◌, Bool, true, false, List, [], ◌∷◌, ◌++◌, map, cond, refl, ap, sym, subst, ◌∙◌, append_assoc}
+use Rattle.std.proofs.Common.{◌≡◌, Bool, true, false, List, ◌∷◌, ◌++◌, map, cond, refl, ap, sym, subst, ◌∙◌, append_assoc}
 use Rattle.std.specs.Prelude.{slice_index_or}
 use Rattle.std.proofs.lemmas.List.{map-append}
 use Rattle.fam_outer.specs.declared.faults.Place.{Place}
@@ -14,7 +14,7 @@ use Rattle.leaf_domain.specs.Transfer.{assumed, assigned, forgotten}
 use Rattle.plain_analysis.specs.Statements.{Heads, passed}
 use Rattle.lifted_analysis.specs.Turns.{Turn, turns_by, loop_places}
 use Rattle.certificate_reader.proofs.Loops.{loops_followed}
-use Rattle.invariant_certificate.proofs.Sublists.{Within, none, takes, skips, empty, both, at_left, at_right}
+use Rattle.invariant_certificate.proofs.Sublists.{Within, none, takes, skips, both, at_left, at_right}
 
 -- one of two sides
 side : (f : Code → List Place) (b : Bool) (p q : Code) (ps qs : List Place) → Within (f p) ps → Within (f q) qs → Within (f (cond b p q)) (ps ++ qs)

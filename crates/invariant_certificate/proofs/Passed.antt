@@ -1,15 +1,13 @@
 -- What a pass over a family found says of each valid configuration.
-use Rattle.std.proofs.Common.{◌≡◌, ◌<◌, ℕ, ℤ, Bool, true, false, not, ◌||◌, List, [], ◌∷◌, ◌++◌, map, length, if◌then◌else◌, refl, ap, sym, subst, ◌∙◌, inl, inr}
+use Rattle.std.proofs.Common.{◌≡◌, ℤ, Bool, true, false, not, ◌||◌, List, [], ◌∷◌, map, length, if◌then◌else◌, refl, ap, sym, subst, ◌∙◌}
 use Rattle.std.specs.List.{All, AllByRecursion}
 use Rattle.std.proofs.lemmas.List.{length-map}
 use Rattle.std.proofs.lemmas.List.Elements.{All-from_recursion, recursion_from_All}
 use Rattle.fam_outer.specs.declared.faults.Place.{Place}
 use Rattle.c_tree.specs.declared.tree.Kind.{Kind}
 use Rattle.c_tree.specs.Places.{places_of, program_places}
-use Rattle.c_tree.specs.Project.{projected}
-use Rattle.c_tree.specs.Run.{StoppedEnd, run_of}
+use Rattle.c_tree.specs.Run.{run_of}
 use Rattle.c_tree.specs.Tree.{Whole}
-use Rattle.c_tree.specs.Value.{IsInt}
 use Rattle.c_tree.specs.Whole.{IsProgram, IsRising}
 use Rattle.c_tree.proofs.Wholes.{IsPlain-projected}
 use Rattle.linear_atoms.specs.declared.atoms.Atom.{Atom}
@@ -21,25 +19,21 @@ use Rattle.cpp_conditions.specs.Propositions.{true_on}
 use Rattle.cpp_conditions.specs.Validity.{plain, IsValid}
 use Rattle.cpp_conditions.specs.View.{formula}
 use Rattle.certificate_reader.specs.declared.certificates.Certificate.{Certificate}
-use Rattle.decision_tree.specs.Plain.{leaf_of}
 use Rattle.decision_tree.specs.View as tree
-use Rattle.leaf_domain.specs.Leaves.{LeafValue, LeafMeaning, LeafLaws, nothing_of}
+use Rattle.leaf_domain.specs.Leaves.{LeafMeaning, LeafLaws, nothing_of}
 use Rattle.lifted_analysis.specs.declared.findings.AlarmTree.{AlarmTree}
 use Rattle.lifted_analysis.specs.declared.findings.LoopTree.{LoopTree}
-use Rattle.lifted_analysis.specs.declared.findings.PassFindings.{PassFindings}
-use Rattle.lifted_analysis.specs.declared.lines.LoopLine.{LoopLine}
 use Rattle.lifted_analysis.specs.Canon.{IsTreeOf}
-use Rattle.lifted_analysis.specs.Lines.{given_heads, AreRegionsBelow}
+use Rattle.lifted_analysis.specs.Lines.{given_heads}
 use Rattle.lifted_analysis.specs.Pass.{heads_at, pass_stop_at, turns_at_vector, inductive_at}
-use Rattle.lifted_analysis.specs.Promises.{truths_of, variant_at, begin_at, by_kind, AreBelow}
+use Rattle.lifted_analysis.specs.Promises.{truths_of, variant_at, begin_at, by_kind}
 use Rattle.lifted_analysis.specs.Turns.{Turn, AreInductive, turns_by, inductive_in, loop_places}
 use Rattle.lifted_analysis.specs.Turns as turns
-use Rattle.plain_analysis.specs.declared.alarm.Alarm.{Alarm}
 use Rattle.plain_analysis.specs.Places.{at_by, alarm_by, alarms_by}
 use Rattle.plain_analysis.specs.Promises.{RunsForeseenBy, IsForeseen}
-use Rattle.invariant_certificate.specs.Failing.{HoldsAlways, AllHold, IsFirstFailing}
+use Rattle.invariant_certificate.specs.Failing.{HoldsAlways, AllHold}
 use Rattle.invariant_certificate.specs.FirstFailing.{loop_holds, stop_holds}
-use Rattle.invariant_certificate.specs.Passes.{variant_of, begin_of, heads_of, is_inductive, may_stop, is_covered, is_listed}
+use Rattle.invariant_certificate.specs.Passes.{begin_of, is_inductive, may_stop, is_covered, is_listed}
 use Rattle.invariant_certificate.specs.Verdicts.{AllInductive, StopsAreListed}
 use Rattle.invariant_certificate.proofs.First.{Agree}
 use Rattle.invariant_certificate.proofs.Inductive.{all_inductive}

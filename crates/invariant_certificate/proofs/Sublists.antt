@@ -1,9 +1,8 @@
 -- Lists that have some of the elements of a list, in its order.
 use Rattle.std.proofs.Common.{◌≡◌, ◌⊎◌, List, [], ◌∷◌, ◌++◌, inl, inr, subst}
-use Rattle.std.specs.Prelude.{IsTrue}
 use Rattle.std.specs.List.{AllByRecursion}
 use Rattle.fam_outer.specs.declared.faults.Place.{Place}
-use Rattle.c_tree.specs.Whole.{is_before, IsBeforeAll, IsRising}
+use Rattle.c_tree.specs.Whole.{IsBeforeAll, IsRising}
 
 module _ {X : Type 0} where
   -- x is one of the list

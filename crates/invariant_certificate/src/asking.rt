@@ -1,10 +1,10 @@
 //! The least valid configuration at which a tree is false.
 #![tactic(auto)]
 
-ghost use Rattle.std.specs.Prelude.{◌≡◌, ℤ, List, Bool, true, not, length, IfOk};
+ghost use Rattle.std.specs.Prelude.{◌≡◌, ℤ, List, true, not, length, IfOk};
 ghost use Rattle.linear_atoms.specs.Atoms.{AreAtoms};
 ghost use Rattle.cpp_conditions.specs.Numbering.{vector_at};
-ghost use Rattle.decision_tree.specs.Plain.{Plain, TestsBelow, leaf, leaf_of};
+ghost use Rattle.decision_tree.specs.Plain.{TestsBelow, leaf, leaf_of};
 ghost use Rattle.decision_tree.specs.View.{plain};
 ghost use Rattle.atom_solver.specs.Solutions.{Finds};
 

@@ -1,7 +1,7 @@
 //! The check of a certificate.
 #![tactic(auto)]
 
-ghost use Rattle.std.specs.Prelude.{◌≡◌, ◌≤◌, ℤ, List, length, IfOk};
+ghost use Rattle.std.specs.Prelude.{◌≡◌, ◌≤◌, length, IfOk};
 ghost use Rattle.std.specs.List.{All};
 ghost use Rattle.c_tree.specs.Project.{IsConditioned};
 ghost use Rattle.c_tree.specs.View.{whole};

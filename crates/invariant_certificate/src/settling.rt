@@ -1,7 +1,7 @@
 //! The first loop that is not inductive.
 #![tactic(auto)]
 
-ghost use Rattle.std.specs.Prelude.{◌≡◌, List, Bool, length, IfOk, MatchOption};
+ghost use Rattle.std.specs.Prelude.{length, IfOk, MatchOption};
 ghost use Rattle.std.specs.List.{All};
 ghost use Rattle.linear_atoms.specs.Atoms.{AreAtoms};
 ghost use Rattle.decision_tree.specs.Plain.{TestsBelow};

@@ -1,7 +1,7 @@
 //! The file that a list of items spells.
 #![tactic(auto)]
 
-ghost use Rattle.std.specs.Prelude.{◌≡◌, ◌≤◌, ℕ};
+ghost use Rattle.std.specs.Prelude.{◌≤◌};
 ghost use Rattle.item_reader.specs.Signs.{IsUnsigned};
 ghost use Rattle.item_reader.specs.Taking.{AreUnsigned, AreItemsRead, Takes};
 ghost use Rattle.item_reader.specs.Views.{as_state};

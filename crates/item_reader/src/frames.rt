@@ -1,7 +1,7 @@
 //! What waits for an operand, the innermost last.
 #![tactic(auto, using(crate::proofs::Innermost::innermost))]
 
-ghost use Rattle.std.specs.Prelude.{◌≡◌, ◌<◌, ◌+◌, [], ◌∷◌, IfOk, IfSome, MatchOption, vec_len, option_map};
+ghost use Rattle.std.specs.Prelude.{◌≡◌, ◌<◌, [], ◌∷◌, IfOk, IfSome, MatchOption, vec_len, option_map};
 ghost use Rattle.c_tree.specs.Tree.{Binary};
 ghost use Rattle.c_tree.specs.View.{term};
 ghost use Rattle.c_grammar.specs.Grammar as grammar;

@@ -3,7 +3,7 @@
 
 ghost use Rattle.std.specs.Prelude.{◌≡◌, ◌<◌, ◌∷◌, [], Some, IfSome, IfOk, MatchOption, option_map, vec_len};
 ghost use Rattle.c_tree.specs.Tree.{Done};
-ghost use Rattle.c_tree.specs.View.{code, front};
+ghost use Rattle.c_tree.specs.View.{front};
 ghost use Rattle.c_grammar.specs.Machine as machine;
 ghost use Rattle.item_reader.specs.Views.{Moves, as_link, as_links, as_stack, as_state};
 

@@ -1,7 +1,7 @@
 //! Features, configurations, atoms and literals.
 #![tactic(auto)]
 
-ghost use Rattle.std.specs.Prelude.{◌≡◌, ◌*◌, ℤ, ◌*ℤ◌, ◌+ℤ◌, List, true, IfOk, length, unsigned_abs, ◌≤◌};
+ghost use Rattle.std.specs.Prelude.{◌≡◌, ◌*◌, true, IfOk, length, unsigned_abs, ◌≤◌};
 ghost use Rattle.linear_atoms.specs.Forms.{sum_at, are_small};
 ghost use Rattle.linear_atoms.specs.Atoms.{holds, AreBelow, AreValues, IsAtom};
 

@@ -4,7 +4,7 @@
 ghost use Rattle.std.specs.Prelude.{◌≡◌, ◌≢◌, ℕ, ◌<◌, ◌≤◌, ◌∷◌, ℤ, pos, negsuc, int_le, ◌≤ℤ◌, ◌<ℤ◌, List, true, IfOk};
 ghost use Rattle.linear_atoms.specs.Atoms.{AreBelow};
 ghost use Rattle.linear_atoms.specs.Divisors.{common_divisor};
-ghost use Rattle.linear_atoms.specs.Forms.{IsRising, form_at, is_small, are_small, is_small_form};
+ghost use Rattle.linear_atoms.specs.Forms.{IsRising, form_at, is_small, are_small};
 ghost use Rattle.linear_atoms.specs.Normal.{divided, rounded_up, literal_by, normal_of, normal_holds, NormalWithin, IsNormal};
 
 use crate::atoms::{Atom, Literal};

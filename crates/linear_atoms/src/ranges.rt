@@ -1,7 +1,7 @@
 //! What an atom says over ranges of values.
 #![tactic(auto)]
 
-ghost use Rattle.std.specs.Prelude.{◌≡◌, ◌*◌, ◌≤◌, true, length, map, unsigned_abs};
+ghost use Rattle.std.specs.Prelude.{◌≡◌, true, length, map};
 ghost use Rattle.linear_atoms.specs.declared.atoms.Feature.{Feature};
 ghost use Rattle.linear_atoms.specs.Forms.{are_small};
 ghost use Rattle.linear_atoms.specs.Atoms.{AreBelow, AreRanges, IsAtom, IsDecided};

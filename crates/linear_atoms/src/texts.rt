@@ -1,7 +1,7 @@
 //! The texts of literals.
 #![tactic(auto)]
 
-ghost use Rattle.std.specs.Prelude.{◌≡◌, ◌++◌, ◌≤◌, true, length, unsigned_abs, IfOk, vec_len, codes};
+ghost use Rattle.std.specs.Prelude.{◌≡◌, ◌++◌, true, length, unsigned_abs, IfOk, codes};
 ghost use Rattle.std.specs.Fmt.{signed_decimal};
 ghost use Rattle.linear_atoms.specs.Forms.{are_small, is_small};
 ghost use Rattle.linear_atoms.specs.Atoms.{AreBelow, IsAtom};

@@ -10,7 +10,7 @@ use Rattle.cpp_conditions.specs.Expressions.{Expression, Number, Name, Unary, Bi
 use Rattle.cpp_conditions.specs.Grammar.{Spells, CSpells, tighter, has_reserved}
 use Rattle.cpp_conditions.specs.Meaning.{is_linear, is_truth, gives_truth, names_feature, suits_operator}
 use Rattle.cpp_conditions.specs.Grammar as grammar
-use Rattle.cpp_conditions.specs.Tokens.{Token, Digits, Word, Bang, Oper, Twice, SpellsTokens, StopsAt, NoPair, is_first, is_word, is_identifier, pair_of}
+use Rattle.cpp_conditions.specs.Tokens.{Token, Digits, Word, Bang, Oper, SpellsTokens, StopsAt, NoPair, is_first, is_word, is_identifier}
 use Rattle.cpp_conditions.specs.Tokens as tokens
 use Rattle.feature_model.specs.Features.{AreDistinct, AreNamed}
 use Rattle.cpp_conditions.specs.declared.operators.Operator.{Operator}

@@ -1,7 +1,7 @@
 //! The machine that runs a plain program, one statement at a time (ISO/IEC 9899:2011, 6.8).
 #![tactic(auto)]
 
-ghost use Rattle.std.specs.Prelude.{◌≡◌, List, ℤ, ◌+◌, ◌-◌, ◌<◌, ◌^◌, [], ◌∷◌, ◌++◌, take, reverse, length, vec_len, slice_get, IfOk, OnOk, OnErr, MatchOption, IfSome};
+ghost use Rattle.std.specs.Prelude.{◌≡◌, List, ℤ, ◌+◌, ◌-◌, ◌<◌, reverse, length, slice_get, IfOk, OnOk, OnErr, MatchOption, IfSome};
 ghost use Rattle.std.specs.List.{All};
 ghost use Rattle.c_tree.specs.Tree.{Code, Done, followed};
 ghost use Rattle.c_tree.specs.View.{front, code, whole};

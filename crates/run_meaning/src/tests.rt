@@ -1,7 +1,6 @@
 //! Runs with ample memory, compared with stores and places found by hand.
 
-ghost use Rattle.std.specs.Prelude.{◌≡◌, ◌≤◌, IfOk, List, [], ◌∷◌, ℤ, pos};
-ghost use Rattle.std.specs.List.{All};
+ghost use Rattle.std.specs.Prelude.{◌≡◌, ◌≤◌, IfOk, [], ◌∷◌, pos};
 ghost use Rattle.c_tree.specs.Tree.{Done, While, Assign, Assert, Input, Binary, Var, Number};
 ghost use Rattle.c_tree.specs.View.{term, code, whole};
 ghost use Rattle.c_tree.specs.Fit.{IsTermOf};

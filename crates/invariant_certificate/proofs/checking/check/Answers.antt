@@ -1,12 +1,7 @@
-use Rattle.std.proofs.Common.{◌≡◌, ◌≤◌, length, List, sym, subst, Bool}
-use Rattle.std.specs.List.{All}
+use Rattle.std.proofs.Common.{◌≡◌, length, List, sym, subst, Bool}
 use Rattle.std.proofs.lemmas.Result.{IfOk-weaker}
 use Rattle.c_tree.specs.View.{whole}
-use Rattle.cpp_conditions.specs.View.{formula}
-use Rattle.decision_tree.specs.Plain.{TestsBelow}
 use Rattle.decision_tree.specs.View as tree
-use Rattle.lifted_analysis.specs.declared.findings.AlarmTree.{AlarmTree}
-use Rattle.lifted_analysis.specs.declared.findings.LoopTree.{LoopTree}
 use Rattle.lifted_analysis.specs.declared.lines.LoopLine.{LoopLine}
 use Rattle.lifted_analysis.specs.Lines.{AreRegionsBelow}
 use Rattle.lifted_analysis.specs.Pass.{heads_at, turns_at_vector}

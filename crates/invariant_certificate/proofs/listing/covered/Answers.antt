@@ -1,7 +1,7 @@
-use Rattle.std.proofs.Common.{◌≡◌, ℕ, List, subst, sym}
+use Rattle.std.proofs.Common.{ℕ, subst, sym}
 use Rattle.std.specs.List.{All}
 use Rattle.std.proofs.lemmas.Result.{IfOk-weaker}
-use Rattle.cpp_conditions.specs.Propositions.{IsBelow, Or}
+use Rattle.cpp_conditions.specs.Propositions.{IsBelow}
 use Rattle.cpp_conditions.specs.View.{formula}
 use Rattle.certificate_reader.specs.declared.certificates.AlarmLine.{AlarmLine}
 use Rattle.decision_tree.specs.Plain.{TestsBelow}

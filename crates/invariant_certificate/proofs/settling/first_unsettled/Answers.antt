@@ -1,5 +1,4 @@
-use Rattle.std.proofs.Common.{◌≡◌, ℤ, List, not, take, drop, ◌+◌, refl, subst, arith}
-use Rattle.std.specs.Prelude.{Some}
+use Rattle.std.proofs.Common.{not, take, drop, ◌+◌, refl, subst, arith}
 use Rattle.std.proofs.lemmas.List.{take_all}
 use Rattle.atom_solver.specs.Solutions.{Finds}
 use Rattle.invariant_certificate.specs.Failing.{AllHold}

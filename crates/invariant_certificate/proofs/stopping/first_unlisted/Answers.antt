@@ -1,5 +1,4 @@
-use Rattle.std.proofs.Common.{◌≡◌, ◌<◌, ℤ, Bool, List, length, not, take, drop, ◌+◌, refl, ap, sym, subst, arith}
-use Rattle.std.specs.Prelude.{Some}
+use Rattle.std.proofs.Common.{length, not, take, drop, ◌+◌, refl, ap, sym, subst, arith}
 use Rattle.std.proofs.lemmas.List.{take_all}
 use Rattle.cpp_conditions.specs.Numbering.{vector_at}
 use Rattle.atom_solver.specs.Solutions.{Finds}
