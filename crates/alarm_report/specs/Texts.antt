@@ -9,7 +9,7 @@ use Rattle.linear_atoms.specs.declared.atoms.Feature.{Feature}
 use Rattle.linear_atoms.specs.declared.atoms.Literal.{Literal}
 use Rattle.linear_atoms.specs.Texts.{literal_text}
 use Rattle.plain_analysis.specs.declared.alarm.Alarm.{Alarm}
-use Rattle.setting_texts.specs.Settings.{config_text}
+use Rattle.linear_atoms.specs.SettingTexts.{config_text}
 use Rattle.alarm_report.specs.declared.alarms.FamilyAlarm.{FamilyAlarm}
 
 -- texts one after another, with a text between

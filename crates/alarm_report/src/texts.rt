@@ -12,9 +12,8 @@ use crate::joining::{joined, literal_texts};
 use c_tree::Kind;
 use fam_outer::{NoMemory, Place, Text};
 use linear_atoms::slices::cut;
-use linear_atoms::{Feature, Literal};
+use linear_atoms::{Feature, Literal, config_text};
 use plain_analysis::Alarm;
-use setting_texts::config_text;
 use std::alloc::Global;
 
 /// The name of a kind of stop.

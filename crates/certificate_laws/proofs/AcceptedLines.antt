@@ -19,7 +19,7 @@ use Rattle.plain_analysis.proofs.Located.{same_place_self}
 use Rattle.alarm_report.specs.declared.alarms.FamilyAlarm.{FamilyAlarm}
 use Rattle.alarm_report.specs.Invariants.{Invariant}
 use Rattle.alarm_report.specs.Regions.{Meets}
-use Rattle.certificate_reader.specs.declared.certificates.AlarmLine.{AlarmLine}
+use Rattle.certificate_format.specs.declared.certificates.AlarmLine.{AlarmLine}
 use Rattle.invariant_certificate.specs.Passes.{is_same_kind, lists, is_listed}
 use Rattle.invariant_certificate.proofs.Sublists.{IsIn}
 use Rattle.certificate_laws.specs.ReadBack.{IsBoundsOf, SaysInvariant, SaysAlarm, SayInvariants, SayAlarms, no_line, line}

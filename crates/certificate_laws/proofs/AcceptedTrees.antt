@@ -24,7 +24,7 @@ use Rattle.alarm_report.specs.Regions.{Meets, MeetsOne, Covers}
 use Rattle.alarm_report.proofs.Covering.{all_below}
 use Rattle.alarm_report.proofs.Meeting.{covers}
 use Rattle.alarm_report.proofs.Placed.{has_once, LeafPaths}
-use Rattle.certificate_text.specs.Loops.{trees_at}
+use Rattle.certificate_format.specs.Loops.{trees_at}
 use Rattle.invariant_certificate.proofs.Sublists.{IsIn, Within, none, takes, skips, in_more}
 use Rattle.certificate_laws.proofs.AcceptedLists.{all_both, all_by_index, all_at, in_left, in_right, in_at, in_map}
 

@@ -35,8 +35,8 @@ use Rattle.lifted_analysis.specs.Turns.{Turn, turns_by, inductive_in, loop_place
 use Rattle.lifted_analysis.specs.Turns as turn
 use Rattle.alarm_report.specs.Alarms.{PlainAlarmTree}
 use Rattle.alarm_report.specs.Invariants.{LeafTree}
-use Rattle.certificate_reader.specs.declared.certificates.Certificate.{Certificate}
-use Rattle.certificate_text.specs.Loops.{trees_at}
+use Rattle.certificate_format.specs.declared.certificates.Certificate.{Certificate}
+use Rattle.certificate_format.specs.Loops.{trees_at}
 use Rattle.invariant_certificate.specs.declared.verdicts.Verdict.{Verdict}
 use Rattle.invariant_certificate.specs.declared.verdicts.Verdict.TheVariants.{Yes, NotInductive, Unlisted}
 use Rattle.invariant_certificate.specs.Passes.{is_inductive, is_covered, is_listed}

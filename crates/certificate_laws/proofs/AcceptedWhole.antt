@@ -22,13 +22,13 @@ use Rattle.lifted_analysis.specs.Turns.{loop_places}
 use Rattle.plain_analysis.specs.declared.options.Options.{Options}
 use Rattle.alarm_report.specs.Alarms.{PlainAlarmTree}
 use Rattle.alarm_report.specs.Invariants.{LeafTree}
-use Rattle.certificate_reader.specs.declared.certificates.Certificate.{Certificate}
-use Rattle.certificate_reader.specs.declared.certificates.CertificateFault.{CertificateFault}
+use Rattle.certificate_format.specs.declared.certificates.Certificate.{Certificate}
+use Rattle.certificate_format.specs.declared.certificates.CertificateFault.{CertificateFault}
 use Rattle.fam_outer.specs.Limits.{certificate_bytes}
-use Rattle.certificate_reader.specs.Certificates.{IsCertificateRead}
-use Rattle.certificate_reader.specs.Lines.{IsPlace}
-use Rattle.certificate_reader.specs.Regions.{literal_of}
-use Rattle.certificate_text.specs.Loops.{trees_at}
+use Rattle.certificate_format.specs.Certificates.{IsCertificateRead}
+use Rattle.certificate_format.specs.Lines.{IsPlace}
+use Rattle.certificate_format.specs.Regions.{literal_of}
+use Rattle.certificate_format.specs.Loops.{trees_at}
 use Rattle.certificate_laws.specs.Certified.{IsWrittenOf, IsReadAndAccepted}
 use Rattle.certificate_laws.specs.Laws.{AreNames, AreOfTrees, AnswersBack}
 use Rattle.certificate_laws.specs.Written.{IsLoopTree, IsAlarmTree}

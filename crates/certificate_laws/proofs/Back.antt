@@ -20,19 +20,19 @@ use Rattle.alarm_report.specs.declared.alarms.FamilyAlarm.{FamilyAlarm}
 use Rattle.alarm_report.specs.Invariants.{Invariant}
 use Rattle.alarm_report.specs.Texts.{region_text}
 use Rattle.alarm_report.specs.LeafTexts.{leaf_text}
-use Rattle.certificate_reader.specs.declared.literals.Numbered.{Numbered}
-use Rattle.certificate_reader.specs.declared.certificates.AlarmLine.{AlarmLine}
-use Rattle.certificate_reader.specs.declared.certificates.Certificate.{Certificate}
-use Rattle.certificate_reader.specs.declared.certificates.CertificateFault.{CertificateFault}
-use Rattle.certificate_reader.specs.declared.certificates.Entry.{Entry}
-use Rattle.certificate_reader.specs.declared.certificates.Entry.TheVariants as entry
-use Rattle.certificate_reader.specs.Bounds.{bounds_text}
+use Rattle.certificate_format.specs.declared.literals.Numbered.{Numbered}
+use Rattle.certificate_format.specs.declared.certificates.AlarmLine.{AlarmLine}
+use Rattle.certificate_format.specs.declared.certificates.Certificate.{Certificate}
+use Rattle.certificate_format.specs.declared.certificates.CertificateFault.{CertificateFault}
+use Rattle.certificate_format.specs.declared.certificates.Entry.{Entry}
+use Rattle.certificate_format.specs.declared.certificates.Entry.TheVariants as entry
+use Rattle.certificate_format.specs.Bounds.{bounds_text}
 use Rattle.fam_outer.specs.Limits.{certificate_bytes}
-use Rattle.certificate_reader.specs.Certificates.{AreRead, HasFault, IsEntry, AreEntries, loops_of, alarms_of, header, IsCertificateRead}
-use Rattle.certificate_reader.specs.Lines.{Saying, Loop, Alarm, region_of, Says, IsLoopText, IsAlarmLine}
-use Rattle.certificate_reader.specs.Regions.{literal_of, IsMeant, IsStrange}
-use Rattle.certificate_reader.proofs.Shapes.{one_loop, not_both}
-use Rattle.certificate_text.specs.Texts.{loop_line, alarm_line, certificate_text}
+use Rattle.certificate_format.specs.Certificates.{AreRead, HasFault, IsEntry, AreEntries, loops_of, alarms_of, header, IsCertificateRead}
+use Rattle.certificate_format.specs.Lines.{Saying, Loop, Alarm, region_of, Says, IsLoopText, IsAlarmLine}
+use Rattle.certificate_format.specs.Regions.{literal_of, IsMeant, IsStrange}
+use Rattle.certificate_format.proofs.Shapes.{one_loop, not_both}
+use Rattle.certificate_format.specs.Texts.{loop_line, alarm_line, certificate_text}
 use Rattle.certificate_laws.proofs.Naming.{HaveNames}
 use Rattle.certificate_laws.specs.Laws.{AnswersBack}
 use Rattle.certificate_laws.specs.ReadBack.{IsBoundsOf, SaysInvariant, SaysAlarm, SayInvariants, SayAlarms}

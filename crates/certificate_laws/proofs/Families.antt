@@ -19,8 +19,8 @@ use Rattle.plain_analysis.specs.declared.options.Options.{Options}
 use Rattle.plain_analysis.specs.Places.{is_same_place}
 use Rattle.alarm_report.specs.Alarms.{PlainAlarmTree}
 use Rattle.alarm_report.specs.Invariants.{LeafTree}
-use Rattle.certificate_reader.specs.Lines.{IsPlace}
-use Rattle.certificate_text.specs.Loops.{trees_at}
+use Rattle.certificate_format.specs.Lines.{IsPlace}
+use Rattle.certificate_format.specs.Loops.{trees_at}
 use Rattle.certificate_laws.specs.Laws.{IsFamilyOver, IsLeafTree, IsAlarmTreeOf, FamilyCertificatesAreReadBack}
 use Rattle.certificate_laws.specs.Written.{IsLoopTree, IsAlarmTree}
 use Rattle.certificate_laws.proofs.Intervals.{intervals_are_read_back}

@@ -12,9 +12,9 @@ use Rattle.cpp_conditions.specs.Numbering.{IsAmong, vector_at}
 use Rattle.cpp_conditions.specs.Propositions.{Proposition, true_on}
 use Rattle.atom_solver.specs.Solutions.{all_hold}
 use Rattle.alarm_report.specs.Texts.{region_text}
-use Rattle.certificate_reader.specs.declared.literals.Numbered.{Numbered}
-use Rattle.certificate_reader.specs.Regions.{numbered, spelling, literal_from, literal_of, test_of, all_of, is_same, distinct, IsMeant, IsStrange}
-use Rattle.certificate_reader.proofs.Pieces.{same_is}
+use Rattle.certificate_format.specs.declared.literals.Numbered.{Numbered}
+use Rattle.certificate_format.specs.Regions.{numbered, spelling, literal_from, literal_of, test_of, all_of, is_same, distinct, IsMeant, IsStrange}
+use Rattle.certificate_format.proofs.Pieces.{same_is}
 use Rattle.certificate_laws.proofs.Naming.{HaveNames}
 use Rattle.certificate_laws.proofs.Writable.{AreOver}
 use Rattle.certificate_laws.proofs.Literals.{by_truth, one_literal}

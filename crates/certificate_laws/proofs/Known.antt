@@ -5,16 +5,16 @@ use Rattle.std.specs.List.{AllByRecursion}
 use Rattle.std.proofs.lemmas.List.{append_cancel_left}
 use Rattle.c_tree.specs.declared.tree.Mode.{Mode}
 use Rattle.c_tree.specs.declared.tree.Mode.TheVariants.{Stop, Wrap}
-use Rattle.certificate_reader.specs.declared.literals.Numbered.{Numbered}
-use Rattle.certificate_reader.specs.declared.certificates.CertificateFault.{CertificateFault}
-use Rattle.certificate_reader.specs.declared.certificates.CertificateFault.TheVariants.{TooLong, Header, Line, Test}
-use Rattle.certificate_reader.specs.declared.certificates.Entry.{Entry}
+use Rattle.certificate_format.specs.declared.literals.Numbered.{Numbered}
+use Rattle.certificate_format.specs.declared.certificates.CertificateFault.{CertificateFault}
+use Rattle.certificate_format.specs.declared.certificates.CertificateFault.TheVariants.{TooLong, Header, Line, Test}
+use Rattle.certificate_format.specs.declared.certificates.Entry.{Entry}
 use Rattle.fam_outer.specs.Limits.{certificate_bytes}
-use Rattle.certificate_reader.specs.Certificates.{AreEntries, header, AreRead, IsLeft, HasNoForm, HasNoFormula, HasFault}
-use Rattle.certificate_reader.specs.Cuts.{IsCut, Begins}
-use Rattle.certificate_reader.specs.Lines.{Saying, region_of, Says}
-use Rattle.certificate_reader.specs.Regions.{IsStrange}
-use Rattle.certificate_reader.proofs.Splitting.{occurs, one_cut, avoiding_cut}
+use Rattle.certificate_format.specs.Certificates.{AreEntries, header, AreRead, IsLeft, HasNoForm, HasNoFormula, HasFault}
+use Rattle.certificate_format.specs.Cuts.{IsCut, Begins}
+use Rattle.certificate_format.specs.Lines.{Saying, region_of, Says}
+use Rattle.certificate_format.specs.Regions.{IsStrange}
+use Rattle.certificate_format.proofs.Splitting.{occurs, one_cut, avoiding_cut}
 use Rattle.certificate_laws.specs.Written.{IsOneLine}
 
 abbrev end : List ℕ

@@ -11,9 +11,9 @@ use Rattle.leaf_domain.specs.Leaves.{LeafValue, LeafMeaning, LeafLaws, is_nothin
 use Rattle.leaf_domain.specs.Ranges.{arithmetic_range}
 use Rattle.alarm_report.specs.Texts.{joined}
 use Rattle.alarm_report.specs.LeafTexts.{within_text, variable_items, new_range, item_of, pair_form, pair_items, items_with, all_pairs, items_text, leaf_text}
-use Rattle.certificate_reader.specs.Bounds.{items, bounds_text, IsIntRange, AreIntBounds}
-use Rattle.certificate_reader.specs.Forms.{further}
-use Rattle.certificate_reader.proofs.Ranging.{one_item, bounds_cons, further_cons}
+use Rattle.certificate_format.specs.Bounds.{items, bounds_text, IsIntRange, AreIntBounds}
+use Rattle.certificate_format.specs.Forms.{further}
+use Rattle.certificate_format.proofs.Ranging.{one_item, bounds_cons, further_cons}
 use Rattle.certificate_laws.specs.ReadBack.{bounds_from, IsBoundsOf}
 use Rattle.certificate_laws.proofs.Writable.{TellsNoForm}
 use Rattle.certificate_laws.proofs.Literals.{by_truth}

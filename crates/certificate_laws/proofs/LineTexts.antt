@@ -10,14 +10,14 @@ use Rattle.c_tree.specs.Value.{IsInt}
 use Rattle.leaf_domain.specs.declared.range.Range.{Range}
 use Rattle.alarm_report.specs.Texts.{place_text, kind_text}
 use Rattle.alarm_report.specs.LeafTexts.{within_text}
-use Rattle.certificate_reader.specs.Bounds.{bounds_text, IsIntRange, AreIntBounds}
-use Rattle.certificate_reader.specs.Forms.{further, EndsDigits}
-use Rattle.certificate_reader.specs.Lines.{IsPlace, IsLoopText, IsAlarmLine}
-use Rattle.certificate_reader.proofs.Digits.{small_pos, small_negsuc}
-use Rattle.certificate_reader.proofs.Placing.{one_place}
-use Rattle.certificate_reader.proofs.Ranging.{bounds_cons}
-use Rattle.certificate_reader.proofs.Shapes.{behind_alarm}
-use Rattle.certificate_reader.proofs.Splitting.{avoiding_cut}
+use Rattle.certificate_format.specs.Bounds.{bounds_text, IsIntRange, AreIntBounds}
+use Rattle.certificate_format.specs.Forms.{further, EndsDigits}
+use Rattle.certificate_format.specs.Lines.{IsPlace, IsLoopText, IsAlarmLine}
+use Rattle.certificate_format.proofs.Digits.{small_pos, small_negsuc}
+use Rattle.certificate_format.proofs.Placing.{one_place}
+use Rattle.certificate_format.proofs.Ranging.{bounds_cons}
+use Rattle.certificate_format.proofs.Shapes.{behind_alarm}
+use Rattle.certificate_format.proofs.Splitting.{avoiding_cut}
 use Rattle.certificate_laws.specs.Written.{IsOneLine}
 use Rattle.certificate_laws.proofs.Words.{AreDigits, are_digits, both_all}
 use Rattle.certificate_laws.proofs.Texts.{IsInLine}

@@ -5,8 +5,8 @@ use Rattle.std.specs.List.{AllByRecursion}
 use Rattle.std.proofs.lemmas.Bool.{cases_order}
 use Rattle.std.proofs.lemmas.List.{get_or_append_left}
 use Rattle.alarm_report.specs.Texts.{joined}
-use Rattle.certificate_reader.specs.Cuts.{Lacks, IsCut, Begins, AreBetween, IsBetween}
-use Rattle.certificate_reader.proofs.Splitting.{occurs, none_cut, one_cut}
+use Rattle.certificate_format.specs.Cuts.{Lacks, IsCut, Begins, AreBetween, IsBetween}
+use Rattle.certificate_format.proofs.Splitting.{occurs, none_cut, one_cut}
 use Rattle.certificate_laws.proofs.Words.{IsClean, AreClean}
 
 abbrev and_mark : List ℕ

@@ -35,7 +35,7 @@ use Rattle.c_tree.specs.Tree.{Whole}
 use Rattle.c_tree.specs.View.{whole}
 use Rattle.c_parser.specs.FamilyItems.{group_sign, stands_in, or_directive, items_of_line, by_line}
 use Rattle.c_parser.specs.Items.{Listed}
-use Rattle.certificate_reader.specs.Lines.{IsPlace}
+use Rattle.certificate_format.specs.Lines.{IsPlace}
 use Rattle.certificate_laws.specs.Laws.{FamiliesAreOfFiles}
 use Rattle.certificate_laws.specs.Written.{IsOneLine}
 use Rattle.certificate_laws.proofs.Literals.{by_truth}

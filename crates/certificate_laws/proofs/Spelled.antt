@@ -22,7 +22,7 @@ use Rattle.c_parser.specs.Items.{Listed, with_name, names_with_word, names_with,
 use Rattle.c_parser.specs.Reading.{items_of_code}
 use Rattle.c_parser.specs.Signs.{keyword_of}
 use Rattle.c_tokens.proofs.Readings.{is_reading}
-use Rattle.certificate_reader.specs.Lines.{IsPlace}
+use Rattle.certificate_format.specs.Lines.{IsPlace}
 use Rattle.certificate_laws.specs.Written.{IsOneLine}
 
 -- ---- places of a text

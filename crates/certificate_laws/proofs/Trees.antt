@@ -19,7 +19,7 @@ use Rattle.alarm_report.specs.Invariants.{LeafTree, Invariant, AreOfPaths, AreIn
 use Rattle.alarm_report.specs.Invariants as invariants
 use Rattle.alarm_report.specs.Regions.{literals_of, AreStanding, IsRegionOf, AreRegionsOf}
 use Rattle.alarm_report.specs.Regions as regions
-use Rattle.certificate_reader.specs.Lines.{IsPlace}
+use Rattle.certificate_format.specs.Lines.{IsPlace}
 use Rattle.certificate_laws.specs.Written.{AllLeaves, IsLeafOver, IsLoopTree, IsAlarmTree}
 use Rattle.certificate_laws.proofs.Writable.{AreOver, IsLoopWritten, IsAlarmWritten}
 

@@ -8,7 +8,7 @@ use Rattle.leaf_domain.specs.declared.form.Form.{Form}
 use Rattle.leaf_domain.specs.Leaves.{LeafValue, LeafMeaning}
 use Rattle.alarm_report.specs.declared.alarms.FamilyAlarm.{FamilyAlarm}
 use Rattle.alarm_report.specs.Invariants.{Invariant}
-use Rattle.certificate_reader.specs.Lines.{IsPlace}
+use Rattle.certificate_format.specs.Lines.{IsPlace}
 
 -- the atom of each literal stands in the list
 abbrev pub AreOver : List Atom → List Literal → Type 0

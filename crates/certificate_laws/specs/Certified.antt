@@ -15,14 +15,14 @@ use Rattle.plain_analysis.specs.declared.options.Options.{Options}
 use Rattle.alarm_report.specs.declared.alarms.FamilyAlarm.{FamilyAlarm}
 use Rattle.alarm_report.specs.Alarms.{PlainAlarmTree, AreAlarms}
 use Rattle.alarm_report.specs.Invariants.{LeafTree, Invariant, AreInvariants}
-use Rattle.certificate_reader.specs.declared.certificates.Certificate.{Certificate}
-use Rattle.certificate_reader.specs.declared.certificates.CertificateFault.{CertificateFault}
+use Rattle.certificate_format.specs.declared.certificates.Certificate.{Certificate}
+use Rattle.certificate_format.specs.declared.certificates.CertificateFault.{CertificateFault}
 use Rattle.fam_outer.specs.Limits.{certificate_bytes}
-use Rattle.certificate_reader.specs.Certificates.{IsCertificateRead}
-use Rattle.certificate_reader.specs.Lines.{IsPlace}
-use Rattle.certificate_reader.specs.Regions.{literal_of}
-use Rattle.certificate_text.specs.Loops.{trees_at}
-use Rattle.certificate_text.specs.Texts.{certificate_text}
+use Rattle.certificate_format.specs.Certificates.{IsCertificateRead}
+use Rattle.certificate_format.specs.Lines.{IsPlace}
+use Rattle.certificate_format.specs.Regions.{literal_of}
+use Rattle.certificate_format.specs.Loops.{trees_at}
+use Rattle.certificate_format.specs.Texts.{certificate_text}
 use Rattle.invariant_certificate.specs.declared.verdicts.Verdict.{Verdict}
 use Rattle.invariant_certificate.specs.declared.verdicts.Verdict.TheVariants.{Yes}
 use Rattle.invariant_certificate.specs.Verdicts.{IsVerdict}

@@ -23,14 +23,14 @@ use Rattle.plain_analysis.specs.declared.options.Options.{Options}
 use Rattle.alarm_report.specs.declared.alarms.FamilyAlarm.{FamilyAlarm}
 use Rattle.alarm_report.specs.Alarms.{PlainAlarmTree, AreAlarms}
 use Rattle.alarm_report.specs.Invariants.{LeafTree, Invariant, AreInvariants}
-use Rattle.certificate_reader.specs.declared.certificates.Certificate.{Certificate}
-use Rattle.certificate_reader.specs.declared.certificates.CertificateFault.{CertificateFault}
+use Rattle.certificate_format.specs.declared.certificates.Certificate.{Certificate}
+use Rattle.certificate_format.specs.declared.certificates.CertificateFault.{CertificateFault}
 use Rattle.fam_outer.specs.Limits.{certificate_bytes}
-use Rattle.certificate_reader.specs.Certificates.{IsCertificateRead}
-use Rattle.certificate_reader.specs.Lines.{IsPlace}
-use Rattle.certificate_reader.specs.Regions.{literal_of}
-use Rattle.certificate_text.specs.Loops.{trees_at}
-use Rattle.certificate_text.specs.Texts.{certificate_text}
+use Rattle.certificate_format.specs.Certificates.{IsCertificateRead}
+use Rattle.certificate_format.specs.Lines.{IsPlace}
+use Rattle.certificate_format.specs.Regions.{literal_of}
+use Rattle.certificate_format.specs.Loops.{trees_at}
+use Rattle.certificate_format.specs.Texts.{certificate_text}
 use Rattle.certificate_laws.specs.ReadBack.{IsReadBack}
 use Rattle.certificate_laws.specs.Written.{IsOneLine, IsLoopTree, IsAlarmTree}
 

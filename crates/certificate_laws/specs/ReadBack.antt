@@ -14,8 +14,8 @@ use Rattle.lifted_analysis.specs.declared.lines.LoopLine.{LoopLine}
 use Rattle.alarm_report.specs.declared.alarms.FamilyAlarm.{FamilyAlarm}
 use Rattle.alarm_report.specs.declared.region.Region.{Region}
 use Rattle.alarm_report.specs.Invariants.{Invariant}
-use Rattle.certificate_reader.specs.declared.certificates.AlarmLine.{AlarmLine}
-use Rattle.certificate_reader.specs.declared.certificates.Certificate.{Certificate}
+use Rattle.certificate_format.specs.declared.certificates.AlarmLine.{AlarmLine}
+use Rattle.certificate_format.specs.declared.certificates.Certificate.{Certificate}
 
 -- at each valid configuration the formula is true where the region is met
 abbrev pub SaysRegion : Model → List Atom → Region → Proposition ℕ → Type 0

@@ -5,7 +5,7 @@ use Rattle.decision_tree.specs.Plain.{Plain, leaf, node, TestsBelow}
 use Rattle.leaf_domain.specs.Leaves.{LeafValue, LeafMeaning}
 use Rattle.alarm_report.specs.Alarms.{PlainAlarmTree}
 use Rattle.alarm_report.specs.Invariants.{LeafTree}
-use Rattle.certificate_reader.specs.Lines.{IsPlace}
+use Rattle.certificate_format.specs.Lines.{IsPlace}
 
 -- no newline stands in the text
 abbrev pub IsOneLine : List ℕ → Type 0

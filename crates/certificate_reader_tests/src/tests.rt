@@ -3,7 +3,7 @@
 ghost use Rattle.std.specs.Prelude.{◌≡◌, [], ◌∷◌, length, IfOk};
 ghost use Rattle.linear_atoms.specs.Atoms.{AreAtoms, IsAtom};
 
-use certificate_reader::read_certificate;
+use certificate_format::read_certificate;
 use fam_outer::{Refusal, Text};
 use linear_atoms::{Atom, Feature, Terms};
 use smallvec::SmallVec;

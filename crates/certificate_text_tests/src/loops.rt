@@ -3,7 +3,7 @@
 ghost use Rattle.c_tree.specs.Value.{IsInt};
 
 use c_tree::{Declarations, Expr, Names, Program, Stmt};
-use certificate_text::{loop_places, loop_trees};
+use certificate_format::{loop_places, loop_trees};
 use decision_tree::Tree;
 use fam_outer::{NoMemory, Place, Values};
 use interval_leaf::IntervalLeaf;

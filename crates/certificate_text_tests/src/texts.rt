@@ -6,7 +6,7 @@ ghost use Rattle.linear_atoms.specs.Atoms.{AreLiterals, IsAtom};
 
 use alarm_report::{FamilyAlarm, FamilyInvariant, Literals, Region};
 use c_tree::{Kind, Mode};
-use certificate_text::certificate_text;
+use certificate_format::certificate_text;
 use decision_tree::Kept;
 use fam_outer::{NoMemory, Place, Text, Values};
 use interval_leaf::IntervalLeaf;

@@ -2,7 +2,7 @@
 use Rattle.std.specs.Prelude.{ℕ, ℤ, Option, Some, None, List, [], ◌∷◌, ◌++◌, codes}
 use Rattle.std.specs.Fmt.{decimal, signed_decimal}
 use Rattle.linear_atoms.specs.declared.atoms.Feature.{Feature}
-use Rattle.setting_texts.specs.Settings.{config_text}
+use Rattle.linear_atoms.specs.SettingTexts.{config_text}
 use Rattle.configuration_advice.specs.declared.comparing.Advice.{Advice}
 use Rattle.configuration_advice.specs.declared.feature_uses.FeatureUse.{FeatureUse}
 use Rattle.configuration_advice.specs.declared.feature_uses.FeatureUse.TheVariants.{Free, Dead, Always, Span}

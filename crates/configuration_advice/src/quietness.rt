@@ -14,7 +14,7 @@ use cpp_conditions::formulas::both;
 use decision_tree::Tree;
 use fam_outer::NoMemory;
 use std::alloc::Global;
-use tree_formulas::untrue;
+use tree_unify::untrue;
 
 /// Whether a formula is just true.
 fn is_true(part: &Formula) -> bool

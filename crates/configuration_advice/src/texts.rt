@@ -7,9 +7,8 @@ ghost use Rattle.configuration_advice.specs.Texts.{span_text, use_text, use_line
 use crate::comparing::Advice;
 use crate::feature_uses::FeatureUse;
 use fam_outer::{NoMemory, Text};
-use linear_atoms::Feature;
 use linear_atoms::slices::cut;
-use setting_texts::config_text;
+use linear_atoms::{Feature, config_text};
 use std::alloc::Global;
 
 /// `L to H`.

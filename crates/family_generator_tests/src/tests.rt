@@ -1,7 +1,7 @@
 //! The texts of small families by hand, the model, and what families are read as.
 
 use family_generator::{generated_model, generated_text};
-use family_generator_laws::generated_family;
+use family_generator::generated_family;
 use std::test::Fail;
 
 #[test]

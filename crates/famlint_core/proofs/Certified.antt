@@ -42,10 +42,10 @@ use Rattle.plain_analysis.specs.Places.{alarm_by}
 use Rattle.lifted_analysis.specs.Lines.{given_heads}
 use Rattle.lifted_analysis.specs.Promises.{truths_of}
 use Rattle.lifted_analysis.specs.Turns.{turns_by, inductive_in}
-use Rattle.certificate_reader.specs.declared.certificates.Certificate.{Certificate}
-use Rattle.certificate_reader.specs.declared.certificates.CertificateFault.{CertificateFault}
-use Rattle.certificate_reader.specs.Certificates as reader
-use Rattle.certificate_reader.specs.Regions.{literal_of}
+use Rattle.certificate_format.specs.declared.certificates.Certificate.{Certificate}
+use Rattle.certificate_format.specs.declared.certificates.CertificateFault.{CertificateFault}
+use Rattle.certificate_format.specs.Certificates as reader
+use Rattle.certificate_format.specs.Regions.{literal_of}
 use Rattle.invariant_certificate.specs.declared.verdicts.Verdict.{Verdict}
 use Rattle.invariant_certificate.specs.declared.verdicts.Verdict.TheVariants.{Yes, NotInductive, Unlisted}
 use Rattle.invariant_certificate.specs.Failing.{HoldsAlways, AllHold, IsFirstFailing}

@@ -8,7 +8,7 @@ use Rattle.lifted_analysis.specs.declared.findings.FamilyFindings.{FamilyFinding
 use Rattle.lifted_analysis.specs.Turns.{loop_places}
 use Rattle.plain_analysis.specs.declared.options.Options.{Options}
 use Rattle.alarm_report.specs.Invariants.{Invariant, LeafTree, leaf_tree, AreInvariants}
-use Rattle.certificate_text.specs.Loops.{trees_at}
+use Rattle.certificate_format.specs.Loops.{trees_at}
 use Rattle.famlint_core.specs.declared.product_line.ProductLine.{ProductLine}
 use Rattle.famlint_core.specs.FamilyReports.{AreLoopsOf}
 use Rattle.famlint_core.specs.Found.{IsFound}

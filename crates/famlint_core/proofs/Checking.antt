@@ -3,7 +3,7 @@ use Rattle.std.proofs.Common.{refl}
 use Rattle.c_tree.specs.View.{whole}
 use Rattle.c_parser.specs.Variants.{VariantsAreRead, projection, truths_in}
 use Rattle.interval_leaf.specs.Intervals.{intervals}
-use Rattle.certificate_reader.specs.declared.certificates.Certificate.{Certificate}
+use Rattle.certificate_format.specs.declared.certificates.Certificate.{Certificate}
 use Rattle.invariant_certificate.specs.Verdicts.{StopsAreListed}
 use Rattle.famlint_core.specs.declared.product_line.ProductLine.{ProductLine}
 use Rattle.famlint_core.specs.Checked.{ListsAllStops}

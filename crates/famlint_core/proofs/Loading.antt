@@ -11,8 +11,8 @@ use Rattle.feature_model.specs.Models as models
 use Rattle.feature_model.specs.Stages.{told_of}
 use Rattle.c_parser.proofs.Readings.{reads_too_long}
 use Rattle.linear_atoms.specs.declared.atoms.Config.{Config}
-use Rattle.certificate_reader.specs.declared.certificates.Certificate.{Certificate}
-use Rattle.certificate_reader.specs.declared.certificates.CertificateFault.TheVariants.{TooLong as TooLongCertificate}
+use Rattle.certificate_format.specs.declared.certificates.Certificate.{Certificate}
+use Rattle.certificate_format.specs.declared.certificates.CertificateFault.TheVariants.{TooLong as TooLongCertificate}
 use Rattle.famlint_core.specs.declared.request.Analysis.{Analysis}
 use Rattle.famlint_core.specs.declared.fault.Done.{Done}
 use Rattle.famlint_core.specs.declared.fault.Fault.{Fault}

@@ -17,13 +17,13 @@ use Rattle.interval_leaf.specs.Intervals.{intervals}
 use Rattle.lifted_analysis.specs.declared.lines.LoopLine.{LoopLine}
 use Rattle.lifted_analysis.specs.Lines.{AreVariableBounds, AreRegionsBelow}
 use Rattle.plain_analysis.specs.declared.options.Options.{Options}
-use Rattle.setting_texts.specs.Settings.{config_text}
+use Rattle.linear_atoms.specs.SettingTexts.{config_text}
 use Rattle.alarm_report.specs.Texts.{place_text, kind_text}
-use Rattle.certificate_reader.specs.declared.certificates.AlarmLine.{AlarmLine}
-use Rattle.certificate_reader.specs.declared.certificates.Certificate.{Certificate}
+use Rattle.certificate_format.specs.declared.certificates.AlarmLine.{AlarmLine}
+use Rattle.certificate_format.specs.declared.certificates.Certificate.{Certificate}
 use Rattle.fam_outer.specs.Limits.{certificate_bytes}
-use Rattle.certificate_reader.specs.Certificates.{SpellsCertificate, HasFault}
-use Rattle.certificate_reader.specs.Regions.{literal_of}
+use Rattle.certificate_format.specs.Certificates.{SpellsCertificate, HasFault}
+use Rattle.certificate_format.specs.Regions.{literal_of}
 use Rattle.invariant_certificate.specs.declared.verdicts.Verdict.{Verdict}
 use Rattle.invariant_certificate.specs.declared.verdicts.Verdict.TheVariants.{Yes, NotInductive, Unlisted}
 use Rattle.invariant_certificate.specs.Passes.{is_listed}

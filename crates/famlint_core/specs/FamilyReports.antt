@@ -17,8 +17,8 @@ use Rattle.alarm_report.specs.Alarms.{PlainAlarmTree, AreAlarms}
 use Rattle.alarm_report.specs.Invariants.{LeafTree, Invariant, AreInvariants}
 use Rattle.alarm_report.specs.LeafTexts.{invariant_text}
 use Rattle.alarm_report.specs.Texts.{alarm_text}
-use Rattle.certificate_text.specs.Loops.{trees_at}
-use Rattle.certificate_text.specs.Texts.{certificate_text}
+use Rattle.certificate_format.specs.Loops.{trees_at}
+use Rattle.certificate_format.specs.Texts.{certificate_text}
 use Rattle.famlint_core.specs.declared.fault.Done.{Done}
 use Rattle.famlint_core.specs.declared.product_line.ProductLine.{ProductLine}
 use Rattle.famlint_core.specs.declared.request.FamilyTask.{FamilyTask}

@@ -12,10 +12,10 @@ use Rattle.feature_model.specs.declared.faults.ModelFault.{ModelFault}
 use Rattle.feature_model.specs.declared.faults.ModelFault.TheVariants as model
 use Rattle.feature_model.specs.declared.faults.ConfigFault.{ConfigFault}
 use Rattle.feature_model.specs.declared.faults.ConfigFault.TheVariants as config
-use Rattle.setting_texts.specs.Settings.{config_text}
+use Rattle.linear_atoms.specs.SettingTexts.{config_text}
 use Rattle.alarm_report.specs.Texts.{place_text}
-use Rattle.certificate_reader.specs.declared.certificates.CertificateFault.{CertificateFault}
-use Rattle.certificate_reader.specs.declared.certificates.CertificateFault.TheVariants as certificate
+use Rattle.certificate_format.specs.declared.certificates.CertificateFault.{CertificateFault}
+use Rattle.certificate_format.specs.declared.certificates.CertificateFault.TheVariants as certificate
 use Rattle.famlint_core.specs.declared.fault.Fault.{Fault}
 use Rattle.famlint_core.specs.declared.fault.Fault.TheVariants as fault
 use Rattle.famlint_core.specs.declared.request.Role.{Role}

@@ -23,7 +23,7 @@ use Rattle.alarm_report.specs.Alarms.{Tells, TellsOnce}
 use Rattle.alarm_report.specs.Invariants.{Invariant, HasOnce}
 use Rattle.alarm_report.specs.LeafTexts.{invariant_text}
 use Rattle.alarm_report.specs.Texts.{alarm_text}
-use Rattle.certificate_text.specs.Texts.{certificate_text}
+use Rattle.certificate_format.specs.Texts.{certificate_text}
 use Rattle.famlint_core.specs.declared.product_line.ProductLine.{ProductLine}
 use Rattle.famlint_core.specs.declared.request.FamilyTask.{FamilyTask}
 use Rattle.famlint_core.specs.declared.request.FamilyTask.TheVariants.{Alarms, Invariants, Certificate, Sizes}

@@ -2,7 +2,7 @@
 use Rattle.std.specs.Prelude.{ℕ, ℤ, List, ◌++◌, codes}
 use Rattle.fam_outer.specs.declared.faults.Place.{Place}
 use Rattle.c_tree.specs.Run.{End, AtEnd, StoppedEnd, WaitingEnd, EndedEnd}
-use Rattle.setting_texts.specs.Settings.{spaced_settings}
+use Rattle.linear_atoms.specs.SettingTexts.{spaced_settings}
 use Rattle.alarm_report.specs.Texts.{kind_text, place_text}
 
 -- how the run stands and where

@@ -9,7 +9,7 @@ ghost use Rattle.famlint_core.specs.ProductLines.{IsUsableLine};
 use crate::fault::{Fault, Stop};
 use crate::load::load_text;
 use crate::product_line::ProductLine;
-use certificate_reader::{Certificate, CertificateFault, CertificateRefusal, read_certificate};
+use certificate_format::{Certificate, CertificateFault, CertificateRefusal, read_certificate};
 use fam_outer::Files;
 use std::alloc::Global;
 

@@ -7,11 +7,11 @@ ghost use Rattle.std.specs.Prelude.{◌≡◌, ◌≢◌, ◌≤◌, IfOk, Some}
 ghost use Rattle.famlint_core.specs.Faults.{status_of, line_of, fault_of_file, fault_of_settings, example_of, name_of};
 
 use crate::fault::lines::{certificate_line, config_line, file_line, model_line};
-use certificate_reader::CertificateFault;
+use certificate_format::CertificateFault;
 use fam_outer::{FileCode, FileRefusal, NoMemory, Place, Text};
 use feature_model::{ConfigFault, ModelFault, ModelRefusal};
 use linear_atoms::Feature;
-use setting_texts::config_text;
+use linear_atoms::config_text;
 use std::alloc::Global;
 
 /// Why what was loaded, or what the settings say, is refused.

@@ -5,7 +5,7 @@ use Rattle.std.proofs.lemmas.List.Elements.{All-weaker}
 use Rattle.cpp_conditions.specs.Propositions.{Proposition, Const, Test, Not, And, Or, IsBelow}
 use Rattle.cpp_conditions.specs.View.{formula}
 use Rattle.cpp_conditions.specs.declared.formulas.Formula.{Formula}
-use Rattle.certificate_reader.specs.declared.certificates.AlarmLine.{AlarmLine}
+use Rattle.certificate_format.specs.declared.certificates.AlarmLine.{AlarmLine}
 use Rattle.decision_tree.specs.Plain.{Plain, leaf, node, TestsBelow}
 use Rattle.lifted_analysis.specs.declared.lines.LoopLine.{LoopLine}
 use Rattle.lifted_analysis.specs.Lines.{AreRegionsBelow}

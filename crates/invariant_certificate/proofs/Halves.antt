@@ -2,7 +2,7 @@
 use Rattle.std.proofs.Common.{◌≡◌, ℕ, zero, suc, Bool, true, false, ◌||◌, List, [], ◌∷◌, ◌++◌, take, drop, length, get_or, ◌<◌, ◌+◌, refl, ap, sym, subst, ◌∙◌, arith, suc-add}
 use Rattle.fam_outer.specs.declared.faults.Place.{Place}
 use Rattle.c_tree.specs.declared.tree.Kind.{Kind}
-use Rattle.certificate_reader.specs.declared.certificates.AlarmLine.{AlarmLine}
+use Rattle.certificate_format.specs.declared.certificates.AlarmLine.{AlarmLine}
 use Rattle.invariant_certificate.specs.Passes.{lists, is_listed}
 
 or_assoc : (a b c : Bool) → (a || (b || c)) ≡ ((a || b) || c)

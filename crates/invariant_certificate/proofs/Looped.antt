@@ -13,7 +13,7 @@ use Rattle.leaf_domain.specs.Leaves.{LeafValue, LeafMeaning}
 use Rattle.leaf_domain.specs.Transfer.{assumed, assigned, forgotten}
 use Rattle.plain_analysis.specs.Statements.{Heads, passed}
 use Rattle.lifted_analysis.specs.Turns.{Turn, turns_by, loop_places}
-use Rattle.certificate_reader.proofs.Loops.{loops_followed}
+use Rattle.certificate_format.proofs.LoopLines.{loops_followed}
 use Rattle.invariant_certificate.proofs.Sublists.{Within, none, takes, skips, both, at_left, at_right}
 
 -- one of two sides

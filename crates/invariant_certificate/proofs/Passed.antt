@@ -18,7 +18,7 @@ use Rattle.cpp_conditions.specs.Numbering.{vector_at}
 use Rattle.cpp_conditions.specs.Propositions.{true_on}
 use Rattle.cpp_conditions.specs.Validity.{plain, IsValid}
 use Rattle.cpp_conditions.specs.View.{formula}
-use Rattle.certificate_reader.specs.declared.certificates.Certificate.{Certificate}
+use Rattle.certificate_format.specs.declared.certificates.Certificate.{Certificate}
 use Rattle.decision_tree.specs.View as tree
 use Rattle.leaf_domain.specs.Leaves.{LeafMeaning, LeafLaws, nothing_of}
 use Rattle.lifted_analysis.specs.declared.findings.AlarmTree.{AlarmTree}

@@ -9,7 +9,7 @@ use Rattle.decision_tree.specs.Plain.{leaf_of}
 use Rattle.decision_tree.specs.View.{plain}
 use Rattle.lifted_analysis.specs.declared.findings.AlarmTree.{AlarmTree}
 use Rattle.lifted_analysis.specs.declared.findings.LoopTree.{LoopTree}
-use Rattle.certificate_reader.specs.declared.certificates.AlarmLine.{AlarmLine}
+use Rattle.certificate_format.specs.declared.certificates.AlarmLine.{AlarmLine}
 use Rattle.invariant_certificate.specs.declared.verdicts.Verdict.{Verdict}
 use Rattle.invariant_certificate.specs.declared.verdicts.Verdict.TheVariants.{Yes, NotInductive, Unlisted}
 use Rattle.invariant_certificate.specs.Failing.{AllHold, IsFirstFailing}

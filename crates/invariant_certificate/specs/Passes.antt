@@ -16,8 +16,8 @@ use Rattle.plain_analysis.specs.Statements.{Heads}
 use Rattle.lifted_analysis.specs.Lines.{given_heads}
 use Rattle.lifted_analysis.specs.Promises.{variant_at}
 use Rattle.lifted_analysis.specs.Turns.{turns_by, inductive_in}
-use Rattle.certificate_reader.specs.declared.certificates.AlarmLine.{AlarmLine}
-use Rattle.certificate_reader.specs.declared.certificates.Certificate.{Certificate}
+use Rattle.certificate_format.specs.declared.certificates.AlarmLine.{AlarmLine}
+use Rattle.certificate_format.specs.declared.certificates.Certificate.{Certificate}
 
 -- ---- what is listed
 

@@ -15,7 +15,7 @@ use Rattle.cpp_conditions.specs.Validity.{plain, IsValid}
 use Rattle.leaf_domain.specs.Leaves.{LeafMeaning}
 use Rattle.lifted_analysis.specs.Promises.{by_kind}
 use Rattle.lifted_analysis.specs.Turns.{loop_places}
-use Rattle.certificate_reader.specs.declared.certificates.Certificate.{Certificate}
+use Rattle.certificate_format.specs.declared.certificates.Certificate.{Certificate}
 use Rattle.invariant_certificate.specs.declared.verdicts.Verdict.{Verdict}
 use Rattle.invariant_certificate.specs.declared.verdicts.Verdict.TheVariants.{Yes, NotInductive, Unlisted}
 use Rattle.invariant_certificate.specs.Failing.{AllHold, IsFirstFailing}

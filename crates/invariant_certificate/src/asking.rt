@@ -13,7 +13,7 @@ use decision_tree::Tree;
 use fam_outer::NoMemory;
 use linear_atoms::{Atom, Config};
 use std::alloc::Global;
-use tree_formulas::untrue;
+use tree_unify::untrue;
 
 /// Whether a tree is the leaf of this truth.
 pub(crate) fn is_leaf(tree: &Tree<bool>, truth: bool) -> bool

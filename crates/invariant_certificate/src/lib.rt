@@ -8,7 +8,7 @@ mod settling;
 mod stopping;
 pub mod verdicts;
 
-pub use certificate_reader::{
+pub use certificate_format::{
     AlarmLine, Certificate, CertificateFault, CertificateRefusal, LoopLine, Ranges,
     read_certificate,
 };

@@ -9,12 +9,12 @@ ghost use Rattle.decision_tree.specs.Plain.{TestsBelow, leaf_of};
 ghost use Rattle.decision_tree.specs.View.{plain};
 ghost use Rattle.tree_unify.specs.Formulas.{IsTreeOf};
 ghost use Rattle.plain_analysis.specs.Places.{is_same_place as same_place};
-ghost use Rattle.certificate_reader.specs.declared.certificates.AlarmLine.{AlarmLine};
+ghost use Rattle.certificate_format.specs.declared.certificates.AlarmLine.{AlarmLine};
 ghost use Rattle.invariant_certificate.specs.Passes.{is_same_kind as same_kind, is_listed, lists};
 
 use crate::asking::is_leaf;
 use c_tree::Kind;
-use certificate_reader::AlarmLine;
+use certificate_format::AlarmLine;
 use cpp_conditions::Formula;
 use cpp_conditions::formulas::either;
 use decision_tree::{Forest, Tree};
@@ -23,8 +23,7 @@ use lifted_analysis::AlarmTree;
 use std::alloc::Global;
 use std::marker::Brand;
 use std::sync::ledger::{Blank, Ledger};
-use tree_formulas::untrue;
-use tree_unify::{Steps, test_tree_in};
+use tree_unify::{Steps, test_tree_in, untrue};
 
 /// Whether a line is for this place and kind.
 fn is_for(line: &AlarmLine, place: Place, kind: Kind) -> bool

@@ -9,7 +9,7 @@ ghost use Rattle.cpp_conditions.specs.View.{formula};
 ghost use Rattle.decision_tree.specs.Plain.{TestsBelow};
 ghost use Rattle.decision_tree.specs.View.{plain};
 ghost use Rattle.lifted_analysis.specs.declared.findings.AlarmTree.{AlarmTree};
-ghost use Rattle.certificate_reader.specs.declared.certificates.AlarmLine.{AlarmLine};
+ghost use Rattle.certificate_format.specs.declared.certificates.AlarmLine.{AlarmLine};
 ghost use Rattle.invariant_certificate.specs.Failing.{AllHold};
 ghost use Rattle.invariant_certificate.specs.FirstFailing.{stop_holds, IsFirstStop};
 
@@ -17,7 +17,7 @@ use crate::asking::least_failing;
 use crate::listing::covered;
 use atom_solver::Prepared;
 use c_tree::Kind;
-use certificate_reader::AlarmLine;
+use certificate_format::AlarmLine;
 use fam_outer::{NoMemory, Place};
 use lifted_analysis::AlarmTree;
 use linear_atoms::{Atom, Config};

@@ -6,3 +6,4 @@ pub mod Order
 pub mod Ranges
 pub mod Rising
 pub mod Texts
+pub mod SettingTexts

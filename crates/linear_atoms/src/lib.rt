@@ -6,8 +6,10 @@ pub mod forms;
 pub mod laws;
 mod limits;
 pub mod linear_fault;
+pub mod named;
 pub mod normal;
 pub mod ranges;
+pub mod setting_texts;
 pub mod slices;
 pub mod texts;
 
@@ -15,8 +17,12 @@ pub use atoms::{Atom, Config, Feature, Literal};
 pub use forms::Linear;
 pub use linear_fault::LinearFault;
 pub use linear_terms::Terms;
+pub use named::Named;
 pub use normal::Normal;
 pub use ranges::Span;
+pub use setting_texts::{config_text, push_settings};
 
+#[cfg(test)]
+mod setting_tests;
 #[cfg(test)]
 mod tests;

@@ -12,3 +12,4 @@ pub mod Mapped
 pub mod Unified
 pub mod Within
 pub mod FormulaTrees
+pub mod TreeTruths

@@ -9,6 +9,7 @@ pub mod operation;
 mod restricted;
 mod sides;
 pub mod steps;
+mod tree_formulas;
 pub mod truths;
 
 pub use formulas::{test_tree, test_tree_in};
@@ -17,7 +18,10 @@ pub use numbered::{map_in, unify_in};
 pub use operation::Operation;
 pub use restricted::restrict;
 pub use steps::Steps;
+pub use tree_formulas::untrue;
 pub use truths::{Both, Either};
 
 #[cfg(test)]
 mod tests;
+#[cfg(test)]
+mod tree_formula_tests;

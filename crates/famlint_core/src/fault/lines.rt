@@ -5,7 +5,7 @@ ghost use Rattle.std.specs.Option.{option_copied};
 ghost use Rattle.std.specs.Prelude.{◌≡◌, ◌++◌, string_bytes, IfOk};
 ghost use Rattle.famlint_core.specs.Faults as specs;
 
-use certificate_reader::CertificateFault;
+use certificate_format::CertificateFault;
 use fam_outer::{ConditionFault, FileCode, NoMemory, Place, Text};
 use feature_model::{ConfigFault, ModelFault};
 use std::alloc::Global;

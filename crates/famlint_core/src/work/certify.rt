@@ -15,7 +15,7 @@ ghost use Rattle.famlint_core.specs.ProductLines.{IsUsableLine};
 use crate::product_line::ProductLine;
 use alarm_report::{FamilyAlarm, FamilyInvariant, invariants_of};
 use atom_solver::Prepared;
-use certificate_text::{certificate_text, loop_places, loop_trees};
+use certificate_format::{certificate_text, loop_places, loop_trees};
 use fam_outer::{NoMemory, Text};
 use leaf_domain::Leaf;
 use lifted_analysis::FamilyFindings;

@@ -17,13 +17,13 @@ use crate::product_line::{ProductLine, load_product_line};
 use alarm_report::kind_text;
 use alarm_report::texts::push_place;
 use c_parser::variants::variants_are_projections;
-use certificate_reader::Certificate;
+use certificate_format::Certificate;
 use command_words::Word;
 use fam_outer::{Files, NoMemory, Place, Text};
 use interval_leaf::IntervalLeaf;
 use invariant_certificate::{Verdict, check as check_all};
 use linear_atoms::{Config, Feature};
-use setting_texts::config_text;
+use linear_atoms::config_text;
 use std::alloc::Global;
 
 /// The line of a place at which a certificate does not hold: what is wrong there, and the configuration.

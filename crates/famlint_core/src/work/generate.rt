@@ -11,7 +11,7 @@ use crate::product_line::ProductLine;
 use crate::request::{Analysis, FamilyTask};
 use crate::work::family::report_by;
 use fam_outer::NoMemory;
-use family_generator_laws::{GeneratedFamily, generated_family};
+use family_generator::{GeneratedFamily, generated_family};
 use std::alloc::Global;
 
 /// The model and the family that are generated for a number of blocks.

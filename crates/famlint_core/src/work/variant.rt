@@ -26,7 +26,7 @@ use c_tree::{Mode, Program, project};
 use command_words::Word;
 use fam_outer::{FileRefusal, Files, NoMemory, Place, Text, Values};
 use run_meaning::{RunEnd, run};
-use setting_texts::push_settings;
+use linear_atoms::push_settings;
 use std::alloc::Global;
 use variant_projector::{truths_of, variant_text, vector_of};
 

@@ -4,7 +4,7 @@ use Rattle.std.proofs.lemmas.Result.{IfOk-weaker}
 use Rattle.std.proofs.lemmas.List.Elements.{All-take, All-drop}
 use Rattle.cpp_conditions.specs.Propositions.{IsBelow, true_on}
 use Rattle.cpp_conditions.specs.View.{formula}
-use Rattle.certificate_reader.specs.declared.certificates.AlarmLine.{AlarmLine}
+use Rattle.certificate_format.specs.declared.certificates.AlarmLine.{AlarmLine}
 use Rattle.invariant_certificate.specs.Passes.{is_listed}
 use Rattle.invariant_certificate.proofs.Halves.{halves_of}
 use Rattle.invariant_certificate.proofs.listing.+listed.Goals as goal

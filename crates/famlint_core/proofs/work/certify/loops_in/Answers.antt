@@ -7,7 +7,7 @@ use Rattle.decision_tree.specs.View.{plain}
 use Rattle.lifted_analysis.specs.declared.findings.PlaceTree.{PlaceTree}
 use Rattle.lifted_analysis.specs.Turns.{loop_places}
 use Rattle.alarm_report.specs.Invariants.{invariant, leaf_tree}
-use Rattle.certificate_text.specs.Loops.{trees_at}
+use Rattle.certificate_format.specs.Loops.{trees_at}
 use Rattle.famlint_core.proofs.Certifying.{loops_from}
 use Rattle.famlint_core.proofs.work.certify.loops_in.Goals as goal
 

@@ -1,0 +1,12 @@
+pub mod Bounded
+pub mod Certified
+pub mod Digits
+pub mod LoopLines
+pub mod Pieces
+pub mod Placing
+pub mod Ranging
+pub mod Shapes
+pub mod Splitting
+pub mod Tables
+pub mod Chosen
+pub mod Listed

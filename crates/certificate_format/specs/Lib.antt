@@ -1,0 +1,9 @@
+pub mod Bounds
+pub mod Certificates
+pub mod Cuts
+pub mod Forms
+pub mod Lines
+pub mod Regions
+pub mod Rows
+pub mod Loops
+pub mod Texts

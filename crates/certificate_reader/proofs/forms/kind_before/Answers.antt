@@ -1,5 +1,0 @@
-use Rattle.certificate_reader.proofs.Shapes.{no_kind}
-use Rattle.certificate_reader.proofs.forms.kind_before.Goals as goal
-
-pub returns-in_default-behind-2 : goal.returns-in_default-behind-2
-returns-in_default-behind-2 c = no_kind c.args.text.now c.in_default.ensures c.in_default-behind.ensures c.in_default-behind-2.ensures

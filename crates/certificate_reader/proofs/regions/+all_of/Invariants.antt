@@ -1,5 +1,0 @@
-use Rattle.std.proofs.Common.{length}
-use Rattle.certificate_reader.proofs.regions.+all_of.Given as goal
-
-abbrev pub decreases-all_of : goal.decreases-all_of
-decreases-all_of l = length l.literals.now

@@ -1,8 +1,0 @@
-use Rattle.std.proofs.Common.{◌≡◌, ◌++◌, take, map}
-use Rattle.std.specs.Prelude.{flat_map}
-use Rattle.alarm_report.specs.Invariants.{invariant}
-use Rattle.certificate_text.specs.Texts.{loop_line}
-use Rattle.certificate_text.proofs.texts.push_loops.Given as goal
-
-abbrev pub invariant-loops : goal.invariant-loops
-invariant-loops g l = l.text.items ≡ l.initial.text.items ++ flat_map (loop_line g.L.Leaf.meaning l.features l.names) (map (invariant g.L.Leaf.value) (take l.one-index l.loops))

@@ -1,0 +1,133 @@
+-- No name of a generated family has a fault.
+use Rattle.std.proofs.Common.{◌≡◌, ◌⊎◌, inl, inr, ℕ, ℤ, nat_eq, nat_le, Bool, true, false, cond, not, ◌||◌, ◌&&◌, List, [], ◌∷◌, ◌++◌, take, drop, Option, Some, None, refl, ap, ◌∙◌, sym, subst, append_assoc, arith}
+use Rattle.std.proofs.lemmas.Bool.Decides.{nat_tests}
+use Rattle.fam_outer.specs.declared.faults.Place.{Place}
+use Rattle.fam_outer.specs.declared.faults.FileCode.{FileCode}
+use Rattle.fam_outer.specs.declared.faults.FileCode.TheVariants.{Undeclared, Twice, FeatureInCode, TooManyVariables}
+use Rattle.linear_atoms.specs.declared.atoms.Config.{Config}
+use Rattle.cpp_conditions.specs.declared.models.Model.{Model}
+use Rattle.atom_solver.specs.Solutions.{Finds}
+use Rattle.c_grammar.specs.declared.items.Item.{Item}
+use Rattle.c_grammar.specs.declared.items.Sign.{Sign}
+use Rattle.c_grammar.specs.declared.items.Sign.TheVariants as signs
+use Rattle.c_grammar.specs.Grammar.{at}
+use Rattle.family_names.specs.Names.{NameContext, IsWithFirst, IsEither, IsUseFault, IsDeclarationFault, IsNameFault, IsThisOr, IsFaultFrom, IsFirstNameFault, is_feature, is_missed, is_met_again, is_kept, is_among, truths_at, declared_by, declared_at, each_once, new_name_fault, code_with}
+use Rattle.family_generator.proofs.Signs.{laid, header_signs}
+
+-- two names that are no features'
+pub record AreFree (context : NameContext) (x y : ℕ) : Type 0 where
+  pub first : is_feature context x ≡ false
+  pub second : is_feature context y ≡ false
+  pub apart : nat_eq y x ≡ false
+
+-- ---- nothing is found where nothing holds
+
+none_holds : (a b : Bool) → b ≡ false → (a && b) ≡ true → ⊥
+none_holds true b e h = let c : true ≡ false = sym h ∙ e in absurd cc
+none_holds false b e h = absurd cc
+
+not_found : (model : Model) (holds : List ℤ → Bool) (found : Option Config) (code : Option (List ℤ) → FileCode) (other : Option FileCode)
+    → ((values : List ℤ) → holds values ≡ true → ⊥) → Finds model holds found → code_with code other found ≡ other
+not_found model holds None code other never f = refl
+not_found model holds (Some config) code other never f = absurd (never config.values f.met)
+
+other_one : (model : Model) (holds : List ℤ → Bool) (code : Option (List ℤ) → FileCode) (other fault : Option FileCode) → ((values : List ℤ) → holds values ≡ true → ⊥) → IsWithFirst model holds code other fault → fault ≡ other
+other_one model holds code other fault never h = h.fault_is ∙ not_found model holds h.found code other never h.finds
+
+-- ---- items behind the header
+
+abbrev header : (ℕ → Place) → ℕ → ℕ → List Item
+header f x y = laid f 0 (header_signs x y)
+
+same_number : (x : ℕ) → nat_eq x x ≡ true
+same_number x = grind (arith, nat_tests)
+
+or_true : (a b : Bool) → b ≡ true → (a || b) ≡ true
+or_true true b e = refl
+or_true false b e = e
+
+among_both : (x y z : ℕ) → (z ≡ x) ⊎ (z ≡ y) → is_among z (x ∷ y ∷ []) ≡ true
+among_both x y z (inl e) = ap (λ (t : Bool). t || (nat_eq z y || false)) (subst (λ (k : ℕ). nat_eq z k ≡ true) e (same_number z))
+among_both x y z (inr e) = or_true (nat_eq z x) (nat_eq z y || false) (ap (λ (t : Bool). t || false) (subst (λ (k : ℕ). nat_eq z k ≡ true) e (same_number z)))
+
+abbrev use_by : NameContext → List Item → ℕ → Option FileCode → Bool → Type 0
+use_by context before z fault b = IsEither b (IsWithFirst context.model (is_missed context before z) Undeclared None fault) (fault ≡ Some (Undeclared None))
+
+-- a use of a declared name has no fault
+used : (context : NameContext) (f : ℕ → Place) (x y z : ℕ) (mid : List Item) (fault : Option FileCode) → (z ≡ x) ⊎ (z ≡ y) → is_feature context z ≡ false → IsUseFault context (header f x y ++ mid) z fault → fault ≡ None
+used context f x y z mid fault one free h =
+    let declared : use_by context (header f x y ++ mid) z fault (is_among z (x ∷ y ∷ [])) = subst (λ (b : Bool). IsEither b (fault ≡ Some FeatureInCode) (use_by context (header f x y ++ mid) z fault (is_among z (x ∷ y ∷ [])))) free h in
+    let found = subst (use_by context (header f x y ++ mid) z fault) (among_both x y z one) declared in
+    other_one context.model (is_missed context (header f x y ++ mid) z) Undeclared None fault
+    (λ values e. none_holds (is_kept (truths_at context values) (header f x y ++ mid)) (not (is_among z (x ∷ y ∷ []))) (ap not (among_both x y z one)) e) found
+
+-- names among these signs are one of both
+abbrev pub IsOwn : ℕ → ℕ → Sign → Type 0
+IsOwn x y (signs.Name z) = (z ≡ x) ⊎ (z ≡ y)
+IsOwn x y _ = Unit {0}
+
+abbrev pub AreOwn : ℕ → ℕ → List Item → Type 0
+AreOwn x y [] = Unit {0}
+AreOwn x y (i ∷ is) = IsOwn x y i.sign × AreOwn x y is
+
+free_one : (context : NameContext) (x y z : ℕ) → AreFree context x y → (z ≡ x) ⊎ (z ≡ y) → is_feature context z ≡ false
+free_one context x y z h (inl e) = subst (λ (k : ℕ). is_feature context k ≡ false) (sym e) h.first
+free_one context x y z h (inr e) = subst (λ (k : ℕ). is_feature context k ≡ false) (sym e) h.second
+
+no_fault_at : (context : NameContext) (f : ℕ → Place) (x y : ℕ) (mid : List Item) (s : Sign) (code : Option FileCode) → AreFree context x y → IsOwn x y s → IsNameFault context (header f x y ++ mid) s code → code ≡ None
+no_fault_at context f x y mid (signs.Name z) code free own h = used context f x y z mid code own (free_one context x y z free own) h
+no_fault_at context f x y mid _ code free own h = h
+
+later : (code : Option FileCode) (place : Place) (fault : Option (FileCode × Place)) (L : Type 0) → code ≡ None → IsThisOr code place fault L → L
+later code place fault L e h = subst (λ (c : Option FileCode). IsThisOr c place fault L) e h
+
+pub behind_header : (context : NameContext) (f : ℕ → Place) (x y : ℕ) (mid xs : List Item) (fault : Option (FileCode × Place)) → AreFree context x y → AreOwn x y xs → IsFaultFrom context (header f x y ++ mid) xs fault → fault ≡ None
+behind_header context f x y mid [] fault free own h = h
+behind_header context f x y mid (i ∷ is) fault free own h =
+    let next = later h.0 i.place fault (IsFaultFrom context ((header f x y ++ mid) ++ i ∷ []) is fault) (no_fault_at context f x y mid i.sign h.0 free own.0 h.1) h.2 in
+    behind_header context f x y (mid ++ i ∷ []) is fault free own.1 (subst (λ (b : List Item). IsFaultFrom context b is fault) (append_assoc (header f x y) mid (i ∷ [])) next)
+
+-- ---- the header
+
+declared_new : (context : NameContext) (before : List Item) (x : ℕ) (fault : Option FileCode) → IsDeclarationFault context before x fault → ((values : List ℤ) → is_among x (declared_at (truths_at context values) before) ≡ false) → fault ≡ new_name_fault context (each_once [] (declared_by before)) x
+declared_new context before x fault h none =
+    other_one context.model (is_met_again context before x) Twice (new_name_fault context (each_once [] (declared_by before)) x) fault
+    (λ values e. none_holds (is_kept (truths_at context values) before) (is_among x (declared_at (truths_at context values) before)) (none values) e) h
+
+next_item : (context : NameContext) (before : List Item) (i : Item) (xs : List Item) (fault : Option (FileCode × Place)) → ((code : Option FileCode) → IsNameFault context before i.sign code → code ≡ None)
+    → IsFaultFrom context before (i ∷ xs) fault → IsFaultFrom context (before ++ i ∷ []) xs fault
+next_item context before i xs fault none h = later h.0 i.place fault (IsFaultFrom context (before ++ i ∷ []) xs fault) (none h.0 h.1) h.2
+
+abbrev new_by : Bool → Bool → Option FileCode
+new_by feature many = cond feature (Some FeatureInCode) (cond many (Some TooManyVariables) None)
+
+-- the items of the header before one of them, and those from one on
+abbrev front : (ℕ → Place) → ℕ → ℕ → ℕ → List Item
+front f x y n = laid f 0 (take n (header_signs x y))
+
+abbrev behind : (ℕ → Place) → ℕ → ℕ → List Item → ℕ → List Item
+behind f x y rest n = laid f n (drop n (header_signs x y)) ++ rest
+
+first_new : (context : NameContext) (f : ℕ → Place) (x y : ℕ) (code : Option FileCode) → AreFree context x y → IsDeclarationFault context (front f x y 1) x code → code ≡ None
+first_new context f x y code free e = declared_new context (front f x y 1) x code e (λ values. refl) ∙ ap (λ (b : Bool). new_by b (not (is_among x []) && nat_le 16 0)) free.first
+
+second_new : (context : NameContext) (f : ℕ → Place) (x y : ℕ) (code : Option FileCode) → AreFree context x y → IsDeclarationFault context (front f x y 4) y code → code ≡ None
+second_new context f x y code free e =
+    declared_new context (front f x y 4) y code e (λ values. ap (λ (b : Bool). b || false) free.apart)
+    ∙ ap (λ (b : Bool). new_by b (not (nat_eq y x || false) && nat_le 16 1)) free.second ∙ ap (λ (b : Bool). new_by false (not (b || false) && nat_le 16 1)) free.apart
+
+pub no_fault : (context : NameContext) (f : ℕ → Place) (x y : ℕ) (rest : List Item) (fault : Option (FileCode × Place)) → AreFree context x y → AreOwn x y rest → IsFirstNameFault context (header f x y ++ rest) fault → fault ≡ None
+no_fault context f x y rest fault free own h =
+    let h0 = next_item context (front f x y 0) (at (f 0) (signs.Int)) (behind f x y rest 1) fault (λ code e. e) h in
+    let h1 = next_item context (front f x y 1) (at (f 1) (signs.Name x)) (behind f x y rest 2) fault (λ code e. first_new context f x y code free e) h0 in
+    let h2 = next_item context (front f x y 2) (at (f 2) (signs.Semicolon)) (behind f x y rest 3) fault (λ code e. e) h1 in
+    let h3 = next_item context (front f x y 3) (at (f 3) (signs.Int)) (behind f x y rest 4) fault (λ code e. e) h2 in
+    let h4 = next_item context (front f x y 4) (at (f 4) (signs.Name y)) (behind f x y rest 5) fault (λ code e. second_new context f x y code free e) h3 in
+    let h5 = next_item context (front f x y 5) (at (f 5) (signs.Semicolon)) (behind f x y rest 6) fault (λ code e. e) h4 in
+    let h6 = next_item context (front f x y 6) (at (f 6) (signs.Int)) (behind f x y rest 7) fault (λ code e. e) h5 in
+    let h7 = next_item context (front f x y 7) (at (f 7) (signs.Main)) (behind f x y rest 8) fault (λ code e. e) h6 in
+    let h8 = next_item context (front f x y 8) (at (f 8) (signs.Open)) (behind f x y rest 9) fault (λ code e. e) h7 in
+    let h9 = next_item context (front f x y 9) (at (f 9) (signs.Void)) (behind f x y rest 10) fault (λ code e. e) h8 in
+    let h10 = next_item context (front f x y 10) (at (f 10) (signs.Close)) (behind f x y rest 11) fault (λ code e. e) h9 in
+    let h11 = next_item context (front f x y 11) (at (f 11) (signs.LeftBrace)) (behind f x y rest 12) fault (λ code e. e) h10 in
+    behind_header context f x y [] rest fault free own h11
