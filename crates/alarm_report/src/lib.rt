@@ -22,6 +22,3 @@ pub use leaf_texts::{invariant_text, leaf_text};
 pub use path_region::region_of;
 pub use region::{Literals, Region, Regions};
 pub use texts::{alarm_text, kind_text, variant_report};
-
-#[cfg(test)]
-mod tests;

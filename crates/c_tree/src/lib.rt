@@ -18,6 +18,3 @@ pub use copies::{copy_expr, copy_list, copy_stmt};
 pub use lists::{Declarations, Declared, Guard, Guards, Names};
 pub use projection::{project, start_values};
 pub use tree::{Expr, Kind, Mode, Op, Program, Stmt};
-
-#[cfg(test)]
-mod tests;

@@ -6,6 +6,3 @@ pub mod keywords;
 
 pub use bytes::{is_digit, is_gap, is_space, is_word_byte};
 pub use keywords::{is_keyword, is_reserved};
-
-#[cfg(test)]
-mod tests;

@@ -23,6 +23,3 @@ pub use distinct::{add_atoms, distinct_atoms};
 pub use formulas::{Formula, number};
 pub use models::{Conditions, Features, Model, all_true, is_valid};
 pub use reading::{ConditionRefusal, read_condition};
-
-#[cfg(test)]
-mod tests;

@@ -8,6 +8,3 @@ pub mod section;
 pub use directive::GroupDirective;
 pub use open::OpenSections;
 pub use section::{Section, next_group};
-
-#[cfg(test)]
-mod tests;

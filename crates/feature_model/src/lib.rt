@@ -16,6 +16,3 @@ pub use cpp_conditions::is_valid;
 pub use faults::{ConfigFault, ConfigRefusal, ModelFault, ModelRefusal};
 pub use models::read_model;
 pub use settings::read_config;
-
-#[cfg(test)]
-mod tests;

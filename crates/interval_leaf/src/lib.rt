@@ -6,8 +6,3 @@ mod leaf;
 mod ranges;
 
 pub use leaf::IntervalLeaf;
-
-#[cfg(test)]
-mod tests;
-#[cfg(test)]
-mod transfer_tests;

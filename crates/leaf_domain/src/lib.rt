@@ -25,6 +25,3 @@ pub use range::{Range, arithmetic, arithmetic_is_sound, fold_is_sound};
 pub use sides::Sides;
 pub use statements::may;
 pub use transfer::{assign, assume, fits, forget, range_of, raw_of, split};
-
-#[cfg(test)]
-mod tests;

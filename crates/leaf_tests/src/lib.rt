@@ -1,13 +1,24 @@
-//! Every operation of the three kinds of leaf over small leaves of two variables, against the stores that it must hold.
+//! Tests of runs and of the three kinds of leaf, over their contracts; among them every operation over small leaves of two variables, against
+//! the stores that it must hold.
 #![tactic(auto)]
 
+#[cfg(test)]
+mod intervals;
+#[cfg(test)]
+mod octagons;
 #[cfg(test)]
 mod operations;
 #[cfg(test)]
 mod pairs;
 #[cfg(test)]
+mod ranges;
+#[cfg(test)]
+mod runs;
+#[cfg(test)]
 mod small;
+#[cfg(test)]
+mod small_leaves;
 #[cfg(test)]
 mod stores;
 #[cfg(test)]
-mod tests;
+mod transfer;

@@ -21,8 +21,3 @@ pub use named::Named;
 pub use normal::Normal;
 pub use ranges::Span;
 pub use setting_texts::{config_text, push_settings};
-
-#[cfg(test)]
-mod setting_tests;
-#[cfg(test)]
-mod tests;

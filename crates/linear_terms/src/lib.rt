@@ -8,6 +8,3 @@ pub mod terms;
 pub use divisors::greatest_common_divisor;
 pub use merging::{first_term, product, within};
 pub use terms::Terms;
-
-#[cfg(test)]
-mod tests;

@@ -8,6 +8,3 @@ mod meets;
 mod shape;
 
 pub use leaf::OctagonLeaf;
-
-#[cfg(test)]
-mod tests;

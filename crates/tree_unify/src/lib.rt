@@ -20,8 +20,3 @@ pub use restricted::restrict;
 pub use steps::Steps;
 pub use tree_formulas::untrue;
 pub use truths::{Both, Either};
-
-#[cfg(test)]
-mod tests;
-#[cfg(test)]
-mod tree_formula_tests;

@@ -1,0 +1,25 @@
+//! Tests of trees, of the analyses of one program and of all variants, and of advice, over the contracts of their crates.
+#![tactic(auto)]
+
+#[cfg(test)]
+mod advice;
+#[cfg(test)]
+mod all_variants;
+#[cfg(test)]
+mod bounds;
+#[cfg(test)]
+mod families;
+#[cfg(test)]
+mod nearest;
+#[cfg(test)]
+mod octagon_programs;
+#[cfg(test)]
+mod passes;
+#[cfg(test)]
+mod steps;
+#[cfg(test)]
+mod stride_programs;
+#[cfg(test)]
+mod tree_formulas;
+#[cfg(test)]
+mod unifying;

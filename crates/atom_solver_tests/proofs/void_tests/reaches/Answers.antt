@@ -1,6 +1,0 @@
-use Rattle.std.proofs.Common.{pos, ◌∙◌}
-use Rattle.atom_solver_tests.proofs.Tested.{gap, small_zero}
-use Rattle.atom_solver_tests.proofs.void_tests.reaches.Goals as goal
-
-pub returns : goal.returns
-returns c = gap 5 c.args.left c.args.right _ (pos 0) small_zero (c.in_ok-terms.ensures ∙ c.in_ok-form.ensures) c.requires.order c.requires.right

@@ -1,7 +1,0 @@
-//! Tests of `atom_solver`, in a crate of their own: so they are proved over its contracts, and it is not proved a second time.
-#![tactic(auto)]
-
-#[cfg(test)]
-mod tests;
-#[cfg(test)]
-mod void_tests;

@@ -1,7 +1,0 @@
-use Rattle.std.proofs.Common.{List, ℕ, sym, subst, ◌∙◌}
-use Rattle.c_parser.specs.Reading.{DeclaresAmong}
-use Rattle.c_parser_tests.proofs.Given.{text, among}
-use Rattle.c_parser_tests.proofs.tests.given_names.Goals as goal
-
-pub read_plain_with-requires-clause-declared : goal.read_plain_with-requires-clause-declared
-read_plain_with-requires-clause-declared g c = subst (λ (names : List (List ℕ)). DeclaresAmong names text) (sym (c.items.ensures ∙ c.in_ok-names.ensures)) among

@@ -1,8 +1,0 @@
-//! Tests of `configuration_advice`, in a crate of their own: so they are proved over its contracts, and it is not proved a second
-//! time.
-#![tactic(auto)]
-
-#[cfg(test)]
-mod nearest_tests;
-#[cfg(test)]
-mod tests;

@@ -1,9 +1,0 @@
-//! Tests of `cpp_lines`, in a crate of their own: so they are proved over its contracts, and it is not proved a second time.
-#![tactic(auto)]
-
-#[cfg(test)]
-mod sections;
-#[cfg(test)]
-mod tests;
-#[cfg(test)]
-mod variants;

@@ -1,6 +1,0 @@
-//! Tests of `family_names`, in a crate of their own: so they are proved over its contracts, and it is not proved a second
-//! time.
-#![tactic(auto)]
-
-#[cfg(test)]
-mod tests;

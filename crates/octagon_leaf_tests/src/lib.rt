@@ -1,5 +1,0 @@
-//! Tests of octagons by the analysis of whole programs, with alarms found by hand.
-#![tactic(auto)]
-
-#[cfg(test)]
-mod tests;

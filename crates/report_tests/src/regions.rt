@@ -1,0 +1,176 @@
+//! Regions of small trees over `A` (Boolean) and `N` (from 0 to 7) with the constraint `A || N >= 3`.
+
+ghost use Rattle.std.specs.Prelude.{◌≡◌, ◌<◌, ◌≤◌, length, unsigned_abs, IfOk};
+ghost use Rattle.linear_atoms.specs.Atoms.{AreRanges, AreAtoms, IsAtom};
+ghost use Rattle.cpp_conditions.specs.Validity.{AreFit};
+
+use alarm_report::alarms::alarms_of;
+use alarm_report::finding::regions;
+use alarm_report::region::Region;
+use atom_solver::Prepared;
+use c_tree::Kind;
+use cpp_conditions::{Condition, Conditions, Features, Model};
+use decision_tree::Tree;
+use fam_outer::{Place, Text};
+use lifted_analysis::AlarmTree;
+use linear_atoms::{Atom, Feature, Linear};
+use std::alloc::Global;
+use std::test::Fail;
+
+/// The test "the feature's value is at least the bound".
+fn at_least(alloc: Global, number: u32, bound: i64) -> Result<Atom, Fail>
+    requires number { number < 2 }
+    requires bound { unsigned_abs bound ≤ 7 }
+    ensures { IfOk result (λ made. IsAtom 2 made) }
+{
+    let form = Linear::feature(alloc, number)?;
+    let terms = form.terms.copy(alloc)?;
+    Ok(Atom { terms, bound })
+}
+
+fn model(alloc: Global) -> Result<Model, Fail>
+    ensures two { IfOk result (λ made. length made.features ≡ 2) }
+    ensures ranges { IfOk result (λ made. AreRanges made.features) }
+    ensures fit { IfOk result (λ made. AreFit 2 made.constraints) }
+{
+    let switch = Feature {
+        name: Text::from_bytes(alloc, b"A")?,
+        boolean: true,
+        low: 0,
+        high: 1,
+    };
+    let number = Feature {
+        name: Text::from_bytes(alloc, b"N")?,
+        boolean: false,
+        low: 0,
+        high: 7,
+    };
+    let on = Box::new(alloc, Condition::Test(at_least(alloc, 0, 1)?))?;
+    let three = Box::new(alloc, Condition::Test(at_least(alloc, 1, 3)?))?;
+    Ok(Model {
+        features: Features::from_vec(vec![in alloc; switch, number]?),
+        constraints: Conditions::from_vec(vec![in alloc; Condition::Or(on, three)]?),
+    })
+}
+
+/// `A`, `N >= 3` and `N >= 5`.
+fn atoms(alloc: Global) -> Result<[Atom; 3], Fail>
+    ensures { IfOk result (λ made. AreAtoms 2 made) }
+{
+    Ok([
+        at_least(alloc, 0, 1)?,
+        at_least(alloc, 1, 3)?,
+        at_least(alloc, 1, 5)?,
+    ])
+}
+
+/// What a region says: its literals by the bounds of their atoms, and its example.
+fn is_region(region: &Region, literals: &[(i64, bool)], example: [i64; 2]) -> bool {
+    let found = region.literals.items();
+    if found.len() != literals.len() {
+        return false;
+    }
+    for (literal, (bound, positive)) in found.iter().zip(literals) {
+        if literal.atom.bound != *bound || literal.positive != *positive {
+            return false;
+        }
+    }
+    region.example.values.items() == example.as_slice()
+}
+
+#[test]
+fn a_literal_stays(rt: HostRuntime) -> Result<(), Fail> {
+    let alloc = rt.alloc();
+    let model = model(alloc)?;
+    let atoms = atoms(alloc)?;
+    let yes = Tree::leaf(alloc, true)?;
+    let no = Tree::leaf(alloc, false)?;
+    let tree = Tree::node(alloc, 0, &yes, &no)?;
+    let found = regions(alloc, &model, &atoms, &tree)?;
+    match found.items() {
+        [region] => assert!(rt; is_region(region, &[(1, false)], [0, 3])),
+        _ => return Err(Fail::new("one region")),
+    }
+    let whole = regions(alloc, &model, &atoms, &yes)?;
+    match whole.items() {
+        [region] => assert!(rt; is_region(region, &[], [0, 3])),
+        _ => return Err(Fail::new("one region")),
+    }
+    assert!(rt; regions(alloc, &model, &atoms, &no)?.items().is_empty());
+    Ok(())
+}
+
+#[test]
+fn an_implied_literal_goes(rt: HostRuntime) -> Result<(), Fail> {
+    let alloc = rt.alloc();
+    let model = model(alloc)?;
+    let atoms = atoms(alloc)?;
+    let yes = Tree::leaf(alloc, true)?;
+    let no = Tree::leaf(alloc, false)?;
+    let high = Tree::node(alloc, 2, &no, &yes)?;
+    let tree = Tree::node(alloc, 1, &no, &high)?;
+    let found = regions(alloc, &model, &atoms, &tree)?;
+    match found.items() {
+        [region] => assert!(rt; is_region(region, &[(5, true)], [0, 5])),
+        _ => return Err(Fail::new("one region")),
+    }
+    Ok(())
+}
+
+#[test]
+fn a_path_without_a_configuration_has_no_region(rt: HostRuntime) -> Result<(), Fail> {
+    let alloc = rt.alloc();
+    let model = model(alloc)?;
+    let atoms = atoms(alloc)?;
+    let yes = Tree::leaf(alloc, true)?;
+    let no = Tree::leaf(alloc, false)?;
+    let low = Tree::node(alloc, 1, &yes, &no)?;
+    let tree = Tree::node(alloc, 0, &low, &yes)?;
+    let found = regions(alloc, &model, &atoms, &tree)?;
+    match found.items() {
+        [region] => assert!(rt; is_region(region, &[(1, true)], [1, 0])),
+        _ => return Err(Fail::new("one region")),
+    }
+    Ok(())
+}
+
+/// The vectors at which a statement may stop.
+fn stops(line: u32, kind: Kind, tree: Tree<bool>) -> AlarmTree
+    ensures { result ≡ record { place = record { line = line; column = 5 }; kind = kind; tree = tree } }
+{
+    AlarmTree {
+        place: Place { line, column: 5 },
+        kind,
+        tree,
+    }
+}
+
+// `!A` in both trees, and `A && N >= 3` in the second
+#[test]
+fn alarms_with_one_path_have_equal_regions(rt: HostRuntime) -> Result<(), Fail> {
+    let alloc = rt.alloc();
+    let model = model(alloc)?;
+    let prepared = Prepared::new(alloc, &model)?;
+    let atoms = atoms(alloc)?;
+    let yes = Tree::leaf(alloc, true)?;
+    let no = Tree::leaf(alloc, false)?;
+    let high = Tree::node(alloc, 1, &no, &yes)?;
+    let off = Tree::node(alloc, 0, &yes, &no)?;
+    let either = Tree::node(alloc, 0, &yes, &high)?;
+    let trees = [
+        stops(4, Kind::Overflow, off),
+        stops(6, Kind::ZeroDivisor, either),
+    ];
+    let found = alarms_of(alloc, &prepared, &atoms, &trees)?;
+    match found.items() {
+        [first, second, third] => {
+            assert!(rt; is_region(&first.region, &[(1, false)], [0, 3]));
+            assert!(rt; is_region(&second.region, &[(1, false)], [0, 3]));
+            assert!(rt; is_region(&third.region, &[(1, true), (3, true)], [1, 3]));
+            assert_eq!(rt; second.place, Place { line: 6, column: 5 });
+            assert_eq!(rt; second.kind, Kind::ZeroDivisor);
+        }
+        _ => return Err(Fail::new("three alarms")),
+    }
+    Ok(())
+}

@@ -1,5 +1,0 @@
-use Rattle.std.proofs.Common.{◌-◌}
-use Rattle.tree_unify.proofs.tests.+parity_trees.Given as goal
-
-abbrev pub decreases-parity_trees : goal.decreases-parity_trees
-decreases-parity_trees l = l.end - l.first

@@ -1,6 +1,0 @@
-use Rattle.cpp_conditions.specs.Propositions.{IsBelow}
-use Rattle.cpp_conditions.specs.View.{formula}
-use Rattle.tree_unify.proofs.tests.bounds_in_order.Given as goal
-
-abbrev pub invariant-loop-test : goal.invariant-loop-test
-invariant-loop-test l = IsBelow 64 (formula l.all)

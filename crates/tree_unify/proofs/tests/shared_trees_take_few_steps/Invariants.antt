@@ -1,4 +1,0 @@
-use Rattle.tree_unify.proofs.tests.shared_trees_take_few_steps.Given as goal
-
-abbrev pub ghosts-doubles : goal.ghosts-doubles
-ghosts-doubles g a = record { name = a.blank.name; parts = a.blank.parts }

@@ -1,4 +1,0 @@
-use Rattle.tree_unify.proofs.tests.trees_over_a_type_parameter.Given as goal
-
-abbrev pub ghosts-are_greater : goal.ghosts-are_greater
-ghosts-are_greater g a = record { name = a.blank.name; parts = a.blank.parts }
