@@ -1,4 +1,4 @@
--- Forms of two variables.
+-- The sign of the second variable in a difference or a sum of two.
 use Rattle.std.specs.Prelude.{◌≡◌, ◌⊎◌, ℤ, pos, negsuc}
 
 -- the coefficient of the second variable of a difference or a sum

@@ -1,4 +1,4 @@
--- Families made by hand.
+-- Families made by hand, as plain trees.
 use Rattle.std.specs.Prelude.{ℕ, zero, suc, ◌-◌, ◌*◌, pos}
 use Rattle.fam_outer.specs.declared.faults.Place.{Place}
 use Rattle.c_tree.specs.declared.tree.Op.TheVariants as op

@@ -1,3 +1,5 @@
+//! The formulas of small trees, at every vector.
+
 use cpp_conditions::Formula;
 use decision_tree::Tree;
 use fam_outer::NoMemory;

@@ -1,3 +1,5 @@
+//! Operations on small trees, with ample memory, and how often an operation is called.
+
 ghost use Rattle.std.specs.Prelude.{◌≡◌, ◌⊎◌, ◌+◌, ◌<◌, ◌≤◌, IfOk};
 ghost use Rattle.decision_tree.specs.Plain.{IsExact};
 ghost use Rattle.decision_tree.specs.Listed.{IsNumberedTree, IsTreeIn, Keeps};

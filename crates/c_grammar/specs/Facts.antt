@@ -1,4 +1,4 @@
--- Facts of the items of a text, and what they make of a program.
+-- Facts of the items of a text (numbers, names, places that rise), and what they make of a program.
 use Rattle.std.specs.Prelude.{◌≡◌, ◌≤◌, ◌<◌, ◌≤ℤ◌, ℕ, pos, false, List, [], ◌∷◌, IsTrue, length}
 use Rattle.fam_outer.specs.declared.faults.Place.{Place}
 use Rattle.c_tree.specs.Value.{greatest}

@@ -1,4 +1,4 @@
--- What stands behind numbers and items.
+-- The texts of further bounds, and what may stand behind a number.
 use Rattle.std.specs.Prelude.{ℕ, Bool, false, not, ◌&&◌, ◌==◌, List, [], ◌∷◌, ◌++◌, codes, flat_map}
 use Rattle.std.specs.Int.{IsInRange}
 use Rattle.leaf_domain.specs.declared.range.Range.{Range}

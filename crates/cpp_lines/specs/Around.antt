@@ -1,4 +1,4 @@
--- A list with its first item by itself, and the others in the opposite order.
+-- The sections that are open, as one list with the innermost first.
 use Rattle.std.specs.Prelude.{Bool, List, [], ◌∷◌, reverse, Option, Some, None}
 
 -- the innermost section, and those around it with the outermost first

@@ -1,4 +1,4 @@
--- The entries of a forest.
+-- The entries of a forest: the key of each tree, at the place of its number.
 use Rattle.std.specs.Prelude.{◌≡◌, ℕ, ◌+◌, List, Some, slice_get, map}
 use Rattle.decision_tree.specs.Plain.{Plain}
 use Rattle.decision_tree.specs.declared.forest.Key.{Key}

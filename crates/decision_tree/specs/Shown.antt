@@ -1,4 +1,4 @@
--- What a clause sees of paths.
+-- What a clause sees of paths: their turns, and the values of their leaves.
 use Rattle.std.specs.Prelude.{ℕ, Bool, List, map}
 use Rattle.decision_tree.specs.declared.paths.Path.{Path}
 

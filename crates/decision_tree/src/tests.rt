@@ -1,3 +1,5 @@
+//! Trees and forests made by hand, with ample memory.
+
 ghost use Rattle.std.specs.Prelude.{◌≡◌, ◌+◌, ◌<◌, IfOk};
 ghost use Rattle.decision_tree.specs.Plain.{leaf, TestsBelow};
 ghost use Rattle.decision_tree.specs.Listed.{IsTreeIn, Keeps};

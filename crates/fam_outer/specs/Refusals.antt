@@ -1,4 +1,4 @@
--- Refusals of a file.
+-- What a call that reads a file answers: what it reads, or a fault at its place.
 use Rattle.std.specs.Prelude.{◌≡◌, ⊤, Result, Ok, Err}
 use Rattle.fam_outer.specs.declared.faults.FileCode.{FileCode}
 use Rattle.fam_outer.specs.declared.faults.FileRefusal.{FileRefusal}

@@ -1,4 +1,4 @@
--- The loops of a pass.
+-- The loops of a pass: the leaf that enters each, that at its head, and that behind its body.
 use Rattle.std.specs.Prelude.{◌≡◌, ◌++◌, Bool, true, false, ◌&&◌, if◌then◌else◌, List, [], ◌∷◌}
 use Rattle.std.specs.List.{All}
 use Rattle.fam_outer.specs.declared.faults.Place.{Place}

@@ -1,4 +1,4 @@
--- What the code asks of meets and forms.
+-- What the code asks of meets and forms: small numbers, and two different terms.
 use Rattle.std.specs.Prelude.{◌≡◌, ◌≢◌, ℕ, ◌*◌, ◌<◌, ◌^◌, ℤ, pos, neg_ℤ, ◌≤ℤ◌, false, List, [], ◌∷◌, Option, Some, None, ⊤}
 use Rattle.octagon_matrix.specs.Matrices.{MatrixValue, IsMatrix}
 use Rattle.octagon_matrix.specs.Stores.{Holds}
