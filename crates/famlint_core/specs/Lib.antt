@@ -1,16 +1,3 @@
-pub mod Advised
 pub mod Answers
-pub mod Checked
+pub mod Certified
 pub mod Endings
-pub mod FamilyReports
-pub mod Faults
-pub mod FeatureUses
-pub mod Found
-pub mod Generated
-pub mod Headline
-pub mod Loads
-pub mod ProductLines
-pub mod Report
-pub mod Requests
-pub mod RunText
-pub mod Selected

@@ -6,19 +6,20 @@ ghost use Rattle.std.specs.Io.KnownBytes.{append_known};
 ghost use Rattle.fam_outer.specs.Causes.{Rose};
 ghost use Rattle.fam_outer.specs.Writing.{Reports};
 ghost use Rattle.command_words.specs.Arguments.{texts_of};
-ghost use Rattle.famlint_core.specs.declared.request.Request.{Request};
-ghost use Rattle.famlint_core.specs.Answers.{Contents, IsTold, IsAccepted, IsLoaded, Answers, Promised, AsksOfCertified};
+ghost use Rattle.famlint_requests.specs.declared.request.Request.{Request};
+ghost use Rattle.famlint_loads.specs.Contents.{Contents};
+ghost use Rattle.famlint_core.specs.Answers.{IsTold, IsAccepted, IsLoaded, Answers, Promised, AsksOfCertified};
 ghost use Rattle.famlint_core.specs.Endings.{EndsWith, HasLines};
-ghost use Rattle.famlint_core.specs.Faults.{usage_line, memory_line};
-ghost use Rattle.famlint_core.specs.Loads.{IsOneOf};
-ghost use Rattle.famlint_core.specs.Requests.{reading, paths_of, role_of};
+ghost use Rattle.famlint_core.specs.Endings.{usage_line, memory_line};
+ghost use Rattle.famlint_loads.specs.Loads.{IsOneOf};
+ghost use Rattle.famlint_requests.specs.Requests.{reading, paths_of, role_of};
 
 use crate::ending::{end, give_up, refuse};
 use crate::laws::certificates_are_accepted;
-use crate::request::read_request;
 use crate::work::work;
 use command_words::WordsRefusal;
 use fam_outer::{Files, Sink};
+use famlint_requests::read_request;
 use std::alloc::Global;
 
 /// Does all that the program does, and answers its status. `words` are those after the program's

@@ -1,0 +1,6 @@
+pub mod Advising
+pub mod Analysed
+pub mod Certifying
+pub mod Foretold
+pub mod Generated
+pub mod Refusing
