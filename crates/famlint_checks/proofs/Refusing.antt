@@ -1,3 +1,4 @@
+-- A model, a file or a certificate that is refused is what `check` is answered; and CERTIFICATE is loaded behind the others.
 use Rattle.std.proofs.Common.{ℕ, List, [], inl, inr}
 use Rattle.std.specs.Prelude.{◌∷◌, Option, Err}
 use Rattle.certificate_reader.specs.declared.certificates.Certificate.{Certificate}
@@ -35,12 +36,3 @@ pub loaded_third : (failed : Option (List ℕ)) (model_path file_path certificat
 loaded_third failed model_path file_path certificate_path m f l (failure.Refused given) read path h = absurd h
 loaded_third failed model_path file_path certificate_path m f l failure.ReadFault read path h = third_of failed model_path file_path certificate_path m f l read (path h)
 loaded_third failed model_path file_path certificate_path m f l failure.NoMemory read path h = absurd h
-
--- one of the first two, or the third
-pub one_of_first : (failed : Option (List ℕ)) (a b c : List ℕ) → IsOneOf failed (a ∷ b ∷ []) → IsOneOf failed (a ∷ b ∷ c ∷ [])
-one_of_first failed a b c (inl e) = inl e
-one_of_first failed a b c (inr (inl e)) = inr (inl e)
-one_of_first failed a b c (inr (inr h)) = absurd h
-
-pub one_of_third : (failed : Option (List ℕ)) (a b c : List ℕ) → IsOneOf failed (c ∷ []) → IsOneOf failed (a ∷ b ∷ c ∷ [])
-one_of_third failed a b c h = inr (inr h)

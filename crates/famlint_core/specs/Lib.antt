@@ -1,3 +1,6 @@
 pub mod Answers
 pub mod Certified
 pub mod Endings
+pub use Rattle.famlint_loads.specs.Contents
+pub use Rattle.famlint_loads.specs.Loads
+pub use Rattle.famlint_requests.specs.Requests

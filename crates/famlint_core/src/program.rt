@@ -25,9 +25,10 @@ use std::alloc::Global;
 /// Does all that the program does, and answers its status. `words` are those after the program's
 /// name.
 ///
-/// 0 and 1: done, and 1 exactly where the output has an alarm. 2: the words are refused. 3: the
-/// model's bytes are refused. 4: the file's are. 5: the settings are. 6: a load failed. 7: a write to `out` failed. 8: want of memory. At 2
-/// to 8 one line on `err` tells the fault.
+/// 0 and 1: done, and 1 exactly where the output has an alarm, where `advise` has no advice, and where `check` finds that the
+/// certificate does not hold. 2: the words are refused. 3: the model's bytes are refused. 4: the file's are. 5: the settings are.
+/// 6: a load failed. 7: a write to `out` failed. 8: want of memory. 9: the certificate's bytes are refused, with an E code. At 2 to 9
+/// one line on `err` tells the fault.
 pub fn famlint<F: Files, S: Sink, E: Sink>(
     alloc: Global,
     words: &[String],

@@ -1,12 +1,12 @@
 -- What the analysis of all variants promises of its trees is what the report on them needs.
-use Rattle.std.proofs.Common.{◌≡◌, ◌≤◌, ℕ, ℤ, Bool, true, List, [], ◌∷◌, ◌++◌, map, length, refl, ap, ◌∙◌, arith}
+use Rattle.std.proofs.Common.{◌≡◌, ◌≤◌, ℕ, ℤ, Bool, true, List, [], ◌∷◌, map, length, refl, ap, ◌∙◌, arith}
 use Rattle.std.specs.Prelude.{slice_index_or}
 use Rattle.std.specs.List.{All, AllByRecursion}
 use Rattle.std.proofs.lemmas.List.Elements.{All-from_recursion, recursion_from_All}
 use Rattle.c_tree.specs.Places.{program_places}
 use Rattle.c_tree.specs.View.{whole}
 use Rattle.cpp_conditions.specs.declared.formulas.Formula.{Formula}
-use Rattle.cpp_conditions.specs.Numbering.{AreAllAmong, vector_at}
+use Rattle.cpp_conditions.specs.Numbering.{vector_at}
 use Rattle.cpp_conditions.specs.Propositions.{Proposition, Const, Test, Not, And, Or, IsBelow, true_on}
 use Rattle.cpp_conditions.specs.Validity.{plain, IsValid}
 use Rattle.cpp_conditions.specs.View.{formula}
@@ -30,14 +30,6 @@ use Rattle.famlint_families.specs.Findings.{IsFound, AreTested}
 use Rattle.famlint_loads.specs.ProductLines.{IsUsableLine}
 
 -- ---- what is asked of a product line
-
-front_among : (atoms : List Atom) (ps qs : List (Proposition Atom)) → AreAllAmong atoms (ps ++ qs) → AreAllAmong atoms ps
-front_among atoms [] qs h = tt
-front_among atoms (p ∷ ps) qs h = (h.0, front_among atoms ps qs h.1)
-
--- the atoms of the constraints stand among those of the family
-pub among_of : (l : ProductLine) → IsUsableLine l → AreAllAmong l.family.atoms (plain l.model).constraints
-among_of l u = front_among l.family.atoms (plain l.model).constraints u.spelled.are.told.conditions u.spelled.are.conditions.atoms_are.all
 
 more_tests : (m n : ℕ) → m ≤ n → (p : Proposition ℕ) → IsBelow m p → IsBelow n p
 more_tests m n le (Const b) h = tt

@@ -3,4 +3,3 @@ pub mod Analysed
 pub mod Certifying
 pub mod Foretold
 pub mod Generated
-pub mod Refusing

@@ -169,9 +169,7 @@ fn text_for<L: Leaf>(
             let told = alarm_text(alloc, features, alarms)?;
             invariants_before(alloc, line, prepared, findings, &told)
         }
-        FamilyTask::Certify => {
-            certificate_of(alloc, line, options, prepared, findings, alarms)
-        }
+        FamilyTask::Certify => { certificate_of(alloc, line, options, prepared, findings, alarms) }
         FamilyTask::Generate => {
             let told = alarm_text(alloc, features, alarms)?;
             sizes_before(alloc, line, findings, &told)

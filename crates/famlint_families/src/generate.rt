@@ -8,9 +8,9 @@ ghost use Rattle.famlint_loads.specs.ProductLines.{IsUsableLine};
 
 use crate::family::report_by;
 use fam_outer::NoMemory;
+use family_generator_laws::{GeneratedFamily, generated_family};
 use famlint_loads::{Done, ProductLine};
 use famlint_requests::{Analysis, FamilyTask};
-use family_generator_laws::{GeneratedFamily, generated_family};
 use std::alloc::Global;
 
 /// The model and the family that are generated for a number of blocks.

@@ -6,7 +6,7 @@ ghost use Rattle.famlint_loads.specs.CertificateLoads.{ReadsCertificate, IsUsabl
 ghost use Rattle.famlint_loads.specs.Loads.{Comes, IsReadFault, IsReadOf};
 ghost use Rattle.famlint_loads.specs.ProductLines.{IsUsableLine};
 
-use crate::fault::{Fault, Failure};
+use crate::fault::{Failure, Fault};
 use crate::load::load_text;
 use crate::product_line::ProductLine;
 use certificate_reader::{Certificate, CertificateFault, CertificateRefusal, read_certificate};

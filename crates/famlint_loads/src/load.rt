@@ -5,7 +5,7 @@ ghost use Rattle.std.specs.Prelude.{◌≡◌, ℕ, List, [], ◌∷◌, Some, I
 ghost use Rattle.c_parser.specs.FamilyReading.{IsFamilyOf};
 ghost use Rattle.famlint_loads.specs.Loads.{Comes, IsReadOf, IsText, IsFileText, IsModel, IsFamilyFile, IsUsable, IsUsableFamily, IsReadFault, long_file};
 
-use crate::fault::{Fault, Failure, file_fault};
+use crate::fault::{Failure, Fault, file_fault};
 use c_parser::{Family, read_family};
 use cpp_conditions::Model;
 use fam_outer::{FILE_BYTES, FileCode, FileRefusal, Files, Loaded, Place, Text};

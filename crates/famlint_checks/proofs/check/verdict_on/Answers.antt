@@ -4,7 +4,7 @@ use Rattle.cpp_conditions.specs.Numbering.{AreAllAmong}
 use Rattle.cpp_conditions.specs.Validity.{plain}
 use Rattle.interval_leaf.specs.Intervals.{intervals}
 use Rattle.invariant_certificate.specs.Verdicts.{IsVerdict, StopsAreListed}
-use Rattle.famlint_families.proofs.Analysed.{among_of}
+use Rattle.famlint_loads.proofs.Selecting.{among_of}
 use Rattle.famlint_checks.proofs.Checking.{lists_all}
 use Rattle.famlint_checks.proofs.check.verdict_on.Goals as goal
 

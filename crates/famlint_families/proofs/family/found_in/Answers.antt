@@ -4,7 +4,8 @@ use Rattle.cpp_conditions.specs.Propositions.{IsBelow}
 use Rattle.cpp_conditions.specs.Validity.{plain}
 use Rattle.cpp_conditions.specs.View.{formula}
 use Rattle.lifted_analysis.specs.Promises.{AreBelow}
-use Rattle.famlint_families.proofs.Analysed.{IsAnalysed, among_of, below_most, is_found, are_tested}
+use Rattle.famlint_loads.proofs.Selecting.{among_of}
+use Rattle.famlint_families.proofs.Analysed.{IsAnalysed, below_most, is_found, are_tested}
 use Rattle.famlint_families.proofs.family.found_in.Goals as goal
 
 pub plausible-requires-clause-among : goal.plausible-requires-clause-among

@@ -1,7 +1,7 @@
 //! `generate`, which names no files.
 
+use crate::cases::USAGE;
 use crate::comparing::gives;
-use famlint_core_cases::USAGE;
 use std::test::Fail;
 
 /// The text of one block is 63 bytes long by hand, that of three 164: block 1 counts `b` to 11 where `N` is at least 2.

@@ -1,7 +1,7 @@
 //! `project`, `variant` and `run` over files in memory.
 
+use crate::cases::USAGE;
 use crate::comparing::gives;
-use famlint_core_cases::USAGE;
 use std::test::Fail;
 
 #[test]

@@ -2,10 +2,11 @@
 
 ghost use Rattle.std.specs.Prelude.{◌≤◌};
 
+use crate::cases::{USAGE, content_of};
 use crate::comparing::{compares, gives, two_files};
+use crate::running::{memory_files, ran_over, words_of};
 use fam_outer::{MemorySink, NoMemory};
 use famlint_core::famlint;
-use famlint_core_cases::{USAGE, content_of, memory_files, ran_over, words_of};
 use std::alloc::Global;
 use std::process::Abort;
 use std::test::Fail;

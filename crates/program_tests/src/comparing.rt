@@ -1,6 +1,7 @@
 //! How commands are compared with what is wanted.
 
-use famlint_core_cases::{ran_over, ran_over_cases};
+use crate::cases::ran_over_cases;
+use crate::running::ran_over;
 use std::alloc::Global;
 use std::process::Abort;
 use std::test::Fail;
@@ -35,4 +36,18 @@ pub(crate) fn compares(
     let (status, output, told) = wanted;
     assert!(rt; ran.is(status, output, told), "at {line}");
     Ok(())
+}
+
+/// A model under the path `m`, and a file under the path `f`.
+pub(crate) fn two_files<'x>(model: &'x [u8], file: &'x [u8]) -> [(&'x str, &'x [u8]); 2] {
+    [("m", model), ("f", file)]
+}
+
+/// The same, and a certificate under the path `c`.
+pub(crate) fn three_files<'x>(
+    model: &'x [u8],
+    file: &'x [u8],
+    certificate: &'x [u8],
+) -> [(&'x str, &'x [u8]); 3] {
+    [("m", model), ("f", file), ("c", certificate)]
 }

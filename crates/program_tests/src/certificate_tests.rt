@@ -1,9 +1,10 @@
 //! `certify` and `check` over files in memory.
 
+use crate::cases::{USAGE, content_of};
 use crate::comparing::{compares, gives, three_files, two_files};
+use crate::running::ran_over;
 use fam_outer::NoMemory;
 use family_generator::generated_text;
-use famlint_core_cases::{USAGE, content_of, ran_over};
 use std::alloc::Global;
 use std::process::Abort;
 use std::test::Fail;

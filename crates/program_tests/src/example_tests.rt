@@ -1,9 +1,9 @@
 //! The example files: what is written beside each is what its command writes.
 
 use crate::example_files::{COMMANDS, FILES};
+use crate::running::words_of;
 use fam_outer::{CallNumbers, Entries, MemoryFiles, MemorySink, NoMemory, Text};
 use famlint_core::famlint;
-use famlint_core_cases::words_of;
 use std::alloc::Global;
 use std::test::Fail;
 

@@ -1,8 +1,9 @@
 //! The certificate of the queue, changed in one number or one literal at a time: what `check` says of the family is what it says of its
 //! members, one after another, each with the lines whose regions it meets.
 
+use crate::cases::content_of;
+use crate::running::{Ran, ran_over};
 use fam_outer::NoMemory;
-use famlint_core_cases::{Ran, content_of, ran_over};
 use memchr::memmem;
 use std::alloc::Global;
 use std::process::Abort;

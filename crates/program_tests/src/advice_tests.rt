@@ -1,7 +1,7 @@
 //! `advise` and `features` over files in memory.
 
+use crate::cases::USAGE;
 use crate::comparing::{compares, gives, two_files};
-use famlint_core_cases::USAGE;
 use std::alloc::Global;
 use std::test::Fail;
 

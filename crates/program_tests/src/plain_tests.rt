@@ -1,8 +1,9 @@
 //! The program over files and sinks in memory.
 
+use crate::cases::USAGE;
+use crate::running::{memory_files, ran_over, words_of};
 use fam_outer::{MemorySink, NoMemory};
 use famlint_core::famlint;
-use famlint_core_cases::{USAGE, memory_files, ran_over, words_of};
 use std::alloc::Global;
 use std::test::Fail;
 
