@@ -5,11 +5,11 @@ use Rattle.fam_outer.specs.declared.faults.FileCode.{FileCode}
 use Rattle.fam_outer.specs.declared.faults.Place.{Place}
 use Rattle.c_tree.specs.Tree.{Whole}
 use Rattle.c_parser.specs.Reading.{IsPlainRead, IsPlainReadOver}
-use Rattle.famlint_core.specs.declared.request.Analysis.{Analysis}
-use Rattle.famlint_core.specs.declared.fault.Done.{Done}
-use Rattle.famlint_core.specs.declared.fault.Fault.{Fault}
-use Rattle.famlint_core.specs.declared.fault.Fault.TheVariants as fault
-use Rattle.famlint_core.specs.Answers.{AnswersPlain, plain_done}
+use Rattle.famlint_requests.specs.declared.request.Analysis.{Analysis}
+use Rattle.famlint_loads.specs.declared.fault.Done.{Done}
+use Rattle.famlint_loads.specs.declared.fault.Fault.{Fault}
+use Rattle.famlint_loads.specs.declared.fault.Fault.TheVariants as fault
+use Rattle.famlint_programs.specs.ProgramAnswers.{AnswersPlain, plain_done}
 
 -- a file is read in one way
 abbrev pub OneReading : Type 0

@@ -53,21 +53,25 @@ use Rattle.invariant_certificate.specs.Passes.{is_inductive, is_covered, is_list
 use Rattle.invariant_certificate.specs.Verdicts.{IsVerdict}
 use Rattle.certificate_laws.specs.Certified.{IsWrittenOf, IsReadAndAccepted, WrittenAnalysesAreAccepted}
 use Rattle.certificate_laws.specs.Laws.{AreNames, FamiliesAreOfFiles}
-use Rattle.famlint_core.specs.declared.fault.Done.{Done}
-use Rattle.famlint_core.specs.declared.fault.Fault.{Fault}
-use Rattle.famlint_core.specs.declared.fault.Fault.TheVariants as fault
-use Rattle.famlint_core.specs.declared.product_line.ProductLine.{ProductLine}
-use Rattle.famlint_core.specs.declared.request.FamilyTask.TheVariants as task
-use Rattle.famlint_core.specs.declared.request.Request.{Request}
-use Rattle.famlint_core.specs.declared.request.Request.TheVariants as request
-use Rattle.famlint_core.specs.declared.request.Role.{Role}
-use Rattle.famlint_core.specs.Answers.{Contents, Answers, AnswersCheck, AsksOfCertified}
-use Rattle.famlint_core.specs.Checked.{IsCertificateFor, IsCheckDone, IsCheckRefused, IsCertified, IsYes, verdict_status}
-use Rattle.famlint_core.specs.Checked as checked
+use Rattle.famlint_loads.specs.declared.fault.Done.{Done}
+use Rattle.famlint_loads.specs.declared.fault.Fault.{Fault}
+use Rattle.famlint_loads.specs.declared.fault.Fault.TheVariants as fault
+use Rattle.famlint_loads.specs.declared.product_line.ProductLine.{ProductLine}
+use Rattle.famlint_requests.specs.declared.request.FamilyTask.TheVariants as task
+use Rattle.famlint_requests.specs.declared.request.Request.{Request}
+use Rattle.famlint_requests.specs.declared.request.Request.TheVariants as request
+use Rattle.famlint_requests.specs.declared.request.Role.{Role}
+use Rattle.famlint_loads.specs.Contents.{Contents}
+use Rattle.famlint_core.specs.Answers.{Answers, AsksOfCertified}
+use Rattle.famlint_checks.specs.Checked.{AnswersCheck}
+use Rattle.famlint_loads.specs.CertificateLoads.{ReadsCertificate, IsCheckRefused}
+use Rattle.famlint_checks.specs.Checked.{IsCheckDone, verdict_status}
+use Rattle.famlint_core.specs.Certified.{IsWrittenByCertify, IsYes}
+use Rattle.famlint_loads.specs.CertificateLoads as checked
 use Rattle.famlint_core.specs.Endings.{EndsWith, status_at}
-use Rattle.famlint_core.specs.FamilyReports.{IsFamilyDone}
-use Rattle.famlint_core.specs.Loads.{IsModel}
-use Rattle.famlint_core.specs.ProductLines.{IsProductLine}
+use Rattle.famlint_families.specs.FamilyReports.{IsFamilyDone}
+use Rattle.famlint_loads.specs.Loads.{IsModel}
+use Rattle.famlint_loads.specs.ProductLines.{IsProductLine}
 use Rattle.famlint_core.proofs.VariantOnce.{VariantLaws, same_line_model, no_line_refusal}
 
 -- what laws of lower crates say
@@ -241,7 +245,7 @@ verdict_over k l c verdict e h =
 
 -- ---- what is certified is written of an analysis
 
-written_of : (o : Options) (l : ProductLine) (done : Done) (bytes : List ℕ) → IsFamilyDone intervals o task.Certificate l done → bytes ≡ done.text
+written_of : (o : Options) (l : ProductLine) (done : Done) (bytes : List ℕ) → IsFamilyDone intervals o task.Certify l done → bytes ≡ done.text
     → IsWrittenOf o l.model (whole l.family.code) l.family.conditions l.family.atoms bytes
 written_of o l done bytes (loops, alarms, a, b, e) text = record {
   places = a.trees;
@@ -255,7 +259,7 @@ written_of o l done bytes (loops, alarms, a, b, e) text = record {
   text = text ∙ ap (λ (d : Done). d.text) e;
 }
 
-module _ (laws : CertifiedLaws) (m f bytes : List ℕ) (h : IsCertified m f bytes) where
+module _ (laws : CertifiedLaws) (m f bytes : List ℕ) (h : IsWrittenByCertify m f bytes) where
   abbrev l : ProductLine
   l = h.line
 
@@ -282,7 +286,7 @@ module _ (laws : CertifiedLaws) (m f bytes : List ℕ) (h : IsCertified m f byte
       d.status
       ∙ ap verdict_status (read_accepted k (Ok d.certificate) line d.is d.verdict (verdict_over k l d.certificate d.verdict (are_same laws m f k l line h.line_is) d.verdict_is))
 
-  not_refused : (k : ProductLine) (given : Fault) → IsProductLine m f k → IsCertificateFor k bytes (Err given) → ⊥
+  not_refused : (k : ProductLine) (given : Fault) → IsProductLine m f k → ReadsCertificate k bytes (Err given) → ⊥
   not_refused k (fault.Certificate given) line i = read_accepted k (Err (refusals.Fault given)) line i
   not_refused k (fault.Model given) line i = i
   not_refused k (fault.File code place example) line i = i
@@ -292,14 +296,14 @@ module _ (laws : CertifiedLaws) (m f bytes : List ℕ) (h : IsCertified m f byte
   never given (checked.no_product_line i) = no_line_refusal laws.once m f l given h.line_is i
   never given (checked.no_certificate k line i) = not_refused k given line i
 
-pub certified_yes : CertifiedLaws → (told : Contents) (answer : Result Done Fault) → IsCertified told.model told.file told.certificate → AnswersCheck told answer → IsYes answer
+pub certified_yes : CertifiedLaws → (told : Contents) (answer : Result Done Fault) → IsWrittenByCertify told.model told.file told.certificate → AnswersCheck told answer → IsYes answer
 certified_yes laws told (Ok done) h (k, line, d) = status_yes laws told.model told.file told.certificate h k done line d
 certified_yes laws told (Err given) h i = never laws told.model told.file told.certificate h given i
 
 -- ---- the request
 
 abbrev SaysYes : Type 0
-SaysYes = (told : Contents) (answer : Result Done Fault) → IsCertified told.model told.file told.certificate → AnswersCheck told answer → IsYes answer
+SaysYes = (told : Contents) (answer : Result Done Fault) → IsWrittenByCertify told.model told.file told.certificate → AnswersCheck told answer → IsYes answer
 
 asked_yes : SaysYes → (r : Request) (told : Contents) (answer : Result Done Fault) → AsksOfCertified r told → Answers r told answer → IsYes answer
 asked_yes law (request.Check model file certificate) told answer asked h = law told answer asked h

@@ -11,39 +11,41 @@ use Rattle.alarm_report.specs.declared.alarms.FamilyAlarm.{FamilyAlarm}
 use Rattle.configuration_advice.specs.declared.comparing.Advice.{Advice}
 use Rattle.invariant_certificate.specs.declared.verdicts.Verdict.{Verdict}
 use Rattle.invariant_certificate.specs.declared.verdicts.Verdict.TheVariants.{Yes, NotInductive, Unlisted}
-use Rattle.famlint_core.specs.Advised.{advice_status}
-use Rattle.famlint_core.specs.declared.request.Analysis.{Analysis}
-use Rattle.famlint_core.specs.declared.fault.Done.{Done}
-use Rattle.famlint_core.specs.declared.fault.Fault.{Fault}
-use Rattle.famlint_core.specs.declared.fault.Fault.TheVariants as fault
-use Rattle.famlint_core.specs.declared.fault.Stop.{Stop}
-use Rattle.famlint_core.specs.declared.fault.Stop.TheVariants as stop
-use Rattle.famlint_core.specs.declared.product_line.ProductLine.{ProductLine}
-use Rattle.famlint_core.specs.declared.request.FamilyTask.{FamilyTask}
-use Rattle.famlint_core.specs.declared.request.FamilyTask.TheVariants as families
-use Rattle.famlint_core.specs.declared.request.Request.{Request}
-use Rattle.famlint_core.specs.declared.request.Request.TheVariants as request
-use Rattle.famlint_core.specs.declared.request.Role.{Role}
-use Rattle.famlint_core.specs.declared.request.VariantTask.{VariantTask}
-use Rattle.famlint_core.specs.declared.request.VariantTask.TheVariants as task
-use Rattle.famlint_core.specs.declared.selected.Selected.{Selected}
-use Rattle.famlint_core.specs.Answers.{Contents, IsAccepted, IsDone, IsTold, Answers, plain_done, meaning_of}
-use Rattle.famlint_core.specs.Checked.{verdict_status}
+use Rattle.famlint_families.specs.Advised.{advice_status}
+use Rattle.famlint_requests.specs.declared.request.Analysis.{Analysis}
+use Rattle.famlint_loads.specs.declared.fault.Done.{Done}
+use Rattle.famlint_loads.specs.declared.fault.Fault.{Fault}
+use Rattle.famlint_loads.specs.declared.fault.Fault.TheVariants as fault
+use Rattle.famlint_loads.specs.declared.fault.Failure.{Failure}
+use Rattle.famlint_loads.specs.declared.fault.Failure.TheVariants as failure
+use Rattle.famlint_loads.specs.declared.product_line.ProductLine.{ProductLine}
+use Rattle.famlint_requests.specs.declared.request.FamilyTask.{FamilyTask}
+use Rattle.famlint_requests.specs.declared.request.FamilyTask.TheVariants as families
+use Rattle.famlint_requests.specs.declared.request.Request.{Request}
+use Rattle.famlint_requests.specs.declared.request.Request.TheVariants as request
+use Rattle.famlint_requests.specs.declared.request.Role.{Role}
+use Rattle.famlint_requests.specs.declared.request.VariantTask.{VariantTask}
+use Rattle.famlint_requests.specs.declared.request.VariantTask.TheVariants as task
+use Rattle.famlint_loads.specs.declared.selected.Selected.{Selected}
+use Rattle.famlint_loads.specs.Contents.{Contents}
+use Rattle.famlint_core.specs.Answers.{IsAccepted, IsTold, Answers}
+use Rattle.famlint_programs.specs.ProgramAnswers.{IsDone, plain_done, meaning_of}
+use Rattle.famlint_checks.specs.Checked.{verdict_status}
 use Rattle.famlint_core.specs.Endings.{IsEnded, EndsWith, status_at}
-use Rattle.famlint_core.specs.FamilyReports.{IsFamilyDone, family_status}
-use Rattle.famlint_core.specs.Faults.{status_of}
-use Rattle.famlint_core.specs.Loads.{Comes}
-use Rattle.famlint_core.specs.Report.{report_status, some_alarm, start_alarms}
-use Rattle.famlint_core.specs.Requests.{role_of}
+use Rattle.famlint_families.specs.FamilyReports.{IsFamilyDone, family_status}
+use Rattle.famlint_loads.specs.Faults.{status_of}
+use Rattle.famlint_loads.specs.Loads.{Comes}
+use Rattle.famlint_programs.specs.Report.{report_status, some_alarm, start_alarms}
+use Rattle.famlint_requests.specs.Requests.{role_of}
 
 -- what the work came to is what the program ended with
-pub ends_with : (MayBe : Result Done Fault → Type 0) (came : Result Done Stop) (role : Role) (status : ℕ)
+pub ends_with : (MayBe : Result Done Fault → Type 0) (came : Result Done Failure) (role : Role) (status : ℕ)
     (out out' err err' : Option (List ℕ)) (outs outs' errs errs' : ℕ)
     → Comes MayBe came → IsEnded came role status out out' err err' outs outs' errs errs' → EndsWith MayBe role status out out' err err' errs errs'
 ends_with MayBe (Ok done) role status out out' err err' outs outs' errs errs' comes ended = inr (inr (Ok done, comes, ended.ends))
-ends_with MayBe (Err (stop.Refused given)) role status out out' err err' outs outs' errs errs' comes ended = inr (inr (Err given, comes, ended.ends))
-ends_with MayBe (Err stop.ReadFault) role status out out' err err' outs outs' errs errs' comes ended = inl ended.ends.0
-ends_with MayBe (Err stop.NoMemory) role status out out' err err' outs outs' errs errs' comes ended = inr (inl ended.ends.0)
+ends_with MayBe (Err (failure.Refused given)) role status out out' err err' outs outs' errs errs' comes ended = inr (inr (Err given, comes, ended.ends))
+ends_with MayBe (Err failure.ReadFault) role status out out' err err' outs outs' errs errs' comes ended = inl ended.ends.0
+ends_with MayBe (Err failure.NoMemory) role status out out' err err' outs outs' errs errs' comes ended = inr (inl ended.ends.0)
 
 refused_high : (f : Fault) → 3 ≤ status_of f
 refused_high (fault.Model given) = omega arith
@@ -52,16 +54,16 @@ refused_high (fault.Settings given name) = omega arith
 refused_high (fault.Certificate given) = omega arith
 
 -- at 0 and 1 the whole output was appended, of which this holds
-pub appended : (P : ℕ → List ℕ → Type 0) (came : Result Done Stop) (role : Role) (status : ℕ) (out out' err err' : Option (List ℕ)) (outs outs' errs errs' : ℕ)
+pub appended : (P : ℕ → List ℕ → Type 0) (came : Result Done Failure) (role : Role) (status : ℕ) (out out' err err' : Option (List ℕ)) (outs outs' errs errs' : ℕ)
     → IfOk came (λ done. P done.status done.text) → IsEnded came role status out out' err err' outs outs' errs errs' → status ≤ 1
     → (text : List ℕ) × (out' ≡ append_known out text) × P status text
 appended P (Ok done) role status out out' err err' outs outs' errs errs' promised ended low =
     let e : status ≡ done.status = ended.ends.exact (omega (arith, low)) (omega (arith, low)) (omega (arith, low)) in
     (done.text, ended.ends.whole low, subst (λ (n : ℕ). P n done.text) (sym e) promised)
-appended P (Err (stop.Refused given)) role status out out' err err' outs outs' errs errs' promised ended low =
+appended P (Err (failure.Refused given)) role status out out' err err' outs outs' errs errs' promised ended low =
     let e : status ≡ status_of given = ended.ends.exact (omega (arith, low)) (omega (arith, low)) (omega (arith, low)) in absurd (omega (arith, low, e, refused_high given))
-appended P (Err stop.ReadFault) role status out out' err err' outs outs' errs errs' promised ended low = absurd (omega (arith, low, ended.ends.0))
-appended P (Err stop.NoMemory) role status out out' err err' outs outs' errs errs' promised ended low = absurd (omega (arith, low, ended.ends.0))
+appended P (Err failure.ReadFault) role status out out' err err' outs outs' errs errs' promised ended low = absurd (omega (arith, low, ended.ends.0))
+appended P (Err failure.NoMemory) role status out out' err err' outs outs' errs errs' promised ended low = absurd (omega (arith, low, ended.ends.0))
 
 -- ---- the request that was read
 
@@ -77,18 +79,18 @@ plain_low : (analysis : Analysis) (p : Whole) (done : Done) → done ≡ plain_d
 plain_low analysis p done e = rw e (report_status_low (start_alarms (meaning_of analysis.domain) analysis.options p))
 
 done_low : (t : VariantTask) (s : Selected) (done : Done) → IsDone t s done → done.status ≤ 1
-done_low task.Text s done h = omega (arith, h.1)
-done_low (task.Report analysis) s done (p, is, e) = plain_low analysis p done e
+done_low task.Project s done h = omega (arith, h.1)
+done_low (task.Variant analysis) s done (p, is, e) = plain_low analysis p done e
 done_low (task.Run steps inputs mode) s done (p, is, e) = rw e (omega arith)
 
 family_status_low : (alarms : List FamilyAlarm) → family_status alarms ≤ 1
 family_status_low alarms = elim (nat_lt 0 (length alarms)) as (λ b. (if b then 1 else 0) ≤ 1) [ true ↦ omega arith | false ↦ omega arith ]
 
 family_low : (M : LeafMeaning) (o : Options) (t : FamilyTask) (l : ProductLine) (done : Done) → IsFamilyDone M o t l done → done.status ≤ 1
-family_low M o families.Alarms l done (alarms, are, e) = rw e (family_status_low alarms)
+family_low M o families.Analyse l done (alarms, are, e) = rw e (family_status_low alarms)
 family_low M o families.Invariants l done (invariants, alarms, are, have, e) = rw e (family_status_low alarms)
-family_low M o families.Certificate l done (loops, alarms, are, have, e) = rw e (family_status_low alarms)
-family_low M o families.Sizes l done (alarms, are, e) = rw e (family_status_low alarms)
+family_low M o families.Certify l done (loops, alarms, are, have, e) = rw e (family_status_low alarms)
+family_low M o families.Generate l done (alarms, are, e) = rw e (family_status_low alarms)
 
 verdict_low : (verdict : Verdict) (done : Done) → done.status ≡ verdict_status verdict → done.status ≤ 1
 verdict_low Yes done e = omega (arith, e)
@@ -103,7 +105,7 @@ answered_low : (r : Request) (told : Contents) (done : Done) → Answers r told 
 answered_low (request.Plain file analysis) told done (p, reads, e) = plain_low analysis p done e
 answered_low (request.Variant model file settings t) told done (s, selected, is) = done_low t s done is
 answered_low (request.Family model file analysis t) told done (l, line, is) = family_low (meaning_of analysis.domain) analysis.options t l done is
-answered_low (request.Generate number analysis) told done (l, line, is) = family_low (meaning_of analysis.domain) analysis.options families.Sizes l done is
+answered_low (request.Generate number analysis) told done (l, line, is) = family_low (meaning_of analysis.domain) analysis.options families.Generate l done is
 answered_low (request.Check model file certificate) told done (l, line, is) = verdict_low is.verdict done is.status
 answered_low (request.Advice model file settings analysis) told done (s, selected, is) = advice_low is.found done is.status
 answered_low (request.Features model) told done (m, is, uses) = let e : done.status ≡ 0 = uses.status in omega (arith, e)
@@ -125,7 +127,7 @@ completed r told role status out out' err err' errs errs' accepted (inr (inr (Ok
 completed r told role status out out' err err' errs errs' accepted (inr (inr (Err given, answers, ends))) six seven = absurd (accepted given answers)
 
 -- the program ended with an answer to the request that was read
-pub by_role : (mine request : Request) (content : List ℕ → Option (List ℕ)) (told : Contents) (came : Result Done Stop) (failed : Option (List ℕ)) (role : Role) (status : ℕ)
+pub by_role : (mine request : Request) (content : List ℕ → Option (List ℕ)) (told : Contents) (came : Result Done Failure) (failed : Option (List ℕ)) (role : Role) (status : ℕ)
     (out out' err err' : Option (List ℕ)) (outs outs' errs errs' : ℕ) → mine ≡ request → (IsTold mine content told → Comes (Answers mine told) came)
     → role ≡ role_of mine failed → IsEnded came role status out out' err err' outs outs' errs errs' → IsTold request content told
     → EndsWith (Answers request told) (role_of request failed) status out out' err err' errs errs'

@@ -1,16 +1,4 @@
-pub mod Advising
-pub mod Analysed
 pub mod Answering
 pub mod Certified
-pub mod Certifying
-pub mod Checking
 pub mod Ended
-pub mod Foretold
-pub mod Generated
-pub mod Keys
-pub mod Loading
-pub mod Once
-pub mod Reached
-pub mod Reporting
-pub mod Selecting
 pub mod VariantOnce

@@ -20,20 +20,21 @@ use Rattle.c_tree.specs.Tree.{Whole}
 use Rattle.c_parser.specs.declared.family.Family.{Family}
 use Rattle.c_parser.specs.Reading.{IsPlainReadOver}
 use Rattle.c_parser.specs.Variants.{names_in, AreSameFamily, FamiliesAreNotRefused, FamiliesAreReadOnce, FamiliesAreRefusedOnce}
-use Rattle.famlint_core.specs.declared.fault.Done.{Done}
-use Rattle.famlint_core.specs.declared.fault.Fault.{Fault}
-use Rattle.famlint_core.specs.declared.fault.Fault.TheVariants as fault
-use Rattle.famlint_core.specs.declared.request.VariantTask.{VariantTask}
-use Rattle.famlint_core.specs.declared.request.VariantTask.TheVariants.{Text, Report, Run}
-use Rattle.famlint_core.specs.declared.product_line.ProductLine.{ProductLine}
-use Rattle.famlint_core.specs.declared.selected.Selected.{Selected}
-use Rattle.famlint_core.specs.Answers.{AnswersVariant, Contents, IsDone, plain_done, run_done}
-use Rattle.famlint_core.specs.Faults.{example_of, fault_of_settings}
-use Rattle.famlint_core.specs.Loads.{IsFamily, IsModel}
-use Rattle.famlint_core.specs.ProductLines as lines
-use Rattle.famlint_core.specs.ProductLines.{IsLineRefused, IsProductLine}
-use Rattle.famlint_core.specs.Selected as selected
-use Rattle.famlint_core.specs.Selected.{AreSelected, IsProgramOf, IsRefused, IsSettled}
+use Rattle.famlint_loads.specs.declared.fault.Done.{Done}
+use Rattle.famlint_loads.specs.declared.fault.Fault.{Fault}
+use Rattle.famlint_loads.specs.declared.fault.Fault.TheVariants as fault
+use Rattle.famlint_requests.specs.declared.request.VariantTask.{VariantTask}
+use Rattle.famlint_requests.specs.declared.request.VariantTask.TheVariants.{Project, Variant, Run}
+use Rattle.famlint_loads.specs.declared.product_line.ProductLine.{ProductLine}
+use Rattle.famlint_loads.specs.declared.selected.Selected.{Selected}
+use Rattle.famlint_programs.specs.ProgramAnswers.{AnswersVariant, IsDone, plain_done, run_done}
+use Rattle.famlint_loads.specs.Contents.{Contents}
+use Rattle.famlint_loads.specs.Faults.{example_of, fault_of_settings}
+use Rattle.famlint_loads.specs.Loads.{IsFamily, IsModel}
+use Rattle.famlint_loads.specs.ProductLines as lines
+use Rattle.famlint_loads.specs.ProductLines.{IsLineRefused, IsProductLine}
+use Rattle.famlint_loads.specs.Selected as selected
+use Rattle.famlint_loads.specs.Selected.{AreSelected, IsProgramOf, IsSelectionRefused, IsSettled}
 use Rattle.famlint_core.proofs.Answering.{OneReading}
 
 -- what laws of lower crates say
@@ -152,12 +153,12 @@ same_line_refusal laws m f x y (lines.no_model h) (lines.no_family b i k) = absu
 same_line_refusal laws m f x y (lines.no_family a i h) (lines.no_model k) = absurd (no_model_fault laws m a y i k)
 same_line_refusal laws m f x y (lines.no_family a i h) (lines.no_family b j k) = same_family_fault laws a b (same_model laws m a b i j) f x y h k
 
-no_refusal : VariantLaws → (m f : List ℕ) (words : List (List ℕ)) (s : Selected) (g : Fault) → AreSelected m f words s → IsRefused m f words g → ⊥
+no_refusal : VariantLaws → (m f : List ℕ) (words : List (List ℕ)) (s : Selected) (g : Fault) → AreSelected m f words s → IsSelectionRefused m f words g → ⊥
 no_refusal laws m f words s g h (selected.no_line k) = no_line_refusal laws m f s.line g h.line k
 no_refusal laws m f words s g h (selected.no_settings l i k) =
     no_settings_fault s.line.model l.model (same_line_model laws m f s.line l h.line i) words s.config.values g h.config k
 
-same_refusal : VariantLaws → (m f : List ℕ) (words : List (List ℕ)) (x y : Fault) → IsRefused m f words x → IsRefused m f words y → x ≡ y
+same_refusal : VariantLaws → (m f : List ℕ) (words : List (List ℕ)) (x y : Fault) → IsSelectionRefused m f words x → IsSelectionRefused m f words y → x ≡ y
 same_refusal laws m f words x y (selected.no_line h) (selected.no_line k) = same_line_refusal laws m f x y h k
 same_refusal laws m f words x y (selected.no_line h) (selected.no_settings l i k) = absurd (no_line_refusal laws m f l x i h)
 same_refusal laws m f words x y (selected.no_settings l i h) (selected.no_line k) = absurd (no_line_refusal laws m f l y i k)
@@ -210,8 +211,8 @@ abbrev done : List ℕ → ℕ → Done
 done text status = record { text = text; status = status }
 
 same_done : VariantLaws → (task : VariantTask) (s t : Selected) → AreSame s t → (x y : Done) → IsDone task s x → IsDone task t y → x ≡ y
-same_done laws Text s t e x y (h, i) (k, j) = ap (λ (b : List ℕ). done b x.status) (same_text laws s t e x.text y.text h k) ∙ ap (done y.text) (i ∙ sym j)
-same_done laws (Report analysis) s t e x y (p, h, i) (q, k, j) = i ∙ ap (plain_done analysis) (same_program laws s t e p q h k) ∙ sym j
+same_done laws Project s t e x y (h, i) (k, j) = ap (λ (b : List ℕ). done b x.status) (same_text laws s t e x.text y.text h k) ∙ ap (done y.text) (i ∙ sym j)
+same_done laws (Variant analysis) s t e x y (p, h, i) (q, k, j) = i ∙ ap (plain_done analysis) (same_program laws s t e p q h k) ∙ sym j
 same_done laws (Run steps inputs mode) s t e x y (p, h, i) (q, k, j) = i ∙ ap (run_done inputs steps mode) (same_program laws s t e p q h k) ∙ sym j
 
 -- a variant is answered once

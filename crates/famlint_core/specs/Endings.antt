@@ -1,15 +1,31 @@
 -- How the program ends.
-use Rattle.std.specs.Prelude.{ℕ, false, ◌≡◌, ◌≢◌, ◌≤◌, ◌⊎◌, ◌==◌, List, [], if◌then◌else◌, Option, Result, Ok, Err}
+use Rattle.std.specs.Prelude.{ℕ, false, ◌≡◌, ◌≢◌, ◌≤◌, ◌⊎◌, ◌==◌, List, [], codes, if◌then◌else◌, Option, Result, Ok, Err}
 use Rattle.std.specs.Io.KnownBytes.{append_known}
 use Rattle.fam_outer.specs.Causes.{Rose}
 use Rattle.fam_outer.specs.Writing.{Delivers, Reports}
-use Rattle.famlint_core.specs.declared.fault.Done.{Done}
-use Rattle.famlint_core.specs.declared.fault.Fault.{Fault}
-use Rattle.famlint_core.specs.declared.fault.Stop.{Stop}
-use Rattle.famlint_core.specs.declared.fault.Stop.TheVariants as stop
-use Rattle.famlint_core.specs.declared.request.Role.{Role}
-use Rattle.famlint_core.specs.Faults.{status_of, line_of, read_fault_line, write_fault_line, memory_line}
-use Rattle.famlint_core.specs.Loads.{IsReadFault}
+use Rattle.famlint_loads.specs.declared.fault.Done.{Done}
+use Rattle.famlint_loads.specs.declared.fault.Fault.{Fault}
+use Rattle.famlint_loads.specs.declared.fault.Failure.{Failure}
+use Rattle.famlint_loads.specs.declared.fault.Failure.TheVariants as failure
+use Rattle.famlint_requests.specs.declared.request.Role.{Role}
+use Rattle.famlint_loads.specs.Faults.{status_of, line_of}
+use Rattle.famlint_loads.specs.Loads.{IsReadFault}
+use Rattle.famlint_requests.specs.declared.request.Role.TheVariants as role
+
+abbrev pub usage_line : List ℕ
+usage_line = codes "usage: famlint plain FILE, project MODEL FILE SETTINGS, variant MODEL FILE SETTINGS, run MODEL FILE SETTINGS, analyse MODEL FILE, invariants MODEL FILE, generate NUMBER, certify MODEL FILE, check MODEL FILE CERTIFICATE, advise MODEL FILE SETTINGS, features MODEL\n"
+
+-- the line that tells a failed load
+abbrev pub read_fault_line : Role → List ℕ
+read_fault_line role.Model = codes "read fault: model\n"
+read_fault_line role.File = codes "read fault: file\n"
+read_fault_line role.Certificate = codes "read fault: certificate\n"
+
+abbrev pub write_fault_line : List ℕ
+write_fault_line = codes "write fault\n"
+
+abbrev pub memory_line : List ℕ
+memory_line = codes "want of memory\n"
 
 -- the status of an answer
 abbrev pub status_at : Result Done Fault → ℕ
@@ -50,11 +66,11 @@ EndsWith MayBe failed status out out' err err' errs errs' =
 
 -- what holds of the status by what the work came to: a failed load is 6 and want of memory 8, and what was done or refused ends
 -- with that answer
-abbrev pub EndsAs : Result Done Stop → Role → ℕ → Option (List ℕ) → Option (List ℕ) → Option (List ℕ) → Option (List ℕ) → ℕ → ℕ → Type 0
+abbrev pub EndsAs : Result Done Failure → Role → ℕ → Option (List ℕ) → Option (List ℕ) → Option (List ℕ) → Option (List ℕ) → ℕ → ℕ → Type 0
 EndsAs (Ok done) role status out out' err err' errs errs' = Ends (Ok done) role status out out' err err' errs errs'
-EndsAs (Err (stop.Refused fault)) role status out out' err err' errs errs' = Ends (Err fault) role status out out' err err' errs errs'
-EndsAs (Err stop.ReadFault) role status out out' err err' errs errs' = (status ≡ 6) × Reports err err' (read_fault_line role) errs errs'
-EndsAs (Err stop.NoMemory) role status out out' err err' errs errs' = (status ≡ 8) × Reports err err' memory_line errs errs'
+EndsAs (Err (failure.Refused fault)) role status out out' err err' errs errs' = Ends (Err fault) role status out out' err err' errs errs'
+EndsAs (Err failure.ReadFault) role status out out' err err' errs errs' = (status ≡ 6) × Reports err err' (read_fault_line role) errs errs'
+EndsAs (Err failure.NoMemory) role status out out' err err' errs errs' = (status ≡ 8) × Reports err err' memory_line errs errs'
 
 -- the line that tells a failed load, a failed write or want of memory
 pub record HasLines (failed : Role) (status : ℕ) (err err' : Option (List ℕ)) (errs errs' : ℕ) : Type 0 where
@@ -63,7 +79,7 @@ pub record HasLines (failed : Role) (status : ℕ) (err err' : Option (List ℕ)
   pub memory : status ≡ 8 → Reports err err' memory_line errs errs'
 
 -- the run ended with what the work came to
-pub record IsEnded (came : Result Done Stop) (failed : Role) (status : ℕ) (out out' err err' : Option (List ℕ)) (outs outs' errs errs' : ℕ) : Type 0 where
+pub record IsEnded (came : Result Done Failure) (failed : Role) (status : ℕ) (out out' err err' : Option (List ℕ)) (outs outs' errs errs' : ℕ) : Type 0 where
   pub known : status ≤ 9
   pub no_usage : status ≢ 2
   pub read : status ≡ 6 → IsReadFault came

@@ -4,11 +4,11 @@
 ghost use Rattle.std.specs.Prelude.{◌≡◌, ◌≤◌, IfOk};
 ghost use Rattle.fam_outer.specs.Writing.{Reports};
 ghost use Rattle.famlint_core.specs.Endings.{IsEnded};
-ghost use Rattle.famlint_core.specs.Faults.{read_fault_line, usage_line, memory_line};
+ghost use Rattle.famlint_core.specs.Endings.{read_fault_line, usage_line, memory_line};
 
-use crate::fault::{Done, Stop};
-use crate::request::Role;
 use fam_outer::{Sink, write_all};
+use famlint_loads::{Done, Failure};
+use famlint_requests::Role;
 use std::alloc::Global;
 
 /// The usage of the program.
@@ -60,7 +60,7 @@ pub fn give_up<E: Sink>(err: &mut E) -> u8
 /// Ends the program with what the work came to.
 pub fn end<S: Sink, E: Sink>(
     alloc: Global,
-    came: &Result<Done, Stop>,
+    came: &Result<Done, Failure>,
     failed: Role,
     out: &mut S,
     err: &mut E,
@@ -71,12 +71,12 @@ pub fn end<S: Sink, E: Sink>(
         (S.faults out.old) (S.faults out.new) (E.faults err.old) (E.faults err.new) }
 {
     match came {
-        Err(Stop::NoMemory) => give_up(err),
-        Err(Stop::ReadFault) => {
+        Err(Failure::NoMemory) => give_up(err),
+        Err(Failure::ReadFault) => {
             tell(err, role_line(failed));
             6
         }
-        Err(Stop::Refused(fault)) => match fault.line(alloc) {
+        Err(Failure::Refused(fault)) => match fault.line(alloc) {
             Err(_) => give_up(err),
             Ok(line) => {
                 tell(err, line.bytes());

@@ -2,12 +2,14 @@
 #![tactic(auto)]
 
 ghost use Rattle.std.specs.Prelude.{◌≡◌, ℕ, List, Result};
-ghost use Rattle.famlint_core.specs.declared.request.Analysis.{Analysis};
-ghost use Rattle.famlint_core.specs.declared.request.VariantTask.{VariantTask};
-ghost use Rattle.famlint_core.specs.declared.fault.Done.{Done};
-ghost use Rattle.famlint_core.specs.declared.fault.Fault.{Fault};
-ghost use Rattle.famlint_core.specs.Answers.{AnswersCheck, AnswersPlain, AnswersVariant, Contents};
-ghost use Rattle.famlint_core.specs.Checked.{IsCertified, IsYes};
+ghost use Rattle.famlint_requests.specs.declared.request.Analysis.{Analysis};
+ghost use Rattle.famlint_requests.specs.declared.request.VariantTask.{VariantTask};
+ghost use Rattle.famlint_loads.specs.declared.fault.Done.{Done};
+ghost use Rattle.famlint_loads.specs.declared.fault.Fault.{Fault};
+ghost use Rattle.famlint_checks.specs.Checked.{AnswersCheck};
+ghost use Rattle.famlint_programs.specs.ProgramAnswers.{AnswersPlain, AnswersVariant};
+ghost use Rattle.famlint_loads.specs.Contents.{Contents};
+ghost use Rattle.famlint_core.specs.Certified.{IsWrittenByCertify, IsYes};
 
 use c_parser::laws::{reads_at_most_once, reads_something};
 use c_parser::variants::families_are_read_once;
@@ -41,7 +43,7 @@ pub fn variants_have_one_answer()
 /// What `certify` writes of a model and a file, if it is not too long, `check` of these has no answer to but yes.
 pub fn certificates_are_accepted()
     ensures { (told : Contents) (answer : Result Done Fault)
-        → IsCertified told.model told.file told.certificate → AnswersCheck told answer → IsYes answer }
+        → IsWrittenByCertify told.model told.file told.certificate → AnswersCheck told answer → IsYes answer }
 {
     bytes_say_one_model();
     families_are_read_once();

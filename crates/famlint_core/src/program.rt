@@ -6,27 +6,29 @@ ghost use Rattle.std.specs.Io.KnownBytes.{append_known};
 ghost use Rattle.fam_outer.specs.Causes.{Rose};
 ghost use Rattle.fam_outer.specs.Writing.{Reports};
 ghost use Rattle.command_words.specs.Arguments.{texts_of};
-ghost use Rattle.famlint_core.specs.declared.request.Request.{Request};
-ghost use Rattle.famlint_core.specs.Answers.{Contents, IsTold, IsAccepted, IsLoaded, Answers, Promised, AsksOfCertified};
+ghost use Rattle.famlint_requests.specs.declared.request.Request.{Request};
+ghost use Rattle.famlint_loads.specs.Contents.{Contents};
+ghost use Rattle.famlint_core.specs.Answers.{IsTold, IsAccepted, IsLoaded, Answers, Promised, AsksOfCertified};
 ghost use Rattle.famlint_core.specs.Endings.{EndsWith, HasLines};
-ghost use Rattle.famlint_core.specs.Faults.{usage_line, memory_line};
-ghost use Rattle.famlint_core.specs.Loads.{IsOneOf};
-ghost use Rattle.famlint_core.specs.Requests.{reading, paths_of, role_of};
+ghost use Rattle.famlint_core.specs.Endings.{usage_line, memory_line};
+ghost use Rattle.famlint_loads.specs.Loads.{IsOneOf};
+ghost use Rattle.famlint_requests.specs.Requests.{reading, paths_of, role_of};
 
 use crate::ending::{end, give_up, refuse};
 use crate::laws::certificates_are_accepted;
-use crate::request::read_request;
 use crate::work::work;
 use command_words::WordsRefusal;
 use fam_outer::{Files, Sink};
+use famlint_requests::read_request;
 use std::alloc::Global;
 
 /// Does all that the program does, and answers its status. `words` are those after the program's
 /// name.
 ///
-/// 0 and 1: done, and 1 exactly where the output has an alarm. 2: the words are refused. 3: the
-/// model's bytes are refused. 4: the file's are. 5: the settings are. 6: a load failed. 7: a write to `out` failed. 8: want of memory. At 2
-/// to 8 one line on `err` tells the fault.
+/// 0 and 1: done, and 1 exactly where the output has an alarm, where `advise` has no advice, and where `check` finds that the
+/// certificate does not hold. 2: the words are refused. 3: the model's bytes are refused. 4: the file's are. 5: the settings are.
+/// 6: a load failed. 7: a write to `out` failed. 8: want of memory. 9: the certificate's bytes are refused, with an E code. At 2 to 9
+/// one line on `err` tells the fault.
 pub fn famlint<F: Files, S: Sink, E: Sink>(
     alloc: Global,
     words: &[String],

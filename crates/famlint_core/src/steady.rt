@@ -4,12 +4,13 @@
 ghost use Rattle.std.specs.Prelude.{◌≡◌, ◌≢◌, [], Some, Result, unwrap_or};
 ghost use Rattle.fam_outer.specs.Memory.{entry_of};
 ghost use Rattle.command_words.specs.Arguments.{texts_of};
-ghost use Rattle.famlint_core.specs.declared.fault.Done.{Done};
-ghost use Rattle.famlint_core.specs.declared.fault.Fault.{Fault};
-ghost use Rattle.famlint_core.specs.declared.request.Request.{Request};
-ghost use Rattle.famlint_core.specs.Answers.{Contents, IsTold, Answers};
+ghost use Rattle.famlint_loads.specs.declared.fault.Done.{Done};
+ghost use Rattle.famlint_loads.specs.declared.fault.Fault.{Fault};
+ghost use Rattle.famlint_requests.specs.declared.request.Request.{Request};
+ghost use Rattle.famlint_loads.specs.Contents.{Contents};
+ghost use Rattle.famlint_core.specs.Answers.{IsTold, Answers};
 ghost use Rattle.famlint_core.specs.Endings.{status_at};
-ghost use Rattle.famlint_core.specs.Requests.{reading};
+ghost use Rattle.famlint_requests.specs.Requests.{reading};
 
 use crate::program::famlint;
 use fam_outer::{SteadyFiles, SteadySink};

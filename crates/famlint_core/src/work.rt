@@ -1,34 +1,26 @@
 //! What is done for a request: its loads, and then its work.
 #![tactic(auto)]
 
-mod advice;
-mod certify;
-mod check;
-mod family;
-mod features;
-mod generate;
-mod plain;
-mod variant;
-
 ghost use Rattle.std.specs.Prelude.{◌≡◌, ◌≤◌, IfOk};
-ghost use Rattle.famlint_core.specs.Answers.{Contents, IsTold, Answers, Promised, IsLoaded};
-ghost use Rattle.famlint_core.specs.Loads.{Comes, IsReadFault, IsReadOf};
-ghost use Rattle.famlint_core.specs.Requests.{paths_of, IsWithinRanges};
+ghost use Rattle.famlint_loads.specs.Contents.{Contents};
+ghost use Rattle.famlint_core.specs.Answers.{IsTold, Answers, Promised, IsLoaded};
+ghost use Rattle.famlint_loads.specs.Loads.{Comes, IsReadFault, IsReadOf};
+ghost use Rattle.famlint_requests.specs.Requests.{paths_of, IsWithinRanges};
 
-use crate::fault::{Done, Stop};
-use crate::request::Request;
-use crate::work::advice::advice;
-use crate::work::check::check;
-use crate::work::family::family;
-use crate::work::features::features;
-use crate::work::generate::generate;
-use crate::work::plain::plain;
-use crate::work::variant::variant;
 use fam_outer::Files;
+use famlint_checks::check::check;
+use famlint_families::advice::advice;
+use famlint_families::family::family;
+use famlint_families::features::features;
+use famlint_families::generate::generate;
+use famlint_loads::{Done, Failure};
+use famlint_programs::plain::plain;
+use famlint_programs::variant::variant;
+use famlint_requests::Request;
 use std::alloc::Global;
 
 /// Does what a request asks for: first the loads, then the work.
-pub fn work<F: Files>(alloc: Global, request: &Request, files: &mut F) -> Result<Done, Stop>
+pub fn work<F: Files>(alloc: Global, request: &Request, files: &mut F) -> Result<Done, Failure>
     requires { IsWithinRanges request.now }
     ensures answer { (told : Contents) → IsTold request.now (F.content files.old) told
         → Comes (Answers request.now told) result }

@@ -2,7 +2,7 @@ use Rattle.std.proofs.Common.{◌≡◌, Some, rules, subst, sym}
 use Rattle.std.specs.Prelude.{IfOk}
 use Rattle.command_words.specs.Arguments.{texts_of}
 use Rattle.famlint_core.specs.Answers.{IsTold, Promised}
-use Rattle.famlint_core.specs.Requests.{reading}
+use Rattle.famlint_requests.specs.Requests.{reading}
 use Rattle.famlint_core.proofs.Certified.{certified}
 use Rattle.famlint_core.proofs.Ended.{appended, same_request, by_role}
 use Rattle.famlint_core.proofs.program.famlint.Goals as goal

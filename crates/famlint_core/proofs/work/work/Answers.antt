@@ -1,7 +1,7 @@
 use Rattle.std.proofs.Common.{subst, sym}
 use Rattle.std.specs.Prelude.{IfOk, Ok}
 use Rattle.famlint_core.specs.Answers.{IsTold, IsLoaded, Answers, Promised}
-use Rattle.famlint_core.specs.Loads.{Comes}
+use Rattle.famlint_loads.specs.Loads.{Comes}
 use Rattle.famlint_core.proofs.work.work.Goals as goal
 
 pub returns-in-Plain-clause-promise : goal.returns-in-Plain-clause-promise

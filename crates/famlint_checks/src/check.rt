@@ -1,0 +1,158 @@
+//! `check`: whether a certificate holds of a family, without the analysis.
+#![tactic(auto)]
+
+ghost use Rattle.std.specs.Prelude.{◌≡◌, ◌≤◌, ℕ, List, [], ◌∷◌, Some, IfOk, length};
+ghost use Rattle.famlint_checks.specs.Checked.{AnswersCheck, PromisedCheck};
+ghost use Rattle.famlint_loads.specs.Contents.{Contents};
+ghost use Rattle.famlint_loads.specs.CertificateLoads.{ReadsCertificate, IsUsableCertificate, IsLoadedForCheck};
+ghost use Rattle.famlint_checks.specs.Checked.{IsCheckDone, IsCheckPromised, ListsAllStops, no_text, verdict_text, verdict_status as status_of};
+ghost use Rattle.famlint_loads.specs.Loads.{Comes, IsReadFault, IsReadOf};
+ghost use Rattle.famlint_loads.specs.ProductLines.{IsUsableLine};
+ghost use Rattle.c_tree.specs.View.{whole};
+ghost use Rattle.interval_leaf.specs.Intervals.{intervals};
+ghost use Rattle.invariant_certificate.specs.declared.verdicts.Verdict.TheVariants.{Yes};
+ghost use Rattle.invariant_certificate.specs.Verdicts.{IsVerdict};
+
+use alarm_report::kind_text;
+use alarm_report::texts::push_place;
+use c_parser::variants::variants_are_projections;
+use certificate_format::Certificate;
+use command_words::Word;
+use fam_outer::{Files, NoMemory, Place, Text};
+use famlint_loads::{Done, Failure, ProductLine, load_certificate, load_product_line};
+use interval_leaf::IntervalLeaf;
+use invariant_certificate::{Verdict, check as check_all};
+use linear_atoms::{Config, Feature, config_text};
+use std::alloc::Global;
+
+/// The line of a place at which a certificate does not hold: what is wrong there, and the configuration.
+fn no_line(
+    alloc: Global,
+    features: &[Feature],
+    place: Place,
+    what: &str,
+    config: &Config,
+) -> Result<Text, NoMemory>
+    ensures { IfOk result (λ text. text ≡ no_text features.now place what.now config.now.values) }
+{
+    let mut text = Vec::from_slice(alloc, b"certificate: no: ")?;
+    push_place(alloc, &mut text, place)?;
+    text.push(b' ')?;
+    text.extend_from_slice(what.as_bytes())?;
+    text.extend_from_slice(b"; example ")?;
+    let example = config_text(alloc, features, config.values.items())?;
+    text.extend_from_slice(example.bytes())?;
+    text.push(b'\n')?;
+    Ok(Text::from_vec(text))
+}
+
+/// The line of a verdict on a certificate with so many alarm lines.
+fn verdict_line(
+    alloc: Global,
+    features: &[Feature],
+    alarms: usize,
+    verdict: &Verdict,
+) -> Result<Text, NoMemory>
+    ensures { IfOk result (λ text. text ≡ verdict_text features.now alarms verdict.now) }
+{
+    match verdict {
+        Verdict::Yes => {
+            let text = format!(in alloc; "certificate: yes, {alarms} alarms\n")?;
+            Ok(Text::from_vec(text.into_bytes()))
+        }
+        Verdict::NotInductive(place, config) => no_line(alloc, features, *place, "loop", config),
+        Verdict::Unlisted(place, kind, config) => {
+            no_line(alloc, features, *place, kind_text(*kind), config)
+        }
+    }
+}
+
+/// 0 where it is yes.
+fn verdict_status(verdict: &Verdict) -> u8
+    ensures value { result ≡ status_of verdict.now }
+    ensures low { result ≤ 1 }
+    ensures yes { result ≡ 0 → verdict.now ≡ Yes }
+{
+    match verdict {
+        Verdict::Yes => 0,
+        Verdict::NotInductive(_, _) | Verdict::Unlisted(_, _, _) => 1,
+    }
+}
+
+/// The verdict on a certificate, by intervals.
+fn verdict_on(
+    alloc: Global,
+    line: &ProductLine,
+    certificate: &Certificate,
+) -> Result<Verdict, NoMemory>
+    requires line { IsUsableLine line.now }
+    requires certificate { IsUsableCertificate line.now certificate.now }
+    ensures verdict { IfOk result (λ verdict. IsVerdict intervals line.now.model (whole line.now.family.code)
+        line.now.family.conditions line.now.family.atoms certificate.now verdict) }
+    ensures sound { IfOk result (λ verdict. verdict ≡ Yes → ListsAllStops line.now certificate.now) }
+{
+    variants_are_projections();
+    let family = &line.family;
+    let conditions = family.conditions.items();
+    let atoms = family.atoms.items();
+    let verdict = check_all::<IntervalLeaf>(
+        alloc,
+        &line.model,
+        &family.code,
+        conditions,
+        atoms,
+        certificate,
+    )?;
+    Ok(verdict)
+}
+
+/// What the check of a certificate comes to.
+fn check_done(
+    alloc: Global,
+    line: &ProductLine,
+    certificate: &Certificate,
+) -> Result<Done, NoMemory>
+    requires line { IsUsableLine line.now }
+    requires certificate { IsUsableCertificate line.now certificate.now }
+    ensures answer { IfOk result (λ done. (bytes : List ℕ) → ReadsCertificate line.now bytes (Ok certificate.now)
+        → IsCheckDone line.now bytes done) }
+    ensures promise { IfOk result (λ done. (bytes : List ℕ) → ReadsCertificate line.now bytes (Ok certificate.now)
+        → IsCheckPromised line.now bytes done.status) }
+    ensures status { IfOk result (λ done. done.status ≤ 1) }
+{
+    let verdict = verdict_on(alloc, line, certificate)?;
+    let alarms = certificate.alarms.as_slice().len();
+    Ok(Done {
+        text: verdict_line(alloc, line.model.features.items(), alarms, &verdict)?,
+        status: verdict_status(&verdict),
+    })
+}
+
+/// The work of `check`.
+pub fn check<F: Files>(
+    alloc: Global,
+    model: &Word,
+    file: &Word,
+    certificate: &Word,
+    files: &mut F,
+) -> Result<Done, Failure>
+    ensures answer { (told : Contents) → F.content files.old model.now ≡ Some told.model
+        → F.content files.old file.now ≡ Some told.file
+        → F.content files.old certificate.now ≡ Some told.certificate
+        → Comes (AnswersCheck told) result }
+    ensures promise { (told : Contents) → F.content files.old model.now ≡ Some told.model
+        → F.content files.old file.now ≡ Some told.file
+        → F.content files.old certificate.now ≡ Some told.certificate
+        → IfOk result (λ done. PromisedCheck told done.status) }
+    ensures status { IfOk result (λ done. done.status ≤ 1) }
+    ensures order { (m f : List ℕ) → F.content files.old model.now ≡ Some m
+        → F.content files.old file.now ≡ Some f → IsReadFault result
+        → IsLoadedForCheck model.now file.now certificate.now m f (F.failed files.new) }
+    ensures kept { F.content files.new ≡ F.content files.old }
+    ensures read { IsReadOf (model.now ∷ file.now ∷ certificate.now ∷ [])
+        (F.faults files.old) (F.faults files.new) (F.failed files.new) result }
+{
+    let line = load_product_line(alloc, model.as_str(), file.as_str(), files)?;
+    let certificate = load_certificate(alloc, &line, certificate.as_str(), files)?;
+    Ok(check_done(alloc, &line, &certificate)?)
+}

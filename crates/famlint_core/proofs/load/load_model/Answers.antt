@@ -1,9 +1,0 @@
-use Rattle.std.proofs.Common.{◌≡◌, Err, sym, subst, rules}
-use Rattle.famlint_core.specs.Loads.{Comes, IsModel}
-use Rattle.famlint_core.proofs.Loading.{model_refused}
-use Rattle.famlint_core.proofs.load.load_model.Goals as goal
-
-pub returns-in_err-text-clause-model : goal.returns-in_err-text-clause-model
-returns-in_err-text-clause-model g c = λ bytes told.
-    let e : c.from_residual.result ≡ Err c.in_err-text.field-0.0 = search rules in
-    subst (λ r. Comes (IsModel bytes) r) (sym e) (model_refused bytes c.in_err-text.field-0.0 (c.in_err-text.ensures.text bytes told))

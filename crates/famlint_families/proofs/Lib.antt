@@ -1,0 +1,5 @@
+pub mod Advising
+pub mod Analysed
+pub mod Certifying
+pub mod Foretold
+pub mod Generated

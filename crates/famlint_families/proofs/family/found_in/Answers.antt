@@ -1,0 +1,65 @@
+use Rattle.std.proofs.Common.{length, sym, subst}
+use Rattle.cpp_conditions.specs.Numbering.{AreAllAmong}
+use Rattle.cpp_conditions.specs.Propositions.{IsBelow}
+use Rattle.cpp_conditions.specs.Validity.{plain}
+use Rattle.cpp_conditions.specs.View.{formula}
+use Rattle.lifted_analysis.specs.Promises.{AreBelow}
+use Rattle.famlint_loads.proofs.Selecting.{among_of}
+use Rattle.famlint_families.proofs.Analysed.{IsAnalysed, below_most, is_found, are_tested}
+use Rattle.famlint_families.proofs.family.found_in.Goals as goal
+
+pub plausible-requires-clause-among : goal.plausible-requires-clause-among
+plausible-requires-clause-among g c =
+    let l = c.args.line.now in
+    subst (λ atoms. AreAllAmong atoms (plain l.model).constraints) (sym c.items.ensures) (among_of l c.requires)
+
+pub analyse_family-requires-clause-below : goal.analyse_family-requires-clause-below
+analyse_family-requires-clause-below g c =
+    let l = c.args.line.now in
+    let p = c.in_ok-plausible.plausible in
+    let below : IsBelow (length l.family.atoms) (formula p) = subst (λ atoms. IsBelow (length atoms) (formula p)) c.items.ensures c.in_ok-plausible.ensures.below in
+    subst (λ cs. AreBelow 64 cs p) (sym c.items-conditions.ensures) (below_most l c.requires p below)
+
+pub returns-clause-found : goal.returns-clause-found
+returns-clause-found g c =
+    let l = c.args.line.now in
+    let p = c.in_ok-plausible.plausible in
+    let f = c.in_ok-findings.findings in
+    let value = g.L.Leaf.value in
+    let M = g.L.Leaf.meaning in
+    let o = c.args.options.now in
+    let given : IsAnalysed value M o l p f c.items.result.now c.items-conditions.result.now = record {
+      plausible = c.in_ok-plausible.ensures.exact;
+      below = c.in_ok-plausible.ensures.below;
+      valid = c.in_ok-plausible.ensures.valid;
+      places = c.in_ok-findings.ensures.places;
+      trees = c.in_ok-findings.ensures.trees;
+      kinds = c.in_ok-findings.ensures.kinds;
+      alarms = c.in_ok-findings.ensures.alarms;
+      tests = c.in_ok-findings.ensures.below;
+      runs = c.in_ok-findings.ensures.runs;
+    } in
+    let all = subst (λ atoms. IsAnalysed value M o l p f atoms l.family.conditions) c.items.ensures (subst (λ cs. IsAnalysed value M o l p f c.items.result.now cs) c.items-conditions.ensures given) in
+    is_found value M o l c.requires p f all
+
+pub returns-clause-tested : goal.returns-clause-tested
+returns-clause-tested g c =
+    let l = c.args.line.now in
+    let p = c.in_ok-plausible.plausible in
+    let f = c.in_ok-findings.findings in
+    let value = g.L.Leaf.value in
+    let M = g.L.Leaf.meaning in
+    let o = c.args.options.now in
+    let given : IsAnalysed value M o l p f c.items.result.now c.items-conditions.result.now = record {
+      plausible = c.in_ok-plausible.ensures.exact;
+      below = c.in_ok-plausible.ensures.below;
+      valid = c.in_ok-plausible.ensures.valid;
+      places = c.in_ok-findings.ensures.places;
+      trees = c.in_ok-findings.ensures.trees;
+      kinds = c.in_ok-findings.ensures.kinds;
+      alarms = c.in_ok-findings.ensures.alarms;
+      tests = c.in_ok-findings.ensures.below;
+      runs = c.in_ok-findings.ensures.runs;
+    } in
+    let all = subst (λ atoms. IsAnalysed value M o l p f atoms l.family.conditions) c.items.ensures (subst (λ cs. IsAnalysed value M o l p f c.items.result.now cs) c.items-conditions.ensures given) in
+    are_tested value M o l c.requires p f all

@@ -1,0 +1,63 @@
+-- What the commands on all variants are answered, and what is promised of it: `analyse`, `invariants`, `certify`, `generate`, `advise` and
+-- `features`.
+use Rattle.std.specs.Prelude.{ℕ, List, Result, Ok, Err}
+use Rattle.cpp_conditions.specs.declared.models.Model.{Model}
+use Rattle.famlint_requests.specs.declared.request.Analysis.{Analysis}
+use Rattle.famlint_loads.specs.declared.fault.Done.{Done}
+use Rattle.famlint_loads.specs.declared.fault.Fault.{Fault}
+use Rattle.famlint_loads.specs.declared.product_line.ProductLine.{ProductLine}
+use Rattle.famlint_requests.specs.declared.request.FamilyTask.{FamilyTask}
+use Rattle.famlint_requests.specs.declared.request.FamilyTask.TheVariants.{Generate}
+use Rattle.famlint_loads.specs.declared.selected.Selected.{Selected}
+use Rattle.famlint_families.specs.Advised.{IsAdviseDone, TellsGoodAdvice}
+use Rattle.famlint_families.specs.FamilyReports.{IsFamilyDone}
+use Rattle.famlint_families.specs.FeatureUses.{AreUsesDone}
+use Rattle.famlint_families.specs.Generated.{IsGeneratedLine}
+use Rattle.famlint_families.specs.Headline.{PromisedOfAll}
+use Rattle.famlint_loads.specs.Loads.{IsModel}
+use Rattle.famlint_loads.specs.ProductLines.{IsProductLine, IsLineRefused}
+use Rattle.famlint_loads.specs.Selected.{AreSelected, IsSelectionRefused}
+use Rattle.famlint_programs.specs.ProgramAnswers.{meaning_of}
+use Rattle.famlint_loads.specs.Contents.{Contents}
+
+-- what is asked of all variants at once, or the refusal of the model or the file
+abbrev pub AnswersFamily : Analysis → FamilyTask → Contents → Result Done Fault → Type 0
+AnswersFamily analysis task told (Ok done) =
+    (l : ProductLine) × IsProductLine told.model told.file l × IsFamilyDone (meaning_of analysis.domain) analysis.options task l done
+AnswersFamily analysis task told (Err fault) = IsLineRefused told.model told.file fault
+
+-- the sizes and the alarms of the family that is generated for a number
+abbrev pub IsGenerateDone : Analysis → ℕ → Done → Type 0
+IsGenerateDone analysis number done =
+    (l : ProductLine) × IsGeneratedLine number l × IsFamilyDone (meaning_of analysis.domain) analysis.options Generate l done
+
+-- no fault answers it: each generated family is accepted
+abbrev pub AnswersGenerate : Analysis → ℕ → Result Done Fault → Type 0
+AnswersGenerate analysis number (Ok done) = IsGenerateDone analysis number done
+AnswersGenerate analysis number (Err fault) = ⊥
+
+-- the advice for the configuration that settings give, or the refusal of the model, the file or the settings
+abbrev pub AnswersAdvice : Analysis → List (List ℕ) → Contents → Result Done Fault → Type 0
+AnswersAdvice analysis settings told (Ok done) =
+    (s : Selected) × AreSelected told.model told.file settings s × IsAdviseDone (meaning_of analysis.domain) analysis.options s.line s.config.values done
+AnswersAdvice analysis settings told (Err fault) = IsSelectionRefused told.model told.file settings fault
+
+-- what the model leaves open, or its refusal
+abbrev pub AnswersFeatures : List ℕ → Result Done Fault → Type 0
+AnswersFeatures bytes (Ok done) = (model : Model) × IsModel bytes (Ok model) × AreUsesDone model done
+AnswersFeatures bytes (Err fault) = IsModel bytes (Err fault)
+
+-- what is promised of the report on all variants: see `Headline`
+abbrev pub PromisedFamily : Analysis → FamilyTask → Contents → ℕ → List ℕ → Type 0
+PromisedFamily analysis task told status text =
+    (l : ProductLine) × IsProductLine told.model told.file l × PromisedOfAll (meaning_of analysis.domain) analysis.options task l status text
+
+-- what is promised of the report on a generated family: as of each family
+abbrev pub PromisedGenerate : Analysis → ℕ → ℕ → List ℕ → Type 0
+PromisedGenerate analysis number status text =
+    (l : ProductLine) × IsGeneratedLine number l × PromisedOfAll (meaning_of analysis.domain) analysis.options Generate l status text
+
+-- what is promised of advice: see `Advised`
+abbrev pub PromisedAdvice : Analysis → List (List ℕ) → Contents → ℕ → List ℕ → Type 0
+PromisedAdvice analysis settings told status text =
+    (s : Selected) × AreSelected told.model told.file settings s × TellsGoodAdvice (meaning_of analysis.domain) analysis.options s.line s.config.values status text

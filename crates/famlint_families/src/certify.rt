@@ -1,0 +1,77 @@
+//! `certify`: the invariants of the loops of a family and its alarms, as a text.
+#![tactic(auto)]
+
+ghost use Rattle.std.specs.Prelude.{◌≡◌, IfOk, length, map};
+ghost use Rattle.std.specs.List.{All};
+ghost use Rattle.linear_atoms.specs.Atoms.{AreLiterals};
+ghost use Rattle.plain_analysis.specs.declared.options.Options.{Options};
+ghost use Rattle.alarm_report.specs.declared.alarms.FamilyAlarm.{FamilyAlarm};
+ghost use Rattle.alarm_report.specs.declared.invariants.FamilyInvariant.{FamilyInvariant};
+ghost use Rattle.alarm_report.specs.Invariants.{invariant};
+ghost use Rattle.famlint_families.specs.FamilyReports.{AreLoopsOf};
+ghost use Rattle.famlint_families.specs.Findings.{IsFound, AreTested, IsCertificateText};
+ghost use Rattle.famlint_loads.specs.ProductLines.{IsUsableLine};
+
+use alarm_report::{FamilyAlarm, FamilyInvariant, invariants_of};
+use atom_solver::Prepared;
+use certificate_format::{certificate_text, loop_places, loop_trees};
+use fam_outer::{NoMemory, Text};
+use famlint_loads::ProductLine;
+use leaf_domain::Leaf;
+use lifted_analysis::FamilyFindings;
+use plain_analysis::Options;
+use std::alloc::Global;
+
+/// The invariants of the loops that were found.
+fn loops_in<L: Leaf>(
+    alloc: Global,
+    line: &ProductLine,
+    prepared: &Prepared,
+    findings: &FamilyFindings<L>,
+) -> Result<Vec<FamilyInvariant<L>>, NoMemory>
+    requires line { IsUsableLine line.now }
+    requires prepared { prepared.now ≡ line.now.model }
+    requires tested { AreTested line.now findings.now }
+    ensures are { (o : Options) → IsFound L.value L.meaning o line.now findings.now
+        → IfOk result (λ made. AreLoopsOf L.meaning o line.now (map (invariant L.value) made.items)) }
+    ensures fit { IfOk result (λ made. All
+        (λ (i : FamilyInvariant L). AreLiterals
+        (length line.now.model.features) i.region.literals) made.items) }
+{
+    let atoms = line.family.atoms.items();
+    let loops = loop_places(alloc, &line.family.code)?;
+    let trees = loop_trees(alloc, &loops, findings.places.as_slice())?;
+    let invariants = invariants_of(alloc, prepared, atoms, &trees)?;
+    Ok(invariants)
+}
+
+/// The text of the certificate of what was found.
+pub(crate) fn certificate_of<L: Leaf>(
+    alloc: Global,
+    line: &ProductLine,
+    options: &Options,
+    prepared: &Prepared,
+    findings: &FamilyFindings<L>,
+    alarms: &[FamilyAlarm],
+) -> Result<Text, NoMemory>
+    requires line { IsUsableLine line.now }
+    requires prepared { prepared.now ≡ line.now.model }
+    requires tested { AreTested line.now findings.now }
+    requires fit { All (λ (a : FamilyAlarm). AreLiterals
+        (length line.now.model.features) a.region.literals) alarms.now }
+    ensures { IsFound L.value L.meaning options.now line.now findings.now
+        → IfOk result (λ text. IsCertificateText L.meaning options.now line.now alarms.now text) }
+{
+    let loops = loops_in(alloc, line, prepared, findings)?;
+    let features = line.model.features.items();
+    let names = line.family.code.names.items();
+    let text = certificate_text(
+        alloc,
+        features,
+        names,
+        options.mode,
+        loops.as_slice(),
+        alarms,
+    )?;
+    Ok(text)
+}

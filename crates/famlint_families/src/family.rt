@@ -1,0 +1,248 @@
+//! What is asked of all variants of a family at once: `analyse`, `invariants` and `certify`.
+#![tactic(auto)]
+
+ghost use Rattle.std.specs.Prelude.{◌≡◌, ◌≤◌, ◌++◌, ℕ, List, [], ◌∷◌, Some, IfOk, length, map};
+ghost use Rattle.std.specs.List.{All};
+ghost use Rattle.linear_atoms.specs.Atoms.{AreLiterals};
+ghost use Rattle.plain_analysis.specs.declared.options.Options.{Options};
+ghost use Rattle.alarm_report.specs.declared.alarms.FamilyAlarm.{FamilyAlarm};
+ghost use Rattle.alarm_report.specs.declared.invariants.FamilyInvariant.{FamilyInvariant};
+ghost use Rattle.alarm_report.specs.Invariants.{invariant};
+ghost use Rattle.famlint_families.specs.FamilyAnswers.{AnswersFamily, PromisedFamily};
+ghost use Rattle.famlint_loads.specs.Contents.{Contents};
+ghost use Rattle.famlint_programs.specs.ProgramAnswers.{meaning_of};
+ghost use Rattle.famlint_families.specs.FamilyReports.{IsFamilyDone, sizes_text, family_status as status_of};
+ghost use Rattle.famlint_families.specs.Findings.{IsFound, AreTested, AreGoodAlarms, AreGoodInvariants, AreInvariantsBefore, IsGoodText};
+ghost use Rattle.famlint_families.specs.Headline.{PromisedOfAll};
+ghost use Rattle.famlint_loads.specs.Loads.{Comes, IsReadFault, IsReadOf};
+ghost use Rattle.famlint_loads.specs.ProductLines.{IsLoadedFor, IsUsableLine};
+
+use crate::certify::certificate_of;
+use alarm_report::{
+    FamilyAlarm, FamilyAlarms, FamilyInvariant, alarm_text, alarms_of, invariant_text,
+    invariants_of,
+};
+use atom_solver::{Prepared, plausible};
+use c_parser::variants::variants_are_projections;
+use command_words::{Domain, Word};
+use fam_outer::{Files, NoMemory, Text};
+use famlint_loads::{Done, Failure, ProductLine, load_product_line};
+use famlint_requests::{Analysis, FamilyTask};
+use interval_leaf::IntervalLeaf;
+use leaf_domain::Leaf;
+use lifted_analysis::{FamilyFindings, analyse_family};
+use octagon_leaf::OctagonLeaf;
+use plain_analysis::Options;
+use product_leaf::StrideLeaf;
+use std::alloc::Global;
+
+/// What the analysis of all variants finds, over a kind of leaf.
+pub(crate) fn found_in<L: Leaf>(
+    alloc: Global,
+    line: &ProductLine,
+    options: &Options,
+) -> Result<FamilyFindings<L>, NoMemory>
+    requires { IsUsableLine line.now }
+    ensures found { IfOk result (λ f. IsFound L.value L.meaning options.now line.now f) }
+    ensures tested { IfOk result (λ f. AreTested line.now f) }
+{
+    let family = &line.family;
+    let plausible = plausible(alloc, &line.model, family.atoms.items())?;
+    let conditions = family.conditions.items();
+    let findings = analyse_family(alloc, &family.code, conditions, &plausible, options)?;
+    Ok(findings)
+}
+
+/// The alarms that were found.
+fn alarms_in<L: Leaf>(
+    alloc: Global,
+    line: &ProductLine,
+    prepared: &Prepared,
+    findings: &FamilyFindings<L>,
+) -> Result<FamilyAlarms, NoMemory>
+    requires line { IsUsableLine line.now }
+    requires prepared { prepared.now ≡ line.now.model }
+    requires tested { AreTested line.now findings.now }
+    ensures good { (o : Options) → IsFound L.value L.meaning o line.now findings.now
+        → IfOk result (λ alarms. AreGoodAlarms L.meaning o line.now alarms) }
+    ensures fit { IfOk result (λ alarms. All
+        (λ (a : FamilyAlarm). AreLiterals (length line.now.model.features) a.region.literals) alarms) }
+{
+    variants_are_projections();
+    let atoms = line.family.atoms.items();
+    let alarms = alarms_of(alloc, prepared, atoms, findings.alarms.as_slice())?;
+    Ok(alarms)
+}
+
+/// The invariants that were found.
+fn invariants_in<L: Leaf>(
+    alloc: Global,
+    line: &ProductLine,
+    prepared: &Prepared,
+    findings: &FamilyFindings<L>,
+) -> Result<Vec<FamilyInvariant<L>>, NoMemory>
+    requires line { IsUsableLine line.now }
+    requires prepared { prepared.now ≡ line.now.model }
+    requires tested { AreTested line.now findings.now }
+    ensures good { (o : Options) → IsFound L.value L.meaning o line.now findings.now
+        → IfOk result (λ made. AreGoodInvariants L.meaning o line.now (map (invariant L.value) made.items)) }
+    ensures fit { IfOk result (λ made. All
+        (λ (i : FamilyInvariant L). AreLiterals
+        (length line.now.model.features) i.region.literals) made.items) }
+{
+    variants_are_projections();
+    let atoms = line.family.atoms.items();
+    let invariants = invariants_of(alloc, prepared, atoms, findings.places.as_slice())?;
+    Ok(invariants)
+}
+
+/// 1 where there is an alarm.
+fn family_status(alarms: &[FamilyAlarm]) -> u8
+    ensures { result ≡ status_of alarms.now }
+{
+    if alarms.is_empty() { 0 } else { 1 }
+}
+
+/// The text of the invariants that were found, and behind it that of the alarms.
+fn invariants_before<L: Leaf>(
+    alloc: Global,
+    line: &ProductLine,
+    prepared: &Prepared,
+    findings: &FamilyFindings<L>,
+    alarms: &Text,
+) -> Result<Text, NoMemory>
+    requires line { IsUsableLine line.now }
+    requires prepared { prepared.now ≡ line.now.model }
+    requires tested { AreTested line.now findings.now }
+    ensures { (o : Options) → IsFound L.value L.meaning o line.now findings.now
+        → IfOk result (λ text. AreInvariantsBefore L.meaning o line.now alarms.now text) }
+{
+    let invariants = invariants_in(alloc, line, prepared, findings)?;
+    let features = line.model.features.items();
+    let names = line.family.code.names.items();
+    let front = invariant_text(alloc, features, names, invariants.as_slice())?;
+    let mut text = Vec::from_slice(alloc, front.bytes())?;
+    text.extend_from_slice(alarms.bytes())?;
+    Ok(Text::from_vec(text))
+}
+
+/// How many bytes and places there are, and behind it the text of the alarms.
+fn sizes_before<L: Leaf>(
+    alloc: Global,
+    line: &ProductLine,
+    findings: &FamilyFindings<L>,
+    told: &Text,
+) -> Result<Text, NoMemory>
+    ensures { (o : Options) → IsFound L.value L.meaning o line.now findings.now
+        → IfOk result (λ text. text ≡ sizes_text line.now ++ told.now) }
+{
+    let bytes = line.text.bytes().len();
+    let places = findings.places.len();
+    let front = format!(in alloc; "bytes: {bytes}\nplaces: {places}\n")?;
+    let mut text = front.into_bytes();
+    text.extend_from_slice(told.bytes())?;
+    Ok(Text::from_vec(text))
+}
+
+/// The whole text that is asked for.
+fn text_for<L: Leaf>(
+    alloc: Global,
+    line: &ProductLine,
+    options: &Options,
+    task: FamilyTask,
+    prepared: &Prepared,
+    findings: &FamilyFindings<L>,
+    alarms: &[FamilyAlarm],
+) -> Result<Text, NoMemory>
+    requires line { IsUsableLine line.now }
+    requires prepared { prepared.now ≡ line.now.model }
+    requires tested { AreTested line.now findings.now }
+    requires fit { All (λ (a : FamilyAlarm). AreLiterals
+        (length line.now.model.features) a.region.literals) alarms.now }
+    ensures { IsFound L.value L.meaning options.now line.now findings.now
+        → IfOk result (λ text. IsGoodText L.meaning options.now task line.now alarms.now text) }
+{
+    let features = line.model.features.items();
+    match task {
+        FamilyTask::Analyse => alarm_text(alloc, features, alarms),
+        FamilyTask::Invariants => {
+            let told = alarm_text(alloc, features, alarms)?;
+            invariants_before(alloc, line, prepared, findings, &told)
+        }
+        FamilyTask::Certify => { certificate_of(alloc, line, options, prepared, findings, alarms) }
+        FamilyTask::Generate => {
+            let told = alarm_text(alloc, features, alarms)?;
+            sizes_before(alloc, line, findings, &told)
+        }
+    }
+}
+
+/// The report on all variants, over a kind of leaf.
+fn report_on<L: Leaf>(
+    alloc: Global,
+    line: &ProductLine,
+    options: &Options,
+    task: FamilyTask,
+) -> Result<Done, NoMemory>
+    requires { IsUsableLine line.now }
+    ensures answer { IfOk result (λ done. IsFamilyDone L.meaning options.now task line.now done) }
+    ensures promise { IfOk result (λ done. PromisedOfAll L.meaning options.now task line.now done.status done.text) }
+    ensures status { IfOk result (λ done. done.status ≤ 1) }
+{
+    let findings = found_in::<L>(alloc, line, options)?;
+    let prepared = Prepared::new(alloc, &line.model)?;
+    let found = alarms_in(alloc, line, &prepared, &findings)?;
+    let alarms = found.items();
+    let text = text_for(alloc, line, options, task, &prepared, &findings, alarms)?;
+    Ok(Done {
+        text,
+        status: family_status(alarms),
+    })
+}
+
+/// The report on all variants, over the kind of leaf that is asked for.
+pub(crate) fn report_by(
+    alloc: Global,
+    line: &ProductLine,
+    analysis: &Analysis,
+    task: FamilyTask,
+) -> Result<Done, NoMemory>
+    requires { IsUsableLine line.now }
+    ensures answer { IfOk result (λ done. IsFamilyDone
+        (meaning_of analysis.now.domain) analysis.now.options task line.now done) }
+    ensures promise { IfOk result (λ done. PromisedOfAll
+        (meaning_of analysis.now.domain) analysis.now.options task line.now done.status done.text) }
+    ensures status { IfOk result (λ done. done.status ≤ 1) }
+{
+    match analysis.domain {
+        Domain::Interval => report_on::<IntervalLeaf>(alloc, line, &analysis.options, task),
+        Domain::Octagon => report_on::<OctagonLeaf>(alloc, line, &analysis.options, task),
+        Domain::Stride => report_on::<StrideLeaf>(alloc, line, &analysis.options, task),
+    }
+}
+
+/// The work of `analyse`, `invariants` and `certify`.
+pub fn family<F: Files>(
+    alloc: Global,
+    model: &Word,
+    file: &Word,
+    analysis: &Analysis,
+    task: FamilyTask,
+    files: &mut F,
+) -> Result<Done, Failure>
+    ensures answer { (told : Contents) → F.content files.old model.now ≡ Some told.model
+        → F.content files.old file.now ≡ Some told.file
+        → Comes (AnswersFamily analysis.now task told) result }
+    ensures promise { (told : Contents) → F.content files.old model.now ≡ Some told.model
+        → F.content files.old file.now ≡ Some told.file
+        → IfOk result (λ done. PromisedFamily analysis.now task told done.status done.text) }
+    ensures status { IfOk result (λ done. done.status ≤ 1) }
+    ensures order { (m : List ℕ) → F.content files.old model.now ≡ Some m → IsReadFault result
+        → IsLoadedFor model.now file.now m (F.failed files.new) }
+    ensures kept { F.content files.new ≡ F.content files.old }
+    ensures read { IsReadOf (model.now ∷ file.now ∷ []) (F.faults files.old) (F.faults files.new)
+        (F.failed files.new) result }
+{
+    let line = load_product_line(alloc, model.as_str(), file.as_str(), files)?;
+    Ok(report_by(alloc, &line, analysis, task)?)
+}

@@ -1,0 +1,93 @@
+use Rattle.std.proofs.Common.{◌≡◌, ◌<◌, ℕ, List, [], length, refl, sym, subst, inl, inr}
+use Rattle.std.proofs.lemmas.Bool.{lt-ltb}
+use Rattle.std.specs.Prelude.{◌∷◌, Option, Ok, Err}
+use Rattle.fam_outer.specs.Limits.{file_bytes}
+use Rattle.fam_outer.specs.declared.faults.FileCode.TheVariants.{TooLong}
+use Rattle.cpp_conditions.specs.declared.models.Model.{Model}
+use Rattle.cpp_lines.specs.Whole.{blanked_file, file_place}
+use Rattle.feature_model.specs.declared.faults.ModelFault.TheVariants as model_faults
+use Rattle.feature_model.specs.Models as models
+use Rattle.feature_model.specs.Stages.{told_of}
+use Rattle.linear_atoms.specs.declared.atoms.Config.{Config}
+use Rattle.certificate_format.specs.declared.certificates.Certificate.{Certificate}
+use Rattle.certificate_format.specs.declared.certificates.CertificateFault.TheVariants.{TooLong as TooLongCertificate}
+use Rattle.famlint_loads.specs.declared.fault.Fault.{Fault}
+use Rattle.famlint_loads.specs.declared.fault.Fault.TheVariants as fault
+use Rattle.famlint_loads.specs.declared.fault.Failure.{Failure}
+use Rattle.famlint_loads.specs.declared.fault.Failure.TheVariants as failure
+use Rattle.famlint_loads.specs.declared.load.FamilyFile.{FamilyFile}
+use Rattle.famlint_loads.specs.declared.product_line.ProductLine.{ProductLine}
+use Rattle.famlint_loads.specs.declared.selected.Selected.{Selected}
+use Rattle.famlint_loads.specs.CertificateLoads.{ReadsCertificate}
+use Rattle.famlint_loads.specs.Loads.{Comes, IsReadFault, IsOneOf, IsText, IsFileText, IsModel, IsFamilyFile, IsFamily}
+use Rattle.famlint_loads.specs.ProductLines.{IsProductLine, ReadsProductLine, IsLoadedFor}
+use Rattle.famlint_loads.specs.ProductLines as lines
+use Rattle.famlint_loads.specs.Selected.{IsSelected, IsSettled}
+use Rattle.famlint_loads.specs.Selected as refused
+
+-- ---- a content over the limit
+
+long_model : (bytes : List ℕ) → 65536 < length bytes → told_of bytes ≡ Err model_faults.TooLong
+long_model bytes h = rw (lt-ltb 65536 (length bytes) h) refl
+
+long_blanked : (bytes : List ℕ) → file_bytes < length bytes → blanked_file bytes ≡ Err (TooLong, file_place)
+long_blanked bytes h = rw (lt-ltb file_bytes (length bytes) h) refl
+
+-- a model's text that is refused
+pub model_refused : (bytes : List ℕ) (s : Failure) → Comes {X = List ℕ} (IsText 65536 (fault.Model model_faults.TooLong) bytes) (Err s) → Comes {X = Model} (IsModel bytes) (Err s)
+model_refused bytes (failure.Refused given) h =
+    subst (λ (x : Fault). IsModel bytes (Err x)) (sym h.1) (models.untold model_faults.TooLong (long_model bytes h.0))
+model_refused bytes failure.ReadFault h = h
+model_refused bytes failure.NoMemory h = h
+
+-- the same, for a family
+pub family_refused : (model : Model) (bytes : List ℕ) (s : Failure) → Comes {X = List ℕ} (IsFileText bytes) (Err s) → Comes {X = FamilyFile} (IsFamilyFile model bytes) (Err s)
+family_refused model bytes (failure.Refused given) h =
+    subst (λ (x : Fault). IsFamily model bytes (Err x)) (sym h.1) (refl, inl (inl (long_blanked bytes h.0)))
+family_refused model bytes failure.ReadFault h = h
+family_refused model bytes failure.NoMemory h = h
+
+-- ---- MODEL and FILE
+
+pub line_no_model : (m f : List ℕ) (s : Failure) → Comes {X = Model} (IsModel m) (Err s) → Comes {X = ProductLine} (ReadsProductLine m f) (Err s)
+line_no_model m f (failure.Refused given) h = lines.no_model h
+line_no_model m f failure.ReadFault h = h
+line_no_model m f failure.NoMemory h = h
+
+pub line_no_family : (m f : List ℕ) (model : Model) (s : Failure) → IsModel m (Ok model)
+    → Comes {X = FamilyFile} (IsFamilyFile model f) (Err s) → Comes {X = ProductLine} (ReadsProductLine m f) (Err s)
+line_no_family m f model (failure.Refused given) read h = lines.no_family model read h
+line_no_family m f model failure.ReadFault read h = h
+line_no_family m f model failure.NoMemory read h = h
+
+-- FILE is loaded where MODEL is accepted
+second_of : (failed : Option (List ℕ)) (model_path file_path m : List ℕ) (model : Model) → IsModel m (Ok model) → IsOneOf failed (file_path ∷ [])
+    → IsLoadedFor model_path file_path m failed
+second_of failed model_path file_path m model read (inl e) = inr (e, model, read)
+second_of failed model_path file_path m model read (inr h) = absurd h
+
+pub loaded_second : (failed : Option (List ℕ)) (model_path file_path m : List ℕ) (model : Model) (s : Failure) → IsModel m (Ok model)
+    → (IsReadFault {X = FamilyFile} (Err s) → IsOneOf failed (file_path ∷ [])) → IsReadFault {X = ProductLine} (Err s) → IsLoadedFor model_path file_path m failed
+loaded_second failed model_path file_path m model (failure.Refused given) read path h = absurd h
+loaded_second failed model_path file_path m model failure.ReadFault read path h = second_of failed model_path file_path m model read (path h)
+loaded_second failed model_path file_path m model failure.NoMemory read path h = absurd h
+
+-- ---- and settings
+
+pub no_line : (m f : List ℕ) (settings : List (List ℕ)) (s : Failure) → Comes {X = ProductLine} (ReadsProductLine m f) (Err s) → Comes {X = Selected} (IsSelected m f settings) (Err s)
+no_line m f settings (failure.Refused given) h = refused.no_line h
+no_line m f settings failure.ReadFault h = h
+no_line m f settings failure.NoMemory h = h
+
+pub no_settings : (m f : List ℕ) (settings : List (List ℕ)) (line : ProductLine) (s : Failure) → IsProductLine m f line
+    → Comes {X = Config} (IsSettled line.model settings) (Err s) → Comes {X = Selected} (IsSelected m f settings) (Err s)
+no_settings m f settings line (failure.Refused given) read h = refused.no_settings line read h
+no_settings m f settings line failure.ReadFault read h = h
+no_settings m f settings line failure.NoMemory read h = h
+
+-- a certificate's text that is refused
+pub certificate_refused : (l : ProductLine) (bytes : List ℕ) (s : Failure) → Comes {X = List ℕ} (IsText 16777216 (fault.Certificate TooLongCertificate) bytes) (Err s)
+    → Comes {X = Certificate} (ReadsCertificate l bytes) (Err s)
+certificate_refused l bytes (failure.Refused given) h = subst (λ (x : Fault). ReadsCertificate l bytes (Err x)) (sym h.1) h.0
+certificate_refused l bytes failure.ReadFault h = h
+certificate_refused l bytes failure.NoMemory h = h

@@ -1,0 +1,136 @@
+//! Loads, and the reading of what was loaded.
+#![tactic(auto)]
+
+ghost use Rattle.std.specs.Prelude.{◌≡◌, ℕ, List, [], ◌∷◌, Some, IfOk, length};
+ghost use Rattle.c_parser.specs.FamilyReading.{IsFamilyOf};
+ghost use Rattle.famlint_loads.specs.Loads.{Comes, IsReadOf, IsText, IsFileText, IsModel, IsFamilyFile, IsUsable, IsUsableFamily, IsReadFault, long_file};
+
+use crate::fault::{Failure, Fault, file_fault};
+use c_parser::{Family, read_family};
+use cpp_conditions::Model;
+use fam_outer::{FILE_BYTES, FileCode, FileRefusal, Files, Loaded, MODEL_BYTES, Place, Text};
+use feature_model::{ModelFault, ModelRefusal, read_model};
+use std::alloc::Global;
+
+/// The fault of a file that is too long.
+fn long_file() -> Fault
+    ensures { result ≡ long_file }
+{
+    Fault::File {
+        code: FileCode::TooLong,
+        place: Place { line: 1, column: 1 },
+        example: None,
+    }
+}
+
+/// The text of a path, of at most so many bytes; a longer one has the fault.
+pub fn load_text<F: Files>(
+    alloc: Global,
+    path: &str,
+    limit: u32,
+    long: Fault,
+    files: &mut F,
+) -> Result<Text, Failure>
+    ensures text { (bytes : List ℕ) → F.content files.old path.now ≡ Some bytes
+        → Comes (IsText limit long bytes) result }
+    ensures kept { F.content files.new ≡ F.content files.old }
+    ensures read { IsReadOf (path.now ∷ []) (F.faults files.old) (F.faults files.new)
+        (F.failed files.new) result }
+{
+    match files.load(alloc, path, limit) {
+        Loaded::NoMemory => Err(Failure::NoMemory),
+        Loaded::Failed => Err(Failure::ReadFault),
+        Loaded::TooLong => Err(Failure::Refused(long)),
+        Loaded::Whole(text) => Ok(text),
+    }
+}
+
+/// The text of FILE, of at most 1,048,576 bytes; a longer one is refused as a whole, at 1:1.
+pub fn load_file<F: Files>(alloc: Global, path: &str, files: &mut F) -> Result<Text, Failure>
+    ensures text { (bytes : List ℕ) → F.content files.old path.now ≡ Some bytes
+        → Comes (IsFileText bytes) result }
+    ensures kept { F.content files.new ≡ F.content files.old }
+    ensures read { IsReadOf (path.now ∷ []) (F.faults files.old) (F.faults files.new)
+        (F.failed files.new) result }
+{
+    load_text(alloc, path, FILE_BYTES as u32, long_file(), files)
+}
+
+/// The model that bytes say.
+fn model_of(alloc: Global, bytes: &[u8]) -> Result<Model, Failure>
+    ensures model { Comes (IsModel bytes.now) result }
+    ensures usable { IfOk result (λ model. IsUsable model) }
+    ensures read { IsReadFault result → ⊥ }
+{
+    match read_model(alloc, bytes) {
+        Ok(model) => Ok(model),
+        Err(ModelRefusal::NoMemory) => Err(Failure::NoMemory),
+        Err(ModelRefusal::Fault(fault)) => Err(Failure::Refused(Fault::Model(fault))),
+    }
+}
+
+/// The model of MODEL, of at most 65,536 bytes.
+pub fn load_model<F: Files>(alloc: Global, path: &str, files: &mut F) -> Result<Model, Failure>
+    ensures model { (bytes : List ℕ) → F.content files.old path.now ≡ Some bytes
+        → Comes (IsModel bytes) result }
+    ensures usable { IfOk result (λ model. IsUsable model) }
+    ensures kept { F.content files.new ≡ F.content files.old }
+    ensures read { IsReadOf (path.now ∷ []) (F.faults files.old) (F.faults files.new)
+        (F.failed files.new) result }
+{
+    let text = load_text(
+        alloc,
+        path,
+        MODEL_BYTES as u32,
+        Fault::Model(ModelFault::TooLong),
+        files,
+    )?;
+    model_of(alloc, text.bytes())
+}
+
+/// A family, and the bytes of its file.
+#[derive(Drop)]
+pub struct FamilyFile {
+    pub family: Family,
+    pub text: Text,
+}
+
+/// The family that bytes spell over a model.
+fn family_of(alloc: Global, model: &Model, text: Text) -> Result<FamilyFile, Failure>
+    requires { IsUsable model.now }
+    ensures family { Comes (IsFamilyFile model.now text) result }
+    ensures spelled { IfOk result (λ made. IsFamilyOf model.now made.text made.family) }
+    ensures usable { IfOk result (λ made. IsUsableFamily (length model.now.features) made.family) }
+    ensures read { IsReadFault result → ⊥ }
+{
+    match read_family(alloc, model, text.bytes()) {
+        Ok(family) => Ok(FamilyFile { family, text }),
+        Err(FileRefusal::NoMemory) => Err(Failure::NoMemory),
+        Err(FileRefusal::Fault { code, place }) => Err(Failure::Refused(file_fault(
+            alloc,
+            model.features.items(),
+            code,
+            place,
+        )?)),
+    }
+}
+
+/// The family of FILE over a model.
+pub fn load_family<F: Files>(
+    alloc: Global,
+    model: &Model,
+    path: &str,
+    files: &mut F,
+) -> Result<FamilyFile, Failure>
+    requires { IsUsable model.now }
+    ensures family { (bytes : List ℕ) → F.content files.old path.now ≡ Some bytes
+        → Comes (IsFamilyFile model.now bytes) result }
+    ensures spelled { IfOk result (λ made. IsFamilyOf model.now made.text made.family) }
+    ensures usable { IfOk result (λ made. IsUsableFamily (length model.now.features) made.family) }
+    ensures kept { F.content files.new ≡ F.content files.old }
+    ensures read { IsReadOf (path.now ∷ []) (F.faults files.old) (F.faults files.new)
+        (F.failed files.new) result }
+{
+    let text = load_text(alloc, path, FILE_BYTES as u32, long_file(), files)?;
+    family_of(alloc, model, text)
+}

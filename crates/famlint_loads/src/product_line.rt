@@ -1,0 +1,47 @@
+//! A model and a family over it: the loads of each command with MODEL and FILE.
+#![tactic(auto)]
+
+ghost use Rattle.std.specs.Prelude.{◌≡◌, ℕ, List, [], ◌∷◌, Some, IfOk};
+ghost use Rattle.famlint_loads.specs.Loads.{Comes, IsReadFault, IsReadOf};
+ghost use Rattle.famlint_loads.specs.ProductLines.{ReadsProductLine, IsLoadedFor, IsUsableLine};
+
+use crate::fault::Failure;
+use crate::load::{FamilyFile, load_family, load_model};
+use c_parser::Family;
+use cpp_conditions::Model;
+use fam_outer::{Files, Text};
+use std::alloc::Global;
+
+/// A feature model, and a family over it with the bytes of its file.
+#[derive(Drop)]
+pub struct ProductLine {
+    pub model: Model,
+    pub family: Family,
+    pub text: Text,
+}
+
+/// Loads MODEL and then FILE.
+pub fn load_product_line<F: Files>(
+    alloc: Global,
+    model_path: &str,
+    file_path: &str,
+    files: &mut F,
+) -> Result<ProductLine, Failure>
+    ensures line { (m f : List ℕ) → F.content files.old model_path.now ≡ Some m
+        → F.content files.old file_path.now ≡ Some f
+        → Comes (ReadsProductLine m f) result }
+    ensures usable { IfOk result (λ made. IsUsableLine made) }
+    ensures kept { F.content files.new ≡ F.content files.old }
+    ensures read { IsReadOf (model_path.now ∷ file_path.now ∷ []) (F.faults files.old) (F.faults files.new)
+        (F.failed files.new) result }
+    ensures order { (m : List ℕ) → F.content files.old model_path.now ≡ Some m → IsReadFault result
+        → IsLoadedFor model_path.now file_path.now m (F.failed files.new) }
+{
+    let model = load_model(alloc, model_path, files)?;
+    let FamilyFile { family, text } = load_family(alloc, &model, file_path, files)?;
+    Ok(ProductLine {
+        model,
+        family,
+        text,
+    })
+}

@@ -1,0 +1,67 @@
+//! The variant of a family that settings select: the loads of a command with MODEL, FILE and settings.
+#![tactic(auto)]
+
+ghost use Rattle.std.specs.Prelude.{◌≡◌, ℕ, List, [], ◌∷◌, map, string_bytes, Some, IfOk};
+ghost use Rattle.cpp_conditions.specs.Validity.{plain, IsValid, IsConfig};
+ghost use Rattle.famlint_loads.specs.Loads.{Comes, IsReadFault, IsReadOf, IsUsable};
+ghost use Rattle.famlint_loads.specs.ProductLines.{IsLoadedFor, IsUsableLine};
+ghost use Rattle.famlint_loads.specs.Selected.{IsSelected, IsSettled};
+
+use crate::fault::{Failure, settings_fault};
+use crate::product_line::{ProductLine, load_product_line};
+use cpp_conditions::Model;
+use fam_outer::Files;
+use feature_model::{ConfigRefusal, read_config};
+use linear_atoms::Config;
+use std::alloc::Global;
+
+/// A model and a family over it, and a valid configuration.
+#[derive(Drop)]
+pub struct Selected {
+    pub line: ProductLine,
+    pub config: Config,
+}
+
+/// The configuration that settings give.
+fn settled(alloc: Global, model: &Model, settings: &[String]) -> Result<Config, Failure>
+    requires { IsUsable model.now }
+    ensures config { Comes (IsSettled model.now (map string_bytes settings.now)) result }
+    ensures valid { IfOk result (λ made. IsValid (plain model.now) made.values) }
+    ensures fit { IfOk result (λ made. IsConfig model.now.features made.values) }
+    ensures read { IsReadFault result → ⊥ }
+{
+    match read_config(alloc, model, settings) {
+        Ok(config) => Ok(config),
+        Err(ConfigRefusal::NoMemory) => Err(Failure::NoMemory),
+        Err(ConfigRefusal::Fault(fault)) => Err(Failure::Refused(settings_fault(
+            alloc,
+            model.features.items(),
+            fault,
+        )?)),
+    }
+}
+
+/// Loads MODEL and then FILE, and reads the settings behind them.
+pub fn select<F: Files>(
+    alloc: Global,
+    model_path: &str,
+    file_path: &str,
+    settings: &[String],
+    files: &mut F,
+) -> Result<Selected, Failure>
+    ensures selected { (m f : List ℕ) → F.content files.old model_path.now ≡ Some m
+        → F.content files.old file_path.now ≡ Some f
+        → Comes (IsSelected m f (map string_bytes settings.now)) result }
+    ensures line { IfOk result (λ made. IsUsableLine made.line) }
+    ensures valid { IfOk result (λ made. IsValid (plain made.line.model) made.config.values) }
+    ensures config { IfOk result (λ made. IsConfig made.line.model.features made.config.values) }
+    ensures kept { F.content files.new ≡ F.content files.old }
+    ensures read { IsReadOf (model_path.now ∷ file_path.now ∷ []) (F.faults files.old) (F.faults files.new)
+        (F.failed files.new) result }
+    ensures order { (m : List ℕ) → F.content files.old model_path.now ≡ Some m → IsReadFault result
+        → IsLoadedFor model_path.now file_path.now m (F.failed files.new) }
+{
+    let line = load_product_line(alloc, model_path, file_path, files)?;
+    let config = settled(alloc, &line.model, settings)?;
+    Ok(Selected { line, config })
+}

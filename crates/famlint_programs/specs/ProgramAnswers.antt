@@ -1,0 +1,69 @@
+-- What the commands on one program are answered, and what is promised of it: `plain`, `project`, `variant` and `run`.
+use Rattle.std.specs.Prelude.{ℕ, ℤ, ◌≡◌, List, Option, Result, Ok, Err}
+use Rattle.c_tree.specs.Run.{run_of}
+use Rattle.c_tree.specs.Tree.{Whole}
+use Rattle.c_tree.specs.declared.tree.Mode.{Mode}
+use Rattle.cpp_conditions.specs.Validity.{plain}
+use Rattle.c_parser.specs.Reading.{IsPlainRead}
+use Rattle.variant_projector.specs.Variant.{IsVariant}
+use Rattle.interval_leaf.specs.Intervals.{intervals}
+use Rattle.leaf_domain.specs.Leaves.{LeafMeaning}
+use Rattle.octagon_leaf.specs.Octagons.{octagons}
+use Rattle.product_leaf.specs.StrideLeaves.{strides}
+use Rattle.famlint_requests.specs.declared.request.Analysis.{Analysis}
+use Rattle.command_words.specs.declared.settings.Domain.{Domain}
+use Rattle.command_words.specs.declared.settings.Domain.TheVariants as domains
+use Rattle.famlint_loads.specs.declared.fault.Done.{Done}
+use Rattle.famlint_loads.specs.declared.fault.Fault.{Fault}
+use Rattle.famlint_loads.specs.declared.fault.Fault.TheVariants as fault
+use Rattle.famlint_requests.specs.declared.request.VariantTask.{VariantTask}
+use Rattle.famlint_requests.specs.declared.request.VariantTask.TheVariants.{Project, Variant, Run}
+use Rattle.famlint_loads.specs.declared.selected.Selected.{Selected}
+use Rattle.famlint_programs.specs.Report.{report_done, IsReport}
+use Rattle.famlint_programs.specs.RunText.{run_text}
+use Rattle.famlint_loads.specs.Selected.{AreSelected, IsSelectionRefused, IsProgramOf}
+use Rattle.famlint_loads.specs.Contents.{Contents}
+
+-- what the leaves of a domain mean
+abbrev pub meaning_of : Domain → LeafMeaning
+meaning_of domains.Interval = intervals
+meaning_of domains.Octagon = octagons
+meaning_of domains.Stride = strides
+
+-- the report on a program, over leaves of this domain
+abbrev pub plain_done : Analysis → Whole → Done
+plain_done analysis p = report_done (meaning_of analysis.domain) analysis.options p
+
+-- the report on the program that the bytes spell, or their refusal
+abbrev pub AnswersPlain : Analysis → List ℕ → Result Done Fault → Type 0
+AnswersPlain analysis bytes (Ok done) = (p : Whole) × IsPlainRead bytes (Ok p) × (done ≡ plain_done analysis p)
+AnswersPlain analysis bytes (Err (fault.File code place example)) = IsPlainRead bytes (Err (code, place)) × (example ≡ Option.None)
+AnswersPlain analysis bytes (Err other) = ⊥
+
+-- how a run stands, as a text
+abbrev pub run_done : List ℤ → ℕ → Mode → Whole → Done
+run_done inputs steps mode p = record { text = run_text p.names (run_of p inputs steps mode); status = 0 }
+
+-- what is asked of a variant is this
+abbrev pub IsDone : VariantTask → Selected → Done → Type 0
+IsDone Project s done = IsVariant (plain s.line.model) s.config.values s.line.text done.text × (done.status ≡ 0)
+IsDone (Variant analysis) s done = (p : Whole) × IsProgramOf s p × (done ≡ plain_done analysis p)
+IsDone (Run steps inputs mode) s done = (p : Whole) × IsProgramOf s p × (done ≡ run_done inputs steps mode p)
+
+-- what is asked of the variant that settings select, or the refusal of the model, the file or the settings
+abbrev pub AnswersVariant : VariantTask → List (List ℕ) → Contents → Result Done Fault → Type 0
+AnswersVariant task settings told (Ok done) = (s : Selected) × AreSelected told.model told.file settings s × IsDone task s done
+AnswersVariant task settings told (Err fault) = IsSelectionRefused told.model told.file settings fault
+
+-- the report is one on the program that the bytes spell
+abbrev pub PromisedPlain : Analysis → List ℕ → ℕ → List ℕ → Type 0
+PromisedPlain analysis bytes status text = (p : Whole) × IsPlainRead bytes (Ok p) × IsReport (meaning_of analysis.domain) analysis.options p status text
+
+-- a report is one on the program of the variant; a text or a run is exactly its answer, and no more is promised of it
+abbrev pub PromisedOf : VariantTask → Selected → ℕ → List ℕ → Type 0
+PromisedOf Project s status text = status ≡ 0
+PromisedOf (Variant analysis) s status text = (p : Whole) × IsProgramOf s p × IsReport (meaning_of analysis.domain) analysis.options p status text
+PromisedOf (Run steps inputs mode) s status text = status ≡ 0
+
+abbrev pub PromisedVariant : VariantTask → List (List ℕ) → Contents → ℕ → List ℕ → Type 0
+PromisedVariant task settings told status text = (s : Selected) × AreSelected told.model told.file settings s × PromisedOf task s status text

@@ -1,0 +1,6 @@
+//! What the commands on one program come to: `plain`, `project`, `variant` and `run`.
+#![tactic(auto)]
+
+pub mod plain;
+mod report;
+pub mod variant;

@@ -1,0 +1,233 @@
+-- What the words ask for.
+use Rattle.std.specs.Prelude.{ℕ, ◌≤◌, Bool, ⊤, true, false, not, ◌&&◌, ◌||◌, List, [], ◌∷◌, codes, if◌then◌else◌, Option, Some, None}
+use Rattle.std.specs.Option.{option_and_then, option_map}
+use Rattle.std.specs.Str.{bytes_eq}
+use Rattle.std.specs.List.{All}
+use Rattle.c_tree.specs.Value.{IsInt}
+use Rattle.command_words.specs.Arguments.{arguments_of, nothing_given}
+use Rattle.command_words.specs.declared.reading.Arguments.{Arguments}
+use Rattle.command_words.specs.declared.settings.Chosen.{Chosen}
+use Rattle.command_words.specs.declared.settings.Domain.TheVariants as domains
+use Rattle.command_words.specs.declared.settings.Given.{Given}
+use Rattle.command_words.specs.declared.settings.OptionSettings.{OptionSettings}
+use Rattle.command_words.specs.Spelling.{number_up_to}
+use Rattle.famlint_requests.specs.declared.request.Analysis.{Analysis}
+use Rattle.famlint_requests.specs.declared.request.options.Command.{Command}
+use Rattle.famlint_requests.specs.declared.request.options.Command.TheVariants as command
+use Rattle.famlint_requests.specs.declared.request.FamilyTask.{FamilyTask}
+use Rattle.famlint_requests.specs.declared.request.FamilyTask.TheVariants as family
+use Rattle.famlint_requests.specs.declared.request.Request.{Request}
+use Rattle.famlint_requests.specs.declared.request.Request.TheVariants as request
+use Rattle.famlint_requests.specs.declared.request.Role.{Role}
+use Rattle.famlint_requests.specs.declared.request.Role.TheVariants as role
+use Rattle.famlint_requests.specs.declared.request.VariantTask.{VariantTask}
+use Rattle.famlint_requests.specs.declared.request.VariantTask.TheVariants as task
+
+-- ---- options
+
+-- the options of an analysis
+abbrev pub analysis_options : Given
+analysis_options = record { domain = true; delay = true; narrow = true; overflow = true; steps = false; inputs = false }
+
+-- the options of an analysis by intervals
+abbrev pub interval_options : Given
+interval_options = record { domain = false; delay = true; narrow = true; overflow = true; steps = false; inputs = false }
+
+-- the options of a run
+abbrev pub run_options : Given
+run_options = record { domain = false; delay = false; narrow = false; overflow = true; steps = true; inputs = true }
+
+-- the options that a command takes
+abbrev pub taken_by : Command → Given
+taken_by command.Plain = analysis_options
+taken_by command.Project = nothing_given
+taken_by command.Variant = analysis_options
+taken_by command.Run = run_options
+taken_by command.Analyse = analysis_options
+taken_by command.Invariants = analysis_options
+taken_by command.Generate = analysis_options
+taken_by command.Certify = interval_options
+taken_by command.Check = nothing_given
+taken_by command.Advise = analysis_options
+taken_by command.Features = nothing_given
+
+-- each option that is given is taken
+abbrev pub are_taken : Given → Given → Bool
+are_taken given taken =
+    (not given.domain || taken.domain) && (not given.delay || taken.delay) && (not given.narrow || taken.narrow)
+    && (not given.overflow || taken.overflow) && (not given.steps || taken.steps) && (not given.inputs || taken.inputs)
+
+-- the options suit a command
+abbrev pub suits : Command → Arguments → Bool
+suits command arguments = are_taken arguments.given (taken_by command)
+
+-- how programs are analysed
+abbrev pub analysis_of : Chosen → Analysis
+analysis_of chosen = record {
+  domain = chosen.domain;
+  options = record { delay = chosen.delay; narrow = chosen.narrow; mode = chosen.overflow };
+}
+
+-- the same, by intervals
+abbrev pub interval_analysis : Chosen → Analysis
+interval_analysis chosen = record { domain = domains.Interval; options = (analysis_of chosen).options }
+
+-- ---- commands
+
+-- the command with the name
+abbrev pub command_of : List ℕ → Option Command
+command_of word =
+    if bytes_eq word (codes "plain") then Some command.Plain
+    else (if bytes_eq word (codes "project") then Some command.Project
+    else (if bytes_eq word (codes "variant") then Some command.Variant
+    else (if bytes_eq word (codes "run") then Some command.Run
+    else (if bytes_eq word (codes "analyse") then Some command.Analyse
+    else (if bytes_eq word (codes "invariants") then Some command.Invariants
+    else (if bytes_eq word (codes "generate") then Some command.Generate
+    else (if bytes_eq word (codes "certify") then Some command.Certify
+    else (if bytes_eq word (codes "check") then Some command.Check
+    else (if bytes_eq word (codes "advise") then Some command.Advise
+    else (if bytes_eq word (codes "features") then Some command.Features else None))))))))))
+
+-- what `plain` asks for with these words; nothing, where they are refused
+abbrev pub plain_request : Analysis → List (List ℕ) → Option Request
+plain_request analysis [] = None
+plain_request analysis (file ∷ []) = Some (request.Plain file analysis)
+plain_request analysis (file ∷ more ∷ words) = None
+
+-- what is asked of a variant with these words
+abbrev pub variant_request : VariantTask → List (List ℕ) → Option Request
+variant_request task [] = None
+variant_request task (model ∷ []) = None
+variant_request task (model ∷ file ∷ words) = Some (request.Variant model file words task)
+
+-- what is asked of all variants with these words
+abbrev pub family_request : Analysis → FamilyTask → List (List ℕ) → Option Request
+family_request analysis task [] = None
+family_request analysis task (model ∷ []) = None
+family_request analysis task (model ∷ file ∷ []) = Some (request.Family model file analysis task)
+family_request analysis task (model ∷ file ∷ more ∷ words) = None
+
+-- the number of blocks that the text spells, from 1 to 2000
+abbrev pub blocks_of : List ℕ → Option ℕ
+blocks_of text = if bytes_eq text (codes "0") then None else number_up_to 2000 text
+
+-- what `generate` asks for with these words
+abbrev pub generate_request : Analysis → List (List ℕ) → Option Request
+generate_request analysis [] = None
+generate_request analysis (number ∷ []) = option_map (λ n. request.Generate n analysis) (blocks_of number)
+generate_request analysis (number ∷ more ∷ words) = None
+
+-- what `check` asks for with these words
+abbrev pub check_request : List (List ℕ) → Option Request
+check_request [] = None
+check_request (model ∷ []) = None
+check_request (model ∷ file ∷ []) = None
+check_request (model ∷ file ∷ certificate ∷ []) = Some (request.Check model file certificate)
+check_request (model ∷ file ∷ certificate ∷ more ∷ words) = None
+
+-- what `advise` asks for with these words
+abbrev pub advice_request : Analysis → List (List ℕ) → Option Request
+advice_request analysis [] = None
+advice_request analysis (model ∷ []) = None
+advice_request analysis (model ∷ file ∷ words) = Some (request.Advice model file words analysis)
+
+-- what `features` asks for with these words
+abbrev pub features_request : List (List ℕ) → Option Request
+features_request [] = None
+features_request (model ∷ []) = Some (request.Features model)
+features_request (model ∷ more ∷ words) = None
+
+-- the run that the options ask for
+abbrev pub run_task : OptionSettings → VariantTask
+run_task settings = task.Run settings.chosen.steps settings.inputs settings.chosen.overflow
+
+-- what a command asks for with these words
+abbrev pub request_for : Command → OptionSettings → List (List ℕ) → Option Request
+request_for command.Plain settings words = plain_request (analysis_of settings.chosen) words
+request_for command.Project settings words = variant_request task.Project words
+request_for command.Variant settings words = variant_request (task.Variant (analysis_of settings.chosen)) words
+request_for command.Run settings words = variant_request (run_task settings) words
+request_for command.Analyse settings words = family_request (analysis_of settings.chosen) family.Analyse words
+request_for command.Invariants settings words = family_request (analysis_of settings.chosen) family.Invariants words
+request_for command.Generate settings words = generate_request (analysis_of settings.chosen) words
+request_for command.Certify settings words = family_request (interval_analysis settings.chosen) family.Certify words
+request_for command.Check settings words = check_request words
+request_for command.Advise settings words = advice_request (analysis_of settings.chosen) words
+request_for command.Features settings words = features_request words
+
+-- what a command asks for, where the options suit it
+abbrev pub suited : Command → Arguments → List (List ℕ) → Option Request
+suited command arguments words = if suits command arguments then request_for command arguments.settings words else None
+
+-- what the words after the first ask for, where that is the name of this command, or of none
+abbrev pub request_by : Option Command → Arguments → List (List ℕ) → Option Request
+request_by (Some command) arguments words = suited command arguments words
+request_by None arguments words = None
+
+-- what the positional words ask for
+abbrev pub request_with : Arguments → List (List ℕ) → Option Request
+request_with arguments [] = None
+request_with arguments (first ∷ words) = request_by (command_of first) arguments words
+
+abbrev pub request_of : Arguments → Option Request
+request_of arguments = request_with arguments arguments.positional
+
+-- what the words after the program's name ask for; nothing, where they are refused
+abbrev pub reading : List (List ℕ) → Option Request
+reading words = option_and_then request_of (arguments_of words)
+
+-- ---- paths
+
+-- the paths of a request
+abbrev pub paths_of : Request → List (List ℕ)
+paths_of (request.Plain file analysis) = file ∷ []
+paths_of (request.Variant model file settings task) = model ∷ file ∷ []
+paths_of (request.Family model file analysis task) = model ∷ file ∷ []
+paths_of (request.Generate number analysis) = []
+paths_of (request.Check model file certificate) = model ∷ file ∷ certificate ∷ []
+paths_of (request.Advice model file settings analysis) = model ∷ file ∷ []
+paths_of (request.Features model) = model ∷ []
+
+-- the failed path is this one
+abbrev pub is_path : Option (List ℕ) → List ℕ → Bool
+is_path None path = false
+is_path (Some failed) path = bytes_eq failed path
+
+-- what the path of a failed load is, where this is MODEL: it is MODEL also where FILE is the same path
+abbrev pub role_beside : Option (List ℕ) → List ℕ → Role
+role_beside failed model = if is_path failed model then role.Model else role.File
+
+-- the same of three paths: it is MODEL or FILE also where CERTIFICATE is the same path
+abbrev pub role_of_three : Option (List ℕ) → List ℕ → List ℕ → List ℕ → Role
+role_of_three failed model file certificate =
+    if is_path failed model then role.Model
+    else (if is_path failed file then role.File else (if is_path failed certificate then role.Certificate else role.File))
+
+-- what the path of a failed load is to a request
+abbrev pub role_of : Request → Option (List ℕ) → Role
+role_of (request.Plain file analysis) failed = role.File
+role_of (request.Variant model file settings task) failed = role_beside failed model
+role_of (request.Family model file analysis task) failed = role_beside failed model
+role_of (request.Generate number analysis) failed = role.File
+role_of (request.Check model file certificate) failed = role_of_three failed model file certificate
+role_of (request.Advice model file settings analysis) failed = role_beside failed model
+role_of (request.Features model) failed = role.Model
+
+-- ---- numbers
+
+-- the inputs of a run are within `int`
+abbrev pub HaveInts : VariantTask → Type 0
+HaveInts task.Project = ⊤
+HaveInts (task.Variant analysis) = ⊤
+HaveInts (task.Run steps inputs mode) = All IsInt inputs
+
+-- the numbers of a request are within their ranges
+abbrev pub IsWithinRanges : Request → Type 0
+IsWithinRanges (request.Plain file analysis) = ⊤
+IsWithinRanges (request.Variant model file settings task) = HaveInts task
+IsWithinRanges (request.Family model file analysis task) = ⊤
+IsWithinRanges (request.Generate number analysis) = number ≤ 2000
+IsWithinRanges (request.Check model file certificate) = ⊤
+IsWithinRanges (request.Advice model file settings analysis) = ⊤
+IsWithinRanges (request.Features model) = ⊤

@@ -1,0 +1,6 @@
+//! What the words ask for: a request, and the paths that it names.
+#![tactic(auto)]
+
+mod request;
+
+pub use request::{Analysis, FamilyTask, Request, Role, SettingWords, VariantTask, read_request};

@@ -1,0 +1,135 @@
+//! Which options a command takes, and what they set.
+#![tactic(auto)]
+
+ghost use Rattle.std.specs.Prelude.{◌≡◌};
+ghost use Rattle.famlint_requests.specs.Requests as specs;
+
+use crate::request::Analysis;
+use command_words::{Arguments, Chosen, Domain, Given};
+use plain_analysis::Options;
+
+/// The commands.
+#[derive(Clone, Copy, Debug, PartialEq, Eq)]
+pub enum Command {
+    Plain,
+    Project,
+    Variant,
+    Run,
+    Analyse,
+    Invariants,
+    Generate,
+    Certify,
+    Check,
+    Advise,
+    Features,
+}
+
+impl Command {
+    /// The command with the name.
+    pub fn of(name: &str) -> Option<Command>
+        ensures { result ≡ specs.command_of name.now }
+    {
+        match name {
+            "plain" => Some(Command::Plain),
+            "project" => Some(Command::Project),
+            "variant" => Some(Command::Variant),
+            "run" => Some(Command::Run),
+            "analyse" => Some(Command::Analyse),
+            "invariants" => Some(Command::Invariants),
+            "generate" => Some(Command::Generate),
+            "certify" => Some(Command::Certify),
+            "check" => Some(Command::Check),
+            "advise" => Some(Command::Advise),
+            "features" => Some(Command::Features),
+            _ => None,
+        }
+    }
+
+    /// The options that it takes.
+    fn options(self) -> Given
+        ensures { result ≡ specs.taken_by self }
+    {
+        match self {
+            Command::Plain
+            | Command::Variant
+            | Command::Analyse
+            | Command::Invariants
+            | Command::Generate
+            | Command::Advise => Given {
+                domain: true,
+                delay: true,
+                narrow: true,
+                overflow: true,
+                steps: false,
+                inputs: false,
+            },
+            Command::Certify => Given {
+                domain: false,
+                delay: true,
+                narrow: true,
+                overflow: true,
+                steps: false,
+                inputs: false,
+            },
+            Command::Project | Command::Check | Command::Features => Given {
+                domain: false,
+                delay: false,
+                narrow: false,
+                overflow: false,
+                steps: false,
+                inputs: false,
+            },
+            Command::Run => Given {
+                domain: false,
+                delay: false,
+                narrow: false,
+                overflow: true,
+                steps: true,
+                inputs: true,
+            },
+        }
+    }
+}
+
+/// Whether each option that is given is taken.
+fn are_taken(given: Given, taken: Given) -> bool
+    ensures { result ≡ specs.are_taken given taken }
+{
+    (!given.domain || taken.domain)
+        && (!given.delay || taken.delay)
+        && (!given.narrow || taken.narrow)
+        && (!given.overflow || taken.overflow)
+        && (!given.steps || taken.steps)
+        && (!given.inputs || taken.inputs)
+}
+
+/// Whether the options suit a command.
+pub fn suits(command: Command, arguments: &Arguments) -> bool
+    ensures { result ≡ specs.suits command arguments.now }
+{
+    are_taken(arguments.given, command.options())
+}
+
+/// How programs are analysed.
+pub fn analysis_of(chosen: Chosen) -> Analysis
+    ensures { result ≡ specs.analysis_of chosen }
+{
+    Analysis {
+        domain: chosen.domain,
+        options: Options {
+            delay: chosen.delay,
+            narrow: chosen.narrow,
+            mode: chosen.overflow,
+        },
+    }
+}
+
+/// How programs are analysed by intervals.
+pub fn interval_analysis(chosen: Chosen) -> Analysis
+    ensures { result ≡ specs.interval_analysis chosen }
+{
+    Analysis {
+        domain: Domain::Interval,
+        options: analysis_of(chosen).options,
+    }
+}

@@ -1,0 +1,235 @@
+//! What the words ask for.
+#![tactic(auto)]
+
+ghost use Rattle.std.specs.Prelude.{◌≡◌, ◌≤◌, IfOk, IfSome};
+ghost use Rattle.std.specs.List.{All};
+ghost use Rattle.c_tree.specs.Value.{IsInt};
+ghost use Rattle.command_words.specs.Arguments.{texts_of, AnswersWords};
+ghost use Rattle.famlint_requests.specs.Requests as specs;
+ghost use Rattle.famlint_requests.specs.Requests.{reading, IsWithinRanges, HaveInts};
+
+use crate::request::options::{Command, analysis_of, interval_analysis, suits};
+use crate::request::{Analysis, FamilyTask, Request, SettingWords, VariantTask};
+use command_words::{
+    Arguments, OptionSettings, Usage, Word, WordsRefusal, number_up_to, read_words,
+};
+use fam_outer::NoMemory;
+use std::alloc::Global;
+
+/// What `plain` asks for with these words.
+fn plain_request(alloc: Global, analysis: Analysis, words: &[Word]) -> Result<Request, WordsRefusal>
+    ensures answer { AnswersWords (specs.plain_request analysis words.now) result }
+    ensures ranges { IfOk result (λ request. IsWithinRanges request) }
+{
+    match words {
+        [file] => Ok(Request::Plain {
+            file: Word::from_str(alloc, file.as_str())?,
+            analysis,
+        }),
+        _ => Err(WordsRefusal::Fault(Usage)),
+    }
+}
+
+/// What is asked of a variant with these words.
+fn variant_request(
+    alloc: Global,
+    task: VariantTask,
+    words: &[Word],
+) -> Result<Request, WordsRefusal>
+    requires { HaveInts task }
+    ensures answer { AnswersWords (specs.variant_request task words.now) result }
+    ensures ranges { IfOk result (λ request. IsWithinRanges request) }
+{
+    match words {
+        [model, file, rest @ ..] => Ok(Request::Variant {
+            model: Word::from_str(alloc, model.as_str())?,
+            file: Word::from_str(alloc, file.as_str())?,
+            settings: SettingWords::from_words(alloc, rest)?,
+            task,
+        }),
+        _ => Err(WordsRefusal::Fault(Usage)),
+    }
+}
+
+/// What is asked of all variants with these words.
+fn family_request(
+    alloc: Global,
+    analysis: Analysis,
+    task: FamilyTask,
+    words: &[Word],
+) -> Result<Request, WordsRefusal>
+    ensures answer { AnswersWords (specs.family_request analysis task words.now) result }
+    ensures ranges { IfOk result (λ request. IsWithinRanges request) }
+{
+    match words {
+        [model, file] => Ok(Request::Family {
+            model: Word::from_str(alloc, model.as_str())?,
+            file: Word::from_str(alloc, file.as_str())?,
+            analysis,
+            task,
+        }),
+        _ => Err(WordsRefusal::Fault(Usage)),
+    }
+}
+
+/// The number of blocks that the text spells, from 1 to 2000.
+fn blocks_of(text: &str) -> Option<u32>
+    ensures value { result ≡ specs.blocks_of text.now }
+    ensures range { IfSome result (λ number. number ≤ 2000) }
+{
+    if text == "0" {
+        None
+    } else {
+        number_up_to(2000, text)
+    }
+}
+
+/// What `generate` asks for with these words.
+fn generate_request(analysis: Analysis, words: &[Word]) -> Result<Request, WordsRefusal>
+    ensures answer { AnswersWords (specs.generate_request analysis words.now) result }
+    ensures ranges { IfOk result (λ request. IsWithinRanges request) }
+{
+    match words {
+        [word] => match blocks_of(word.as_str()) {
+            Some(number) => Ok(Request::Generate { number, analysis }),
+            None => Err(WordsRefusal::Fault(Usage)),
+        },
+        _ => Err(WordsRefusal::Fault(Usage)),
+    }
+}
+
+/// What `check` asks for with these words.
+fn check_request(alloc: Global, words: &[Word]) -> Result<Request, WordsRefusal>
+    ensures answer { AnswersWords (specs.check_request words.now) result }
+    ensures ranges { IfOk result (λ request. IsWithinRanges request) }
+{
+    match words {
+        [model, file, certificate] => Ok(Request::Check {
+            model: Word::from_str(alloc, model.as_str())?,
+            file: Word::from_str(alloc, file.as_str())?,
+            certificate: Word::from_str(alloc, certificate.as_str())?,
+        }),
+        _ => Err(WordsRefusal::Fault(Usage)),
+    }
+}
+
+/// What `advise` asks for with these words.
+fn advice_request(
+    alloc: Global,
+    analysis: Analysis,
+    words: &[Word],
+) -> Result<Request, WordsRefusal>
+    ensures answer { AnswersWords (specs.advice_request analysis words.now) result }
+    ensures ranges { IfOk result (λ request. IsWithinRanges request) }
+{
+    match words {
+        [model, file, rest @ ..] => Ok(Request::Advice {
+            model: Word::from_str(alloc, model.as_str())?,
+            file: Word::from_str(alloc, file.as_str())?,
+            settings: SettingWords::from_words(alloc, rest)?,
+            analysis,
+        }),
+        _ => Err(WordsRefusal::Fault(Usage)),
+    }
+}
+
+/// What `features` asks for with these words.
+fn features_request(alloc: Global, words: &[Word]) -> Result<Request, WordsRefusal>
+    ensures answer { AnswersWords (specs.features_request words.now) result }
+    ensures ranges { IfOk result (λ request. IsWithinRanges request) }
+{
+    match words {
+        [model] => Ok(Request::Features {
+            model: Word::from_str(alloc, model.as_str())?,
+        }),
+        _ => Err(WordsRefusal::Fault(Usage)),
+    }
+}
+
+/// The run that the options ask for.
+fn run_task(alloc: Global, settings: &OptionSettings) -> Result<VariantTask, NoMemory>
+    requires { All IsInt settings.now.inputs }
+    ensures value { IfOk result (λ task. task ≡ specs.run_task settings.now) }
+    ensures ints { IfOk result (λ task. HaveInts task) }
+{
+    Ok(VariantTask::Run {
+        steps: settings.chosen.steps,
+        inputs: settings.inputs.copy(alloc)?,
+        mode: settings.chosen.overflow,
+    })
+}
+
+/// What a command asks for with these words.
+fn request_for(
+    alloc: Global,
+    command: Command,
+    settings: &OptionSettings,
+    words: &[Word],
+) -> Result<Request, WordsRefusal>
+    requires { All IsInt settings.now.inputs }
+    ensures answer { AnswersWords (specs.request_for command settings.now words.now) result }
+    ensures ranges { IfOk result (λ request. IsWithinRanges request) }
+{
+    let analysis = analysis_of(settings.chosen);
+    match command {
+        Command::Plain => plain_request(alloc, analysis, words),
+        Command::Project => variant_request(alloc, VariantTask::Project, words),
+        Command::Variant => variant_request(alloc, VariantTask::Variant(analysis), words),
+        Command::Run => {
+            let task = run_task(alloc, settings)?;
+            variant_request(alloc, task, words)
+        }
+        Command::Analyse => family_request(alloc, analysis, FamilyTask::Analyse, words),
+        Command::Invariants => family_request(alloc, analysis, FamilyTask::Invariants, words),
+        Command::Generate => generate_request(analysis, words),
+        Command::Certify => {
+            let analysis = interval_analysis(settings.chosen);
+            family_request(alloc, analysis, FamilyTask::Certify, words)
+        }
+        Command::Check => check_request(alloc, words),
+        Command::Advise => advice_request(alloc, analysis, words),
+        Command::Features => features_request(alloc, words),
+    }
+}
+
+/// What a command asks for, where the options suit it.
+fn suited(
+    alloc: Global,
+    command: Command,
+    arguments: &Arguments,
+    words: &[Word],
+) -> Result<Request, WordsRefusal>
+    requires { All IsInt arguments.now.settings.inputs }
+    ensures answer { AnswersWords (specs.suited command arguments.now words.now) result }
+    ensures ranges { IfOk result (λ request. IsWithinRanges request) }
+{
+    if suits(command, arguments) {
+        request_for(alloc, command, &arguments.settings, words)
+    } else {
+        Err(WordsRefusal::Fault(Usage))
+    }
+}
+
+/// What the positional words ask for.
+fn request_of(alloc: Global, arguments: &Arguments) -> Result<Request, WordsRefusal>
+    requires { All IsInt arguments.now.settings.inputs }
+    ensures answer { AnswersWords (specs.request_of arguments.now) result }
+    ensures ranges { IfOk result (λ request. IsWithinRanges request) }
+{
+    match arguments.positional.items() {
+        [] => Err(WordsRefusal::Fault(Usage)),
+        [first, rest @ ..] => match Command::of(first.as_str()) {
+            Some(command) => suited(alloc, command, arguments, rest),
+            None => Err(WordsRefusal::Fault(Usage)),
+        },
+    }
+}
+
+/// What the words ask for.
+pub fn read_request(alloc: Global, words: &[String]) -> Result<Request, WordsRefusal>
+    ensures answer { AnswersWords (reading (texts_of words.now)) result }
+    ensures ranges { IfOk result (λ request. IsWithinRanges request) }
+{
+    let arguments = read_words(alloc, words)?;
+    request_of(alloc, &arguments)
+}

@@ -1,0 +1,46 @@
+//! The example files: what is written beside each is what its command writes.
+
+use crate::example_files::{COMMANDS, FILES};
+use crate::running::words_of;
+use fam_outer::{CallNumbers, Entries, MemoryFiles, MemorySink, NoMemory, Text};
+use famlint_core::famlint;
+use std::alloc::Global;
+use std::test::Fail;
+
+/// The example files in memory.
+fn example_files(alloc: Global) -> Result<MemoryFiles, NoMemory> {
+    let mut entries = Vec::new(alloc);
+    for (path, content) in FILES {
+        let path = Text::from_bytes(alloc, path.as_bytes())?;
+        let content = Text::from_bytes(alloc, content.as_bytes())?;
+        entries.push((path, content))?;
+    }
+    Ok(MemoryFiles {
+        entries: Entries::from_vec(entries),
+        failing: CallNumbers::from_vec(Vec::new(alloc)),
+        calls: 0,
+        faults: 0,
+        failed: None,
+    })
+}
+
+/// The output of a command, and then its line on the error stream.
+fn written(alloc: Global, line: &str) -> Result<Vec<u8>, NoMemory> {
+    let words = words_of(alloc, line)?;
+    let mut files = example_files(alloc)?;
+    let mut out = MemorySink::new(alloc, 10000, 10000, Vec::new(alloc))?;
+    let mut err = MemorySink::new(alloc, 1000, 1000, Vec::new(alloc))?;
+    famlint(alloc, &words, &mut files, &mut out, &mut err);
+    let mut text = Vec::from_slice(alloc, out.taken.as_slice())?;
+    text.extend_from_slice(err.taken.as_slice())?;
+    Ok(text)
+}
+
+#[test]
+fn examples_are_as_expected(rt: HostRuntime) -> Result<(), Fail> {
+    for (line, expected) in COMMANDS {
+        let text = written(rt.alloc(), line).map_err(|_| "memory")?;
+        assert_eq!(rt; text.as_slice(), expected.as_bytes(), "at {line}");
+    }
+    Ok(())
+}
