@@ -10,6 +10,7 @@ use Rattle.cpp_conditions.specs.Validity.{plain, IsValid}
 use Rattle.cpp_conditions.specs.View.{formula}
 use Rattle.decision_tree.specs.Plain.{TestsBelow}
 use Rattle.decision_tree.specs.View as tree
+use Rattle.linear_atoms.specs.Atoms.{AreLiterals}
 use Rattle.leaf_domain.specs.Leaves.{LeafValue, LeafMeaning}
 use Rattle.lifted_analysis.specs.declared.findings.AlarmTree.{AlarmTree}
 use Rattle.lifted_analysis.specs.declared.findings.FamilyFindings.{FamilyFindings}
@@ -18,6 +19,7 @@ use Rattle.lifted_analysis.specs.Promises.{variant_at, begin_at, by_kind}
 use Rattle.plain_analysis.specs.declared.options.Options.{Options}
 use Rattle.plain_analysis.specs.Promises.{RunsForeseen}
 use Rattle.alarm_report.specs.declared.alarms.FamilyAlarm.{FamilyAlarm}
+use Rattle.alarm_report.specs.declared.invariants.FamilyInvariant.{FamilyInvariant}
 use Rattle.alarm_report.specs.Alarms.{PlainAlarmTree, plain_alarm_tree}
 use Rattle.alarm_report.specs.Invariants.{LeafTree, Invariant, leaf_tree}
 use Rattle.alarm_report.specs.LeafTexts.{invariant_text}
@@ -45,6 +47,14 @@ pub record IsFound {L : Type 0} (value : L → LeafValue) (M : LeafMeaning) (o :
 pub record AreTested {L : Type 0} (l : ProductLine) (f : FamilyFindings L) : Type 0 where
   pub stops : All (λ (t : AlarmTree). TestsBelow (length l.family.atoms) (tree.plain t.tree)) f.alarms.items
   pub leaves : All (λ (t : PlaceTree L). TestsBelow (length l.family.atoms) (tree.plain t.tree)) f.places.items
+
+-- the regions of the alarms have literals over the features of the model
+abbrev pub AreAlarmsWithLiterals : ProductLine → List FamilyAlarm → Type 0
+AreAlarmsWithLiterals l alarms = All (λ (a : FamilyAlarm). AreLiterals (length l.model.features) a.region.literals) alarms
+
+-- the same of the regions of invariants
+abbrev pub AreInvariantsWithLiterals : {L : Type 0} → ProductLine → List (FamilyInvariant L) → Type 0
+AreInvariantsWithLiterals {L} l invariants = All (λ (i : FamilyInvariant L). AreLiterals (length l.model.features) i.region.literals) invariants
 
 -- the alarms are the product line's, and what is promised of them
 pub record AreGoodAlarms (M : LeafMeaning) (o : Options) (l : ProductLine) (alarms : List FamilyAlarm) : Type 0 where

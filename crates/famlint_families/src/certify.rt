@@ -1,15 +1,11 @@
 //! `certify`: the invariants of the loops of a family and its alarms, as a text.
 #![tactic(auto)]
 
-ghost use Rattle.std.specs.Prelude.{◌≡◌, IfOk, length, map};
-ghost use Rattle.std.specs.List.{All};
-ghost use Rattle.linear_atoms.specs.Atoms.{AreLiterals};
+ghost use Rattle.std.specs.Prelude.{◌≡◌, IfOk, map};
 ghost use Rattle.plain_analysis.specs.declared.options.Options.{Options};
-ghost use Rattle.alarm_report.specs.declared.alarms.FamilyAlarm.{FamilyAlarm};
-ghost use Rattle.alarm_report.specs.declared.invariants.FamilyInvariant.{FamilyInvariant};
 ghost use Rattle.alarm_report.specs.Invariants.{invariant};
 ghost use Rattle.famlint_families.specs.FamilyReports.{AreLoopsOf};
-ghost use Rattle.famlint_families.specs.Findings.{IsFound, AreTested, IsCertificateText};
+ghost use Rattle.famlint_families.specs.Findings.{IsFound, AreTested, AreAlarmsWithLiterals, AreInvariantsWithLiterals, IsCertificateText};
 ghost use Rattle.famlint_loads.specs.ProductLines.{IsUsableLine};
 
 use alarm_report::{FamilyAlarm, FamilyInvariant, invariants_of};
@@ -34,9 +30,7 @@ fn loops_in<L: Leaf>(
     requires tested { AreTested line.now findings.now }
     ensures are { (o : Options) → IsFound L.value L.meaning o line.now findings.now
         → IfOk result (λ made. AreLoopsOf L.meaning o line.now (map (invariant L.value) made.items)) }
-    ensures fit { IfOk result (λ made. All
-        (λ (i : FamilyInvariant L). AreLiterals
-        (length line.now.model.features) i.region.literals) made.items) }
+    ensures fit { IfOk result (λ made. AreInvariantsWithLiterals line.now made.items) }
 {
     let atoms = line.family.atoms.items();
     let loops = loop_places(alloc, &line.family.code)?;
@@ -57,8 +51,7 @@ pub(crate) fn certificate_of<L: Leaf>(
     requires line { IsUsableLine line.now }
     requires prepared { prepared.now ≡ line.now.model }
     requires tested { AreTested line.now findings.now }
-    requires fit { All (λ (a : FamilyAlarm). AreLiterals
-        (length line.now.model.features) a.region.literals) alarms.now }
+    requires fit { AreAlarmsWithLiterals line.now alarms.now }
     ensures { IsFound L.value L.meaning options.now line.now findings.now
         → IfOk result (λ text. IsCertificateText L.meaning options.now line.now alarms.now text) }
 {

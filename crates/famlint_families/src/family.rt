@@ -1,18 +1,14 @@
 //! What is asked of all variants of a family at once: `analyse`, `invariants` and `certify`.
 #![tactic(auto)]
 
-ghost use Rattle.std.specs.Prelude.{◌≡◌, ◌≤◌, ◌++◌, ℕ, List, [], ◌∷◌, Some, IfOk, length, map};
-ghost use Rattle.std.specs.List.{All};
-ghost use Rattle.linear_atoms.specs.Atoms.{AreLiterals};
+ghost use Rattle.std.specs.Prelude.{◌≡◌, ◌≤◌, ◌++◌, ℕ, List, [], ◌∷◌, Some, IfOk, map};
 ghost use Rattle.plain_analysis.specs.declared.options.Options.{Options};
-ghost use Rattle.alarm_report.specs.declared.alarms.FamilyAlarm.{FamilyAlarm};
-ghost use Rattle.alarm_report.specs.declared.invariants.FamilyInvariant.{FamilyInvariant};
 ghost use Rattle.alarm_report.specs.Invariants.{invariant};
 ghost use Rattle.famlint_families.specs.FamilyAnswers.{AnswersFamily, PromisedFamily};
 ghost use Rattle.famlint_loads.specs.Contents.{Contents};
 ghost use Rattle.famlint_programs.specs.ProgramAnswers.{meaning_of};
 ghost use Rattle.famlint_families.specs.FamilyReports.{IsFamilyDone, sizes_text, family_status as status_of};
-ghost use Rattle.famlint_families.specs.Findings.{IsFound, AreTested, AreGoodAlarms, AreGoodInvariants, AreInvariantsBefore, IsGoodText};
+ghost use Rattle.famlint_families.specs.Findings.{IsFound, AreTested, AreAlarmsWithLiterals, AreInvariantsWithLiterals, AreGoodAlarms, AreGoodInvariants, AreInvariantsBefore, IsGoodText};
 ghost use Rattle.famlint_families.specs.Headline.{PromisedOfAll};
 ghost use Rattle.famlint_loads.specs.Loads.{Comes, IsReadFault, IsReadOf};
 ghost use Rattle.famlint_loads.specs.ProductLines.{IsLoadedFor, IsUsableLine};
@@ -65,8 +61,7 @@ fn alarms_in<L: Leaf>(
     requires tested { AreTested line.now findings.now }
     ensures good { (o : Options) → IsFound L.value L.meaning o line.now findings.now
         → IfOk result (λ alarms. AreGoodAlarms L.meaning o line.now alarms) }
-    ensures fit { IfOk result (λ alarms. All
-        (λ (a : FamilyAlarm). AreLiterals (length line.now.model.features) a.region.literals) alarms) }
+    ensures fit { IfOk result (λ alarms. AreAlarmsWithLiterals line.now alarms) }
 {
     variants_are_projections();
     let atoms = line.family.atoms.items();
@@ -86,9 +81,7 @@ fn invariants_in<L: Leaf>(
     requires tested { AreTested line.now findings.now }
     ensures good { (o : Options) → IsFound L.value L.meaning o line.now findings.now
         → IfOk result (λ made. AreGoodInvariants L.meaning o line.now (map (invariant L.value) made.items)) }
-    ensures fit { IfOk result (λ made. All
-        (λ (i : FamilyInvariant L). AreLiterals
-        (length line.now.model.features) i.region.literals) made.items) }
+    ensures fit { IfOk result (λ made. AreInvariantsWithLiterals line.now made.items) }
 {
     variants_are_projections();
     let atoms = line.family.atoms.items();
@@ -157,8 +150,7 @@ fn text_for<L: Leaf>(
     requires line { IsUsableLine line.now }
     requires prepared { prepared.now ≡ line.now.model }
     requires tested { AreTested line.now findings.now }
-    requires fit { All (λ (a : FamilyAlarm). AreLiterals
-        (length line.now.model.features) a.region.literals) alarms.now }
+    requires fit { AreAlarmsWithLiterals line.now alarms.now }
     ensures { IsFound L.value L.meaning options.now line.now findings.now
         → IfOk result (λ text. IsGoodText L.meaning options.now task line.now alarms.now text) }
 {
