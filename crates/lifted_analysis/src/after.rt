@@ -4,17 +4,17 @@
 ghost use Rattle.std.specs.Prelude.{◌≡◌, IfOk, OnOk, true, List, Bool};
 ghost use Rattle.c_tree.specs.Tree.{Done};
 ghost use Rattle.c_tree.specs.View.{term, front, code, whole};
-ghost use Rattle.c_tree.specs.Fit.{IsTermOf, IsCodeOf};
+ghost use Rattle.c_tree.specs.Fit.{IsTermOf};
 ghost use Rattle.decision_tree.specs.Listed.{Keeps};
 ghost use Rattle.decision_tree.specs.Plain.{leaf_of};
 ghost use Rattle.decision_tree.specs.View.{numbered, plain};
 ghost use Rattle.leaf_domain.specs.Transfer.{assumed};
 ghost use Rattle.plain_analysis.specs.Loops.{widened_leaf, narrowing_of};
-ghost use Rattle.plain_analysis.specs.Stated.{IsLoopAt, HasLoopsOf};
+ghost use Rattle.plain_analysis.specs.Stated.{IsPartOf, IsLoopOf};
 ghost use Rattle.lifted_analysis.specs.Finals.{Remembers};
-ghost use Rattle.lifted_analysis.specs.Heads.{IsHeadOf};
+ghost use Rattle.lifted_analysis.specs.Heads.{IsHeadOf, turns_over, final_over};
 ghost use Rattle.lifted_analysis.specs.States.{IsFamily, IsState, IsLifted, IsTruth};
-ghost use Rattle.lifted_analysis.specs.Steps.{after_at, if_at, group_at, turn_at, final_at};
+ghost use Rattle.lifted_analysis.specs.Steps.{after_at, if_at, group_at};
 
 use crate::family_context::FamilyContext;
 use crate::finals::{Entered, Finals, find, remember};
@@ -25,8 +25,9 @@ use crate::states::{
 use crate::tables::Tables;
 use c_tree::{Expr, Stmt};
 use decision_tree::Tree;
-use fam_outer::{NoMemory, Place};
+use fam_outer::NoMemory;
 use leaf_domain::{Leaf, transfer_is_sound};
+use plain_analysis::Loop;
 use std::sync::ledger::Ledger;
 
 /// The tree after a list of statements that is entered with `t`. Nothing stays Nothing.
@@ -39,9 +40,8 @@ pub(crate) fn after_list<L: Leaf, K: Ledger>(
     t: &Tree<L>,
 ) -> Result<Tree<L>, NoMemory>
     requires family { IsFamily family.now }
-    requires fit { IsCodeOf family.now.variables (code list.now) }
+    requires part { IsPartOf family.now.variables (whole family.now.program.now) (code list.now) }
     requires state { IsState L.value family.now tables.old.leaves (numbered t.now) }
-    requires loops { HasLoopsOf (whole family.now.program.now) (code list.now) }
     requires memory { Remembers L.value L.meaning family.now tables.old.leaves finals.old }
     ensures lifted { IfOk result (λ r. IsLifted L.value family.now tables.old.leaves tables.new.leaves
         (after_at L.meaning family.now (code list.now)) (plain t.now) (numbered r)) }
@@ -68,9 +68,8 @@ fn after_stmt<L: Leaf, K: Ledger>(
     t: &Tree<L>,
 ) -> Result<Tree<L>, NoMemory>
     requires family { IsFamily family.now }
-    requires fit { IsCodeOf family.now.variables (front s.now Done) }
+    requires part { IsPartOf family.now.variables (whole family.now.program.now) (front s.now Done) }
     requires state { IsState L.value family.now tables.old.leaves (numbered t.now) }
-    requires loops { HasLoopsOf (whole family.now.program.now) (front s.now Done) }
     requires memory { Remembers L.value L.meaning family.now tables.old.leaves finals.old }
     ensures lifted { IfOk result (λ r. IsLifted L.value family.now tables.old.leaves tables.new.leaves
         (after_at L.meaning family.now (front s.now Done)) (plain t.now) (numbered r)) }
@@ -88,7 +87,12 @@ fn after_stmt<L: Leaf, K: Ledger>(
         Stmt::Assert { test, .. } => stepped(tables, family, &Step::Assume(test, true), t),
         Stmt::If { test, yes, no, .. } => after_if(tables, finals, family, yes, no, test, t),
         Stmt::While { place, test, body } => {
-            let last = final_tree(tables, finals, family, *place, body, test, t)?;
+            let the_loop = Loop {
+                place: *place,
+                test,
+                body,
+            };
+            let last = final_tree(tables, finals, family, &the_loop, t)?;
             stepped(tables, family, &Step::Assume(test, false), &last)
         }
         Stmt::Block { body, .. } => after_list(tables, finals, family, body, t),
@@ -113,11 +117,9 @@ fn after_if<L: Leaf, K: Ledger>(
 ) -> Result<Tree<L>, NoMemory>
     requires family { IsFamily family.now }
     requires test { IsTermOf family.now.variables (term test.now) }
-    requires yes { IsCodeOf family.now.variables (code yes.now) }
-    requires no { IsCodeOf family.now.variables (code no.now) }
+    requires yes { IsPartOf family.now.variables (whole family.now.program.now) (code yes.now) }
+    requires no { IsPartOf family.now.variables (whole family.now.program.now) (code no.now) }
     requires state { IsState L.value family.now tables.old.leaves (numbered t.now) }
-    requires yes_loops { HasLoopsOf (whole family.now.program.now) (code yes.now) }
-    requires no_loops { HasLoopsOf (whole family.now.program.now) (code no.now) }
     requires memory { Remembers L.value L.meaning family.now tables.old.leaves finals.old }
     ensures lifted { IfOk result (λ r. IsLifted L.value family.now tables.old.leaves tables.new.leaves
         (if_at L.meaning family.now (term test.now) (code yes.now) (code no.now)) (plain t.now)
@@ -144,11 +146,9 @@ fn after_group<L: Leaf, K: Ledger>(
 ) -> Result<Tree<L>, NoMemory>
     requires family { IsFamily family.now }
     requires choice { IsTruth family.now (numbered choice.now) }
-    requires yes { IsCodeOf family.now.variables (code yes.now) }
-    requires no { IsCodeOf family.now.variables (code no.now) }
+    requires yes { IsPartOf family.now.variables (whole family.now.program.now) (code yes.now) }
+    requires no { IsPartOf family.now.variables (whole family.now.program.now) (code no.now) }
     requires state { IsState L.value family.now tables.old.leaves (numbered t.now) }
-    requires yes_loops { HasLoopsOf (whole family.now.program.now) (code yes.now) }
-    requires no_loops { HasLoopsOf (whole family.now.program.now) (code no.now) }
     requires memory { Remembers L.value L.meaning family.now tables.old.leaves finals.old }
     ensures lifted { IfOk result (λ r. IsLifted L.value family.now tables.old.leaves tables.new.leaves
         (group_at L.meaning family.now (plain choice.now) (code yes.now) (code no.now)) (plain t.now)
@@ -176,27 +176,23 @@ fn head_at<L: Leaf, K: Ledger>(
     tables: &mut Tables<L, K>,
     finals: &mut Finals<L>,
     family: &FamilyContext,
-    body: &[Stmt],
-    test: &Expr,
+    the_loop: &Loop<'_>,
     t: &Tree<L>,
     at: Tree<L>,
 ) -> Result<Head<L>, NoMemory>
     requires family { IsFamily family.now }
-    requires test { IsTermOf family.now.variables (term test.now) }
-    requires body { IsCodeOf family.now.variables (code body.now) }
+    requires own { IsLoopOf family.now.variables (whole family.now.program.now) the_loop.now }
     requires state { IsState L.value family.now tables.old.leaves (numbered t.now) }
     requires at { IsState L.value family.now tables.old.leaves (numbered at) }
-    requires loops { HasLoopsOf (whole family.now.program.now) (code body.now) }
     requires memory { Remembers L.value L.meaning family.now tables.old.leaves finals.old }
     ensures at { IfOk result (λ head. numbered head.at ≡ numbered at) }
     ensures head { IfOk result (λ head. IsHeadOf L.value family.now tables.new.leaves
-        (λ v. turn_at L.meaning family.now (term test.now) (code body.now) v
-        (L.value (leaf_of (plain t.now) v))) head) }
+        (turns_over L.value L.meaning family.now the_loop.now (plain t.now)) head) }
     ensures keeps { IfOk result (λ head. Keeps tables.old.leaves tables.new.leaves) }
     ensures memory { OnOk result (Remembers L.value L.meaning family.now tables.new.leaves finals.new) }
 {
-    let inside = stepped(tables, family, &Step::Assume(test, true), &at)?;
-    let end = after_list(tables, finals, family, body, &inside)?;
+    let inside = stepped(tables, family, &Step::Assume(the_loop.test, true), &at)?;
+    let end = after_list(tables, finals, family, the_loop.body, &inside)?;
     let next = joined(tables, family, t, &end)?;
     Ok(Head { at, next })
 }
@@ -208,31 +204,27 @@ fn widened<L: Leaf, K: Ledger>(
     tables: &mut Tables<L, K>,
     finals: &mut Finals<L>,
     family: &FamilyContext,
-    body: &[Stmt],
-    test: &Expr,
+    the_loop: &Loop<'_>,
     t: &Tree<L>,
 ) -> Result<Head<L>, NoMemory>
     requires family { IsFamily family.now }
-    requires test { IsTermOf family.now.variables (term test.now) }
-    requires body { IsCodeOf family.now.variables (code body.now) }
+    requires own { IsLoopOf family.now.variables (whole family.now.program.now) the_loop.now }
     requires state { IsState L.value family.now tables.old.leaves (numbered t.now) }
-    requires loops { HasLoopsOf (whole family.now.program.now) (code body.now) }
     requires memory { Remembers L.value L.meaning family.now tables.old.leaves finals.old }
     ensures at_each { IfOk result (λ head. (v : List Bool)
         → L.value (leaf_of (plain head.at) v)
         ≡ widened_leaf L.meaning family.now.options.delay
-        (turn_at L.meaning family.now (term test.now) (code body.now) v (L.value (leaf_of (plain t.now) v)))
+        (turns_over L.value L.meaning family.now the_loop.now (plain t.now) v)
         (L.value (leaf_of (plain t.now) v))) }
     ensures head { IfOk result (λ head. IsHeadOf L.value family.now tables.new.leaves
-        (λ v. turn_at L.meaning family.now (term test.now) (code body.now) v
-        (L.value (leaf_of (plain t.now) v))) head) }
+        (turns_over L.value L.meaning family.now the_loop.now (plain t.now)) head) }
     ensures keeps { IfOk result (λ head. Keeps tables.old.leaves tables.new.leaves) }
     ensures memory { OnOk result (Remembers L.value L.meaning family.now tables.new.leaves finals.new) }
 {
     let delay = u64::from(family.options.delay);
     let rounds = delay + u64::from(L::bound_count(family.variables)) + 1;
     let start = t.share()?;
-    let mut head = head_at(tables, finals, family, body, test, t, start)?;
+    let mut head = head_at(tables, finals, family, the_loop, t, start)?;
     for k in 0..rounds {
         let stable = below(tables, family, &head.next, &head.at)?;
         if is_everywhere(&stable, true) {
@@ -240,7 +232,7 @@ fn widened<L: Leaf, K: Ledger>(
         }
         let how = Combination::Round(k < delay);
         let made = combined(tables, family, how, &head.at, &head.next)?;
-        head = head_at(tables, finals, family, body, test, t, made)?;
+        head = head_at(tables, finals, family, the_loop, t, made)?;
     }
     Ok(head)
 }
@@ -252,27 +244,21 @@ fn narrowed<L: Leaf, K: Ledger>(
     tables: &mut Tables<L, K>,
     finals: &mut Finals<L>,
     family: &FamilyContext,
-    body: &[Stmt],
-    test: &Expr,
+    the_loop: &Loop<'_>,
     t: &Tree<L>,
     head: Head<L>,
 ) -> Result<Head<L>, NoMemory>
     requires family { IsFamily family.now }
-    requires test { IsTermOf family.now.variables (term test.now) }
-    requires body { IsCodeOf family.now.variables (code body.now) }
+    requires own { IsLoopOf family.now.variables (whole family.now.program.now) the_loop.now }
     requires state { IsState L.value family.now tables.old.leaves (numbered t.now) }
     requires head { IsHeadOf L.value family.now tables.old.leaves
-        (λ v. turn_at L.meaning family.now (term test.now) (code body.now) v
-        (L.value (leaf_of (plain t.now) v))) head }
-    requires loops { HasLoopsOf (whole family.now.program.now) (code body.now) }
+        (turns_over L.value L.meaning family.now the_loop.now (plain t.now)) head }
     requires memory { Remembers L.value L.meaning family.now tables.old.leaves finals.old }
     ensures at_each { IfOk result (λ made. (v : List Bool)
         → L.value (leaf_of (plain made.at) v)
-        ≡ narrowing_of L.meaning (turn_at L.meaning family.now (term test.now) (code body.now) v
-        (L.value (leaf_of (plain t.now) v))) (L.value (leaf_of (plain head.at) v))) }
+        ≡ narrowing_of L.meaning (turns_over L.value L.meaning family.now the_loop.now (plain t.now) v) (L.value (leaf_of (plain head.at) v))) }
     ensures head { IfOk result (λ made. IsHeadOf L.value family.now tables.new.leaves
-        (λ v. turn_at L.meaning family.now (term test.now) (code body.now) v
-        (L.value (leaf_of (plain t.now) v))) made) }
+        (turns_over L.value L.meaning family.now the_loop.now (plain t.now)) made) }
     ensures keeps { IfOk result (λ made. Keeps tables.old.leaves tables.new.leaves) }
     ensures memory { OnOk result (Remembers L.value L.meaning family.now tables.new.leaves finals.new) }
 {
@@ -280,7 +266,7 @@ fn narrowed<L: Leaf, K: Ledger>(
     if candidate.number() == head.at.number() {
         return Ok(head);
     }
-    let made = head_at(tables, finals, family, body, test, t, candidate)?;
+    let made = head_at(tables, finals, family, the_loop, t, candidate)?;
     let stable = below(tables, family, &made.next, &made.at)?;
     let at = selected(tables, family, &stable, &made.at, &head.at)?;
     let next = selected(tables, family, &stable, &made.next, &head.next)?;
@@ -294,24 +280,21 @@ fn final_by_rounds<L: Leaf, K: Ledger>(
     tables: &mut Tables<L, K>,
     finals: &mut Finals<L>,
     family: &FamilyContext,
-    body: &[Stmt],
-    test: &Expr,
+    the_loop: &Loop<'_>,
     t: &Tree<L>,
 ) -> Result<Tree<L>, NoMemory>
     requires family { IsFamily family.now }
-    requires test { IsTermOf family.now.variables (term test.now) }
-    requires body { IsCodeOf family.now.variables (code body.now) }
+    requires own { IsLoopOf family.now.variables (whole family.now.program.now) the_loop.now }
     requires state { IsState L.value family.now tables.old.leaves (numbered t.now) }
-    requires loops { HasLoopsOf (whole family.now.program.now) (code body.now) }
     requires memory { Remembers L.value L.meaning family.now tables.old.leaves finals.old }
     ensures lifted { IfOk result (λ r. IsLifted L.value family.now tables.old.leaves tables.new.leaves
-        (final_at L.meaning family.now (term test.now) (code body.now)) (plain t.now) (numbered r)) }
+        (final_over L.meaning family.now the_loop.now) (plain t.now) (numbered r)) }
     ensures memory { OnOk result (Remembers L.value L.meaning family.now tables.new.leaves finals.new) }
 {
-    let mut head = widened(tables, finals, family, body, test, t)?;
+    let mut head = widened(tables, finals, family, the_loop, t)?;
     for _k in 0..family.options.narrow {
         let before = head.at.number();
-        head = narrowed(tables, finals, family, body, test, t, head)?;
+        head = narrowed(tables, finals, family, the_loop, t, head)?;
         if head.at.number() == before {
             return Ok(head.at);
         }
@@ -326,20 +309,15 @@ pub(crate) fn final_tree<L: Leaf, K: Ledger>(
     tables: &mut Tables<L, K>,
     finals: &mut Finals<L>,
     family: &FamilyContext,
-    place: Place,
-    body: &[Stmt],
-    test: &Expr,
+    the_loop: &Loop<'_>,
     t: &Tree<L>,
 ) -> Result<Tree<L>, NoMemory>
     requires family { IsFamily family.now }
-    requires test { IsTermOf family.now.variables (term test.now) }
-    requires body { IsCodeOf family.now.variables (code body.now) }
+    requires own { IsLoopOf family.now.variables (whole family.now.program.now) the_loop.now }
     requires state { IsState L.value family.now tables.old.leaves (numbered t.now) }
-    requires loops { HasLoopsOf (whole family.now.program.now) (code body.now) }
-    requires here { IsLoopAt (whole family.now.program.now) place (term test.now) (code body.now) }
     requires memory { Remembers L.value L.meaning family.now tables.old.leaves finals.old }
     ensures lifted { IfOk result (λ r. IsLifted L.value family.now tables.old.leaves tables.new.leaves
-        (final_at L.meaning family.now (term test.now) (code body.now)) (plain t.now) (numbered r)) }
+        (final_over L.meaning family.now the_loop.now) (plain t.now) (numbered r)) }
     ensures memory { OnOk result (Remembers L.value L.meaning family.now tables.new.leaves finals.new) }
 {
     transfer_is_sound::<L>();
@@ -347,13 +325,13 @@ pub(crate) fn final_tree<L: Leaf, K: Ledger>(
         return t.share();
     }
     let key = Entered {
-        place,
+        place: the_loop.place,
         number: t.number(),
     };
     if let Some(last) = find(&finals.entries, &key) {
         return last.share();
     }
-    let last = final_by_rounds(tables, finals, family, body, test, t)?;
+    let last = final_by_rounds(tables, finals, family, the_loop, t)?;
     let kept = last.share()?;
     remember(&mut finals.entries, key, kept)?;
     Ok(last)

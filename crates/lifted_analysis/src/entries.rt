@@ -9,9 +9,10 @@ ghost use Rattle.c_tree.specs.Fit.{IsTermOf, IsCodeOf};
 ghost use Rattle.decision_tree.specs.Plain.{leaf_of};
 ghost use Rattle.decision_tree.specs.View.{numbered, plain};
 ghost use Rattle.leaf_domain.specs.Stops.{may_at};
-ghost use Rattle.plain_analysis.specs.Stated.{IsLoopAt, HasLoopsOf};
+ghost use Rattle.plain_analysis.specs.Stated.{IsPartOf, IsLoopOf};
 ghost use Rattle.lifted_analysis.specs.Entries.{leaf_there, stop_there, IsReducedTree, AreReduced, AreReducedStops, entered_with, entered_sides, entered_group, entered_loop, AreSized, turn_there, HasEntered};
-ghost use Rattle.lifted_analysis.specs.Rules.{Knows, heads_in, passed_with, sides_with, group_with, head_with};
+ghost use Rattle.lifted_analysis.specs.Heads.{head_over};
+ghost use Rattle.lifted_analysis.specs.Rules.{Knows, heads_in, passed_with, sides_with, group_with};
 ghost use Rattle.lifted_analysis.specs.States.{IsFamily, IsState, IsSized, IsLifted, IsTruth};
 
 use crate::family_context::FamilyContext;
@@ -25,6 +26,7 @@ use c_tree::{Expr, Kind, Stmt};
 use decision_tree::Tree;
 use fam_outer::{NoMemory, Place};
 use leaf_domain::{Leaf, may, transfer_is_sound};
+use plain_analysis::Loop;
 use std::sync::ledger::Ledger;
 use tree_unify::map_in;
 
@@ -208,9 +210,8 @@ pub(crate) fn enter_list<L: Leaf, K: Ledger>(
 ) -> Result<Tree<L>, NoMemory>
     requires family { IsFamily family.now }
     requires here { IsTruth family.now (numbered here.now) }
-    requires fit { IsCodeOf family.now.variables (code list.now) }
+    requires part { IsPartOf family.now.variables (whole family.now.program.now) (code list.now) }
     requires state { IsState L.value family.now tables.old.leaves (numbered t.now) }
-    requires loops { HasLoopsOf (whole family.now.program.now) (code list.now) }
     requires memory { Knows L.value L.meaning family.now rule.now tables.old.leaves finals.old }
     ensures lifted { IfOk result (λ r. IsLifted L.value family.now tables.old.leaves tables.new.leaves
         (passed_with L.meaning family.now
@@ -242,9 +243,8 @@ fn enter_stmt<L: Leaf, K: Ledger>(
 ) -> Result<Tree<L>, NoMemory>
     requires family { IsFamily family.now }
     requires here { IsTruth family.now (numbered here.now) }
-    requires fit { IsCodeOf family.now.variables (front s.now Done) }
+    requires part { IsPartOf family.now.variables (whole family.now.program.now) (front s.now Done) }
     requires state { IsState L.value family.now tables.old.leaves (numbered t.now) }
-    requires loops { HasLoopsOf (whole family.now.program.now) (front s.now Done) }
     requires memory { Knows L.value L.meaning family.now rule.now tables.old.leaves finals.old }
     ensures lifted { IfOk result (λ r. IsLifted L.value family.now tables.old.leaves tables.new.leaves
         (passed_with L.meaning family.now
@@ -282,9 +282,12 @@ fn enter_stmt<L: Leaf, K: Ledger>(
             enter_if(tables, finals, noted, family, rule, here, yes, no, test, t)
         }
         Stmt::While { place, test, body } => {
-            let head = enter_loop(
-                tables, finals, noted, family, rule, here, s, *place, body, test, t,
-            )?;
+            let the_loop = Loop {
+                place: *place,
+                test,
+                body,
+            };
+            let head = enter_loop(tables, finals, noted, family, rule, here, s, &the_loop, t)?;
             stepped(tables, family, &Step::Assume(test, false), &head)
         }
         Stmt::Block { place, body } => {
@@ -321,11 +324,9 @@ fn enter_if<L: Leaf, K: Ledger>(
     requires family { IsFamily family.now }
     requires here { IsTruth family.now (numbered here.now) }
     requires test { IsTermOf family.now.variables (term test.now) }
-    requires yes { IsCodeOf family.now.variables (code yes.now) }
-    requires no { IsCodeOf family.now.variables (code no.now) }
+    requires yes { IsPartOf family.now.variables (whole family.now.program.now) (code yes.now) }
+    requires no { IsPartOf family.now.variables (whole family.now.program.now) (code no.now) }
     requires state { IsState L.value family.now tables.old.leaves (numbered t.now) }
-    requires yes_loops { HasLoopsOf (whole family.now.program.now) (code yes.now) }
-    requires no_loops { HasLoopsOf (whole family.now.program.now) (code no.now) }
     requires memory { Knows L.value L.meaning family.now rule.now tables.old.leaves finals.old }
     ensures lifted { IfOk result (λ r. IsLifted L.value family.now tables.old.leaves tables.new.leaves
         (sides_with L.meaning family.now
@@ -362,11 +363,9 @@ fn enter_group<L: Leaf, K: Ledger>(
     requires family { IsFamily family.now }
     requires here { IsTruth family.now (numbered here.now) }
     requires choice { IsTruth family.now (numbered choice.now) }
-    requires yes { IsCodeOf family.now.variables (code yes.now) }
-    requires no { IsCodeOf family.now.variables (code no.now) }
+    requires yes { IsPartOf family.now.variables (whole family.now.program.now) (code yes.now) }
+    requires no { IsPartOf family.now.variables (whole family.now.program.now) (code no.now) }
     requires state { IsState L.value family.now tables.old.leaves (numbered t.now) }
-    requires yes_loops { HasLoopsOf (whole family.now.program.now) (code yes.now) }
-    requires no_loops { HasLoopsOf (whole family.now.program.now) (code no.now) }
     requires memory { Knows L.value L.meaning family.now rule.now tables.old.leaves finals.old }
     ensures lifted { IfOk result (λ r. IsLifted L.value family.now tables.old.leaves tables.new.leaves
         (group_with L.meaning family.now
@@ -399,37 +398,41 @@ fn enter_loop<L: Leaf, K: Ledger>(
     rule: &Rule<L>,
     here: &Tree<bool>,
     s: &Stmt,
-    place: Place,
-    body: &[Stmt],
-    test: &Expr,
+    the_loop: &Loop<'_>,
     t: &Tree<L>,
 ) -> Result<Tree<L>, NoMemory>
     requires family { IsFamily family.now }
     requires here { IsTruth family.now (numbered here.now) }
     requires fit { IsCodeOf family.now.variables (front s.now Done) }
-    requires test { IsTermOf family.now.variables (term test.now) }
-    requires body { IsCodeOf family.now.variables (code body.now) }
+    requires own { IsLoopOf family.now.variables (whole family.now.program.now) the_loop.now }
     requires state { IsState L.value family.now tables.old.leaves (numbered t.now) }
-    requires loops { HasLoopsOf (whole family.now.program.now) (code body.now) }
-    requires at { IsLoopAt (whole family.now.program.now) place (term test.now) (code body.now) }
     requires memory { Knows L.value L.meaning family.now rule.now tables.old.leaves finals.old }
     ensures lifted { IfOk result (λ r. IsLifted L.value family.now tables.old.leaves tables.new.leaves
-        (head_with L.meaning family.now
-        (heads_in L.value L.meaning family.now rule.now (plain here.now)) place (term test.now) (code body.now))
+        (head_over L.meaning family.now (heads_in L.value L.meaning family.now rule.now (plain here.now)) the_loop.now)
         (plain t.now) (numbered r)) }
     ensures entered { OnOk result (HasEntered L.value L.meaning family.now noted.old noted.new
         (entered_loop L.value L.meaning family.now
-        (heads_in L.value L.meaning family.now rule.now (plain here.now)) (front s.now Done) place (term test.now) (code body.now)
+        (heads_in L.value L.meaning family.now rule.now (plain here.now)) (front s.now Done) the_loop.now.place (term the_loop.now.test.now)
+        (code the_loop.now.body.now)
         (plain t.now))) }
     ensures memory { OnOk result
         (Knows L.value L.meaning family.now rule.now tables.new.leaves finals.new) }
 {
     let turns = noted.turns.as_slice();
     let at = turns.len();
-    let head = head_tree(tables, finals, family, rule, here, place, body, test, t)?;
-    enter(tables, family, noted, s, place, &head)?;
-    let inside = stepped(tables, family, &Step::Assume(test, true), &head)?;
-    let again = enter_list(tables, finals, noted, family, rule, here, body, &inside)?;
-    add_turn(noted, family, at, place, t, &head, again)?;
+    let head = head_tree(tables, finals, family, rule, here, the_loop, t)?;
+    enter(tables, family, noted, s, the_loop.place, &head)?;
+    let inside = stepped(tables, family, &Step::Assume(the_loop.test, true), &head)?;
+    let again = enter_list(
+        tables,
+        finals,
+        noted,
+        family,
+        rule,
+        here,
+        the_loop.body,
+        &inside,
+    )?;
+    add_turn(noted, family, at, the_loop.place, t, &head, again)?;
     Ok(head)
 }

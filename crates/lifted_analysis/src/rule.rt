@@ -4,14 +4,14 @@
 ghost use Rattle.std.specs.Prelude.{◌≡◌, ◌&&◌, ℕ, IfOk, OnOk, true, if◌then◌else◌, List, Bool};
 ghost use Rattle.cpp_conditions.specs.Propositions.{true_on, IsBelow};
 ghost use Rattle.cpp_conditions.specs.View.{formula};
-ghost use Rattle.c_tree.specs.View.{term, code, whole};
-ghost use Rattle.c_tree.specs.Fit.{IsTermOf, IsCodeOf};
+ghost use Rattle.c_tree.specs.View.{whole};
 ghost use Rattle.decision_tree.specs.Plain.{leaf_of};
 ghost use Rattle.decision_tree.specs.View.{numbered, plain};
 ghost use Rattle.plain_analysis.specs.Places.{is_same_place};
-ghost use Rattle.plain_analysis.specs.Stated.{IsLoopAt, HasLoopsOf};
+ghost use Rattle.plain_analysis.specs.Stated.{IsLoopOf};
+ghost use Rattle.lifted_analysis.specs.Heads.{head_over};
 ghost use Rattle.lifted_analysis.specs.Lines.{AreVariableBounds, bounded_by, given_at};
-ghost use Rattle.lifted_analysis.specs.Rules.{Knows, IsRuleOf, heads_in, ruled_heads, head_with};
+ghost use Rattle.lifted_analysis.specs.Rules.{Knows, IsRuleOf, heads_in, ruled_heads};
 ghost use Rattle.tree_unify.specs.Formulas.{HasNumber};
 ghost use Rattle.lifted_analysis.specs.States.{IsFamily, IsState, IsLifted, IsJoint, IsTruth, IsTest};
 
@@ -22,10 +22,10 @@ use crate::lines::{LoopLine, Ranges};
 use crate::operations::Step;
 use crate::states::{kept, selected, stepped};
 use crate::tables::Tables;
-use c_tree::{Expr, Stmt};
 use decision_tree::Tree;
 use fam_outer::{NoMemory, Place};
 use leaf_domain::Leaf;
+use plain_analysis::Loop;
 use std::sync::ledger::Ledger;
 use tree_unify::test_tree_in;
 
@@ -132,27 +132,21 @@ fn ruled_tree<L: Leaf, K: Ledger>(
     finals: &mut Finals<L>,
     family: &FamilyContext,
     rule: &Rule<L>,
-    place: Place,
-    body: &[Stmt],
-    test: &Expr,
+    the_loop: &Loop<'_>,
     t: &Tree<L>,
 ) -> Result<Tree<L>, NoMemory>
     requires family { IsFamily family.now }
-    requires test { IsTermOf family.now.variables (term test.now) }
-    requires body { IsCodeOf family.now.variables (code body.now) }
+    requires own { IsLoopOf family.now.variables (whole family.now.program.now) the_loop.now }
     requires state { IsState L.value family.now tables.old.leaves (numbered t.now) }
-    requires loops { HasLoopsOf (whole family.now.program.now) (code body.now) }
-    requires at { IsLoopAt (whole family.now.program.now) place (term test.now) (code body.now) }
     requires memory { Knows L.value L.meaning family.now rule.now tables.old.leaves finals.old }
     ensures lifted { IfOk result (λ r. IsLifted L.value family.now tables.old.leaves tables.new.leaves
-        (head_with L.meaning family.now (ruled_heads L.value L.meaning family.now rule.now)
-        place (term test.now) (code body.now)) (plain t.now) (numbered r)) }
+        (head_over L.meaning family.now (ruled_heads L.value L.meaning family.now rule.now) the_loop.now) (plain t.now) (numbered r)) }
     ensures memory { OnOk result
         (Knows L.value L.meaning family.now rule.now tables.new.leaves finals.new) }
 {
     match rule {
-        Rule::Rounds => final_tree(tables, finals, family, place, body, test, t),
-        Rule::Lines(start) => given_tree(tables, family, start, place),
+        Rule::Rounds => final_tree(tables, finals, family, the_loop, t),
+        Rule::Lines(start) => given_tree(tables, family, start, the_loop.place),
     }
 }
 
@@ -163,25 +157,19 @@ pub(crate) fn head_tree<L: Leaf, K: Ledger>(
     family: &FamilyContext,
     rule: &Rule<L>,
     here: &Tree<bool>,
-    place: Place,
-    body: &[Stmt],
-    test: &Expr,
+    the_loop: &Loop<'_>,
     t: &Tree<L>,
 ) -> Result<Tree<L>, NoMemory>
     requires family { IsFamily family.now }
     requires here { IsTruth family.now (numbered here.now) }
-    requires test { IsTermOf family.now.variables (term test.now) }
-    requires body { IsCodeOf family.now.variables (code body.now) }
+    requires own { IsLoopOf family.now.variables (whole family.now.program.now) the_loop.now }
     requires state { IsState L.value family.now tables.old.leaves (numbered t.now) }
-    requires loops { HasLoopsOf (whole family.now.program.now) (code body.now) }
-    requires at { IsLoopAt (whole family.now.program.now) place (term test.now) (code body.now) }
     requires memory { Knows L.value L.meaning family.now rule.now tables.old.leaves finals.old }
     ensures lifted { IfOk result (λ r. IsLifted L.value family.now tables.old.leaves tables.new.leaves
-        (head_with L.meaning family.now (heads_in L.value L.meaning family.now rule.now (plain here.now))
-        place (term test.now) (code body.now)) (plain t.now) (numbered r)) }
+        (head_over L.meaning family.now (heads_in L.value L.meaning family.now rule.now (plain here.now)) the_loop.now) (plain t.now) (numbered r)) }
     ensures memory { OnOk result
         (Knows L.value L.meaning family.now rule.now tables.new.leaves finals.new) }
 {
-    let made = ruled_tree(tables, finals, family, rule, place, body, test, t)?;
+    let made = ruled_tree(tables, finals, family, rule, the_loop, t)?;
     kept(tables, family, here, true, &made)
 }

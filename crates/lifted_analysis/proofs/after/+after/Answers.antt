@@ -15,7 +15,8 @@ use Rattle.plain_analysis.proofs.Sizes.{size-at}
 use Rattle.plain_analysis.proofs.StatedLemmas.{loops-at}
 use Rattle.plain_analysis.specs.Stated.{HasLoopsOf}
 use Rattle.lifted_analysis.specs.declared.finals.Entered.{Entered}
-use Rattle.lifted_analysis.specs.Steps.{kept_by, after_at, if_at, group_at, turn_at, final_at}
+use Rattle.lifted_analysis.specs.Heads.{turns_over}
+use Rattle.lifted_analysis.specs.Steps.{kept_by, after_at, if_at, group_at, final_at}
 use Rattle.lifted_analysis.proofs.StateLemmas.{state_sized, state_stays, counted, lifted_then, lifted_as}
 use Rattle.lifted_analysis.proofs.FamilyLemmas.{after_at-more, after_at-While, after_at-Cond, kept_joins}
 use Rattle.lifted_analysis.proofs.LoopLemmas.{rounds_go}
@@ -64,10 +65,10 @@ after_list-returns-then-is_nothing_everywhere-clause-lifted g t c =
 pub after_list-after_stmt-requires : goal.after_list-after_stmt-requires
 after_list-after_stmt-requires g t c κs within =
     let s = c.s-item.result in
-    let fit : IsCodeOf c.args.family.now.variables (front s Done) = IsCodeOf-at c.args.family.now.variables c.args.list.now c.loop-s.s-index s c.loop-s-test.true c.s-item.is c.requires.fit in
+    let fit : IsCodeOf c.args.family.now.variables (front s Done) = IsCodeOf-at c.args.family.now.variables c.args.list.now c.loop-s.s-index s c.loop-s-test.true c.s-item.is c.requires.part.0 in
     let state = c.loop-s.invariant.made.state in
     let p = whole c.args.family.now.program.now in
-    let loops : HasLoopsOf p (front s Done) = loops-at p c.args.list.now c.loop-s.s-index s c.loop-s-test.true c.s-item.is c.requires.loops in
+    let loops : HasLoopsOf p (front s Done) = loops-at p c.args.list.now c.loop-s.s-index s c.loop-s-test.true c.s-item.is c.requires.part.1 in
     let memory = c.loop-s.invariant.memory in
     (omega (arith, size-at c.args.list.now c.loop-s.s-index s c.loop-s-test.true c.s-item.is), search rules)
 
@@ -136,8 +137,8 @@ final_tree-returns-then-is_nothing_everywhere-clause-lifted g t c =
     let M = g.L.Leaf.meaning in
     let family = c.args.family.now in
     let forest = c.args.tables.now.leaves in
-    shared_made value family c.share.result forest (final_at M family (term c.args.test.now) (code c.args.body.now)) (numbered c.args.t.now) c.requires.state
-    (nothing_ends value family M g.met.L.Leaf.laws (c.transfer_is_sound.ensures.answers family.options.mode) c.requires.family forest (numbered c.args.t.now) (term c.args.test.now) (code c.args.body.now) c.requires.state (c.is_nothing_everywhere.ensures c.if-is_nothing_everywhere.true))
+    shared_made value family c.share.result forest (final_at M family (term c.args.the_loop.now.test.now) (code c.args.the_loop.now.body.now)) (numbered c.args.t.now) c.requires.state
+    (nothing_ends value family M g.met.L.Leaf.laws (c.transfer_is_sound.ensures.answers family.options.mode) c.requires.family forest (numbered c.args.t.now) (term c.args.the_loop.now.test.now) (code c.args.the_loop.now.body.now) c.requires.state (c.is_nothing_everywhere.ensures c.if-is_nothing_everywhere.true))
     c.share.ensures
 
 pub final_by_rounds-loop-k-init : goal.final_by_rounds-loop-k-init
@@ -145,7 +146,7 @@ final_by_rounds-loop-k-init g t c =
     let value = g.L.Leaf.value in
     let M = g.L.Leaf.meaning in
     let family = c.args.family.now in
-    let G : List Bool → LeafValue → LeafValue = λ v. turn_at M family (term c.args.test.now) (code c.args.body.now) v (value (leaf_of (plain c.args.t.now) v)) in
+    let G = turns_over value M family c.args.the_loop.now (plain c.args.t.now) in
     let n = family.options.narrow in
     let zero_less : n - 0 ≡ n = omega arith in
     record {
@@ -160,7 +161,7 @@ final_by_rounds-returns-then-number-before-clause-lifted g t c =
     let value = g.L.Leaf.value in
     let M = g.L.Leaf.meaning in
     let family = c.args.family.now in
-    let G : List Bool → LeafValue → LeafValue = λ v. turn_at M family (term c.args.test.now) (code c.args.body.now) v (value (leaf_of (plain c.args.t.now) v)) in
+    let G = turns_over value M family c.args.the_loop.now (plain c.args.t.now) in
     let old = numbered c.loop-k.head.at in
     let new = numbered c.in_ok-head-2.head.at in
     let made = c.in_ok-head-2.ensures in
@@ -179,7 +180,7 @@ final_by_rounds-loop-k-preserved g t c =
     let value = g.L.Leaf.value in
     let M = g.L.Leaf.meaning in
     let family = c.args.family.now in
-    let G : List Bool → LeafValue → LeafValue = λ v. turn_at M family (term c.args.test.now) (code c.args.body.now) v (value (leaf_of (plain c.args.t.now) v)) in
+    let G = turns_over value M family c.args.the_loop.now (plain c.args.t.now) in
     let made = c.in_ok-head-2.ensures in
     record {
       rest = λ v. narrowings_move M (G v) family.options.narrow c.loop-k._k (value (leaf_of (plain c.loop-k.head.at) v)) (value (leaf_of (plain c.in_ok-head-2.head.at) v)) _ c.loop-k-test.true (sym (made.at_each v)) (c.loop-k.invariant.rest v);
@@ -193,7 +194,7 @@ final_by_rounds-returns-clause-lifted g t c =
     let value = g.L.Leaf.value in
     let M = g.L.Leaf.meaning in
     let family = c.args.family.now in
-    let G : List Bool → LeafValue → LeafValue = λ v. turn_at M family (term c.args.test.now) (code c.args.body.now) v (value (leaf_of (plain c.args.t.now) v)) in
+    let G = turns_over value M family c.args.the_loop.now (plain c.args.t.now) in
     let none : family.options.narrow - c.loop-k._k ≡ 0 = omega (arith, c.loop-k-test.false) in
     record {
       state = c.loop-k.invariant.head.at_state;
@@ -216,7 +217,7 @@ widened-loop-k-init g t c =
     let value = g.L.Leaf.value in
     let M = g.L.Leaf.meaning in
     let family = c.args.family.now in
-    let G : List Bool → LeafValue → LeafValue = λ v. turn_at M family (term c.args.test.now) (code c.args.body.now) v (value (leaf_of (plain c.args.t.now) v)) in
+    let G = turns_over value M family c.args.the_loop.now (plain c.args.t.now) in
     record {
       rest = λ v.
           let d = value (leaf_of (plain c.args.t.now) v) in
@@ -234,7 +235,7 @@ widened-returns-then-is_everywhere-clause-at_each g t c =
     let value = g.L.Leaf.value in
     let M = g.L.Leaf.meaning in
     let family = c.args.family.now in
-    let G : List Bool → LeafValue → LeafValue = λ v. turn_at M family (term c.args.test.now) (code c.args.body.now) v (value (leaf_of (plain c.args.t.now) v)) in
+    let G = turns_over value M family c.args.the_loop.now (plain c.args.t.now) in
     λ v.
     let x = value (leaf_of (plain c.loop-k.head.at) v) in
     let below : M.leq (G v x) x ≡ true =
@@ -251,7 +252,7 @@ widened-loop-k-preserved g t c =
     let value = g.L.Leaf.value in
     let M = g.L.Leaf.meaning in
     let family = c.args.family.now in
-    let G : List Bool → LeafValue → LeafValue = λ v. turn_at M family (term c.args.test.now) (code c.args.body.now) v (value (leaf_of (plain c.args.t.now) v)) in
+    let G = turns_over value M family c.args.the_loop.now (plain c.args.t.now) in
     let made = c.in_ok-made.ensures in
     let next = c.in_ok-head-2.ensures in
     let a = c.args.tables.now.leaves in
@@ -288,17 +289,17 @@ after_stmt-returns-then-is_nothing_everywhere-clause-lifted g t c =
 pub final_tree-returns-in-Some-clause-lifted : goal.final_tree-returns-in-Some-clause-lifted
 final_tree-returns-in-Some-clause-lifted g t c =
     let family = c.args.family.now in
-    let key : Entered = record { place = c.args.place; number = c.number.result } in
-    recalled_made g.L.Leaf.value g.L.Leaf.meaning family c.share-in-Some.result c.args.tables.now.leaves c.args.finals.now key c.in-Some.last.now (numbered c.args.t.now) (term c.args.test.now) (code c.args.body.now)
-    c.requires.memory (search rules) (sym c.number.ensures.number) c.requires.state c.requires.here c.share-in-Some.ensures
+    let key : Entered = record { place = c.args.the_loop.now.place; number = c.number.result } in
+    recalled_made g.L.Leaf.value g.L.Leaf.meaning family c.share-in-Some.result c.args.tables.now.leaves c.args.finals.now key c.in-Some.last.now (numbered c.args.t.now) (term c.args.the_loop.now.test.now) (code c.args.the_loop.now.body.now)
+    c.requires.memory (search rules) (sym c.number.ensures.number) c.requires.state c.requires.own.here c.share-in-Some.ensures
 
 pub final_tree-returns-clause-memory : goal.final_tree-returns-clause-memory
 final_tree-returns-clause-memory g t c =
     let family = c.args.family.now in
-    let key : Entered = record { place = c.args.place; number = c.number.result } in
+    let key : Entered = record { place = c.args.the_loop.now.place; number = c.number.result } in
     let last = c.in_ok-last.ensures in
     remembered g.L.Leaf.value g.L.Leaf.meaning family c.args.tables.now.leaves c.final_by_rounds.new.tables.leaves c.final_by_rounds.new.finals _ key c.in_ok-kept.kept (numbered c.args.t.now) (numbered c.in_ok-last.last)
-    (term c.args.test.now) (code c.args.body.now) last.memory (sym c.number.ensures.number) c.requires.state c.requires.here last.lifted c.in_ok-kept.ensures c.in_ok-remember.ensures
+    (term c.args.the_loop.now.test.now) (code c.args.the_loop.now.body.now) last.memory (sym c.number.ensures.number) c.requires.state c.requires.own.here last.lifted c.in_ok-kept.ensures c.in_ok-remember.ensures
 
 pub narrowed-returns-clause-memory : goal.narrowed-returns-clause-memory
 narrowed-returns-clause-memory g t c =

@@ -8,9 +8,9 @@ use Rattle.leaf_domain.specs.Leaves.{LeafValue}
 use Rattle.plain_analysis.specs.Loops.{rounds_of, widened_leaf, narrowings_of}
 use Rattle.plain_analysis.proofs.Sizes.{size_of}
 use Rattle.lifted_analysis.specs.Finals.{Remembers}
-use Rattle.lifted_analysis.specs.Heads.{IsHeadOf}
+use Rattle.lifted_analysis.specs.Heads.{IsHeadOf, turns_over, final_over}
 use Rattle.lifted_analysis.specs.States.{IsLifted}
-use Rattle.lifted_analysis.specs.Steps.{after_at, turn_at, final_at}
+use Rattle.lifted_analysis.specs.Steps.{after_at}
 use Rattle.lifted_analysis.proofs.after.+after.Given as goal
 
 -- the tree after the statements so far
@@ -27,7 +27,7 @@ invariant-widened-loop-k g l =
     let value = g.L.Leaf.value in
     let M = g.L.Leaf.meaning in
     let family = l.family in
-    let G : List Bool → LeafValue → LeafValue = λ v. turn_at M family (term l.test) (code l.body) v (value (leaf_of (plain l.t) v)) in
+    let G = turns_over value M family l.the_loop (plain l.t) in
     record {
       rest : (v : List Bool) → rounds_of M family.options.delay (G v) (l.rounds - l.k) l.k (value (leaf_of (plain l.head.at) v)) ≡ widened_leaf M family.options.delay (G v) (value (leaf_of (plain l.t) v));
       head : IsHeadOf value family l.tables.leaves G l.head;
@@ -40,9 +40,9 @@ invariant-final_by_rounds-loop-k g l =
     let value = g.L.Leaf.value in
     let M = g.L.Leaf.meaning in
     let family = l.family in
-    let G : List Bool → LeafValue → LeafValue = λ v. turn_at M family (term l.test) (code l.body) v (value (leaf_of (plain l.t) v)) in
+    let G = turns_over value M family l.the_loop (plain l.t) in
     record {
-      rest : (v : List Bool) → narrowings_of M (G v) (family.options.narrow - l._k) (value (leaf_of (plain l.head.at) v)) ≡ final_at M family (term l.test) (code l.body) v (value (leaf_of (plain l.t) v));
+      rest : (v : List Bool) → narrowings_of M (G v) (family.options.narrow - l._k) (value (leaf_of (plain l.head.at) v)) ≡ final_over M family l.the_loop v (value (leaf_of (plain l.t) v));
       head : IsHeadOf value family l.tables.leaves G l.head;
       keeps : Keeps l.fn.tables.leaves l.tables.leaves;
       memory : Remembers value M family l.tables.leaves l.finals;
@@ -62,16 +62,16 @@ abbrev pub decreases-after_group : goal.decreases-after_group
 decreases-after_group g l = 8 * (size_of (code l.yes.now) + size_of (code l.no.now)) + 3
 
 abbrev pub decreases-head_at : goal.decreases-head_at
-decreases-head_at g l = 8 * size_of (code l.body.now) + 2
+decreases-head_at g l = 8 * size_of (code l.the_loop.now.body.now) + 2
 
 abbrev pub decreases-widened : goal.decreases-widened
-decreases-widened g l = 8 * size_of (code l.body.now) + 3
+decreases-widened g l = 8 * size_of (code l.the_loop.now.body.now) + 3
 
 abbrev pub decreases-narrowed : goal.decreases-narrowed
-decreases-narrowed g l = 8 * size_of (code l.body.now) + 3
+decreases-narrowed g l = 8 * size_of (code l.the_loop.now.body.now) + 3
 
 abbrev pub decreases-final_by_rounds : goal.decreases-final_by_rounds
-decreases-final_by_rounds g l = 8 * size_of (code l.body.now) + 4
+decreases-final_by_rounds g l = 8 * size_of (code l.the_loop.now.body.now) + 4
 
 abbrev pub decreases-final_tree : goal.decreases-final_tree
-decreases-final_tree g l = 8 * size_of (code l.body.now) + 5
+decreases-final_tree g l = 8 * size_of (code l.the_loop.now.body.now) + 5

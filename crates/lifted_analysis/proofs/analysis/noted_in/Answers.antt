@@ -26,14 +26,11 @@ start_tree-requires-clause-ints g c = subst (All IsInt) (sym c.items.ensures) c.
 pub start_tree-requires-clause-declared : goal.start_tree-requires-clause-declared
 start_tree-requires-clause-declared g c = subst (λ n. All (IsDeclaredOf n) c.args.family.now.program.now.declared) (sym c.requires.count) c.requires.program.declared
 
-pub enter_list-requires-clause-fit : goal.enter_list-requires-clause-fit
-enter_list-requires-clause-fit g c =
-    subst (λ l. IsCodeOf c.args.family.now.variables (code l)) (sym c.deref.ensures.value) (subst (λ n. IsCodeOf n (code c.args.family.now.program.now.body.items)) (sym c.requires.count) c.requires.program.names)
-
-pub enter_list-requires-clause-loops : goal.enter_list-requires-clause-loops
-enter_list-requires-clause-loops g c =
+pub enter_list-requires-clause-part : goal.enter_list-requires-clause-part
+enter_list-requires-clause-part g c =
     let p = whole c.args.family.now.program.now in
-    loops_same p _ _ c.deref.ensures.value (has_its_loops p c.requires.program.rising)
+    (subst (λ l. IsCodeOf c.args.family.now.variables (code l)) (sym c.deref.ensures.value) (subst (λ n. IsCodeOf n (code c.args.family.now.program.now.body.items)) (sym c.requires.count) c.requires.program.names),
+    loops_same p _ _ c.deref.ensures.value (has_its_loops p c.requires.program.rising))
 
 pub enter_list-requires-clause-here : goal.enter_list-requires-clause-here
 enter_list-requires-clause-here g c =

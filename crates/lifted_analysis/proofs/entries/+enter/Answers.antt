@@ -118,10 +118,10 @@ enter_if-returns-clause-entered g t c =
 pub enter_list-enter_stmt-requires : goal.enter_list-enter_stmt-requires
 enter_list-enter_stmt-requires g t c κs within =
     let s = c.s-item.result in
-    let fit : IsCodeOf c.args.family.now.variables (front s Done) = IsCodeOf-at c.args.family.now.variables c.args.list.now c.loop-s.s-index s c.loop-s-test.true c.s-item.is c.requires.fit in
+    let fit : IsCodeOf c.args.family.now.variables (front s Done) = IsCodeOf-at c.args.family.now.variables c.args.list.now c.loop-s.s-index s c.loop-s-test.true c.s-item.is c.requires.part.0 in
     let state = c.loop-s.invariant.made.state in
     let p = whole c.args.family.now.program.now in
-    let loops : HasLoopsOf p (front s Done) = loops-at p c.args.list.now c.loop-s.s-index s c.loop-s-test.true c.s-item.is c.requires.loops in
+    let loops : HasLoopsOf p (front s Done) = loops-at p c.args.list.now c.loop-s.s-index s c.loop-s-test.true c.s-item.is c.requires.part.1 in
     let memory = c.loop-s.invariant.memory in
     (omega (arith, size-at c.args.list.now c.loop-s.s-index s c.loop-s-test.true c.s-item.is), search rules)
 
@@ -353,7 +353,7 @@ enter_loop-returns-clause-lifted g t c =
     let d = c.enter.new.tables.leaves in
     let e = c.stepped.new.tables.leaves in
     let z = c.enter_list.new.tables.leaves in
-    lifted_longer value family c.args.tables.now.leaves b z (head_with M family H c.args.place (term c.args.test.now) (code c.args.body.now)) (plain c.args.t.now) (numbered c.in_ok-head.head)
+    lifted_longer value family c.args.tables.now.leaves b z (head_with M family H c.args.the_loop.now.place (term c.args.the_loop.now.test.now) (code c.args.the_loop.now.body.now)) (plain c.args.t.now) (numbered c.in_ok-head.head)
     (keeps_both b e z (keeps_both b d e (keeps_same b d c.in_ok-enter.ensures.same) c.in_ok-inside.ensures.keeps) c.in_ok-again.ensures.lifted.keeps) c.in_ok-head.ensures.lifted
 
 pub enter_loop-returns-clause-entered : goal.enter_loop-returns-clause-entered
@@ -364,10 +364,10 @@ enter_loop-returns-clause-entered g t c =
     let mode = family.options.mode in
     let H = heads_in value M family c.args.rule.now (plain c.args.here.now) in
     let t = plain c.args.t.now in
-    let place = c.args.place in
+    let place = c.args.the_loop.now.place in
     let s = front c.args.s.now Done in
-    let e = term c.args.test.now in
-    let body = code c.args.body.now in
+    let e = term c.args.the_loop.now.test.now in
+    let body = code c.args.the_loop.now.body.now in
     let a = c.args.noted.now in
     let b = c.enter.new.noted in
     let d = c.enter_list.new.noted in

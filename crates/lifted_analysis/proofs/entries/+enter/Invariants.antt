@@ -33,4 +33,4 @@ abbrev pub decreases-enter_group : goal.decreases-enter_group
 decreases-enter_group g l = 4 * (size_of (code l.yes.now) + size_of (code l.no.now)) + 2
 
 abbrev pub decreases-enter_loop : goal.decreases-enter_loop
-decreases-enter_loop g l = 4 * size_of (code l.body.now) + 2
+decreases-enter_loop g l = 4 * size_of (code l.the_loop.now.body.now) + 2
