@@ -6,15 +6,11 @@ ghost use Rattle.c_tree.specs.View.{whole};
 ghost use Rattle.c_tree.specs.Whole.{IsProgram};
 ghost use Rattle.c_tree.specs.Places.{program_places};
 ghost use Rattle.c_tree.specs.Project.{IsConditioned};
-ghost use Rattle.cpp_conditions.specs.declared.formulas.Formula.{Formula};
-ghost use Rattle.cpp_conditions.specs.Propositions.{IsBelow};
-ghost use Rattle.cpp_conditions.specs.View.{formula};
 ghost use Rattle.decision_tree.specs.Plain.{HasTest, IsReduced, TestsBelow};
 ghost use Rattle.decision_tree.specs.View.{numbered, plain};
 ghost use Rattle.plain_analysis.specs.Promises.{LoopsSettle, RunsForeseen};
 ghost use Rattle.lifted_analysis.specs.declared.findings.AlarmTree.{AlarmTree};
 ghost use Rattle.lifted_analysis.specs.Canon.{IsTreeOf};
-ghost use Rattle.lifted_analysis.specs.Conditions.{AreTreesOf};
 ghost use Rattle.lifted_analysis.specs.Entries.{stop_there, IsReducedTree, AreReducedStops};
 ghost use Rattle.lifted_analysis.specs.Findings.{HasEnded, HasNoted, AreFindings};
 ghost use Rattle.lifted_analysis.specs.Rules.{chosen_heads};
@@ -22,6 +18,7 @@ ghost use Rattle.lifted_analysis.specs.Start.{start_at};
 ghost use Rattle.lifted_analysis.specs.States.{IsFamily, IsTruth};
 ghost use Rattle.lifted_analysis.specs.Promises.{variant_at, begin_at, leaf_at, stop_at, by_kind, valued, Occurs, AreBelow};
 
+use crate::conditions::family_trees;
 use crate::entries::{Noted, enter_list};
 use crate::family_context::FamilyContext;
 use crate::finals::Finals;
@@ -39,24 +36,7 @@ use plain_analysis::Options;
 use std::alloc::Global;
 use std::marker::Brand;
 use std::sync::ledger::{Blank, Ledger};
-use tree_unify::{Steps, test_tree_in};
-
-/// The trees of conditions, each made once.
-pub(crate) fn condition_trees<L: Leaf, K: Ledger>(
-    tables: &mut Tables<L, K>,
-    conditions: &[Formula],
-) -> Result<Vec<Tree<bool>>, NoMemory>
-    requires { All (λ (c : Formula). IsBelow 64 (formula c)) conditions.now }
-    ensures { IfOk result (λ trees. AreTreesOf conditions.now trees.items) }
-{
-    let alloc = tables.alloc;
-    let mut trees = Vec::new(alloc);
-    for condition in conditions {
-        let tree = test_tree_in(alloc, &mut tables.truths, condition, &mut tables.steps)?;
-        trees.push(tree)?;
-    }
-    Ok(trees)
-}
+use tree_unify::Steps;
 
 /// Adds an alarm tree that is true nowhere.
 fn add_never<L: Leaf>(
@@ -162,14 +142,12 @@ fn analyse_counted<L: Leaf, K: Ledger>(
         truths: Forest::new(alloc),
         steps: Steps::<K>::new(blank),
     };
-    let choices = condition_trees(&mut tables, conditions)?;
-    let plausible = test_tree_in(alloc, &mut tables.truths, plausible, &mut tables.steps)?;
-    let never = tables.truths.leaf(false)?;
+    let trees = family_trees(&mut tables, conditions, plausible)?;
     let family = FamilyContext {
         program: code,
-        choices: &choices,
-        plausible: &plausible,
-        never: &never,
+        choices: &trees.choices,
+        plausible: &trees.plausible,
+        never: &trees.never,
         lines: &[],
         variables: code.names.items().len() as u32,
         options,

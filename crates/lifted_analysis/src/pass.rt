@@ -20,7 +20,8 @@ ghost use Rattle.lifted_analysis.specs.Pass.{heads_at, passed_at, pass_stop_at, 
 ghost use Rattle.lifted_analysis.specs.Promises.{variant_at, begin_at, by_kind, valued, AreBelow};
 ghost use Rattle.lifted_analysis.specs.Turns.{AreInductive, is_inductive, loop_places};
 
-use crate::analysis::{condition_trees, noted_in};
+use crate::analysis::noted_in;
+use crate::conditions::family_trees;
 use crate::entries::TurnTree;
 use crate::family_context::FamilyContext;
 use crate::findings::{LoopTree, PassFindings};
@@ -36,7 +37,7 @@ use plain_analysis::Options;
 use std::alloc::Global;
 use std::marker::Brand;
 use std::sync::ledger::{Blank, Ledger};
-use tree_unify::{Steps, test_tree_in};
+use tree_unify::Steps;
 
 /// The vectors at which each loop is inductive.
 fn loop_trees<L: Leaf, K: Ledger>(
@@ -91,14 +92,12 @@ fn pass_counted<L: Leaf, K: Ledger>(
         truths: Forest::new(alloc),
         steps: Steps::<K>::new(blank),
     };
-    let choices = condition_trees(&mut tables, conditions)?;
-    let plausible = test_tree_in(alloc, &mut tables.truths, plausible, &mut tables.steps)?;
-    let never = tables.truths.leaf(false)?;
+    let trees = family_trees(&mut tables, conditions, plausible)?;
     let family = FamilyContext {
         program: code,
-        choices: &choices,
-        plausible: &plausible,
-        never: &never,
+        choices: &trees.choices,
+        plausible: &trees.plausible,
+        never: &trees.never,
         lines,
         variables: code.names.items().len() as u32,
         options: Options {
