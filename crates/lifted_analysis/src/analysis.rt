@@ -28,7 +28,7 @@ use crate::start::start_tree;
 use crate::tables::Tables;
 use c_tree::{Kind, Program};
 use cpp_conditions::Formula;
-use decision_tree::{Forest, Tree};
+use decision_tree::Tree;
 use fam_outer::{NoMemory, Place};
 use indexmap::IndexMap;
 use leaf_domain::{Leaf, equality_is_exact, transfer_is_sound};
@@ -36,7 +36,6 @@ use plain_analysis::Options;
 use std::alloc::Global;
 use std::marker::Brand;
 use std::sync::ledger::{Blank, Ledger};
-use tree_unify::Steps;
 
 /// Adds an alarm tree that is true nowhere.
 fn add_never<L: Leaf>(
@@ -118,6 +117,37 @@ pub(crate) fn noted_in<L: Leaf, K: Ledger>(
     Ok(noted)
 }
 
+/// The analysis of a family, over these tables.
+fn findings_in<L: Leaf, K: Ledger>(
+    tables: &mut Tables<L, K>,
+    code: &Program,
+    conditions: &[Formula],
+    plausible: &Formula,
+    options: Options,
+) -> Result<FamilyFindings<L>, NoMemory>
+    requires program { IsProgram (whole code.now) }
+    requires below { AreBelow 64 conditions.now plausible.now }
+    ensures { IfOk result (λ f. AreFindings L.value L.meaning options
+        (whole code.now) conditions.now plausible.now f) }
+{
+    equality_is_exact::<L>();
+    let trees = family_trees(tables, conditions, plausible)?;
+    let family = FamilyContext {
+        program: code,
+        choices: &trees.choices,
+        plausible: &trees.plausible,
+        never: &trees.never,
+        lines: &[],
+        variables: code.names.items().len() as u32,
+        options,
+    };
+    let noted = noted_in(tables, &family, false)?;
+    Ok(FamilyFindings {
+        places: noted.places,
+        alarms: noted.alarms,
+    })
+}
+
 /// The analysis of a family, with a counter of its steps.
 fn analyse_counted<L: Leaf, K: Ledger>(
     alloc: Global,
@@ -135,28 +165,8 @@ fn analyse_counted<L: Leaf, K: Ledger>(
     ensures { IfOk result (λ f. AreFindings L.value L.meaning options
         (whole code.now) conditions.now plausible.now f) }
 {
-    equality_is_exact::<L>();
-    let mut tables = Tables {
-        alloc,
-        leaves: Forest::new(alloc),
-        truths: Forest::new(alloc),
-        steps: Steps::<K>::new(blank),
-    };
-    let trees = family_trees(&mut tables, conditions, plausible)?;
-    let family = FamilyContext {
-        program: code,
-        choices: &trees.choices,
-        plausible: &trees.plausible,
-        never: &trees.never,
-        lines: &[],
-        variables: code.names.items().len() as u32,
-        options,
-    };
-    let noted = noted_in(&mut tables, &family, false)?;
-    Ok(FamilyFindings {
-        places: noted.places,
-        alarms: noted.alarms,
-    })
+    let mut tables = Tables::<L, K>::new(alloc, blank);
+    findings_in(&mut tables, code, conditions, plausible, options)
 }
 
 /// The analysis of all variants of a family at once.

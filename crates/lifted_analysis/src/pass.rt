@@ -30,14 +30,12 @@ use crate::states::{below, within};
 use crate::tables::Tables;
 use c_tree::{Mode, Program};
 use cpp_conditions::Formula;
-use decision_tree::Forest;
 use fam_outer::NoMemory;
 use leaf_domain::{Leaf, equality_is_exact, transfer_is_sound};
 use plain_analysis::Options;
 use std::alloc::Global;
 use std::marker::Brand;
 use std::sync::ledger::{Blank, Ledger};
-use tree_unify::Steps;
 
 /// The vectors at which each loop is inductive.
 fn loop_trees<L: Leaf, K: Ledger>(
@@ -65,6 +63,46 @@ fn loop_trees<L: Leaf, K: Ledger>(
     Ok(made)
 }
 
+/// The pass, over these tables.
+fn pass_in<L: Leaf, K: Ledger>(
+    tables: &mut Tables<L, K>,
+    code: &Program,
+    conditions: &[Formula],
+    plausible: &Formula,
+    mode: Mode,
+    lines: &[LoopLine],
+) -> Result<PassFindings<L>, NoMemory>
+    requires program { IsProgram (whole code.now) }
+    requires below { AreBelow 64 conditions.now plausible.now }
+    requires regions { AreRegionsBelow 64 lines.now }
+    requires bounds { All (λ (l : LoopLine). AreVariableBounds (length code.now.names) l.bounds) lines.now }
+    ensures { IfOk result (λ f. ArePassFindings L.value L.meaning mode
+        (whole code.now) conditions.now plausible.now lines.now f) }
+{
+    equality_is_exact::<L>();
+    let trees = family_trees(tables, conditions, plausible)?;
+    let family = FamilyContext {
+        program: code,
+        choices: &trees.choices,
+        plausible: &trees.plausible,
+        never: &trees.never,
+        lines,
+        variables: code.names.items().len() as u32,
+        options: Options {
+            delay: 0,
+            narrow: 0,
+            mode,
+        },
+    };
+    let noted = noted_in(tables, &family, true)?;
+    let loops = loop_trees(tables, &family, &noted.turns)?;
+    Ok(PassFindings {
+        places: noted.places,
+        alarms: noted.alarms,
+        loops,
+    })
+}
+
 /// The pass, with a counter of its steps.
 fn pass_counted<L: Leaf, K: Ledger>(
     alloc: Global,
@@ -85,34 +123,8 @@ fn pass_counted<L: Leaf, K: Ledger>(
     ensures { IfOk result (λ f. ArePassFindings L.value L.meaning mode
         (whole code.now) conditions.now plausible.now lines.now f) }
 {
-    equality_is_exact::<L>();
-    let mut tables = Tables {
-        alloc,
-        leaves: Forest::new(alloc),
-        truths: Forest::new(alloc),
-        steps: Steps::<K>::new(blank),
-    };
-    let trees = family_trees(&mut tables, conditions, plausible)?;
-    let family = FamilyContext {
-        program: code,
-        choices: &trees.choices,
-        plausible: &trees.plausible,
-        never: &trees.never,
-        lines,
-        variables: code.names.items().len() as u32,
-        options: Options {
-            delay: 0,
-            narrow: 0,
-            mode,
-        },
-    };
-    let noted = noted_in(&mut tables, &family, true)?;
-    let loops = loop_trees(&mut tables, &family, &noted.turns)?;
-    Ok(PassFindings {
-        places: noted.places,
-        alarms: noted.alarms,
-        loops,
-    })
+    let mut tables = Tables::<L, K>::new(alloc, blank);
+    pass_in(&mut tables, code, conditions, plausible, mode, lines)
 }
 
 /// One pass over all variants of a family at once, in which each loop has at its head what the lines say.

@@ -1,14 +1,12 @@
 use Rattle.std.proofs.Common.{◌≤◌, ap, sym, subst, length, inl, refl}
+use Rattle.std.specs.Prelude.{All}
 use Rattle.c_tree.specs.View.{whole}
 use Rattle.lifted_analysis.specs.Conditions.{AreTreesOf}
 use Rattle.lifted_analysis.proofs.ConditionLemmas.{numbered_each}
-use Rattle.std.proofs.lemmas.List.Elements.{All-nil}
-use Rattle.cpp_conditions.specs.Propositions.{IsBelow}
-use Rattle.cpp_conditions.specs.View.{formula}
 use Rattle.lifted_analysis.specs.declared.lines.LoopLine.{LoopLine}
 use Rattle.lifted_analysis.specs.Lines.{AreVariableBounds}
-use Rattle.lifted_analysis.proofs.Answered.{are_findings}
-use Rattle.lifted_analysis.proofs.analysis.analyse_counted.Goals as goal
+use Rattle.lifted_analysis.proofs.PassAnswered.{are_pass_findings, sized_by, loops_by}
+use Rattle.lifted_analysis.proofs.pass.pass_in.Goals as goal
 
 pub noted_in-requires-clause-family : goal.noted_in-requires-clause-family
 noted_in-requires-clause-family g c =
@@ -17,8 +15,8 @@ noted_in-requires-clause-family g c =
     record {
       few = few;
       never = c.in_ok-trees.ensures.never;
-      regions = All-nil (λ (l : LoopLine). IsBelow 64 (formula l.region));
-      bounds = All-nil (λ (l : LoopLine). AreVariableBounds (length c.items.result.now) l.bounds);
+      regions = c.requires.regions;
+      bounds = subst (λ n. All (λ (l : LoopLine). AreVariableBounds n l.bounds) c.args.lines.now) (sym (ap length c.items.ensures)) c.requires.bounds;
       choices = λ i t e. numbered_each c.args.conditions.now c.deref.result.now i t trees e;
     }
 
@@ -26,7 +24,12 @@ pub noted_in-requires-clause-plausible : goal.noted_in-requires-clause-plausible
 noted_in-requires-clause-plausible g c =
     record { tree = c.in_ok-trees.ensures.tree; tests = λ k w. inl w }
 
+pub loop_trees-requires : goal.loop_trees-requires
+loop_trees-requires g c = sized_by g.L.Leaf.value _ _ _ c.deref-2.ensures.value c.in_ok-noted.ensures.sized
+
 pub returns : goal.returns
 returns g c =
     let trees : AreTreesOf c.args.conditions.now c.deref.result.now = subst (AreTreesOf c.args.conditions.now) (sym c.deref.ensures.value) c.in_ok-trees.ensures.choices in
-    are_findings g.L.Leaf.value c.equality_is_exact.ensures.value g.L.Leaf.meaning _ (whole c.args.code.now) c.args.conditions.now c.args.plausible.now trees c.in_ok-trees.ensures.plausible (ap length c.items.ensures) refl c.in_ok-noted.noted c.in_ok-noted.ensures
+    are_pass_findings g.L.Leaf.value c.equality_is_exact.ensures.value g.L.Leaf.meaning _ (whole c.args.code.now) c.args.conditions.now c.args.plausible.now c.args.lines.now trees c.in_ok-trees.ensures.plausible (ap length c.items.ensures) refl
+    c.in_ok-noted.noted c.in_ok-loops.loops c.in_ok-noted.ensures
+    (loops_by g.L.Leaf.value g.L.Leaf.meaning c.in_ok-loops.loops.items _ _ c.deref-2.ensures.value c.in_ok-loops.ensures.at_each) c.in_ok-loops.ensures.reduced
