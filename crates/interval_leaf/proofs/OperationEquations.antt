@@ -7,7 +7,8 @@ use Rattle.leaf_domain.specs.declared.range.Range.{Range}
 use Rattle.leaf_domain.specs.Ranges.{is_empty_range, empty_range}
 use Rattle.leaf_domain.specs.Leaves.{LeafValue, same_numbers}
 use Rattle.interval_leaf.specs.Intervals.{numbers_of, interval_of, covers, all_lie_in, widened_all, narrowed_all, settled, interval_join, interval_widen, interval_narrow, interval_leq, interval_bounds, interval_with}
-use Rattle.interval_leaf.specs.Laws.RangeLists.{pairs_numbers, length_zipped}
+use Rattle.leaf_domain.proofs.Variables.{length_zipped}
+use Rattle.interval_leaf.specs.Laws.RangeLists.{pairs_numbers}
 
 -- two leaves of one call have as many ranges
 pub same_lengths : (a b : LeafValue) (us bs : List Range) → a.variables ≡ b.variables → a ≡ interval_of us → b ≡ interval_of bs → length us ≡ length bs

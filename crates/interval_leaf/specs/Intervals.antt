@@ -1,11 +1,12 @@
 -- A leaf with one range per variable.
 use Rattle.std.specs.Prelude.{◌≡◌, ℕ, ◌≤◌, ◌+◌, ◌*◌, ℤ, ◌≤ℤ◌, int_lt, int_le, Bool, true, false, ◌&&◌, if◌then◌else◌, List, [], ◌∷◌, Option, Some, None, length, slice_index_or, slice_set, map, zip, ⊤}
-use Rattle.std.specs.List.{list_all, list_any}
+use Rattle.std.specs.List.{AllByRecursion, list_all, list_any}
 use Rattle.std.specs.Ordering.{int_eq}
 use Rattle.c_tree.specs.Value.{least, greatest}
 use Rattle.leaf_domain.specs.declared.range.Range.{Range}
 use Rattle.leaf_domain.specs.Ranges.{Within, is_empty_range, empty_range, range_at, cover_of, meet_of}
 use Rattle.leaf_domain.specs.Leaves.{LeafValue, LeafMeaning, nothing_of, is_nothing_of}
+use Rattle.leaf_domain.specs.Variables.{EachHolds}
 
 -- a low and a high for each variable, as one list of numbers
 abbrev pub numbers_of : List Range → List ℤ
@@ -40,12 +41,10 @@ abbrev pub HasEnds : Range → Type 0
 HasEnds r = (least ≤ℤ r.low) × (r.high ≤ℤ greatest)
 
 abbrev pub AllEnds : List Range → Type 0
-AllEnds [] = ⊤
-AllEnds (r ∷ rs) = HasEnds r × AllEnds rs
+AllEnds rs = AllByRecursion HasEnds rs
 
 abbrev pub AllOwn : List Range → Type 0
-AllOwn [] = ⊤
-AllOwn (r ∷ rs) = IsOwn r × AllOwn rs
+AllOwn rs = AllByRecursion IsOwn rs
 
 abbrev pub IsIntervalContent : ℕ → Option (List ℤ) → Type 0
 IsIntervalContent n None = ⊤
@@ -56,9 +55,7 @@ IsInterval v = (v.variables ≤ 16) × IsIntervalContent v.variables v.content
 
 -- each variable lies in its range
 abbrev pub AllWithinRanges : List Range → List ℤ → Type 0
-AllWithinRanges [] [] = ⊤
-AllWithinRanges (r ∷ rs) (n ∷ ns) = Within n r × AllWithinRanges rs ns
-AllWithinRanges rs ns = ⊥
+AllWithinRanges rs ns = EachHolds (λ r n. Within n r) rs ns
 
 abbrev pub ContentHolds : Option (List ℤ) → List ℤ → Type 0
 ContentHolds None s = ⊥

@@ -8,6 +8,7 @@ pub mod FormLemmas
 pub mod AtNothing
 pub mod Answered
 pub mod NodeEquations
+pub mod Variables
 mod FormValues
 mod Results
 mod Comparisons

@@ -30,6 +30,9 @@ product_fits n m hn hm = fits_signed_mul w64 n m 2147483648 2147483648 (abs_boun
 pub product_back : (n m : ℤ) → IsInt n → IsInt m → to_z w64 (of_z w64 (to_z w64 (of_z w64 n) *ℤ to_z w64 (of_z w64 m))) ≡ n *ℤ m
 product_back n m hn hm = rw (int_back n hn, int_back m hm) (to_z-of_z w64 (n *ℤ m) (product_fits n m hn hm))
 
+pub product_is : (n m k : ℤ) → IsInt n → IsInt m → k ≡ to_z w64 (of_z w64 n) *ℤ to_z w64 (of_z w64 m) → to_z w64 (of_z w64 k) ≡ n *ℤ m
+product_is n m k hn hm e = ap (λ i. to_z w64 (of_z w64 i)) e ∙ product_back n m hn hm
+
 abs_quotient : (n m : ℤ) → unsigned_abs (int_div n m) ≤ unsigned_abs n
 abs_quotient (pos a) (pos b) = div-le_self a b
 abs_quotient (pos a) (negsuc b) = omega (arith, ints, div-le_self a (suc b))

@@ -7,3 +7,4 @@ pub mod Transfer
 pub mod Evaluations
 pub mod Stops
 pub mod Soundness
+pub mod Variables

@@ -1,7 +1,7 @@
 //! Ranges of whole numbers.
 #![tactic(auto)]
 
-ghost use Rattle.std.specs.Prelude.{◌≡◌, ◌≢◌, ◌&&◌, pos, negsuc, ◌≤ℤ◌, IsTrue, ◌↔◌, ◌<ℤ◌};
+ghost use Rattle.std.specs.Prelude.{◌≡◌, ◌≢◌, ◌&&◌, pos, negsuc, ◌≤ℤ◌, IsTrue, ◌↔◌, ◌<ℤ◌, ◌*ℤ◌};
 ghost use Rattle.leaf_domain.specs.Ranges.{meet_of, clip_of, fold_of, shifted_of, upward_of, is_empty_range, hull_of, cover_of, between_of, range_of_ends, spread_of, quotients_of, remainders_of, greatest_size_of, least_divisor_of, is_zero_range, is_single, remainder_of_singles, is_smaller_of, low_left_of, high_left_of, bounded_remainders, ArithmeticHolds, FoldHolds, sums_of, differences_of, products_of, all_quotients_of, arithmetic_range, is_arithmetic, IsInInt, HasOneSign};
 ghost use Rattle.leaf_domain.specs.declared.range.Range as range;
 ghost use Rattle.c_tree.specs.Value.{IsInt, wrapped};
@@ -292,16 +292,24 @@ fn differences(a: Range, b: Range) -> Range
     }
 }
 
+fn product(n: i64, m: i64) -> i64
+    requires n { IsInt n }
+    requires m { IsInt m }
+    ensures { result ≡ n *ℤ m }
+{
+    n * m
+}
+
 fn products(a: Range, b: Range) -> Range
     requires a { IsInInt a }
     requires b { IsInInt b }
     ensures { result ≡ products_of a b }
 {
     spread(
-        a.low * b.low,
-        a.low * b.high,
-        a.high * b.low,
-        a.high * b.high,
+        product(a.low, b.low),
+        product(a.low, b.high),
+        product(a.high, b.low),
+        product(a.high, b.high),
     )
 }
 

@@ -6,15 +6,11 @@ ghost use Rattle.c_tree.specs.View.{whole};
 ghost use Rattle.c_tree.specs.Whole.{IsProgram};
 ghost use Rattle.c_tree.specs.Places.{program_places};
 ghost use Rattle.c_tree.specs.Project.{IsConditioned};
-ghost use Rattle.cpp_conditions.specs.declared.formulas.Formula.{Formula};
-ghost use Rattle.cpp_conditions.specs.Propositions.{IsBelow};
-ghost use Rattle.cpp_conditions.specs.View.{formula};
 ghost use Rattle.decision_tree.specs.Plain.{HasTest, IsReduced, TestsBelow};
 ghost use Rattle.decision_tree.specs.View.{numbered, plain};
 ghost use Rattle.plain_analysis.specs.Promises.{LoopsSettle, RunsForeseen};
 ghost use Rattle.lifted_analysis.specs.declared.findings.AlarmTree.{AlarmTree};
 ghost use Rattle.lifted_analysis.specs.Canon.{IsTreeOf};
-ghost use Rattle.lifted_analysis.specs.Conditions.{AreTreesOf};
 ghost use Rattle.lifted_analysis.specs.Entries.{stop_there, IsReducedTree, AreReducedStops};
 ghost use Rattle.lifted_analysis.specs.Findings.{HasEnded, HasNoted, AreFindings};
 ghost use Rattle.lifted_analysis.specs.Rules.{chosen_heads};
@@ -22,6 +18,7 @@ ghost use Rattle.lifted_analysis.specs.Start.{start_at};
 ghost use Rattle.lifted_analysis.specs.States.{IsFamily, IsTruth};
 ghost use Rattle.lifted_analysis.specs.Promises.{variant_at, begin_at, leaf_at, stop_at, by_kind, valued, Occurs, AreBelow};
 
+use crate::conditions::family_trees;
 use crate::entries::{Noted, enter_list};
 use crate::family_context::FamilyContext;
 use crate::finals::Finals;
@@ -31,7 +28,7 @@ use crate::start::start_tree;
 use crate::tables::Tables;
 use c_tree::{Kind, Program};
 use cpp_conditions::Formula;
-use decision_tree::{Forest, Tree};
+use decision_tree::Tree;
 use fam_outer::{NoMemory, Place};
 use indexmap::IndexMap;
 use leaf_domain::{Leaf, equality_is_exact, transfer_is_sound};
@@ -39,24 +36,6 @@ use plain_analysis::Options;
 use std::alloc::Global;
 use std::marker::Brand;
 use std::sync::ledger::{Blank, Ledger};
-use tree_unify::{Steps, test_tree_in};
-
-/// The trees of conditions, each made once.
-pub(crate) fn condition_trees<L: Leaf, K: Ledger>(
-    tables: &mut Tables<L, K>,
-    conditions: &[Formula],
-) -> Result<Vec<Tree<bool>>, NoMemory>
-    requires { All (λ (c : Formula). IsBelow 64 (formula c)) conditions.now }
-    ensures { IfOk result (λ trees. AreTreesOf conditions.now trees.items) }
-{
-    let alloc = tables.alloc;
-    let mut trees = Vec::new(alloc);
-    for condition in conditions {
-        let tree = test_tree_in(alloc, &mut tables.truths, condition, &mut tables.steps)?;
-        trees.push(tree)?;
-    }
-    Ok(trees)
-}
 
 /// Adds an alarm tree that is true nowhere.
 fn add_never<L: Leaf>(
@@ -138,6 +117,37 @@ pub(crate) fn noted_in<L: Leaf, K: Ledger>(
     Ok(noted)
 }
 
+/// The analysis of a family, over these tables.
+fn findings_in<L: Leaf, K: Ledger>(
+    tables: &mut Tables<L, K>,
+    code: &Program,
+    conditions: &[Formula],
+    plausible: &Formula,
+    options: Options,
+) -> Result<FamilyFindings<L>, NoMemory>
+    requires program { IsProgram (whole code.now) }
+    requires below { AreBelow 64 conditions.now plausible.now }
+    ensures { IfOk result (λ f. AreFindings L.value L.meaning options
+        (whole code.now) conditions.now plausible.now f) }
+{
+    equality_is_exact::<L>();
+    let trees = family_trees(tables, conditions, plausible)?;
+    let family = FamilyContext {
+        program: code,
+        choices: &trees.choices,
+        plausible: &trees.plausible,
+        never: &trees.never,
+        lines: &[],
+        variables: code.names.items().len() as u32,
+        options,
+    };
+    let noted = noted_in(tables, &family, false)?;
+    Ok(FamilyFindings {
+        places: noted.places,
+        alarms: noted.alarms,
+    })
+}
+
 /// The analysis of a family, with a counter of its steps.
 fn analyse_counted<L: Leaf, K: Ledger>(
     alloc: Global,
@@ -155,30 +165,8 @@ fn analyse_counted<L: Leaf, K: Ledger>(
     ensures { IfOk result (λ f. AreFindings L.value L.meaning options
         (whole code.now) conditions.now plausible.now f) }
 {
-    equality_is_exact::<L>();
-    let mut tables = Tables {
-        alloc,
-        leaves: Forest::new(alloc),
-        truths: Forest::new(alloc),
-        steps: Steps::<K>::new(blank),
-    };
-    let choices = condition_trees(&mut tables, conditions)?;
-    let plausible = test_tree_in(alloc, &mut tables.truths, plausible, &mut tables.steps)?;
-    let never = tables.truths.leaf(false)?;
-    let family = FamilyContext {
-        program: code,
-        choices: &choices,
-        plausible: &plausible,
-        never: &never,
-        lines: &[],
-        variables: code.names.items().len() as u32,
-        options,
-    };
-    let noted = noted_in(&mut tables, &family, false)?;
-    Ok(FamilyFindings {
-        places: noted.places,
-        alarms: noted.alarms,
-    })
+    let mut tables = Tables::<L, K>::new(alloc, blank);
+    findings_in(&mut tables, code, conditions, plausible, options)
 }
 
 /// The analysis of all variants of a family at once.

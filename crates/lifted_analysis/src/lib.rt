@@ -4,6 +4,7 @@
 
 mod after;
 pub mod analysis;
+mod conditions;
 mod entries;
 mod family_context;
 mod finals;

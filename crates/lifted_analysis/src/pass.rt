@@ -20,7 +20,8 @@ ghost use Rattle.lifted_analysis.specs.Pass.{heads_at, passed_at, pass_stop_at, 
 ghost use Rattle.lifted_analysis.specs.Promises.{variant_at, begin_at, by_kind, valued, AreBelow};
 ghost use Rattle.lifted_analysis.specs.Turns.{AreInductive, is_inductive, loop_places};
 
-use crate::analysis::{condition_trees, noted_in};
+use crate::analysis::noted_in;
+use crate::conditions::family_trees;
 use crate::entries::TurnTree;
 use crate::family_context::FamilyContext;
 use crate::findings::{LoopTree, PassFindings};
@@ -29,14 +30,12 @@ use crate::states::{below, within};
 use crate::tables::Tables;
 use c_tree::{Mode, Program};
 use cpp_conditions::Formula;
-use decision_tree::Forest;
 use fam_outer::NoMemory;
 use leaf_domain::{Leaf, equality_is_exact, transfer_is_sound};
 use plain_analysis::Options;
 use std::alloc::Global;
 use std::marker::Brand;
 use std::sync::ledger::{Blank, Ledger};
-use tree_unify::{Steps, test_tree_in};
 
 /// The vectors at which each loop is inductive.
 fn loop_trees<L: Leaf, K: Ledger>(
@@ -64,6 +63,46 @@ fn loop_trees<L: Leaf, K: Ledger>(
     Ok(made)
 }
 
+/// The pass, over these tables.
+fn pass_in<L: Leaf, K: Ledger>(
+    tables: &mut Tables<L, K>,
+    code: &Program,
+    conditions: &[Formula],
+    plausible: &Formula,
+    mode: Mode,
+    lines: &[LoopLine],
+) -> Result<PassFindings<L>, NoMemory>
+    requires program { IsProgram (whole code.now) }
+    requires below { AreBelow 64 conditions.now plausible.now }
+    requires regions { AreRegionsBelow 64 lines.now }
+    requires bounds { All (λ (l : LoopLine). AreVariableBounds (length code.now.names) l.bounds) lines.now }
+    ensures { IfOk result (λ f. ArePassFindings L.value L.meaning mode
+        (whole code.now) conditions.now plausible.now lines.now f) }
+{
+    equality_is_exact::<L>();
+    let trees = family_trees(tables, conditions, plausible)?;
+    let family = FamilyContext {
+        program: code,
+        choices: &trees.choices,
+        plausible: &trees.plausible,
+        never: &trees.never,
+        lines,
+        variables: code.names.items().len() as u32,
+        options: Options {
+            delay: 0,
+            narrow: 0,
+            mode,
+        },
+    };
+    let noted = noted_in(tables, &family, true)?;
+    let loops = loop_trees(tables, &family, &noted.turns)?;
+    Ok(PassFindings {
+        places: noted.places,
+        alarms: noted.alarms,
+        loops,
+    })
+}
+
 /// The pass, with a counter of its steps.
 fn pass_counted<L: Leaf, K: Ledger>(
     alloc: Global,
@@ -84,36 +123,8 @@ fn pass_counted<L: Leaf, K: Ledger>(
     ensures { IfOk result (λ f. ArePassFindings L.value L.meaning mode
         (whole code.now) conditions.now plausible.now lines.now f) }
 {
-    equality_is_exact::<L>();
-    let mut tables = Tables {
-        alloc,
-        leaves: Forest::new(alloc),
-        truths: Forest::new(alloc),
-        steps: Steps::<K>::new(blank),
-    };
-    let choices = condition_trees(&mut tables, conditions)?;
-    let plausible = test_tree_in(alloc, &mut tables.truths, plausible, &mut tables.steps)?;
-    let never = tables.truths.leaf(false)?;
-    let family = FamilyContext {
-        program: code,
-        choices: &choices,
-        plausible: &plausible,
-        never: &never,
-        lines,
-        variables: code.names.items().len() as u32,
-        options: Options {
-            delay: 0,
-            narrow: 0,
-            mode,
-        },
-    };
-    let noted = noted_in(&mut tables, &family, true)?;
-    let loops = loop_trees(&mut tables, &family, &noted.turns)?;
-    Ok(PassFindings {
-        places: noted.places,
-        alarms: noted.alarms,
-        loops,
-    })
+    let mut tables = Tables::<L, K>::new(alloc, blank);
+    pass_in(&mut tables, code, conditions, plausible, mode, lines)
 }
 
 /// One pass over all variants of a family at once, in which each loop has at its head what the lines say.

@@ -9,7 +9,8 @@ use Rattle.strides.specs.declared.strided.Strided.{Strided}
 use Rattle.strides.specs.Strided.{is_bare, reduced, best_part}
 use Rattle.product_leaf.specs.StrideLeaves.{leaf_of, best_parts, AllOwn, stride_best, settled, joined_all, all_lie_in, widened_all, narrowed_all, part_at, range_of_part, met_part, stride_leq, stride_join, stride_widen, stride_narrow, stride_bounds, stride_with, stride_meet}
 use Rattle.product_leaf.specs.View.{IsOwnOf, IsBestOf}
-use Rattle.product_leaf.specs.Laws.Parts.{fours_numbers, length_zipped, length_best, length_replaced, own_some, own_best, read_range}
+use Rattle.leaf_domain.proofs.Variables.{length_zipped, length_replaced}
+use Rattle.product_leaf.specs.Laws.Parts.{fours_numbers, length_best, own_some, own_best, read_range}
 use Rattle.product_leaf.proofs.PartLemmas.{best_set, bare_set}
 
 abbrev count_of : LeafValue → ℕ

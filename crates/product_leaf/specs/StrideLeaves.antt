@@ -1,6 +1,6 @@
 -- A leaf with a low, a high and a stride for each variable.
 use Rattle.std.specs.Prelude.{◌≡◌, ℕ, ◌≤◌, ◌+◌, ◌*◌, ℤ, pos, unsigned_abs, nat_eq, Bool, true, false, ◌&&◌, if◌then◌else◌, List, [], ◌∷◌, Option, Some, None, length, slice_index_or, slice_set, map, zip, ⊤}
-use Rattle.std.specs.List.{list_all, list_any}
+use Rattle.std.specs.List.{AllByRecursion, list_all, list_any}
 use Rattle.std.specs.Int.{int_min, int_max}
 use Rattle.std.specs.Ordering.{int_eq}
 use Rattle.leaf_domain.specs.declared.form.Form.{Form}
@@ -8,6 +8,7 @@ use Rattle.leaf_domain.specs.declared.range.Range.{Range}
 use Rattle.leaf_domain.specs.Forms.{form_at}
 use Rattle.leaf_domain.specs.Ranges.{empty_range, range_at}
 use Rattle.leaf_domain.specs.Leaves.{LeafValue, LeafMeaning, nothing_of, is_nothing_of}
+use Rattle.leaf_domain.specs.Variables.{EachHolds}
 use Rattle.strides.specs.declared.stride.Stride.{Stride}
 use Rattle.strides.specs.declared.strided.Strided.{Strided}
 use Rattle.strides.specs.Divisors.{gcd}
@@ -39,8 +40,7 @@ abbrev pub parts_of : LeafValue → List Strided
 parts_of v = parts_in v.content
 
 abbrev pub AllOwn : List Strided → Type 0
-AllOwn [] = ⊤
-AllOwn (b ∷ bs) = IsOwn b × AllOwn bs
+AllOwn bs = AllByRecursion IsOwn bs
 
 abbrev pub IsStrideContent : ℕ → Option (List ℤ) → Type 0
 IsStrideContent n None = ⊤
@@ -51,9 +51,7 @@ IsStrideLeaf v = (v.variables ≤ 16) × IsStrideContent v.variables v.content
 
 -- each variable is one of the numbers of its part
 abbrev pub AllHave : List Strided → List ℤ → Type 0
-AllHave [] [] = ⊤
-AllHave (b ∷ bs) (n ∷ ns) = Has b n × AllHave bs ns
-AllHave bs ns = ⊥
+AllHave bs ns = EachHolds Has bs ns
 
 abbrev pub ContentHolds : Option (List ℤ) → List ℤ → Type 0
 ContentHolds None s = ⊥

@@ -8,7 +8,8 @@ use Rattle.leaf_domain.specs.Ranges.{Within, IsInInt, is_empty_range, empty_rang
 use Rattle.leaf_domain.specs.Forms.{form_at}
 use Rattle.leaf_domain.specs.Leaves.{LeafValue, LeafLaws, IsLeafLike, nothing_of, is_nothing_of}
 use Rattle.interval_leaf.specs.Intervals.{intervals, pairs_of, interval_of, IsInterval, AllWithinRanges, ContentHolds, interval_holds, interval_start, interval_leq, interval_join, interval_widen, interval_narrow, interval_bounds, interval_meet, interval_with, interval_own_bounds, covers, widened, widened_all, narrowed, narrowed_all, settled, point_of, AllOwn, IsOwn, HasEnds}
-use Rattle.interval_leaf.specs.Laws.RangeLists.{pairs_numbers, length_zipped, is_interval, covers_own, widened_all_own, narrowed_all_ends, own_from_all_ends, own_from_ends, own_set, own_points, covers_first, covers_second, inside_holds, widened_all_first, widened_all_second, narrowed_all_hold, none_empty, points_hold, points_alone, lows, lows_hold, held_length, widened_all_fewer, own_bounds_le, read_within, read_own, set_within, kept_within, length_replaced}
+use Rattle.leaf_domain.proofs.Variables.{length_zipped, length_replaced}
+use Rattle.interval_leaf.specs.Laws.RangeLists.{pairs_numbers, is_interval, covers_own, widened_all_own, narrowed_all_ends, own_from_all_ends, own_from_ends, own_set, own_points, covers_first, covers_second, inside_holds, widened_all_first, widened_all_second, narrowed_all_hold, none_empty, points_hold, points_alone, lows, lows_hold, held_length, widened_all_fewer, own_bounds_le, read_within, read_own, set_within, kept_within}
 
 abbrev at : ℕ → Option (List ℤ) → LeafValue
 at n c = record { variables = n; content = c }

@@ -1,13 +1,14 @@
 -- Facts on lists of parts.
 use Rattle.std.proofs.Common.{◌≡◌, ℕ, zero, suc, ◌+◌, ◌*◌, ◌<◌, ◌≤◌, ℤ, pos, ◌≤ℤ◌, Bool, true, false, ◌&&◌, ◌||◌, List, [], ◌∷◌, length, map, slice_set, slice_index_or, refl, ap, sym, ◌∙◌, arith, All}
 use Rattle.std.specs.Prelude.{⊤}
-use Rattle.std.specs.List.{list_any, zip}
+use Rattle.std.specs.List.{AllByRecursion, list_any}
 use Rattle.std.proofs.lemmas.List.Elements.{All-head, All-tail}
 use Rattle.leaf_domain.specs.Ranges.{empty_range}
+use Rattle.leaf_domain.proofs.Variables.{of_any, each_zipped, each_read, held_length, holds_first, holds_second, holds_tested, holds_made, held_read, held_set, held_part}
 use Rattle.c_tree.specs.Value.{IsInt}
 use Rattle.strides.specs.declared.strided.Strided.{Strided}
 use Rattle.strides.specs.Strides.{IsReduced, first_from}
-use Rattle.strides.specs.Strided.{least, greatest, Has, is_bare, point_at, reduced, IsOwn, lies_in, widened, narrowed, own_count}
+use Rattle.strides.specs.Strided.{least, greatest, Has, is_bare, point_at, reduced, IsOwn, joined, lies_in, widened, narrowed, own_count}
 use Rattle.strides.proofs.StridedLaws.{first_in, has_not_bare, reduced_keeps, reduced_back, point_own, point_has, point_alone, reduced_own, joined_has_first, joined_has_second, joined_own}
 use Rattle.strides.proofs.WideningLaws.{has_wider, widened_has_first, widened_has_second, widened_own, widened_falls, widened_fewer, own_count_small, narrowed_own, narrowed_has}
 use Rattle.product_leaf.specs.StrideLeaves.{numbers_of, fours_of, leaf_of, AllOwn, AllHave, IsStrideLeaf, joined_all, all_lie_in, widened_all, narrowed_all, own_count_in, part_at, range_of_part}
@@ -17,19 +18,9 @@ fours_numbers [] = refl
 fours_numbers (b ∷ bs) = ap (λ x. b ∷ x) (fours_numbers bs)
 
 -- ---- lengths
-pub length_zipped : (f : Strided → Strided → Strided) (us bs : List Strided) → length us ≡ length bs → length (map (λ (a, b). f a b) (zip us bs)) ≡ length us
-length_zipped f [] bs e = refl
-length_zipped f (a ∷ us) [] e = cc
-length_zipped f (a ∷ us) (b ∷ bs) e = ap suc (length_zipped f us bs (omega arith))
-
 pub length_best : (bs : List Strided) → length (map reduced bs) ≡ length bs
 length_best [] = refl
 length_best (b ∷ bs) = ap suc (length_best bs)
-
-pub length_replaced : (bs : List Strided) (x : ℕ) (b : Strided) → length (slice_set bs x b) ≡ length bs
-length_replaced [] x b = refl
-length_replaced (a ∷ bs) zero b = refl
-length_replaced (a ∷ bs) (suc x) b = ap suc (length_replaced bs x b)
 
 -- ---- parts that a leaf can have
 pub is_leaf : (bs : List Strided) → length bs ≤ 16 → AllOwn bs → IsStrideLeaf (leaf_of bs)
@@ -42,8 +33,7 @@ pub record IsLimited (b : Strided) : Type 0 where
   pub residue : IsReduced b.stride
 
 abbrev pub AllLimited : List Strided → Type 0
-AllLimited [] = ⊤
-AllLimited (b ∷ bs) = IsLimited b × AllLimited bs
+AllLimited bs = AllByRecursion IsLimited bs
 
 pub limited_own : (bs : List Strided) → AllOwn bs → AllLimited bs
 limited_own [] h = tt
@@ -74,14 +64,10 @@ own_points [] h = tt
 own_points (n ∷ s) h = let k = All-head IsInt n s h in (point_own n k.low k.high, own_points s (All-tail IsInt n s h))
 
 pub joined_all_own : (us bs : List Strided) → AllOwn us → AllOwn bs → AllOwn (joined_all us bs)
-joined_all_own [] bs h k = tt
-joined_all_own (a ∷ us) [] h k = tt
-joined_all_own (a ∷ us) (b ∷ bs) h k = (joined_own a b h.0 k.0, joined_all_own us bs h.1 k.1)
+joined_all_own us bs h k = each_zipped IsOwn IsOwn joined joined_own us bs h k
 
 pub widened_all_own : (us bs : List Strided) → AllOwn us → AllOwn bs → AllOwn (widened_all us bs)
-widened_all_own [] bs h k = tt
-widened_all_own (a ∷ us) [] h k = tt
-widened_all_own (a ∷ us) (b ∷ bs) h k = (widened_own a b h.0 k.0, widened_all_own us bs h.1 k.1)
+widened_all_own us bs h k = each_zipped IsOwn IsOwn widened widened_own us bs h k
 
 pub narrowed_all_own : (us bs : List Strided) → AllOwn us → AllOwn bs → list_any is_bare (narrowed_all us bs) ≡ false → AllOwn (narrowed_all us bs)
 narrowed_all_own [] bs h k e = tt
@@ -127,61 +113,25 @@ firsts_have [] h = tt
 firsts_have (b ∷ bs) h = (first_in b h.0.some, firsts_have bs h.1)
 
 pub have_length : (bs : List Strided) (s : List ℤ) → AllHave bs s → length s ≡ length bs
-have_length [] [] h = refl
-have_length [] (n ∷ s) h = absurd h
-have_length (b ∷ bs) [] h = absurd h
-have_length (b ∷ bs) (n ∷ s) h = ap suc (have_length bs s h.1)
+have_length bs s h = held_length Has bs s h
 
 pub joined_first : (us bs : List Strided) (s : List ℤ) → length us ≡ length bs → AllHave us s → AllHave (joined_all us bs) s
-joined_first [] bs [] e h = tt
-joined_first [] bs (n ∷ s) e h = absurd h
-joined_first (a ∷ us) bs [] e h = absurd h
-joined_first (a ∷ us) [] (n ∷ s) e h = absurd (omega arith)
-joined_first (a ∷ us) (b ∷ bs) (n ∷ s) e h = (joined_has_first a b n h.0, joined_first us bs s (omega arith) h.1)
+joined_first us bs s e h = holds_first Has (λ b. ⊤) joined (λ a b n p q k. joined_has_first a b n k) us bs s e (of_any us) (of_any bs) h
 
 pub joined_second : (us bs : List Strided) (s : List ℤ) → length us ≡ length bs → AllHave bs s → AllHave (joined_all us bs) s
-joined_second [] [] [] e h = tt
-joined_second us [] (n ∷ s) e h = absurd h
-joined_second [] (b ∷ bs) s e h = absurd (omega arith)
-joined_second (a ∷ us) [] s e h = absurd (omega arith)
-joined_second (a ∷ us) (b ∷ bs) [] e h = absurd h
-joined_second (a ∷ us) (b ∷ bs) (n ∷ s) e h = (joined_has_second a b n h.0, joined_second us bs s (omega arith) h.1)
-
--- a test of each pair, at the first pair and at the rest
-both : (a b : Bool) → (a && b) ≡ true → (a ≡ true) × (b ≡ true)
-both true b f = (refl, f)
-both false b f = cc
+joined_second us bs s e h = holds_second Has (λ b. ⊤) joined (λ a b n p q k. joined_has_second a b n k) us bs s e (of_any us) (of_any bs) h
 
 pub inside_has : (us bs : List Strided) (s : List ℤ) → length us ≡ length bs → all_lie_in us bs ≡ true → AllHave us s → AllHave bs s
-inside_has [] [] s e f h = h
-inside_has [] (b ∷ bs) s e f h = absurd (omega arith)
-inside_has (a ∷ us) [] s e f h = absurd (omega arith)
-inside_has (a ∷ us) (b ∷ bs) [] e f h = absurd h
-inside_has (a ∷ us) (b ∷ bs) (n ∷ s) e f h =
-    let (p, q) = both (lies_in a b) (all_lie_in us bs) f in (has_wider a b n p h.0, inside_has us bs s (omega arith) q h.1)
+inside_has us bs s e f h = holds_tested Has lies_in has_wider us bs s e f h
 
 pub widened_first : (us bs : List Strided) (s : List ℤ) → length us ≡ length bs → AllOwn us → AllOwn bs → AllHave us s → AllHave (widened_all us bs) s
-widened_first [] bs [] e p q h = tt
-widened_first [] bs (n ∷ s) e p q h = absurd h
-widened_first (a ∷ us) bs [] e p q h = absurd h
-widened_first (a ∷ us) [] (n ∷ s) e p q h = absurd (omega arith)
-widened_first (a ∷ us) (b ∷ bs) (n ∷ s) e p q h = (widened_has_first a b n p.0 q.0 h.0, widened_first us bs s (omega arith) p.1 q.1 h.1)
+widened_first us bs s e p q h = holds_first Has IsOwn widened widened_has_first us bs s e p q h
 
 pub widened_second : (us bs : List Strided) (s : List ℤ) → length us ≡ length bs → AllOwn us → AllOwn bs → AllHave bs s → AllHave (widened_all us bs) s
-widened_second [] [] [] e p q h = tt
-widened_second us [] (n ∷ s) e p q h = absurd h
-widened_second [] (b ∷ bs) s e p q h = absurd (omega arith)
-widened_second (a ∷ us) [] s e p q h = absurd (omega arith)
-widened_second (a ∷ us) (b ∷ bs) [] e p q h = absurd h
-widened_second (a ∷ us) (b ∷ bs) (n ∷ s) e p q h = (widened_has_second a b n p.0 q.0 h.0, widened_second us bs s (omega arith) p.1 q.1 h.1)
+widened_second us bs s e p q h = holds_second Has IsOwn widened widened_has_second us bs s e p q h
 
 pub narrowed_have : (xs gs : List Strided) (s : List ℤ) → length xs ≡ length gs → all_lie_in gs xs ≡ true → AllHave gs s → AllHave (narrowed_all xs gs) s
-narrowed_have [] [] s e f h = h
-narrowed_have [] (b ∷ bs) s e f h = absurd (omega arith)
-narrowed_have (a ∷ us) [] s e f h = absurd (omega arith)
-narrowed_have (a ∷ us) (b ∷ bs) [] e f h = absurd h
-narrowed_have (a ∷ us) (b ∷ bs) (n ∷ s) e f h =
-    let (p, q) = both (lies_in b a) (all_lie_in bs us) f in (narrowed_has a b n p h.0, narrowed_have us bs s (omega arith) q h.1)
+narrowed_have xs gs s e f h = holds_made Has lies_in narrowed narrowed_has xs gs s e f h
 
 -- ---- how many bounds are not the type's
 widened_all_falls : (us bs : List Strided) → AllOwn us → AllOwn bs → own_count_in (widened_all us bs) ≤ own_count_in us
@@ -217,15 +167,10 @@ own_count_le (b ∷ bs) h = sum _ _ _ (own_count_small b h.0) (own_count_le bs h
 
 -- ---- one variable
 pub read_has : (bs : List Strided) (s : List ℤ) (x : ℕ) → x < length bs → AllHave bs s → Has (part_at bs x) (slice_index_or s x (pos 0))
-read_has [] s x p h = absurd (omega arith)
-read_has (b ∷ bs) [] x p h = absurd h
-read_has (b ∷ bs) (n ∷ s) zero p h = h.0
-read_has (b ∷ bs) (n ∷ s) (suc x) p h = read_has bs s x (omega arith) h.1
+read_has bs s x p h = held_read Has (point_at (pos 0)) bs s x p h
 
 pub read_own : (bs : List Strided) (x : ℕ) → x < length bs → AllOwn bs → IsOwn (part_at bs x)
-read_own [] x p h = absurd (omega arith)
-read_own (b ∷ bs) zero p h = h.0
-read_own (b ∷ bs) (suc x) p h = read_own bs x (omega arith) h.1
+read_own bs x p h = each_read IsOwn (point_at (pos 0)) bs x p h
 
 pub read_range : (bs : List Strided) (x : ℕ) → x < length bs → slice_index_or (map range_of_part bs) x empty_range ≡ range_of_part (part_at bs x)
 read_range [] x p = absurd (omega arith)
@@ -238,14 +183,7 @@ read_residue (b ∷ bs) zero = refl
 read_residue (b ∷ bs) (suc x) = read_residue bs x
 
 pub set_have : (bs : List Strided) (s : List ℤ) (x : ℕ) (b : Strided) (n : ℤ) → AllHave bs s → Has b n → AllHave (slice_set bs x b) (slice_set s x n)
-set_have [] [] x b n h k = tt
-set_have [] (m ∷ s) x b n h k = absurd h
-set_have (a ∷ bs) [] x b n h k = absurd h
-set_have (a ∷ bs) (m ∷ s) zero b n h k = (k, h.1)
-set_have (a ∷ bs) (m ∷ s) (suc x) b n h k = (h.0, set_have bs s x b n h.1 k)
+set_have bs s x b n h k = held_set Has bs s x b n h k
 
 pub kept_have : (bs : List Strided) (s : List ℤ) (x : ℕ) (b : Strided) → AllHave bs s → Has b (slice_index_or s x (pos 0)) → AllHave (slice_set bs x b) s
-kept_have [] s x b h k = h
-kept_have (a ∷ bs) [] x b h k = absurd h
-kept_have (a ∷ bs) (m ∷ s) zero b h k = (k, h.1)
-kept_have (a ∷ bs) (m ∷ s) (suc x) b h k = (h.0, kept_have bs s x b h.1 k)
+kept_have bs s x b h k = held_part Has bs s x b h k

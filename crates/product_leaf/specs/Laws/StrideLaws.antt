@@ -13,7 +13,8 @@ use Rattle.strides.specs.Strides.{stride_at, HasStride}
 use Rattle.strides.specs.Strided.{least, greatest, strided_at, Has, is_bare, point_at, reduced, IsOwn, joined, widened, narrowed}
 use Rattle.strides.proofs.StridedLaws.{first_of, first_in}
 use Rattle.product_leaf.specs.StrideLeaves.{strides, fours_of, leaf_of, parts_in, AllOwn, AllHave, IsStrideLeaf, ContentHolds, stride_holds, best_of, stride_best, settled, joined_all, widened_all, narrowed_all, part_at, range_of_part, met_part, form_stride, stride_start, stride_leq, stride_join, stride_widen, stride_narrow, stride_bounds, stride_with, stride_meet, stride_set_form, stride_own_bounds}
-use Rattle.product_leaf.specs.Laws.Parts.{fours_numbers, length_zipped, length_best, length_replaced, is_leaf, IsLimited, AllLimited, limited_own, best_own, own_best, limited_set, own_points, joined_all_own, widened_all_own, narrowed_all_own, none_bare, best_keeps, best_back, points_have, points_alone, firsts, firsts_have, have_length, joined_first, joined_second, inside_has, widened_first, widened_second, narrowed_have, widened_all_fewer, own_count_le, read_has, read_own, read_range, set_have, kept_have}
+use Rattle.leaf_domain.proofs.Variables.{length_zipped, length_replaced}
+use Rattle.product_leaf.specs.Laws.Parts.{fours_numbers, length_best, is_leaf, IsLimited, AllLimited, limited_own, best_own, own_best, limited_set, own_points, joined_all_own, widened_all_own, narrowed_all_own, none_bare, best_keeps, best_back, points_have, points_alone, firsts, firsts_have, have_length, joined_first, joined_second, inside_has, widened_first, widened_second, narrowed_have, widened_all_fewer, own_count_le, read_has, read_own, read_range, set_have, kept_have}
 use Rattle.product_leaf.specs.Laws.FormStrides.{form_has, form_reduced}
 
 abbrev at : ℕ → Option (List ℤ) → LeafValue

@@ -1,4 +1,4 @@
-use Rattle.std.proofs.Common.{rules, arith, ◌≡◌, ◌-◌, ◌+◌, ◌∙◌, ap, sym, subst, refl, true, false, take, nat_lt, List, Bool}
+use Rattle.std.proofs.Common.{rules, arith, ◌≡◌, ◌-◌, ◌+◌, ◌∙◌, ap, sym, subst, refl, true, false, take, nat_lt}
 use Rattle.c_tree.specs.Tree.{Done}
 use Rattle.c_tree.specs.View.{term, front, code, whole}
 use Rattle.c_tree.specs.Fit.{IsCodeOf}
@@ -6,7 +6,6 @@ use Rattle.decision_tree.specs.Numbered.{erase}
 use Rattle.decision_tree.specs.Plain.{leaf_of}
 use Rattle.decision_tree.specs.View.{numbered, plain}
 use Rattle.decision_tree.proofs.Numbers.{keeps_same, keeps_both, numbers_tell}
-use Rattle.leaf_domain.specs.Leaves.{LeafValue}
 use Rattle.leaf_domain.specs.Transfer.{assumed}
 use Rattle.plain_analysis.specs.Loops.{round_by, rounds_of, narrowings_of}
 use Rattle.plain_analysis.proofs.Listed.{IsCodeOf-at}

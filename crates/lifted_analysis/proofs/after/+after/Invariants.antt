@@ -1,10 +1,9 @@
 use Rattle.std.proofs.Common.{◌≡◌, ◌+◌, ◌*◌, ◌-◌, take, List, Bool}
 use Rattle.c_tree.specs.Tree.{Done}
-use Rattle.c_tree.specs.View.{term, front, code}
+use Rattle.c_tree.specs.View.{front, code}
 use Rattle.decision_tree.specs.Listed.{Keeps}
 use Rattle.decision_tree.specs.Plain.{leaf_of}
 use Rattle.decision_tree.specs.View.{numbered, plain}
-use Rattle.leaf_domain.specs.Leaves.{LeafValue}
 use Rattle.plain_analysis.specs.Loops.{rounds_of, widened_leaf, narrowings_of}
 use Rattle.plain_analysis.proofs.Sizes.{size_of}
 use Rattle.lifted_analysis.specs.Finals.{Remembers}

@@ -28,9 +28,10 @@ start_tree-requires-clause-declared g c = subst (λ n. All (IsDeclaredOf n) c.ar
 
 pub enter_list-requires-clause-part : goal.enter_list-requires-clause-part
 enter_list-requires-clause-part g c =
-    let p = whole c.args.family.now.program.now in
-    (subst (λ l. IsCodeOf c.args.family.now.variables (code l)) (sym c.deref.ensures.value) (subst (λ n. IsCodeOf n (code c.args.family.now.program.now.body.items)) (sym c.requires.count) c.requires.program.names),
-    loops_same p _ _ c.deref.ensures.value (has_its_loops p c.requires.program.rising))
+    let p = whole c.args.family.now.program.now in (
+      subst (λ l. IsCodeOf c.args.family.now.variables (code l)) (sym c.deref.ensures.value) (subst (λ n. IsCodeOf n (code c.args.family.now.program.now.body.items)) (sym c.requires.count) c.requires.program.names),
+      loops_same p _ _ c.deref.ensures.value (has_its_loops p c.requires.program.rising),
+    )
 
 pub enter_list-requires-clause-here : goal.enter_list-requires-clause-here
 enter_list-requires-clause-here g c =

@@ -3,7 +3,8 @@ use Rattle.std.specs.List.{list_any}
 use Rattle.leaf_domain.specs.Leaves.{LeafValue, nothing_of}
 use Rattle.strides.specs.Strided.{is_bare, narrowed}
 use Rattle.product_leaf.specs.StrideLeaves.{AllOwn}
-use Rattle.product_leaf.specs.Laws.Parts.{narrowed_all_own, length_zipped}
+use Rattle.leaf_domain.proofs.Variables.{length_zipped}
+use Rattle.product_leaf.specs.Laws.Parts.{narrowed_all_own}
 use Rattle.product_leaf.proofs.Meanings.{own_count, best_count, best_all_own, few_zipped, narrow_is, settled_bare, settled_full}
 use Rattle.product_leaf.proofs.leaf.StrideLeafLeaf.narrow.Goals as goal
 

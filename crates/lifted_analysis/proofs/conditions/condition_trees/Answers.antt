@@ -6,7 +6,7 @@ use Rattle.decision_tree.specs.View.{numbered}
 use Rattle.decision_tree.proofs.Numbers.{numbered_tree}
 use Rattle.lifted_analysis.specs.Conditions.{AreTreesOf}
 use Rattle.lifted_analysis.proofs.ConditionLemmas.{trees_more}
-use Rattle.lifted_analysis.proofs.analysis.condition_trees.Goals as goal
+use Rattle.lifted_analysis.proofs.conditions.condition_trees.Goals as goal
 
 pub loop-condition-init : goal.loop-condition-init
 loop-condition-init g c = subst (AreTreesOf (take 0 c.args.conditions.now)) (sym c.new-trees.ensures.items) tt

@@ -1,23 +1,20 @@
 use Rattle.std.proofs.Common.{◌≤◌, ap, sym, subst, length, inl, refl}
 use Rattle.std.specs.Prelude.{All}
 use Rattle.c_tree.specs.View.{whole}
-use Rattle.decision_tree.specs.View.{numbered}
-use Rattle.decision_tree.proofs.Numbers.{numbered_tree}
 use Rattle.lifted_analysis.specs.Conditions.{AreTreesOf}
 use Rattle.lifted_analysis.proofs.ConditionLemmas.{numbered_each}
 use Rattle.lifted_analysis.specs.declared.lines.LoopLine.{LoopLine}
 use Rattle.lifted_analysis.specs.Lines.{AreVariableBounds}
-use Rattle.lifted_analysis.proofs.Answered.{leaf_kept}
 use Rattle.lifted_analysis.proofs.PassAnswered.{are_pass_findings, sized_by, loops_by}
-use Rattle.lifted_analysis.proofs.pass.pass_counted.Goals as goal
+use Rattle.lifted_analysis.proofs.pass.pass_in.Goals as goal
 
 pub noted_in-requires-clause-family : goal.noted_in-requires-clause-family
 noted_in-requires-clause-family g c =
-    let trees : AreTreesOf c.args.conditions.now c.deref.result.now = subst (AreTreesOf c.args.conditions.now) (sym c.deref.ensures.value) c.in_ok-choices.ensures in
+    let trees : AreTreesOf c.args.conditions.now c.deref.result.now = subst (AreTreesOf c.args.conditions.now) (sym c.deref.ensures.value) c.in_ok-trees.ensures.choices in
     let few : length c.items.result.now ≤ 16 = subst (λ n. n ≤ 16) (sym (ap length c.items.ensures)) c.requires.program.few in
     record {
       few = few;
-      never = leaf_kept (numbered c.in_ok-never.never) _ c.in_ok-never.ensures.same;
+      never = c.in_ok-trees.ensures.never;
       regions = c.requires.regions;
       bounds = subst (λ n. All (λ (l : LoopLine). AreVariableBounds n l.bounds) c.args.lines.now) (sym (ap length c.items.ensures)) c.requires.bounds;
       choices = λ i t e. numbered_each c.args.conditions.now c.deref.result.now i t trees e;
@@ -25,14 +22,14 @@ noted_in-requires-clause-family g c =
 
 pub noted_in-requires-clause-plausible : goal.noted_in-requires-clause-plausible
 noted_in-requires-clause-plausible g c =
-    record { tree = numbered_tree 0 64 c.test_tree_in.new.forest (numbered c.in_ok-plausible.plausible) c.in_ok-plausible.ensures.tree; tests = λ k w. inl w }
+    record { tree = c.in_ok-trees.ensures.tree; tests = λ k w. inl w }
 
 pub loop_trees-requires : goal.loop_trees-requires
 loop_trees-requires g c = sized_by g.L.Leaf.value _ _ _ c.deref-2.ensures.value c.in_ok-noted.ensures.sized
 
 pub returns : goal.returns
 returns g c =
-    let trees : AreTreesOf c.args.conditions.now c.deref.result.now = subst (AreTreesOf c.args.conditions.now) (sym c.deref.ensures.value) c.in_ok-choices.ensures in
-    are_pass_findings g.L.Leaf.value c.equality_is_exact.ensures.value g.L.Leaf.meaning _ (whole c.args.code.now) c.args.conditions.now c.args.plausible.now c.args.lines.now trees c.in_ok-plausible.ensures.means (ap length c.items.ensures) refl
+    let trees : AreTreesOf c.args.conditions.now c.deref.result.now = subst (AreTreesOf c.args.conditions.now) (sym c.deref.ensures.value) c.in_ok-trees.ensures.choices in
+    are_pass_findings g.L.Leaf.value c.equality_is_exact.ensures.value g.L.Leaf.meaning _ (whole c.args.code.now) c.args.conditions.now c.args.plausible.now c.args.lines.now trees c.in_ok-trees.ensures.plausible (ap length c.items.ensures) refl
     c.in_ok-noted.noted c.in_ok-loops.loops c.in_ok-noted.ensures
     (loops_by g.L.Leaf.value g.L.Leaf.meaning c.in_ok-loops.loops.items _ _ c.deref-2.ensures.value c.in_ok-loops.ensures.at_each) c.in_ok-loops.ensures.reduced
