@@ -1,10 +1,8 @@
 //! The trees of a family at every vector, against the analysis of its program alone.
 
-ghost use Rattle.std.specs.Prelude.{◌≡◌, length, IfOk};
 ghost use Rattle.c_tree.specs.View.{whole};
 ghost use Rattle.c_tree.specs.Whole.{IsProgram};
 ghost use Rattle.c_tree.specs.Project.{IsConditioned};
-ghost use Rattle.lifted_analysis.specs.Promises.{AreBelow};
 
 use crate::families::{family, unsteady_family};
 use c_tree::{Mode, Program, project};

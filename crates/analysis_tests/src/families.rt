@@ -2,8 +2,8 @@
 
 ghost use Rattle.std.specs.Prelude.{◌≡◌, ◌+◌, ◌<◌, length, IfOk, [], ◌∷◌, pos, true};
 ghost use Rattle.c_tree.specs.declared.tree.Op.TheVariants as op;
-ghost use Rattle.c_tree.specs.Tree.{Code, followed, Done, Assign, Assert, If, While, Cond, Binary, Var, Number};
-ghost use Rattle.c_tree.specs.View.{term, front, code, whole};
+ghost use Rattle.c_tree.specs.Tree.{followed, Done, Assign, Assert, If, While, Cond, Binary, Var, Number};
+ghost use Rattle.c_tree.specs.View.{term, code, whole};
 ghost use Rattle.c_tree.specs.Whole.{IsProgram};
 ghost use Rattle.c_tree.specs.Project.{IsConditioned};
 ghost use Rattle.analysis_tests.specs.Families.{outer_loop, rest_of_body, unsteady_loop, spread_body, restarted_loops};

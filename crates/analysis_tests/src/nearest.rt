@@ -1,6 +1,6 @@
 //! Nearest configurations, of a model of three switches and a number with the constraint `!C || N != 5`, with ample memory.
 
-ghost use Rattle.std.specs.Prelude.{◌≡◌, ◌<◌, ◌≤◌, ◌∷◌, [], pos, List, Bool, length, unsigned_abs, IfOk};
+ghost use Rattle.std.specs.Prelude.{◌≡◌, ◌<◌, ◌≤◌, ◌∷◌, [], pos, Bool, length, unsigned_abs, IfOk};
 ghost use Rattle.std.specs.List.{All};
 ghost use Rattle.linear_atoms.specs.Atoms.{AreAtoms, AreRanges, IsAtom, IsWithin};
 ghost use Rattle.cpp_conditions.specs.Propositions.{IsFit, Not, Or};

@@ -1,10 +1,7 @@
 //! A pass over a family with given heads of its loop, compared with bounds, alarms and answers found by hand.
 
-ghost use Rattle.std.specs.Prelude.{◌≡◌, length, IfOk};
-ghost use Rattle.c_tree.specs.View.{whole};
+ghost use Rattle.std.specs.Prelude.{◌≡◌, IfOk};
 ghost use Rattle.c_tree.specs.Value.{IsInt};
-ghost use Rattle.cpp_conditions.specs.Propositions.{IsBelow};
-ghost use Rattle.cpp_conditions.specs.View.{formula};
 ghost use Rattle.lifted_analysis.specs.Lines.{AreVariableBounds};
 
 use crate::families::held_family;

@@ -1,5 +1,5 @@
 -- The loops of lists of statements.
-use Rattle.std.proofs.Common.{◌≡◌, ℕ, List, [], ◌∷◌, ◌++◌, take, length, get_or, ◌+◌, ◌<◌, ap, ◌∙◌, append_assoc}
+use Rattle.std.proofs.Common.{◌≡◌, ℕ, List, ◌++◌, take, length, get_or, ◌+◌, ◌<◌, ap, ◌∙◌, append_assoc}
 use Rattle.c_tree.specs.declared.tree.Stmt.{Stmt}
 use Rattle.c_tree.specs.Tree.{Done}
 use Rattle.c_tree.specs.View.{front, code}

@@ -1,7 +1,7 @@
 //! The bounds of a loop's variables, read from their text.
 #![tactic(auto)]
 
-ghost use Rattle.std.specs.Prelude.{◌≡◌, ◌≢◌, ℕ, List, ◌++◌, length, Option, Some, true, false, IfOk, MatchOption, MatchBool};
+ghost use Rattle.std.specs.Prelude.{◌≡◌, ◌≢◌, ℕ, List, ◌++◌, Option, Some, false, IfOk, MatchOption, MatchBool};
 ghost use Rattle.leaf_domain.specs.declared.range.Range.{Range};
 ghost use Rattle.alarm_report.specs.LeafTexts.{within_text};
 ghost use Rattle.certificate_format.specs.Bounds.{bounds_text, IsIntRange, AreIntBounds};

@@ -1,7 +1,7 @@
 //! The texts of the literals of atoms.
 #![tactic(auto)]
 
-ghost use Rattle.std.specs.Prelude.{◌≡◌, ◌+◌, ◌≤◌, ◌++◌, [], ◌∷◌, true, length, IfOk};
+ghost use Rattle.std.specs.Prelude.{◌≡◌, ◌+◌, ◌≤◌, true, length, IfOk};
 ghost use Rattle.linear_atoms.specs.Atoms.{IsAtom, AreAtoms};
 ghost use Rattle.certificate_format.specs.Rows.{row, rows_from, row_of};
 

@@ -1,7 +1,7 @@
 //! Regions read as formulas.
 #![tactic(auto)]
 
-ghost use Rattle.std.specs.Prelude.{◌≡◌, ◌≢◌, ℕ, List, ◌++◌, codes, Option, Some, None, map, IfOk, MatchOption};
+ghost use Rattle.std.specs.Prelude.{◌≡◌, ℕ, List, codes, Option, Some, None, map, IfOk, MatchOption};
 ghost use Rattle.std.specs.List.{list_any};
 ghost use Rattle.cpp_conditions.specs.View.{formula};
 ghost use Rattle.certificate_format.specs.declared.literals.Numbered.{Numbered};

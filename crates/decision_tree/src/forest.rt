@@ -1,5 +1,5 @@
 //! Forests: tables that make each tree once, and number it.
-ghost use Rattle.std.specs.Prelude.{◌≡◌, ◌⊎◌, ℕ, Bool, ◌+◌, ◌<◌, IfOk, List, [], ◌∷◌, ◌++◌, OnOk, OnErr, None};
+ghost use Rattle.std.specs.Prelude.{◌≡◌, ◌⊎◌, Bool, ◌+◌, ◌<◌, IfOk, List, [], ◌∷◌, ◌++◌, OnOk, OnErr, None};
 ghost use Rattle.std.specs.Option.{option_copied};
 ghost use Rattle.std.specs.Map.{lookup};
 ghost use Rattle.decision_tree.specs.Keys.{same_key};

@@ -7,7 +7,7 @@ use Rattle.c_tree.specs.declared.tree.Op.TheVariants.{Add, Lt, Gt, Ge}
 use Rattle.c_grammar.specs.declared.items.Item.{Item}
 use Rattle.c_grammar.specs.declared.items.Sign.TheVariants as signs
 use Rattle.c_grammar.specs.Grammar as grammar
-use Rattle.c_grammar.specs.Grammar.{at, Expresses, number, name, loose, binary, Listed, Stated, Chained, Raise, Outer, File, absent, present, bare, no_return}
+use Rattle.c_grammar.specs.Grammar.{at, Expresses, number, name, loose, binary, Listed, Raise, Outer, File, absent, present, bare, no_return}
 use Rattle.c_grammar.specs.Within.{Full, WritesIn, none, more, choice, ends, otherwise, assign, input, count, assert, while, if_else, DeclaresIn, nothing, variables, last_var, no_more, body, main, FormsWithin, file}
 use Rattle.family_generator.proofs.BlockTexts.{Block, Switched, Bounded, Checked}
 use Rattle.family_generator.proofs.Signs.{laid, laid_joined, laid_again, sign_in, place_in, block_signs, condition_count, blocks_signs, header_signs, file_signs}

@@ -1,7 +1,7 @@
 //! `check`: whether a certificate holds of a family, without the analysis.
 #![tactic(auto)]
 
-ghost use Rattle.std.specs.Prelude.{◌≡◌, ◌≤◌, ℕ, List, [], ◌∷◌, Some, IfOk, length};
+ghost use Rattle.std.specs.Prelude.{◌≡◌, ◌≤◌, ℕ, List, [], ◌∷◌, Some, IfOk};
 ghost use Rattle.famlint_checks.specs.Checked.{AnswersCheck, PromisedCheck};
 ghost use Rattle.famlint_loads.specs.Contents.{Contents};
 ghost use Rattle.famlint_loads.specs.CertificateLoads.{ReadsCertificate, IsUsableCertificate, IsLoadedForCheck};

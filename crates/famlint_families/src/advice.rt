@@ -1,7 +1,7 @@
 //! `advise`: the nearest configuration without alarms.
 #![tactic(auto)]
 
-ghost use Rattle.std.specs.Prelude.{◌≡◌, ◌≤◌, ◌<◌, ℕ, List, [], ◌∷◌, Bool, Some, IfOk, map, length};
+ghost use Rattle.std.specs.Prelude.{◌≡◌, ◌≤◌, ◌<◌, ℕ, List, [], ◌∷◌, Bool, Some, IfOk, map};
 ghost use Rattle.std.specs.List.{All};
 ghost use Rattle.cpp_conditions.specs.Validity.{IsConfig};
 ghost use Rattle.decision_tree.specs.Plain.{TestsBelow};

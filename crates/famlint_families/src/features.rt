@@ -1,10 +1,10 @@
 //! `features MODEL`: what a model leaves open of each feature.
 #![tactic(auto)]
 
-ghost use Rattle.std.specs.Prelude.{◌≡◌, ◌≤◌, ℕ, List, [], ◌∷◌, Some, IfOk};
+ghost use Rattle.std.specs.Prelude.{◌≡◌, ℕ, List, [], ◌∷◌, Some, IfOk};
 ghost use Rattle.famlint_families.specs.FamilyAnswers.{AnswersFeatures};
 ghost use Rattle.famlint_families.specs.FeatureUses.{AreUsesDone};
-ghost use Rattle.famlint_loads.specs.Loads.{Comes, IsReadFault, IsReadOf, IsUsable};
+ghost use Rattle.famlint_loads.specs.Loads.{Comes, IsReadOf, IsUsable};
 
 use command_words::Word;
 use configuration_advice::{uses, uses_text};

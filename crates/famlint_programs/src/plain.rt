@@ -2,8 +2,6 @@
 #![tactic(auto)]
 
 ghost use Rattle.std.specs.Prelude.{◌≡◌, ◌≤◌, ℕ, List, [], ◌∷◌, Some, Ok, IfOk};
-ghost use Rattle.c_tree.specs.Tree.{Whole};
-ghost use Rattle.c_parser.specs.Reading.{IsPlainRead};
 ghost use Rattle.famlint_programs.specs.ProgramAnswers.{AnswersPlain, PromisedPlain};
 ghost use Rattle.famlint_loads.specs.Loads.{Comes, IsReadFault, IsReadOf};
 

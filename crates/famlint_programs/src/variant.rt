@@ -1,7 +1,7 @@
 //! What is asked of a variant: `project`, `variant` and `run`.
 #![tactic(auto)]
 
-ghost use Rattle.std.specs.Prelude.{◌≡◌, ◌≤◌, ℕ, ℤ, List, [], ◌∷◌, ◌++◌, Some, IfOk, string_bytes};
+ghost use Rattle.std.specs.Prelude.{◌≡◌, ◌≤◌, ℕ, List, [], ◌∷◌, ◌++◌, Some, IfOk};
 ghost use Rattle.std.specs.List.{All};
 ghost use Rattle.c_tree.specs.Value.{IsInt};
 ghost use Rattle.c_tree.specs.View.{whole};
@@ -14,7 +14,7 @@ ghost use Rattle.famlint_requests.specs.Requests.{HaveInts};
 ghost use Rattle.famlint_programs.specs.RunText.{run_text, front_text, store_text};
 ghost use Rattle.famlint_requests.specs.declared.request.VariantTask.TheVariants as tasks;
 ghost use Rattle.famlint_loads.specs.ProductLines.{IsLoadedFor, IsUsableLine};
-ghost use Rattle.famlint_loads.specs.Selected.{AreSelected, IsProgramOf};
+ghost use Rattle.famlint_loads.specs.Selected.{IsProgramOf};
 ghost use Rattle.run_meaning.specs.View.{end_of};
 
 use crate::report::report_by;

@@ -5,7 +5,7 @@ mod options;
 mod reading;
 
 ghost use Rattle.std.specs.Option.{option_copied};
-ghost use Rattle.std.specs.Prelude.{◌≡◌, ◌++◌, ◌∷◌, [], IfOk, OnOk, map, string_bytes};
+ghost use Rattle.std.specs.Prelude.{◌≡◌, IfOk, map, string_bytes};
 ghost use Rattle.famlint_requests.specs.Requests.{role_of, role_beside, role_of_three, is_path};
 
 use c_tree::Mode;

@@ -1,10 +1,8 @@
 //! A leaf with one range per variable.
 #![tactic(auto)]
 
-ghost use Rattle.std.specs.Prelude.{◌≡◌, ◌≤◌, ◌<◌, IfOk, IfSome, IfNone, length, All};
-ghost use Rattle.leaf_domain.specs.Ranges.{IsInInt};
-ghost use Rattle.c_tree.specs.Value.{IsInt};
-ghost use Rattle.leaf_domain.specs.Leaves.{LeafValue, nothing_of, is_nothing_of};
+ghost use Rattle.std.specs.Prelude.{◌≡◌, ◌≤◌, ◌<◌, IfOk, IfSome, IfNone, length};
+ghost use Rattle.leaf_domain.specs.Leaves.{LeafValue, nothing_of};
 ghost use Rattle.interval_leaf.specs.Intervals.{interval_of, ranges_of, AllOwn, IsInterval, AllEnds, HasEnds, settled, interval_with, intervals};
 ghost use Rattle.interval_leaf.specs.Laws.{interval_laws, leaf_alike};
 ghost use Rattle.std.specs.Prelude.{refl};

@@ -1,12 +1,11 @@
 //! Lists of ranges, one for each variable.
 #![tactic(auto)]
 
-ghost use Rattle.std.specs.Prelude.{◌≡◌, ◌≤◌, ◌<◌, IfOk, length, All, map, zip, slice_set};
-ghost use Rattle.std.specs.List.{list_all, list_any};
-ghost use Rattle.leaf_domain.specs.Ranges.{cover_of, is_empty_range};
-ghost use Rattle.c_tree.specs.Value.{IsInt};
+ghost use Rattle.std.specs.Prelude.{◌≡◌, ◌<◌, IfOk, length, map, zip, slice_set};
+ghost use Rattle.std.specs.List.{list_any};
+ghost use Rattle.leaf_domain.specs.Ranges.{is_empty_range};
 ghost use Rattle.leaf_domain.specs.Leaves.{same_numbers};
-ghost use Rattle.interval_leaf.specs.Intervals.{numbers_of, widened, narrowed, covers, all_lie_in, widened_all, narrowed_all, lies_in, point_of, IsOwn};
+ghost use Rattle.interval_leaf.specs.Intervals.{numbers_of, widened, narrowed, covers, all_lie_in, widened_all, narrowed_all, lies_in, point_of};
 
 use leaf_domain::Range;
 use std::alloc::{AllocError, Global};

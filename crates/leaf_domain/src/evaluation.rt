@@ -5,7 +5,7 @@ ghost use Rattle.std.specs.Prelude.{◌≡◌, IsTrue, not, true};
 ghost use Rattle.c_tree.specs.View.{term};
 ghost use Rattle.leaf_domain.specs.Ranges.{IsInInt, is_arithmetic};
 ghost use Rattle.leaf_domain.specs.Sums.{HasForm};
-ghost use Rattle.leaf_domain.specs.Transfer.{fits_in, truth_range, negated_range, is_inside, results_in, raw_of_sum, form_range_of, form_where, narrowed_by};
+ghost use Rattle.leaf_domain.specs.Transfer.{fits_in, truth_range, negated_range, is_inside, results_in, raw_of_sum, form_range_of, form_where};
 ghost use Rattle.leaf_domain.specs.Evaluations.{is_truth_term, truth_at, number_at, modular_at, divided_at, negation_at, arithmetic_at};
 
 use crate::form::Form;

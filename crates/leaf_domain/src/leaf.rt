@@ -1,7 +1,7 @@
 //! The trait of leaves.
 #![tactic(auto)]
 
-ghost use Rattle.std.specs.Prelude.{◌≡◌, ℕ, ◌<◌, ◌≤◌, true, IfOk, length, All};
+ghost use Rattle.std.specs.Prelude.{◌≡◌, ◌<◌, ◌≤◌, true, IfOk, length, All};
 ghost use Rattle.leaf_domain.specs.Ranges.{IsInInt};
 ghost use Rattle.c_tree.specs.Value.{IsInt};
 ghost use Rattle.leaf_domain.specs.Forms.{IsForm};

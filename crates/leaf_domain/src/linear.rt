@@ -1,7 +1,7 @@
 //! The linear form of an expression.
 #![tactic(auto)]
 
-ghost use Rattle.std.specs.Prelude.{◌≡◌, ℕ, negsuc, IfOk, IfSome};
+ghost use Rattle.std.specs.Prelude.{◌≡◌, ℕ, negsuc, IfOk};
 ghost use Rattle.c_tree.specs.Fit.{IsTermOf};
 ghost use Rattle.c_tree.specs.View.{term};
 ghost use Rattle.leaf_domain.specs.Forms.{IsForm, constant_form, variable_form, form_sum, form_by, kept_form, sum_form, multiple_form, difference_form, product_of, product_form, has_no_term, binary_form, form_of_term};

@@ -1,11 +1,10 @@
 //! Ranges of whole numbers.
 #![tactic(auto)]
 
-ghost use Rattle.std.specs.Prelude.{◌≡◌, ◌≢◌, ◌&&◌, pos, negsuc, ◌≤ℤ◌, IsTrue, ◌↔◌, ◌<ℤ◌, ◌*ℤ◌};
+ghost use Rattle.std.specs.Prelude.{◌≡◌, ◌≢◌, ◌&&◌, pos, negsuc, ◌≤ℤ◌, IsTrue, ◌*ℤ◌};
 ghost use Rattle.leaf_domain.specs.Ranges.{meet_of, clip_of, fold_of, shifted_of, upward_of, is_empty_range, hull_of, cover_of, between_of, range_of_ends, spread_of, quotients_of, remainders_of, greatest_size_of, least_divisor_of, is_zero_range, is_single, remainder_of_singles, is_smaller_of, low_left_of, high_left_of, bounded_remainders, ArithmeticHolds, FoldHolds, sums_of, differences_of, products_of, all_quotients_of, arithmetic_range, is_arithmetic, IsInInt, HasOneSign};
 ghost use Rattle.leaf_domain.specs.declared.range.Range as range;
 ghost use Rattle.c_tree.specs.Value.{IsInt, wrapped};
-ghost use Rattle.std.specs.Int.{int_min, int_max};
 
 use c_tree::Op;
 

@@ -1,7 +1,7 @@
 //! All that one pass over an expression finds in a leaf.
 #![tactic(auto)]
 
-ghost use Rattle.std.specs.Prelude.{◌≡◌, ◌<◌, ◌≤◌, IfOk, IsTrue};
+ghost use Rattle.std.specs.Prelude.{◌≡◌, ◌<◌, IfOk, IsTrue};
 ghost use Rattle.c_tree.specs.Value.{IsInt};
 ghost use Rattle.leaf_domain.specs.Ranges.{is_arithmetic};
 ghost use Rattle.leaf_domain.specs.Evaluations.{IsOver, number_survey, variable_survey, negation_survey, operation_survey, truth_survey};

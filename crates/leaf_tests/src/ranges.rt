@@ -1,7 +1,6 @@
 //! Ranges found by hand.
 
 ghost use Rattle.std.specs.Prelude.{◌≡◌, IsTrue};
-ghost use Rattle.c_tree.specs.Value.{IsInt};
 ghost use Rattle.leaf_domain.specs.Ranges.{IsInInt, is_arithmetic};
 
 use c_tree::Op;

@@ -8,7 +8,6 @@ ghost use Rattle.c_tree.specs.Fit.{IsTermOf};
 ghost use Rattle.decision_tree.specs.Listed.{Keeps};
 ghost use Rattle.decision_tree.specs.Plain.{leaf_of};
 ghost use Rattle.decision_tree.specs.View.{numbered, plain};
-ghost use Rattle.leaf_domain.specs.Transfer.{assumed};
 ghost use Rattle.plain_analysis.specs.Loops.{widened_leaf, narrowing_of};
 ghost use Rattle.plain_analysis.specs.Stated.{IsPartOf, IsLoopOf};
 ghost use Rattle.lifted_analysis.specs.Finals.{Remembers};

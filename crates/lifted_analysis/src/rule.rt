@@ -1,11 +1,10 @@
 //! What the loops of a family have at their heads.
 #![tactic(auto)]
 
-ghost use Rattle.std.specs.Prelude.{◌≡◌, ◌&&◌, ℕ, IfOk, OnOk, true, if◌then◌else◌, List, Bool};
+ghost use Rattle.std.specs.Prelude.{◌≡◌, ◌&&◌, ℕ, IfOk, OnOk, true, if◌then◌else◌};
 ghost use Rattle.cpp_conditions.specs.Propositions.{true_on, IsBelow};
 ghost use Rattle.cpp_conditions.specs.View.{formula};
 ghost use Rattle.c_tree.specs.View.{whole};
-ghost use Rattle.decision_tree.specs.Plain.{leaf_of};
 ghost use Rattle.decision_tree.specs.View.{numbered, plain};
 ghost use Rattle.plain_analysis.specs.Places.{is_same_place};
 ghost use Rattle.plain_analysis.specs.Stated.{IsLoopOf};

@@ -1,15 +1,13 @@
 //! The tree of the leaves of the start values.
 #![tactic(auto)]
 
-ghost use Rattle.std.specs.Prelude.{◌≡◌, ◌<◌, ◌≤◌, ◌&&◌, not, if◌then◌else◌, length, slice_set, IfOk, true, false, List, Bool, All};
-ghost use Rattle.c_tree.specs.Project.{guards_hold, projected_start, IsGuarded};
+ghost use Rattle.std.specs.Prelude.{◌≡◌, ◌<◌, ◌≤◌, ◌&&◌, if◌then◌else◌, length, slice_set, IfOk, true, List, Bool, All};
+ghost use Rattle.c_tree.specs.Project.{guards_hold, projected_start};
 ghost use Rattle.c_tree.specs.Value.{IsInt};
 ghost use Rattle.c_tree.specs.Whole.{IsDeclaredOf};
-ghost use Rattle.decision_tree.specs.Listed.{IsNumberedTree};
-ghost use Rattle.decision_tree.specs.Plain.{leaf_of, HasTest};
+ghost use Rattle.decision_tree.specs.Plain.{leaf_of};
 ghost use Rattle.decision_tree.specs.View.{numbered, plain};
-ghost use Rattle.leaf_domain.specs.Leaves.{nothing_of};
-ghost use Rattle.lifted_analysis.specs.States.{IsFamily, IsState, IsTruth, IsTest, truths_in};
+ghost use Rattle.lifted_analysis.specs.States.{IsFamily, IsState, IsTruth, truths_in};
 ghost use Rattle.lifted_analysis.specs.Start.{IsTreeAt, start_at};
 
 use crate::family_context::FamilyContext;

@@ -1,7 +1,7 @@
 //! Names with their values.
 #![tactic(auto)]
 
-ghost use Rattle.std.specs.Prelude.{◌≡◌, ◌++◌, IfOk, map, codes};
+ghost use Rattle.std.specs.Prelude.{◌≡◌, ◌++◌, IfOk, map};
 ghost use Rattle.linear_atoms.specs.SettingTexts.{setting_text, spaced_settings, config_text};
 
 use crate::atoms::Feature;

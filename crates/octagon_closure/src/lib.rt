@@ -1,7 +1,7 @@
 //! Tight closure of Miné's octagons over whole numbers, after Bagnara, Hill and Zaffanella.
 #![tactic(auto)]
 
-ghost use Rattle.std.specs.Prelude.{◌≡◌, ◌+◌, ◌*◌, ◌<◌, ◌≤◌, ◌^◌, ◌↔◌, ℕ, ℤ, List, pos, neg_ℤ, ◌≤ℤ◌, IfOk};
+ghost use Rattle.std.specs.Prelude.{◌≡◌, ◌+◌, ◌*◌, ◌<◌, ◌≤◌, ◌^◌, ◌↔◌, ℤ, List, pos, neg_ℤ, ◌≤ℤ◌, IfOk};
 ghost use Rattle.std.specs.Int.{int_min};
 ghost use Rattle.octagon_matrix.specs.Matrices.{MatrixValue, entry_of, IsMatrix, HasEntries};
 ghost use Rattle.octagon_matrix.specs.Stores.{Holds, IsStore};

@@ -1,12 +1,12 @@
 //! Matrices made entry by entry.
 #![tactic(auto)]
 
-ghost use Rattle.std.specs.Prelude.{◌≡◌, ◌≢◌, ◌≤◌, ◌<◌, ◌*◌, ◌/◌, ◌^◌, ℕ, ℤ, List, pos, neg_ℤ, ◌≤ℤ◌, ◌+ℤ◌, ◌*ℤ◌, ◌||◌, IfOk, length, All, false};
+ghost use Rattle.std.specs.Prelude.{◌≡◌, ◌≢◌, ◌≤◌, ◌<◌, ◌*◌, ◌/◌, ◌^◌, ℕ, ℤ, pos, neg_ℤ, ◌≤ℤ◌, ◌*ℤ◌, ◌||◌, IfOk, length, All, false};
 ghost use Rattle.c_tree.specs.Value.{IsInt};
 ghost use Rattle.leaf_domain.specs.Ranges.{IsInInt, is_empty_range};
 ghost use Rattle.leaf_domain.specs.Forms.{IsFormNumber};
-ghost use Rattle.octagon_matrix.specs.Matrices.{MatrixValue, entry_of, IsMatrix, HasEntries};
-ghost use Rattle.octagon_matrix.specs.Stores.{Holds, term_value};
+ghost use Rattle.octagon_matrix.specs.Matrices.{IsMatrix, HasEntries};
+ghost use Rattle.octagon_matrix.specs.Stores.{term_value};
 ghost use Rattle.octagon_closure.specs.Best.{IsBest};
 ghost use Rattle.octagon_leaf.specs.Greatest.{difference};
 ghost use Rattle.octagon_leaf.specs.Shapes.{between};

@@ -5,9 +5,8 @@ ghost use Rattle.std.specs.Prelude.{◌≡◌, ◌≤◌, ◌<◌, ◌*◌, IfOk
 ghost use Rattle.leaf_domain.specs.Ranges.{IsInInt, is_empty_range};
 ghost use Rattle.leaf_domain.specs.Compares.{holds_between};
 ghost use Rattle.leaf_domain.specs.Forms.{IsFormNumber};
-ghost use Rattle.leaf_domain.specs.Leaves.{LeafValue, nothing_of, is_nothing_of, same_leaf};
+ghost use Rattle.leaf_domain.specs.Leaves.{LeafValue, nothing_of, same_leaf};
 ghost use Rattle.leaf_domain.proofs.LeafEquality.{leaf_decides, leaf_partial, leaf_equiv};
-ghost use Rattle.octagon_matrix.specs.Matrices.{IsMatrix};
 ghost use Rattle.octagon_closure.specs.Best.{IsBest};
 ghost use Rattle.octagon_leaf.specs.Greatest.{standing};
 ghost use Rattle.octagon_leaf.specs.Octagons.{octagons, IsOctagon, octagon_set_range, met_all, dropped, moved, has_variable, set_term, is_below};

@@ -1,7 +1,6 @@
 //! Meets of entries, each closed after it.
 #![tactic(auto)]
 
-ghost use Rattle.std.specs.Prelude.{◌≡◌};
 ghost use Rattle.octagon_closure.specs.Best.{IsBest};
 ghost use Rattle.octagon_leaf.specs.Octagons.{met_all};
 ghost use Rattle.octagon_leaf.specs.Meeting.{AreMeets, AreSmall, IsSettled};

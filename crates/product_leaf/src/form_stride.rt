@@ -1,10 +1,9 @@
 //! The stride of a linear form.
 #![tactic(auto)]
 
-ghost use Rattle.std.specs.Prelude.{◌≡◌, ◌≤◌, ◌<◌, ◌*◌, ◌^◌, ℕ, ℤ, pos, neg_ℤ, ◌+ℤ◌, ◌*ℤ◌, ◌≤ℤ◌, length, unsigned_abs};
-ghost use Rattle.leaf_domain.specs.Forms.{IsForm, IsFormNumber};
+ghost use Rattle.std.specs.Prelude.{◌≡◌, ◌≤◌, ◌*◌, length, unsigned_abs};
+ghost use Rattle.leaf_domain.specs.Forms.{IsForm};
 ghost use Rattle.strides.specs.Strides.{stride_at, IsWide};
-ghost use Rattle.strides.specs.Strided.{IsOwn};
 ghost use Rattle.product_leaf.specs.StrideLeaves.{AllOwn, form_stride};
 
 use leaf_domain::Form;

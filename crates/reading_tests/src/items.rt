@@ -1,7 +1,7 @@
 //! Lists of items, and the programs that they spell.
 #![tactic(auto)]
 
-ghost use Rattle.std.specs.Prelude.{◌≡◌, ◌<◌, [], ◌∷◌, IsTrue, IfOk, MatchOption, length, pos};
+ghost use Rattle.std.specs.Prelude.{◌≡◌, ◌<◌, [], IsTrue, IfOk, length};
 ghost use Rattle.c_tree.specs.Whole.{is_before};
 ghost use Rattle.c_grammar.specs.Facts.{AreFit, AreRising, IsBeforeItems, IsFit};
 

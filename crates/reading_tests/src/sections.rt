@@ -4,7 +4,6 @@ ghost use Rattle.std.specs.Prelude.{length, IfOk};
 ghost use Rattle.cpp_conditions.specs.Distinct.{HaveFewAtoms};
 ghost use Rattle.cpp_conditions.specs.Naming.{AreFeatures};
 ghost use Rattle.cpp_conditions.specs.Validity.{plain, AreFit};
-ghost use Rattle.cpp_lines.specs.Lines.{AreLinesOf};
 
 use cpp_conditions::Model;
 use cpp_lines::{Sections, preprocessed_text, read_sections};

@@ -1,6 +1,6 @@
 -- Well-formed atoms over three features.
 use Rattle.std.specs.Prelude.{negsuc}
-use Rattle.std.proofs.Common.{◌≡◌, ◌≢◌, ℕ, ◌≤◌, ◌<◌, ℤ, pos, unsigned_abs, List, [], ◌∷◌, refl, arith}
+use Rattle.std.proofs.Common.{◌≢◌, ℕ, ◌≤◌, ◌<◌, pos, [], ◌∷◌, refl, arith}
 use Rattle.std.proofs.lemmas.Int.{ints}
 use Rattle.linear_atoms.specs.Atoms.{IsAtom}
 use Rattle.linear_atoms.specs.Divisors.{common_divisor}

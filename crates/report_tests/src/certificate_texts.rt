@@ -1,6 +1,6 @@
 //! The text of a certificate, compared with one that was written by hand.
 
-ghost use Rattle.std.specs.Prelude.{◌≡◌, IfOk, [], ◌∷◌, pos, length};
+ghost use Rattle.std.specs.Prelude.{◌≡◌, IfOk, [], length};
 ghost use Rattle.c_tree.specs.Value.{IsInt};
 ghost use Rattle.linear_atoms.specs.Atoms.{AreLiterals, IsAtom};
 

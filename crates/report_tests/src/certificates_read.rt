@@ -1,6 +1,6 @@
 //! Certificates over the switch `A` and the variables `x` and `i`, compared with what was written by hand.
 
-ghost use Rattle.std.specs.Prelude.{◌≡◌, [], ◌∷◌, length, IfOk};
+ghost use Rattle.std.specs.Prelude.{◌≡◌, [], length, IfOk};
 ghost use Rattle.linear_atoms.specs.Atoms.{AreAtoms, IsAtom};
 
 use certificate_format::read_certificate;

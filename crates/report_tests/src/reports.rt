@@ -1,8 +1,7 @@
 //! Texts of reports, compared with texts that were written by hand.
 
-ghost use Rattle.std.specs.Prelude.{◌≡◌, ◌≤◌, ◌<◌, ◌≤ℤ◌, IfOk, [], ◌∷◌, pos, length, unsigned_abs};
+ghost use Rattle.std.specs.Prelude.{◌≡◌, ◌<◌, IfOk, [], ◌∷◌, pos, length};
 ghost use Rattle.c_tree.specs.Tree.{Binary};
-ghost use Rattle.c_tree.specs.Value.{IsInt};
 ghost use Rattle.c_tree.specs.View.{term, whole};
 ghost use Rattle.c_tree.specs.Whole.{IsProgram, IsPlainProgram};
 ghost use Rattle.linear_atoms.specs.Atoms.{AreLiterals, IsAtom};

@@ -1,7 +1,7 @@
 //! A residue, and the numbers that differ from it by multiples of a modulus.
 #![tactic(auto)]
 
-ghost use Rattle.std.specs.Prelude.{◌≡◌, ◌≤◌, ◌<◌, ◌^◌, pos, negsuc, ◌≤ℤ◌, unsigned_abs};
+ghost use Rattle.std.specs.Prelude.{◌≡◌, ◌≤◌, ◌^◌, pos, negsuc, ◌≤ℤ◌, unsigned_abs};
 ghost use Rattle.strides.specs.Divisors.{divides};
 ghost use Rattle.strides.specs.Strides.{stride_at, stride_of, first_from, last_to, joined_stride, lies_in_stride, IsWide};
 

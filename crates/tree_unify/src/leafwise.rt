@@ -1,5 +1,5 @@
 //! Trees that are made leaf by leaf.
-ghost use Rattle.std.specs.Prelude.{◌≡◌, ℕ, ◌<◌, IfOk, Ok};
+ghost use Rattle.std.specs.Prelude.{ℕ, ◌<◌, IfOk, Ok};
 ghost use Rattle.std.specs.Fn.{FnReturnsAt};
 ghost use Rattle.decision_tree.specs.Plain.{IsReduced, IsReducedFrom, TestsBelow, IsExact};
 ghost use Rattle.decision_tree.specs.View.{plain};

@@ -1,7 +1,7 @@
 //! Operations on numbered trees, which call the operation once for each pair of different leaves.
-ghost use Rattle.std.specs.Prelude.{◌≡◌, ℕ, ◌+◌, ◌*◌, ◌<◌, ◌≤◌, List, length, IfOk, OnOk, Ok};
+ghost use Rattle.std.specs.Prelude.{◌≡◌, ◌+◌, ◌*◌, ◌<◌, ◌≤◌, List, length, IfOk, OnOk, Ok};
 ghost use Rattle.std.specs.Fn.{FnReturnsAt};
-ghost use Rattle.decision_tree.specs.Plain.{leaf, IsNodeOf, IsReduced, IsReducedFrom, TestsBelow, IsExact};
+ghost use Rattle.decision_tree.specs.Plain.{leaf, IsNodeOf, IsReduced, TestsBelow, IsExact};
 ghost use Rattle.decision_tree.specs.Numbered.{kept, IsWithin, IsNumbered};
 ghost use Rattle.decision_tree.specs.Listed.{IsNumberedTree, IsTreeIn, IsOf, Keeps};
 ghost use Rattle.decision_tree.specs.View.{numbered, plain};

@@ -1,5 +1,5 @@
 //! Trees with one test set.
-ghost use Rattle.std.specs.Prelude.{◌≡◌, ℕ, ◌<◌, IfOk};
+ghost use Rattle.std.specs.Prelude.{ℕ, ◌<◌, IfOk};
 ghost use Rattle.decision_tree.specs.Plain.{IsReduced, IsReducedFrom, TestsBelow, IsExact};
 ghost use Rattle.decision_tree.specs.View.{plain};
 ghost use Rattle.tree_unify.specs.Leafwise.{IsRestricted};

@@ -1,5 +1,5 @@
 use Rattle.std.proofs.Common.{◌≤◌, unsigned_abs, ◌∙◌, subst, sym, arith, w64, to_z, of_z}
-use Rattle.std.proofs.lemmas.Int.{ints, to_z-of_z}
+use Rattle.std.proofs.lemmas.Int.{to_z-of_z}
 use Rattle.feature_tests.proofs.Tested.{gap}
 use Rattle.feature_tests.proofs.void_questions.exceeds_by.Goals as goal
 
