@@ -1,7 +1,8 @@
 #!/usr/bin/env bash
 # Compares what `famlint` writes for each example with the file NAME.expected beside it: for a file NAME.c here, the output of
 # `plain`; for one in refused/, the line on the error stream; in families/ and refused/families/, for the words of NAME.words, the
-# output and the line. Ends with 1 where one differs. No gate runs this.
+# output and the line. Ends with 1 where one differs. It runs famlint.sh: build the proved program first, or each command compiles anew,
+# for minutes. No gate runs this.
 set -u
 here=$(cd "$(dirname "$0")" && pwd)
 famlint=$here/../famlint.sh
