@@ -1,5 +1,5 @@
 -- The numbers of tests of trees and of formulas.
-use Rattle.std.proofs.Common.{◌≡◌, ◌≤◌, ℕ, ◌<◌, Bool, List, sym, subst, inl, inr, arith}
+use Rattle.std.proofs.Common.{◌≤◌, ℕ, Bool, List, arith}
 use Rattle.std.specs.List.{All}
 use Rattle.std.proofs.lemmas.List.Elements.{All-weaker}
 use Rattle.cpp_conditions.specs.Propositions.{Proposition, Const, Test, Not, And, Or, IsBelow}
