@@ -1,9 +1,9 @@
 #!/usr/bin/env bash
-# Writes the example files and what is expected of them as the source crates/famlint_core_tests/src/example_files.rt, so that a test of
+# Writes the example files and what is expected of them as the source crates/program_tests/src/example_files.rt, so that a test of
 # the gate keeps them true. Run it behind each change here. No gate runs this.
 set -euo pipefail
 here=$(cd "$(dirname "$0")" && pwd)
-target=$here/../crates/famlint_core_tests/src/example_files.rt
+target=$here/../crates/program_tests/src/example_files.rt
 
 # a file as a string of Rust; its last line has an end too
 quoted() {
@@ -44,4 +44,4 @@ twice=$(basename -a "${files[@]}" "${outputs[@]}" | sort | uniq -d)
     done
     echo '];'
 } > "$target"
-cd "$here/../crates/famlint_core_tests" && rt fmt > /dev/null
+cd "$here/../crates/program_tests" && rt fmt > /dev/null
