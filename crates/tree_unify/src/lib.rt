@@ -18,5 +18,5 @@ pub use numbered::{map_in, unify_in};
 pub use operation::Operation;
 pub use restricted::restrict;
 pub use steps::Steps;
-pub use tree_unify::untrue;
+pub use tree_formulas::untrue;
 pub use truths::{Both, Either};
