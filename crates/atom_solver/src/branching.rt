@@ -22,7 +22,7 @@ use crate::refuting::is_clash;
 use crate::truths::{has_truth, learn, propagate};
 use cpp_conditions::Formula;
 use fam_outer::NoMemory;
-use linear_atoms::{Atom, Linear, Span};
+use linear_atoms::{Atom, Span};
 use std::alloc::Global;
 
 /// How many choices are made at most for a box.

@@ -17,7 +17,7 @@ use crate::facts::{gather_all, known_form, number, sum, times};
 use cpp_conditions::Condition;
 use fam_outer::NoMemory;
 use linear_atoms::slices::cut;
-use linear_atoms::{Atom, Linear, LinearFault, Span};
+use linear_atoms::{Atom, Linear, Span};
 use std::alloc::Global;
 
 /// Whether the form is a number below 0.

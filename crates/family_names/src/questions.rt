@@ -11,7 +11,7 @@ ghost use Rattle.family_names.specs.Names.{truths_on};
 
 use crate::groups::{Group, Groups};
 use cpp_conditions::Formula;
-use cpp_conditions::formulas::{both, either, negation};
+use cpp_conditions::formulas::{both, negation};
 use fam_outer::NoMemory;
 use std::alloc::Global;
 

@@ -8,8 +8,8 @@ ghost use Rattle.famlint_loads.specs.Faults.{status_of, line_of, fault_of_file, 
 
 use crate::fault::lines::{certificate_line, config_line, file_line, model_line};
 use certificate_format::CertificateFault;
-use fam_outer::{FileCode, FileRefusal, NoMemory, Place, Text};
-use feature_model::{ConfigFault, ModelFault, ModelRefusal};
+use fam_outer::{FileCode, NoMemory, Place, Text};
+use feature_model::{ConfigFault, ModelFault};
 use linear_atoms::{Feature, config_text};
 use std::alloc::Global;
 

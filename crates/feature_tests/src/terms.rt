@@ -3,7 +3,7 @@
 ghost use Rattle.std.specs.Prelude.{◌≡◌, IfOk};
 
 use fam_outer::NoMemory;
-use linear_terms::{Terms, greatest_common_divisor, within};
+use linear_terms::{Terms, greatest_common_divisor};
 use smallvec::SmallVec;
 use std::alloc::Global;
 use std::test::Fail;

@@ -1,7 +1,7 @@
 //! The operations on two leaves, each as a test of them: whether the answer holds every store that it must.
 
 use crate::operations::Small;
-use crate::stores::{are_among, common, held_by, holds_all};
+use crate::stores::{are_among, common, holds_all};
 use fam_outer::NoMemory;
 use leaf_domain::Leaf;
 use std::alloc::Global;

@@ -3,7 +3,7 @@
 ghost use Rattle.std.specs.Prelude.{IfOk};
 ghost use Rattle.leaf_domain.specs.Forms.{IsForm};
 
-use crate::stores::{Store, between, met, replaced};
+use crate::stores::{Store, between, replaced};
 use fam_outer::NoMemory;
 use leaf_domain::{Compare, Form, Leaf};
 use linear_terms::Terms;
