@@ -10,7 +10,7 @@ pub returns-clause-answers : goal.returns-clause-answers
 returns-clause-answers c =
     let rows = c.deref.ensures.value ∙ c.in_ok-rows.ensures in
     let same : row_of c.deref.result.now ≡ literal_of c.args.features.now c.args.atoms.now = λ i text. (ap (λ v. row_of v text) rows ∙ rows_give c.args.features.now 0 c.args.atoms.now text) i in
-    subst (λ of. IsCertificateRead of c.args.names.now c.args.bytes.now c.read_lines.result) same (c.read_lines.ensures c.args.bytes.now c.if-bytes-gt-MOST_BYTES.false c.in-Some.ensures)
+    subst (λ of. IsCertificateRead of c.args.names.now c.args.bytes.now c.read_lines.result) same (c.read_lines.ensures c.args.bytes.now c.if-bytes-gt-CERTIFICATE_BYTES.false c.in-Some.ensures)
 
 pub returns-clause-loops : goal.returns-clause-loops
 returns-clause-loops c =
