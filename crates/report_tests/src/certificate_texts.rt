@@ -105,7 +105,7 @@ fn certificates_have_texts(rt: HostRuntime) -> Result<(), Fail> {
         wraps.bytes(),
         b"famlint certificate 1 wrap\nloop 4:1 if !A: x in [0,2147483647], i in [0,10]\nloop 4:1 if A: x in [0,0], i in [0,10]\n".as_slice()
     );
-    let none = certificate_format::<IntervalLeaf>(alloc, &features, &names, Mode::Stop, &[], &[])?;
+    let none = certificate_text::<IntervalLeaf>(alloc, &features, &names, Mode::Stop, &[], &[])?;
     assert_eq!(rt; none.bytes(), b"famlint certificate 1 stop\n".as_slice());
     Ok(())
 }
