@@ -1,8 +1,9 @@
 //! Calls with ample memory, and the two adapters over a real file and a real stream.
 
+use fam_host::{HostFiles, HostSink};
 use fam_outer::{
-    CallNumbers, Entries, Files, HostFiles, HostSink, Loaded, MemoryFiles, MemorySink, NoMemory,
-    Sink, SteadyFiles, SteadySink, Text, decimal, write_all,
+    CallNumbers, Entries, Files, Loaded, MemoryFiles, MemorySink, NoMemory, Sink, SteadyFiles,
+    SteadySink, Text, decimal, write_all,
 };
 use std::alloc::Global;
 use std::fs;
