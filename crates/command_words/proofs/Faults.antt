@@ -1,4 +1,4 @@
--- What the command of the five options refuses, word by word.
+-- What the command of the options refuses, word by word.
 use Rattle.std.proofs.Common.{◌≡◌, ℕ, List, [], ◌∷◌, ◌++◌, Bool, true, false, refl, codes, ap, ◌∙◌}
 use Rattle.std.specs.Prelude.{Option, Some, None, if◌then◌else◌, is_some}
 use Rattle.clap.specs.Words.{Kinds, Row, Text, built, fault_of, is_simple, is_simple_and_free}
@@ -12,15 +12,15 @@ use Rattle.clap.specs.ValueTests.{accepts}
 use Rattle.clap.specs.declared.builder.value_parser.ValueParser.TheVariants as vp
 use Rattle.clap.specs.declared.error.kind.ErrorKind.TheVariants as kind
 use Rattle.clap.proofs.OnLiterals.{clap_on_literals}
-use Rattle.command_words.specs.Options.{five_app, option_word, five_words}
+use Rattle.command_words.specs.Options.{options_app, option_word, words_given}
 
-pub five_simple : is_simple five_app ≡ true
+pub app_simple : is_simple options_app ≡ true
 unfolding clap_on_literals
-five_simple = refl
+app_simple = refl
 
-pub five_simple_and_free : is_simple_and_free five_app ≡ true
+pub app_simple_and_free : is_simple_and_free options_app ≡ true
 unfolding clap_on_literals
-five_simple_and_free = refl
+app_simple_and_free = refl
 
 -- ---- one word
 
@@ -38,7 +38,7 @@ with_word name (Some v) rows = with_values name AsWritten CommandLine (v ∷ [])
 
 -- what the words from here on are refused for
 abbrev pub walk_at : List Row → List Text → Kinds
-walk_at rows words = walk_fault (built five_app).top [] (at_rows rows) words
+walk_at rows words = walk_fault (built options_app).top [] (at_rows rows) words
 
 -- the value, if there is one, is in its range
 abbrev pub fits : ℕ → Option Text → Bool
@@ -48,8 +48,8 @@ fits most (Some v) = accepts false (vp.Unsigned 0 most) v
 -- the words after one that is refused or not
 abbrev pub IsFirst : Text → Text → Bool → List Row → Type 0
 IsFirst name v passes rows =
-    (turn_fault (built five_app).top [] (at_rows rows) (codes "--" ++ name ++ codes "=" ++ v) ≡ refused_unless passes)
-    × (walked (built five_app).top.rules [] (at_rows rows) (codes "--" ++ name ++ codes "=" ++ v) ≡ at_rows (with_word name (Some v) rows))
+    (turn_fault (built options_app).top [] (at_rows rows) (codes "--" ++ name ++ codes "=" ++ v) ≡ refused_unless passes)
+    × (walked (built options_app).top.rules [] (at_rows rows) (codes "--" ++ name ++ codes "=" ++ v) ≡ at_rows (with_word name (Some v) rows))
 
 domain_turn : (rows : List Row) (v : Text) → has_row (codes "domain") rows ≡ false → IsFirst (codes "domain") v true rows
 unfolding clap_on_literals
@@ -68,6 +68,10 @@ narrow_turn rows v false fresh e = (rw (fresh, e) refl, refl)
 overflow_turn : (rows : List Row) (v : Text) → has_row (codes "overflow") rows ≡ false → IsFirst (codes "overflow") v true rows
 unfolding clap_on_literals
 overflow_turn rows v fresh = (rw fresh refl, refl)
+
+regions_turn : (rows : List Row) (v : Text) → has_row (codes "regions") rows ≡ false → IsFirst (codes "regions") v true rows
+unfolding clap_on_literals
+regions_turn rows v fresh = (rw fresh refl, refl)
 
 steps_turn : (rows : List Row) (v : Text) (b : Bool) → has_row (codes "steps") rows ≡ false → accepts false (vp.Unsigned 0 1000000) v ≡ b → IsFirst (codes "steps") v b rows
 unfolding clap_on_literals
@@ -101,6 +105,11 @@ overflow_first : (rows : List Row) (o : Option Text) (rest : List Text) → has_
     → walk_at rows (option_word (codes "overflow") o ++ rest) ≡ walk_at (with_word (codes "overflow") o rows) rest
 overflow_first rows None rest fresh = refl
 overflow_first rows (Some v) rest fresh = first_word (codes "overflow") v true rows rest (overflow_turn rows v fresh)
+
+regions_first : (rows : List Row) (o : Option Text) (rest : List Text) → has_row (codes "regions") rows ≡ false
+    → walk_at rows (option_word (codes "regions") o ++ rest) ≡ walk_at (with_word (codes "regions") o rows) rest
+regions_first rows None rest fresh = refl
+regions_first rows (Some v) rest fresh = first_word (codes "regions") v true rows rest (regions_turn rows v fresh)
 
 no_words : (rows : List Row) → walk_at rows [] ≡ []
 unfolding walk_fault
@@ -140,50 +149,86 @@ new_overflow (Some v) None (Some x) = refl
 new_overflow (Some v) (Some w) None = refl
 new_overflow (Some v) (Some w) (Some x) = refl
 
-new_steps : (a b c d : Option Text) → has_row (codes "steps") (with_word (codes "overflow") d (with_word (codes "narrow") c (with_word (codes "delay") b (with_word (codes "domain") a [])))) ≡ false
-new_steps None None None None = refl
-new_steps None None None (Some y) = refl
-new_steps None None (Some x) None = refl
-new_steps None None (Some x) (Some y) = refl
-new_steps None (Some w) None None = refl
-new_steps None (Some w) None (Some y) = refl
-new_steps None (Some w) (Some x) None = refl
-new_steps None (Some w) (Some x) (Some y) = refl
-new_steps (Some v) None None None = refl
-new_steps (Some v) None None (Some y) = refl
-new_steps (Some v) None (Some x) None = refl
-new_steps (Some v) None (Some x) (Some y) = refl
-new_steps (Some v) (Some w) None None = refl
-new_steps (Some v) (Some w) None (Some y) = refl
-new_steps (Some v) (Some w) (Some x) None = refl
-new_steps (Some v) (Some w) (Some x) (Some y) = refl
+new_regions : (a b c d : Option Text) → has_row (codes "regions") (with_word (codes "overflow") d (with_word (codes "narrow") c (with_word (codes "delay") b (with_word (codes "domain") a [])))) ≡ false
+new_regions None None None None = refl
+new_regions None None None (Some y) = refl
+new_regions None None (Some x) None = refl
+new_regions None None (Some x) (Some y) = refl
+new_regions None (Some w) None None = refl
+new_regions None (Some w) None (Some y) = refl
+new_regions None (Some w) (Some x) None = refl
+new_regions None (Some w) (Some x) (Some y) = refl
+new_regions (Some v) None None None = refl
+new_regions (Some v) None None (Some y) = refl
+new_regions (Some v) None (Some x) None = refl
+new_regions (Some v) None (Some x) (Some y) = refl
+new_regions (Some v) (Some w) None None = refl
+new_regions (Some v) (Some w) None (Some y) = refl
+new_regions (Some v) (Some w) (Some x) None = refl
+new_regions (Some v) (Some w) (Some x) (Some y) = refl
+
+new_steps : (a b c d e : Option Text) → has_row (codes "steps") (with_word (codes "regions") e (with_word (codes "overflow") d (with_word (codes "narrow") c (with_word (codes "delay") b (with_word (codes "domain") a []))))) ≡ false
+new_steps None None None None None = refl
+new_steps None None None None (Some z) = refl
+new_steps None None None (Some y) None = refl
+new_steps None None None (Some y) (Some z) = refl
+new_steps None None (Some x) None None = refl
+new_steps None None (Some x) None (Some z) = refl
+new_steps None None (Some x) (Some y) None = refl
+new_steps None None (Some x) (Some y) (Some z) = refl
+new_steps None (Some w) None None None = refl
+new_steps None (Some w) None None (Some z) = refl
+new_steps None (Some w) None (Some y) None = refl
+new_steps None (Some w) None (Some y) (Some z) = refl
+new_steps None (Some w) (Some x) None None = refl
+new_steps None (Some w) (Some x) None (Some z) = refl
+new_steps None (Some w) (Some x) (Some y) None = refl
+new_steps None (Some w) (Some x) (Some y) (Some z) = refl
+new_steps (Some v) None None None None = refl
+new_steps (Some v) None None None (Some z) = refl
+new_steps (Some v) None None (Some y) None = refl
+new_steps (Some v) None None (Some y) (Some z) = refl
+new_steps (Some v) None (Some x) None None = refl
+new_steps (Some v) None (Some x) None (Some z) = refl
+new_steps (Some v) None (Some x) (Some y) None = refl
+new_steps (Some v) None (Some x) (Some y) (Some z) = refl
+new_steps (Some v) (Some w) None None None = refl
+new_steps (Some v) (Some w) None None (Some z) = refl
+new_steps (Some v) (Some w) None (Some y) None = refl
+new_steps (Some v) (Some w) None (Some y) (Some z) = refl
+new_steps (Some v) (Some w) (Some x) None None = refl
+new_steps (Some v) (Some w) (Some x) None (Some z) = refl
+new_steps (Some v) (Some w) (Some x) (Some y) None = refl
+new_steps (Some v) (Some w) (Some x) (Some y) (Some z) = refl
 
 -- the kinds of the first value that is not in its range
 abbrev pub range_faults : Option Text → Option Text → Option Text → Kinds
 range_faults delay narrow steps =
     or_else (refused_unless (fits 16 delay)) (or_else (refused_unless (fits 8 narrow)) (refused_unless (fits 1000000 steps)))
 
-pub words_fault : (a b c d e : Option Text) → walk_at [] (five_words a b c d e) ≡ range_faults b c e
-words_fault a b c d e =
+pub words_fault : (a b c d e f : Option Text) → walk_at [] (words_given a b c d e f) ≡ range_faults b c f
+words_fault a b c d e f =
     let ra : List Row = with_word (codes "domain") a [] in
     let rb : List Row = with_word (codes "delay") b ra in
     let rc : List Row = with_word (codes "narrow") c rb in
     let rd : List Row = with_word (codes "overflow") d rc in
+    let re : List Row = with_word (codes "regions") e rd in
     domain_first [] a _ refl
     ∙ delay_first ra b _ (new_delay a)
     ∙ ap (or_else (refused_unless (fits 16 b))) (narrow_first rb c _ (new_narrow a b)
-    ∙ ap (or_else (refused_unless (fits 8 c))) (overflow_first rc d _ (new_overflow a b c) ∙ steps_last rd e (new_steps a b c d)))
+    ∙ ap (or_else (refused_unless (fits 8 c))) (overflow_first rc d _ (new_overflow a b c)
+    ∙ regions_first rd e _ (new_regions a b c d) ∙ steps_last re f (new_steps a b c d e)))
 
 -- ---- after the words
 
 -- what is refused after the words
 abbrev pub end_fault : List Text → Kinds
 end_fault words =
-    let app = built five_app in
+    let app = built options_app in
     let s = app.top in
     let w = walk s.rules (names_of app) nothing_held words in
     or_else (entered_fault app w.stopped) (or_else (settle_fault s.rules s.args_override_self w.held)
     (or_else (defaults_fault (settled s.rules w.held).rows s.rules) (check_fault s (finished s.rules w.held) (is_some (entered app w.stopped)))))
 
-pub fault_parts : (words : List Text) → fault_of five_app words ≡ or_else (walk_at [] words) (end_fault words)
+pub fault_parts : (words : List Text) → fault_of options_app words ≡ or_else (walk_at [] words) (end_fault words)
 fault_parts words = refl

@@ -5,7 +5,7 @@ use Rattle.std.specs.Str.{bytes_eq}
 use Rattle.std.specs.List.{before_first, after_first, position_or_len}
 use Rattle.std.specs.Borrow.{Bor}
 use Rattle.command_words.specs.declared.named.OptionName.{OptionName}
-use Rattle.command_words.specs.declared.named.OptionName.TheVariants.{Domain, Delay, Narrow, Overflow, Steps, Inputs}
+use Rattle.command_words.specs.declared.named.OptionName.TheVariants.{Domain, Delay, Narrow, Overflow, Regions, Steps, Inputs}
 use Rattle.command_words.specs.declared.named.OptionValues.{OptionValues}
 use Rattle.command_words.specs.declared.sorting.SortingState.{SortingState}
 use Rattle.command_words.specs.declared.refusal.Usage.{Usage}
@@ -21,8 +21,9 @@ name_by name =
     else (if bytes_eq name (codes "delay") then Some Delay
     else (if bytes_eq name (codes "narrow") then Some Narrow
     else (if bytes_eq name (codes "overflow") then Some Overflow
+    else (if bytes_eq name (codes "regions") then Some Regions
     else (if bytes_eq name (codes "steps") then Some Steps
-    else (if bytes_eq name (codes "inputs") then Some Inputs else None)))))
+    else (if bytes_eq name (codes "inputs") then Some Inputs else None))))))
 
 -- the name of the option
 abbrev pub text_of : OptionName → List ℕ
@@ -30,6 +31,7 @@ text_of Domain = codes "domain"
 text_of Delay = codes "delay"
 text_of Narrow = codes "narrow"
 text_of Overflow = codes "overflow"
+text_of Regions = codes "regions"
 text_of Steps = codes "steps"
 text_of Inputs = codes "inputs"
 
@@ -39,6 +41,7 @@ is_given values Domain = is_some values.domain
 is_given values Delay = is_some values.delay
 is_given values Narrow = is_some values.narrow
 is_given values Overflow = is_some values.overflow
+is_given values Regions = is_some values.regions
 is_given values Steps = is_some values.steps
 is_given values Inputs = is_some values.inputs
 
@@ -48,6 +51,7 @@ with_value values Domain value = record values { domain = Some value }
 with_value values Delay value = record values { delay = Some value }
 with_value values Narrow value = record values { narrow = Some value }
 with_value values Overflow value = record values { overflow = Some value }
+with_value values Regions value = record values { regions = Some value }
 with_value values Steps value = record values { steps = Some value }
 with_value values Inputs value = record values { inputs = Some value }
 
@@ -83,7 +87,7 @@ option_parts word = option_and_then (λ text. Some (parts text)) (after_dashes w
 abbrev pub start : SortingState
 start = record {
   positional = [];
-  values = record { domain = None; delay = None; narrow = None; overflow = None; steps = None; inputs = None };
+  values = record { domain = None; delay = None; narrow = None; overflow = None; regions = None; steps = None; inputs = None };
   waiting = None;
   is_trailing = false;
 }

@@ -8,6 +8,8 @@ use Rattle.command_words.specs.declared.settings.Domain.{Domain}
 use Rattle.command_words.specs.declared.settings.Domain.TheVariants.{Interval, Octagon, Stride}
 use Rattle.c_tree.specs.declared.tree.Mode.{Mode}
 use Rattle.c_tree.specs.declared.tree.Mode.TheVariants.{Stop, Wrap}
+use Rattle.linear_atoms.specs.declared.regions.Regions.{Regions}
+use Rattle.linear_atoms.specs.declared.regions.Regions.TheVariants.{Paths, Merged}
 
 -- the domain with the name
 abbrev pub domain_by : List ℕ → Option Domain
@@ -21,6 +23,12 @@ abbrev pub overflow_by : List ℕ → Option Mode
 overflow_by name =
     if bytes_eq name (codes "stop") then Some Stop
     else (if bytes_eq name (codes "wrap") then Some Wrap else None)
+
+-- how regions are told, by the name
+abbrev pub regions_by : List ℕ → Option Regions
+regions_by name =
+    if bytes_eq name (codes "paths") then Some Paths
+    else (if bytes_eq name (codes "merged") then Some Merged else None)
 
 -- ---- numbers
 

@@ -6,16 +6,17 @@ ghost use Rattle.std.specs.Str.Parse.{digits_value};
 ghost use Rattle.clap.specs.Words.{FailsBy, fault_of, found_of, matches_of, rows_of, rule_of, app_of, with_rule, is_broken, one_of, first_of};
 ghost use Rattle.clap.specs.declared.builder.value_parser.ValueParser.TheVariants as vp;
 ghost use Rattle.command_words.specs.Arguments.{texts_of, AnswersWords, chosen_of, chosen_by};
-ghost use Rattle.command_words.specs.Options.{bare_app, five_app, option_rule, words_of, are_spelled, HasTexts, IsNumberBelow};
-ghost use Rattle.command_words.specs.Spelling.{domain_by, overflow_by};
+ghost use Rattle.command_words.specs.Options.{bare_app, options_app, option_rule, words_of, are_spelled, HasTexts, IsNumberBelow};
+ghost use Rattle.command_words.specs.Spelling.{domain_by, overflow_by, regions_by};
 ghost use Rattle.command_words.specs.declared.named.OptionValues.{OptionValues};
 
 use crate::refusal::{Usage, WordsRefusal};
-use crate::settings::{Chosen, Domain, mode_of};
+use crate::settings::{Chosen, Domain, mode_of, regions_of};
 use c_tree::Mode;
 use clap::builder::ValueParser;
 use clap::error::ErrorKind;
 use clap::{Arg, ArgMatches, Command, Error};
+use linear_atoms::Regions;
 use std::alloc::{AllocError, Global};
 
 /// An option with a parser and a default.
@@ -82,23 +83,24 @@ fn with_option<'a>(
     command.arg(option(alloc, name, default, parser))
 }
 
-/// The command of the five options.
+/// The command of the options other than `--inputs`.
 fn options_command<'a>(alloc: Global) -> Result<Command<'a>, AllocError>
-    ensures { IfOk result (λ command. app_of command ≡ five_app) }
+    ensures { IfOk result (λ command. app_of command ≡ options_app) }
 {
     let command = bare_command(alloc);
     let command = with_option(alloc, command, "domain", "interval", any_text())?;
     let command = with_option(alloc, command, "delay", "0", up_to_16())?;
     let command = with_option(alloc, command, "narrow", "1", up_to_8())?;
     let command = with_option(alloc, command, "overflow", "stop", any_text())?;
+    let command = with_option(alloc, command, "regions", "paths", any_text())?;
     with_option(alloc, command, "steps", "1000", up_to_a_million())
 }
 
 /// Parses the words `--NAME=VALUE`.
-#[tactic(auto, using(crate::proofs::Faults::five_simple_and_free, crate::proofs::Faults::five_simple))]
+#[tactic(auto, using(crate::proofs::Faults::app_simple_and_free, crate::proofs::Faults::app_simple))]
 fn parse_options<'a>(alloc: Global, words: &'a [String]) -> Result<ArgMatches<'a>, Error>
-    ensures ok { IfOk result (λ m. rows_of (found_of m) ≡ matches_of five_app (texts_of words.entry.now)) }
-    ensures fails { FailsBy (fault_of five_app (texts_of words.entry.now)) result }
+    ensures ok { IfOk result (λ m. rows_of (found_of m) ≡ matches_of options_app (texts_of words.entry.now)) }
+    ensures fails { FailsBy (fault_of options_app (texts_of words.entry.now)) result }
 {
     let command = options_command(alloc)?;
     command.try_get_matches_from(words)
@@ -145,18 +147,27 @@ fn overflow_in(matches: &ArgMatches<'_>) -> Option<Mode>
     mode_of(text_in(matches, "overflow")?)
 }
 
-/// What the five options set, whose texts are known.
+/// How regions are told.
+fn regions_in(matches: &ArgMatches<'_>) -> Option<Regions>
+    ensures { (text : List ℕ) → first_of (codes "regions") (rows_of (found_of matches.now)) ≡ Some text
+        → result ≡ regions_by text }
+{
+    regions_of(text_in(matches, "regions")?)
+}
+
+/// What the options set, whose texts are known.
 fn chosen_in(matches: &ArgMatches<'_>) -> Option<Chosen>
-    ensures { (domain delay narrow overflow steps : List ℕ)
-        → HasTexts (rows_of (found_of matches.now)) domain delay narrow overflow steps
+    ensures { (domain delay narrow overflow regions steps : List ℕ)
+        → HasTexts (rows_of (found_of matches.now)) domain delay narrow overflow regions steps
         → IsNumberBelow 17 delay → IsNumberBelow 17 narrow → IsNumberBelow (2 ^ 64) steps
-        → result ≡ chosen_by (domain_by domain) (Some (digits_value 10 delay)) (Some (digits_value 10 narrow)) (overflow_by overflow) (Some (digits_value 10 steps)) }
+        → result ≡ chosen_by (domain_by domain) (Some (digits_value 10 delay)) (Some (digits_value 10 narrow)) (overflow_by overflow) (regions_by regions) (Some (digits_value 10 steps)) }
 {
     Some(Chosen {
         domain: domain_in(matches)?,
         delay: small_number_in(matches, "delay")?,
         narrow: small_number_in(matches, "narrow")?,
         overflow: overflow_in(matches)?,
+        regions: regions_in(matches)?,
         steps: number_in(matches, "steps")?,
     })
 }

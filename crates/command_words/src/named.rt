@@ -15,6 +15,7 @@ pub enum OptionName {
     Delay,
     Narrow,
     Overflow,
+    Regions,
     Steps,
     Inputs,
 }
@@ -29,6 +30,7 @@ impl OptionName {
             "delay" => Some(OptionName::Delay),
             "narrow" => Some(OptionName::Narrow),
             "overflow" => Some(OptionName::Overflow),
+            "regions" => Some(OptionName::Regions),
             "steps" => Some(OptionName::Steps),
             "inputs" => Some(OptionName::Inputs),
             _ => None,
@@ -43,6 +45,7 @@ pub struct OptionValues {
     pub delay: Option<Word>,
     pub narrow: Option<Word>,
     pub overflow: Option<Word>,
+    pub regions: Option<Word>,
     pub steps: Option<Word>,
     pub inputs: Option<Word>,
 }
@@ -57,6 +60,7 @@ impl OptionValues {
             OptionName::Delay => self.delay.is_some(),
             OptionName::Narrow => self.narrow.is_some(),
             OptionName::Overflow => self.overflow.is_some(),
+            OptionName::Regions => self.regions.is_some(),
             OptionName::Steps => self.steps.is_some(),
             OptionName::Inputs => self.inputs.is_some(),
         }
@@ -71,6 +75,7 @@ impl OptionValues {
             OptionName::Delay => self.delay = Some(value),
             OptionName::Narrow => self.narrow = Some(value),
             OptionName::Overflow => self.overflow = Some(value),
+            OptionName::Regions => self.regions = Some(value),
             OptionName::Steps => self.steps = Some(value),
             OptionName::Inputs => self.inputs = Some(value),
         }
@@ -85,6 +90,7 @@ impl OptionValues {
             delay: self.delay.is_some(),
             narrow: self.narrow.is_some(),
             overflow: self.overflow.is_some(),
+            regions: self.regions.is_some(),
             steps: self.steps.is_some(),
             inputs: self.inputs.is_some(),
         }

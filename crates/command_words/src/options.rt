@@ -4,12 +4,12 @@
 ghost use Rattle.std.specs.Prelude.{◌≡◌, ◌++◌, IfOk, OnOk, codes, is_some, string_bytes};
 ghost use Rattle.command_words.specs.Arguments.{texts_of, AnswersWords, chosen_of};
 ghost use Rattle.command_words.specs.Options.{option_word, words_of, passes, are_spelled as spelled};
-ghost use Rattle.command_words.specs.Spelling.{is_number as number_spelled, domain_by, overflow_by};
+ghost use Rattle.command_words.specs.Spelling.{is_number as number_spelled, domain_by, overflow_by, regions_by};
 
 use crate::command::read_spelled;
 use crate::named::OptionValues;
 use crate::refusal::{Usage, WordsRefusal};
-use crate::settings::{Chosen, Domain, mode_of};
+use crate::settings::{Chosen, Domain, mode_of, regions_of};
 use crate::spelling::is_number;
 use crate::word::Word;
 use fam_outer::NoMemory;
@@ -45,6 +45,16 @@ fn is_overflow_or_none(value: &Option<Word>) -> bool
     }
 }
 
+/// The value, if there is one, is a name of how regions are told.
+fn is_regions_or_none(value: &Option<Word>) -> bool
+    ensures { result ≡ passes (λ text. is_some (regions_by text)) value.now }
+{
+    match value {
+        Some(text) => regions_of(text.as_str()).is_some(),
+        None => true,
+    }
+}
+
 /// Each value is spelled as its option wants.
 fn are_spelled(values: &OptionValues) -> bool
     ensures { result ≡ spelled values.now }
@@ -53,6 +63,7 @@ fn are_spelled(values: &OptionValues) -> bool
         && is_number_or_none(&values.delay)
         && is_number_or_none(&values.narrow)
         && is_overflow_or_none(&values.overflow)
+        && is_regions_or_none(&values.regions)
         && is_number_or_none(&values.steps)
 }
 
@@ -92,11 +103,12 @@ fn option_words(alloc: Global, values: &OptionValues) -> Result<Vec<String>, NoM
     add_word(alloc, &mut words, "delay", &values.delay)?;
     add_word(alloc, &mut words, "narrow", &values.narrow)?;
     add_word(alloc, &mut words, "overflow", &values.overflow)?;
+    add_word(alloc, &mut words, "regions", &values.regions)?;
     add_word(alloc, &mut words, "steps", &values.steps)?;
     Ok(words)
 }
 
-/// What the five options set.
+/// What the options other than `--inputs` set.
 pub fn read_options(alloc: Global, values: &OptionValues) -> Result<Chosen, WordsRefusal>
     ensures { AnswersWords (chosen_of values.now) result }
 {

@@ -2,10 +2,11 @@
 #![tactic(auto)]
 
 ghost use Rattle.std.specs.Prelude.{◌≡◌};
-ghost use Rattle.command_words.specs.Spelling.{domain_by, overflow_by};
+ghost use Rattle.command_words.specs.Spelling.{domain_by, overflow_by, regions_by};
 
 use c_tree::Mode;
 use fam_outer::Values;
+use linear_atoms::Regions;
 
 /// The domain of an analysis.
 #[derive(Clone, Copy, Debug, PartialEq, Eq)]
@@ -40,6 +41,17 @@ pub fn mode_of(name: &str) -> Option<Mode>
     }
 }
 
+/// How the regions of a report are told, by the name.
+pub fn regions_of(name: &str) -> Option<Regions>
+    ensures { result ≡ regions_by name.now }
+{
+    match name {
+        "paths" => Some(Regions::Paths),
+        "merged" => Some(Regions::Merged),
+        _ => None,
+    }
+}
+
 /// What the options other than `--inputs` set.
 #[derive(Clone, Copy, Debug, PartialEq, Eq)]
 pub struct Chosen {
@@ -47,6 +59,7 @@ pub struct Chosen {
     pub delay: u32,
     pub narrow: u32,
     pub overflow: Mode,
+    pub regions: Regions,
     pub steps: u64,
 }
 
@@ -64,6 +77,7 @@ pub struct Given {
     pub delay: bool,
     pub narrow: bool,
     pub overflow: bool,
+    pub regions: bool,
     pub steps: bool,
     pub inputs: bool,
 }

@@ -52,6 +52,7 @@ impl SortingState {
                 delay: None,
                 narrow: None,
                 overflow: None,
+                regions: None,
                 steps: None,
                 inputs: None,
             },
