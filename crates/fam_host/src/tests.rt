@@ -63,12 +63,12 @@ fn interrupted<T>(inner: T, good: u32) -> Interrupted<T> {
 fn interrupted_reads_lose_nothing(rt: HostRuntime) -> Result<(), Fail> {
     let text = [7u8; 10000];
     for good in [1, 2] {
-        let mut file = interrupted(text.as_slice(), good);
+        let mut file = with_interrupts(text.as_slice(), good);
         match read_whole(rt.alloc(), &mut file, 10000) {
             Loaded::Whole(whole) => assert!(rt; whole.bytes() == text.as_slice()),
             _ => return Err(Fail::new("not whole")),
         }
-        let mut long = interrupted(text.as_slice(), good);
+        let mut long = with_interrupts(text.as_slice(), good);
         assert!(rt; matches!(read_whole(rt.alloc(), &mut long, 9999), Loaded::TooLong));
     }
     Ok(())
@@ -77,7 +77,7 @@ fn interrupted_reads_lose_nothing(rt: HostRuntime) -> Result<(), Fail> {
 #[test]
 fn interrupted_writes_lose_nothing(rt: HostRuntime) -> Result<(), Fail> {
     for good in [1, 2] {
-        let mut sink = HostSink::new(interrupted(Vec::new(rt.alloc()), good));
+        let mut sink = HostSink::new(with_interrupts(Vec::new(rt.alloc()), good));
         assert!(rt; write_all(&mut sink, b"interrupted"));
         assert_eq!(rt; sink.stream.inner.as_slice(), b"interrupted".as_slice());
         assert_eq!(rt; sink.faults(), 0);
@@ -87,9 +87,9 @@ fn interrupted_writes_lose_nothing(rt: HostRuntime) -> Result<(), Fail> {
 
 #[test]
 fn an_interrupt_for_ever_is_a_fault(rt: HostRuntime) -> Result<(), Fail> {
-    let mut file = interrupted(b"never".as_slice(), 0);
+    let mut file = with_interrupts(b"never".as_slice(), 0);
     assert!(rt; matches!(read_whole(rt.alloc(), &mut file, 10), Loaded::Failed));
-    let mut sink = HostSink::new(interrupted(Vec::new(rt.alloc()), 0));
+    let mut sink = HostSink::new(with_interrupts(Vec::new(rt.alloc()), 0));
     assert!(rt; !write_all(&mut sink, b"never"));
     assert_eq!(rt; sink.stream.inner.as_slice(), b"".as_slice());
     assert_eq!(rt; sink.faults(), 1);
