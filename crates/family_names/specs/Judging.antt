@@ -9,6 +9,8 @@ use Rattle.c_grammar.specs.declared.items.Sign.{Sign}
 use Rattle.c_grammar.specs.Grammar.{at}
 use Rattle.family_names.specs.declared.declarations.Declaration.{Declaration}
 use Rattle.family_names.specs.declared.faults.Seen.{Seen}
+use Rattle.family_names.specs.declared.faults.Question.{Question}
+use Rattle.family_names.specs.declared.faults.Question.TheVariants as questions
 use Rattle.family_names.specs.Declarations.{is_declared}
 use Rattle.family_names.specs.Groups.{sections, are_kept}
 use Rattle.family_names.specs.Names.{NameContext, truths_at, has_main, declared_by, declared_at, is_among, with_number, each_once, sections_behind, is_feature, new_name_fault, IsWithFirst, IsEither, IsNameFault}
@@ -36,6 +38,12 @@ is_missed context seen x values = are_kept (truths_at context values) seen.group
 -- the name that stands here is kept, and a declaration of it
 abbrev pub is_met_again : NameContext → Seen → ℕ → List ℤ → Bool
 is_met_again context seen x values = are_kept (truths_at context values) seen.groups && is_declared (truths_at context values) seen.declarations.items x
+
+-- the answer to the question is yes
+abbrev pub is_so : NameContext → Seen → Question → ℕ → List ℤ → Bool
+is_so context seen questions.Undeclared = is_undeclared context seen.declarations.items
+is_so context seen questions.Missed = is_missed context seen
+is_so context seen questions.MetAgain = is_met_again context seen
 
 -- the fault of a name that is used and declared
 pub record Misses (context : NameContext) (seen : Seen) (settled : List Declaration) (x : ℕ) (fault : Option FileCode) : Type 0 where

@@ -1,7 +1,10 @@
 //! The fault of a name, by what is known of the items before it.
 #![tactic(auto)]
 
-ghost use Rattle.std.specs.Prelude.{◌≡◌, true, false, ◌&&◌, IfOk, OnOk};
+ghost use Rattle.std.specs.Prelude.{◌≡◌, ℤ, true, false, ◌&&◌, List, length, IfOk, OnOk};
+ghost use Rattle.cpp_conditions.specs.Numbering.{vector_at};
+ghost use Rattle.cpp_conditions.specs.Propositions.{IsBelow, true_on};
+ghost use Rattle.cpp_conditions.specs.View.{formula};
 ghost use Rattle.atom_solver.specs.Solutions.{Finds};
 ghost use Rattle.family_names.specs.Names.{is_among, with_number, new_name_fault};
 ghost use Rattle.family_names.specs.NameContexts.{plain, IsFit};
@@ -11,6 +14,7 @@ use crate::declarations::{Declaration, declaring, is_clear};
 use crate::groups::Groups;
 use crate::name_context::NameContext;
 use crate::questions::keeping;
+use cpp_conditions::Formula;
 use cpp_conditions::formulas::{both, negation};
 use fam_outer::{FileCode, MOST_NAMES, NoMemory};
 use linear_atoms::Config;
@@ -38,54 +42,59 @@ fn contains(numbers: &[u32], number: u32) -> bool
     false
 }
 
-/// The least valid configuration that keeps the name which stands here, and no declaration of it.
-fn missed(
-    alloc: Global,
-    context: &NameContext<'_>,
-    seen: &Seen,
-    name: u32,
-) -> Result<Option<Config>, NoMemory>
-    requires { IsFit (plain context.now) }
-    ensures { IfOk result (λ found. Finds context.now.model.now
-        (judging.is_missed (plain context.now) seen.now name) found) }
-{
-    let kept = keeping(alloc, context.conditions, &seen.groups)?;
-    let declared = declaring(alloc, context.conditions, &seen.declarations, name)?;
-    let none = negation(alloc, declared)?;
-    let wanted = both(alloc, kept, none)?;
-    context.model.least_where(alloc, context.atoms, &wanted)
+/// What is asked of a valid configuration about a name, and the declarations of it before the place where it stands.
+#[derive(Clone, Copy)]
+enum Question {
+    /// Whether it keeps no declaration of the name, wherever the name stands.
+    Undeclared,
+    /// Whether it keeps the name which stands here, and no declaration of it.
+    Missed,
+    /// Whether it keeps the name which stands here, and a declaration of it.
+    MetAgain,
 }
 
-/// The least valid configuration that keeps no declaration of the name, wherever it stands.
-fn undeclared(
+/// The formula of a question.
+fn asking(
     alloc: Global,
     context: &NameContext<'_>,
     seen: &Seen,
+    question: Question,
     name: u32,
-) -> Result<Option<Config>, NoMemory>
+) -> Result<Formula, NoMemory>
     requires { IsFit (plain context.now) }
-    ensures { IfOk result (λ found. Finds context.now.model.now
-        (judging.is_undeclared (plain context.now) seen.now.declarations.items name) found) }
+    ensures truth { IfOk result (λ made. (values : List ℤ)
+        → judging.is_so (plain context.now) seen.now question name values
+        ≡ true_on (vector_at context.now.atoms.now values) (formula made)) }
+    ensures below { IfOk result (λ made. IsBelow (length context.now.atoms.now) (formula made)) }
 {
     let declared = declaring(alloc, context.conditions, &seen.declarations, name)?;
-    let none = negation(alloc, declared)?;
-    context.model.least_where(alloc, context.atoms, &none)
+    match question {
+        Question::Undeclared => negation(alloc, declared),
+        Question::Missed => {
+            let none = negation(alloc, declared)?;
+            let kept = keeping(alloc, context.conditions, &seen.groups)?;
+            both(alloc, kept, none)
+        }
+        Question::MetAgain => {
+            let kept = keeping(alloc, context.conditions, &seen.groups)?;
+            both(alloc, kept, declared)
+        }
+    }
 }
 
-/// The least valid configuration that keeps the name which stands here, and a declaration of it.
-fn met_again(
+/// The least valid configuration of which the answer to a question is yes.
+fn first_so(
     alloc: Global,
     context: &NameContext<'_>,
     seen: &Seen,
+    question: Question,
     name: u32,
 ) -> Result<Option<Config>, NoMemory>
     requires { IsFit (plain context.now) }
     ensures { IfOk result (λ found. Finds context.now.model.now
-        (judging.is_met_again (plain context.now) seen.now name) found) }
+        (judging.is_so (plain context.now) seen.now question name) found) }
 {
-    let kept = keeping(alloc, context.conditions, &seen.groups)?;
-    let declared = declaring(alloc, context.conditions, &seen.declarations, name)?;
-    let wanted = both(alloc, kept, declared)?;
+    let wanted = asking(alloc, context, seen, question, name)?;
     context.model.least_where(alloc, context.atoms, &wanted)
 }
 
@@ -110,12 +119,14 @@ fn missing_fault(
     if is_clear(&seen.declarations, name, &seen.groups) || is_clear(settled, name, &seen.groups) {
         return Ok(None);
     }
-    if !has_settled(settled, name) && undeclared(alloc, context, seen, name)?.is_none() {
+    if !has_settled(settled, name)
+        && first_so(alloc, context, seen, Question::Undeclared, name)?.is_none()
+    {
         let groups = Groups::new(alloc);
         settled.push(Declaration { name, groups })?;
         return Ok(None);
     }
-    match missed(alloc, context, seen, name)? {
+    match first_so(alloc, context, seen, Question::Missed, name)? {
         Some(config) => Ok(Some(FileCode::Undeclared(Some(config.values)))),
         None => {
             let groups = seen.groups.copy(alloc)?;
@@ -173,7 +184,7 @@ fn declaration_fault(
     if !contains(&seen.names, name) {
         return Ok(new_name_fault(context, &seen.names, name));
     }
-    match met_again(alloc, context, seen, name)? {
+    match first_so(alloc, context, seen, Question::MetAgain, name)? {
         Some(config) => Ok(Some(FileCode::Twice(Some(config.values)))),
         None => Ok(new_name_fault(context, &seen.names, name)),
     }
