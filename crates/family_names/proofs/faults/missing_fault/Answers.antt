@@ -27,7 +27,7 @@ returns-in_ok-push-in-None c = λ settled. settle (plain c.args.context.now) c.a
 
 pub returns-then-is_none : goal.returns-then-is_none
 returns-then-is_none c = λ settled.
-    let none : is_none c.in_ok-undeclared.field-0 ≡ true = answered_none c.in_ok-undeclared.field-0 c.is_none.result c.is_none.ensures c.if-is_none.true in
+    let none : is_none c.in_ok-first_so.field-0 ≡ true = answered_none c.in_ok-first_so.field-0 c.is_none.result c.is_none.ensures c.if-is_none.true in
     settle_everywhere (plain c.args.context.now) c.args.seen.now c.args.settled.now.items c.push.new.self.items c.args.name
-    (record { name = c.args.name; groups = c.new-groups.result }) c.in_ok-undeclared.field-0 settled c.in_ok-undeclared.ensures
+    (record { name = c.args.name; groups = c.new-groups.result }) c.in_ok-first_so.field-0 settled c.in_ok-first_so.ensures
     none c.in_ok-push.ensures.items refl
