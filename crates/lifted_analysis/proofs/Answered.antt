@@ -19,7 +19,7 @@ use Rattle.cpp_conditions.specs.View.{formula}
 use Rattle.decision_tree.specs.declared.tree.Tree.{Tree}
 use Rattle.decision_tree.specs.Plain.{Plain, leaf, node, leaf_of, IsReducedFrom, TestsBelow}
 use Rattle.decision_tree.specs.Numbered.{Numbered, kept, branch, erase}
-use Rattle.decision_tree.specs.View.{plain}
+use Rattle.decision_tree.specs.View.{numbered, plain}
 use Rattle.decision_tree.proofs.Reduced.{tests_below}
 use Rattle.leaf_domain.specs.Leaves.{LeafValue, LeafMeaning, LeafLaws, nothing_of}
 use Rattle.leaf_domain.specs.Soundness.{TransferAnswers, TransferHolds, NothingStops}
@@ -103,8 +103,8 @@ leaf_kept (branch n k low high) x e = cc
 
 -- the trees of places, and trees of truths, over so many tests
 module _ (family : FamilyContext) (m : ℕ) (small : (k : ℕ) → IsTest family k → k < m) where
-  below : {A : Type 0} (t : Plain A) → IsReducedTree family t → TestsBelow m t
-  below t r = tests_below m t (λ k w. small k (r.tests k w))
+  below : {A : Type 0} (t : Numbered A) → IsReducedTree family t → TestsBelow m (erase t)
+  below t r = tests_below m (erase t) (λ k w. small k (r.tests k w))
 
   pub leaf_findings : {L : Type 0} (value : L → LeafValue) → ((a b : L) → value a ≡ value b → a ≡ b) → (ps : List (PlaceTree L)) (places : List Place) (at : Place → List Bool → LeafValue) → AreReduced family ps
       → ((v : List Bool) → map (leaf_there value v) ps ≡ map (λ (q : Place). (q, at q v)) places) → All (λ (x : PlaceTree L). IsTreeOf m (at x.place) (valued value (plain x.tree))) ps
@@ -112,24 +112,24 @@ module _ (family : FamilyContext) (m : ℕ) (small : (k : ℕ) → IsTest family
       let x = slice_index_or ps k d in
       let r = trees k d lt in
       record {
-        reduced = valued_reduced value exact 0 (plain x.tree) r.reduced;
-        tests = valued_below value exact m (plain x.tree) (below (plain x.tree) r);
+        reduced = valued_reduced value exact 0 (plain x.tree) r.tree.reduced;
+        tests = valued_below value exact m (plain x.tree) (below (numbered x.tree) r);
         leads = λ v e. valued_leaf value exact (plain x.tree) v ∙ values_are (leaf_there value v) (λ q. at q v) ps places (leaves v) k d lt;
       }
 
-  pub truth_findings : {X K : Type 0} (key : X → K) (tree : X → Tree Bool) (xs : List X) (ks : List K) (f : K → List Bool → Bool) → All (λ (x : X). IsReducedTree family (plain (tree x))) xs
+  pub truth_findings : {X K : Type 0} (key : X → K) (tree : X → Tree Bool) (xs : List X) (ks : List K) (f : K → List Bool → Bool) → All (λ (x : X). IsReducedTree family (numbered (tree x))) xs
       → ((v : List Bool) → map {B = K × Bool} (λ (x : X). (key x, leaf_of (plain (tree x)) v)) xs ≡ map {B = K × Bool} (λ (k : K). (k, f k v)) ks) → All (λ (x : X). IsTreeOf m (f (key x)) (plain (tree x))) xs
   truth_findings key tree xs ks f trees truths = λ k d lt.
       let x = slice_index_or xs k d in
       let r = trees k d lt in
       record {
-        reduced = r.reduced;
-        tests = below (plain (tree x)) r;
+        reduced = r.tree.reduced;
+        tests = below (numbered (tree x)) r;
         leads = λ v e. values_are (λ x. (key x, leaf_of (plain (tree x)) v)) (λ k. f k v) xs ks (truths v) k d lt;
       }
 
   pub findings_below : {L : Type 0} (ps : List (PlaceTree L)) → AreReduced family ps → All (λ (x : PlaceTree L). TestsBelow m (plain x.tree)) ps
-  findings_below ps trees = λ k d lt. below (plain (slice_index_or ps k d).tree) (trees k d lt)
+  findings_below ps trees = λ k d lt. below (numbered (slice_index_or ps k d).tree) (trees k d lt)
 
 twice : {X Y Z : Type 0} (f : X → Y) (g : Y → Z) (xs : List X) → map (λ (x : X). g (f x)) xs ≡ map g (map f xs)
 twice f g [] = refl
@@ -138,7 +138,7 @@ twice f g (x ∷ xs) = ap (λ l. g (f x) ∷ l) (twice f g xs)
 module _ {L : Type 0} (value : L → LeafValue) (family : FamilyContext) where
   -- the last place, after a tree and three alarm trees
   pub ended_made : {E : Type 0} (made : Result (Unit {0}) E) (a c d z : Noted L) (ps : List (PlaceTree L)) (place : Place) (tree : Tree L)
-      → IsReducedTree family (plain tree) → ps ≡ a.places.items ++ record { place = place; tree = tree } ∷ [] → c.places.items ≡ ps
+      → IsReducedTree family (numbered tree) → ps ≡ a.places.items ++ record { place = place; tree = tree } ∷ [] → c.places.items ≡ ps
       → ((v : List Bool) → map (stop_there v) c.alarms.items ≡ map (stop_there v) a.alarms.items ++ ((place, Overflow), false) ∷ [])
       → (AreReducedStops family a.alarms.items → AreReducedStops family c.alarms.items)
       → ((v : List Bool) → map (stop_there v) d.alarms.items ≡ map (stop_there v) c.alarms.items ++ ((place, ZeroDivisor), false) ∷ [])
@@ -155,7 +155,7 @@ module _ {L : Type 0} (value : L → LeafValue) (family : FamilyContext) where
         leaves = λ v. ap (map (leaf_there value v)) places ∙ map-append (leaf_there value v) a.places.items (x ∷ []);
         stops = λ v. three (map (stop_there v) a.alarms.items) (map (stop_there v) c.alarms.items) (map (stop_there v) d.alarms.items) (map (stop_there v) z.alarms.items) _ _ _ (f v) (i v) (l v);
         turns = t3 ∙ (t2 ∙ t1);
-        trees = λ q. reduced_push (λ (p : PlaceTree L). IsReducedTree family (plain p.tree)) a.places.items z.places.items x places r q;
+        trees = λ q. reduced_push (λ (p : PlaceTree L). IsReducedTree family (numbered p.tree)) a.places.items z.places.items x places r q;
         alarm_trees = λ q. m (j (g q));
       }
 
@@ -214,8 +214,8 @@ module _ {L : Type 0} (value : L → LeafValue) (family : FamilyContext) where
               in
               twice (turn_there value v) said z.turns.items ∙ (ap (map said) there
               ∙ loops_are M laws mode A N p program (ts v) (d v) (start_valid v) (start_count v) (H v) (fit v));
-          trees = ended.trees (entered.trees (subst (AreReduced family) (sym none) (All-nil (λ (x : PlaceTree L). IsReducedTree family (plain x.tree)))));
-          alarm_trees = ended.alarm_trees (entered.alarm_trees (subst (AreReducedStops family) (sym no_alarms) (All-nil (λ (x : AlarmTree). IsReducedTree family (plain x.tree)))));
+          trees = ended.trees (entered.trees (subst (AreReduced family) (sym none) (All-nil (λ (x : PlaceTree L). IsReducedTree family (numbered x.tree)))));
+          alarm_trees = ended.alarm_trees (entered.alarm_trees (subst (AreReducedStops family) (sym no_alarms) (All-nil (λ (x : AlarmTree). IsReducedTree family (numbered x.tree)))));
           sized = subst (AreSized value family) (sym ended.turns) (entered.sized (subst (AreSized value family) (sym no_turns) (All-nil (λ (t : TurnTree L). IsSizedTurn value family t))));
         }
 
@@ -259,7 +259,9 @@ module _ {L : Type 0} (value : L → LeafValue) (exact : (a b : L) → value a �
       trees = λ m b. leaf_findings family m (λ k w. occurs_below m k cs pl b (occurs k w)) value exact f.places.items (program_places p) (λ q v. leaf_at M family.options p cs pl q v) h.trees leaves_at;
       kinds = keys_are (stop_there []) (λ q. stop_at M family.options p cs pl q []) f.alarms.items (by_kind (program_places p)) (stops_at []);
       alarms = λ m b. truth_findings family m (λ k w. occurs_below m k cs pl b (occurs k w)) (λ (a : AlarmTree). (a.place, a.kind)) (λ (a : AlarmTree). a.tree) f.alarms.items (by_kind (program_places p)) (λ q v. stop_at M family.options p cs pl q v) h.alarm_trees stops_at;
-      reduced = λ k d lt. (h.trees k d lt).reduced;
+      places_numbered = λ k d lt. (h.trees k d lt).tree;
+      alarms_numbered = λ k d lt. (h.alarm_trees k d lt).tree;
+      reduced = λ k d lt. (h.trees k d lt).tree.reduced;
       below = λ m b. findings_below family m (λ k w. occurs_below m k cs pl b (occurs k w)) f.places.items h.trees;
       tests = λ k d lt j w. occurs j ((h.trees k d lt).tests j w);
       alarm_tests = λ k d lt j w. occurs j ((h.alarm_trees k d lt).tests j w);

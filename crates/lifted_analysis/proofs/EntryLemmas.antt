@@ -20,6 +20,7 @@ use Rattle.decision_tree.specs.Plain.{Plain, leaf_of}
 use Rattle.decision_tree.specs.Listed.{IsTreeIn}
 use Rattle.decision_tree.specs.Numbered.{Numbered, erase}
 use Rattle.decision_tree.specs.View.{numbered, plain}
+use Rattle.decision_tree.proofs.Numbers.{numbered_tree}
 use Rattle.leaf_domain.specs.Leaves.{LeafValue, LeafMeaning}
 use Rattle.leaf_domain.specs.Stops.{may_at}
 use Rattle.leaf_domain.specs.Transfer.{assumed, assigned, forgotten}
@@ -63,13 +64,13 @@ turns_in-append [] ys = refl
 turns_in-append (x ∷ xs) ys =
     ap (λ l. turn_of x.place x.leaf x.turn ++ l) (turns_in-append xs ys) ∙ sym (append_assoc (turn_of x.place x.leaf x.turn) (turns_in xs) (turns_in ys))
 
-pub state_reduced : {L : Type 0} (value : L → LeafValue) (family : FamilyContext) (forest : List (Plain L)) (t : Numbered L) → IsState value family forest t → IsReducedTree family (erase t)
-state_reduced value family forest t s = record { reduced = s.tree.reduced; tests = s.tests }
+pub state_reduced : {L : Type 0} (value : L → LeafValue) (family : FamilyContext) (forest : List (Plain L)) (t : Numbered L) → IsState value family forest t → IsReducedTree family t
+state_reduced value family forest t s = record { tree = numbered_tree 0 64 forest t s.tree; tests = s.tests }
 
 -- a tree of truths that is made of a state leaf by leaf
 pub stops_reduced : {L E : Type 0} (made : Result (Tree Bool) E) (value : L → LeafValue) (family : FamilyContext) (forest : List (Plain L)) (truths : List (Plain Bool)) (t : Numbered L)
-    → IsState value family forest t → IfOk made (λ r. TestsAreOf (erase t) (plain r)) → IfOk made (λ r. IsTreeIn 0 64 truths (numbered r)) → IfOk made (λ r. IsReducedTree family (plain r))
-stops_reduced (Ok r) value family forest truths t s q own = record { reduced = own.reduced; tests = λ k h. s.tests k (q.each k h) }
+    → IsState value family forest t → IfOk made (λ r. TestsAreOf (erase t) (plain r)) → IfOk made (λ r. IsTreeIn 0 64 truths (numbered r)) → IfOk made (λ r. IsReducedTree family (numbered r))
+stops_reduced (Ok r) value family forest truths t s q own = record { tree = numbered_tree 0 64 truths (numbered r) own; tests = λ k h. s.tests k (q.each k h) }
 stops_reduced (Err e) value family forest truths t s q own = tt
 
 module _ {L : Type 0} (value : L → LeafValue) (M : LeafMeaning) (family : FamilyContext) where

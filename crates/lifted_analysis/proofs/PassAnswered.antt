@@ -20,7 +20,7 @@ use Rattle.cpp_conditions.specs.Propositions.{true_on, IsBelow}
 use Rattle.cpp_conditions.specs.View.{formula}
 use Rattle.decision_tree.specs.declared.tree.Tree.{Tree}
 use Rattle.decision_tree.specs.Plain.{leaf_of}
-use Rattle.decision_tree.specs.View.{plain}
+use Rattle.decision_tree.specs.View.{numbered, plain}
 use Rattle.leaf_domain.specs.Leaves.{LeafValue, LeafMeaning, LeafLaws, nothing_of}
 use Rattle.leaf_domain.specs.Soundness.{TransferAnswers, TransferHolds}
 use Rattle.leaf_domain.specs.Transfer.{assumed, assigned, forgotten}
@@ -170,7 +170,7 @@ module _ {L : Type 0} (value : L → LeafValue) (exact : (a b : L) → value a �
 
   module _ (f : Noted L) (loops : Vec LoopTree Global) (h : HasNoted value M family p (λ v. given_heads M family.lines.now v (start_at M family p.start p.declared v)) f)
       (at_loops : (v : List Bool) → map (loop_there v) loops.items ≡ map {B = Place × Bool} (λ (t : TurnTree L). (t.place, is_inductive M (turn_there value v t))) f.turns.items)
-      (reduced : All (λ (l : LoopTree). IsReducedTree family (plain l.tree)) loops.items) where
+      (reduced : All (λ (l : LoopTree). IsReducedTree family (numbered l.tree)) loops.items) where
     abbrev mode : Mode
     mode = family.options.mode
 

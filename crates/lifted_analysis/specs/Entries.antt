@@ -7,7 +7,9 @@ use Rattle.c_tree.specs.declared.tree.Kind.TheVariants.{Overflow, ZeroDivisor, A
 use Rattle.c_tree.specs.declared.tree.Mode.{Mode}
 use Rattle.c_tree.specs.Tree.{Term, Code, Done, Assign, Input, Assert, If, While, Block, Skip, Cond}
 use Rattle.c_tree.specs.Project.{projected}
-use Rattle.decision_tree.specs.Plain.{Plain, leaf_of, HasTest, IsReduced}
+use Rattle.decision_tree.specs.Listed.{IsNumberedTree}
+use Rattle.decision_tree.specs.Numbered.{Numbered, erase}
+use Rattle.decision_tree.specs.Plain.{Plain, leaf_of, HasTest}
 use Rattle.decision_tree.specs.View.{numbered, plain}
 use Rattle.leaf_domain.specs.Leaves.{LeafValue, LeafMeaning}
 use Rattle.leaf_domain.specs.Transfer.{assumed, assigned, forgotten}
@@ -113,16 +115,16 @@ pub record IsSizedTurn {L : Type 0} (value : L → LeafValue) (family : FamilyCo
 abbrev pub AreSized : {L : Type 0} → (L → LeafValue) → FamilyContext → List (TurnTree L) → Type 0
 AreSized {L} value family ts = All (λ (t : TurnTree L). IsSizedTurn value family t) ts
 
--- a reduced tree whose tests are the family's
-pub record IsReducedTree {L : Type 0} (family : FamilyContext) (t : Plain L) : Type 0 where
-  pub reduced : IsReduced t
-  pub tests : (k : ℕ) → HasTest k t → IsTest family k
+-- a reduced tree with numbers, whose tests are the family's
+pub record IsReducedTree {L : Type 0} (family : FamilyContext) (t : Numbered L) : Type 0 where
+  pub tree : IsNumberedTree 0 64 t
+  pub tests : (k : ℕ) → HasTest k (erase t) → IsTest family k
 
 abbrev pub AreReduced : {L : Type 0} → FamilyContext → List (PlaceTree L) → Type 0
-AreReduced {L} family ps = All (λ (p : PlaceTree L). IsReducedTree family (plain p.tree)) ps
+AreReduced {L} family ps = All (λ (p : PlaceTree L). IsReducedTree family (numbered p.tree)) ps
 
 abbrev pub AreReducedStops : FamilyContext → List AlarmTree → Type 0
-AreReducedStops family stops = All (λ (a : AlarmTree). IsReducedTree family (plain a.tree)) stops
+AreReducedStops family stops = All (λ (a : AlarmTree). IsReducedTree family (numbered a.tree)) stops
 
 -- the statements of a list that is entered with a tree, at each vector
 abbrev pub entered_with : {L : Type 0} → (L → LeafValue) → LeafMeaning → FamilyContext → (List Bool → Heads) → Code → Plain L → List Bool → List Visit

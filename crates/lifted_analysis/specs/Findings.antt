@@ -9,7 +9,8 @@ use Rattle.c_tree.specs.Places.{program_places}
 use Rattle.c_tree.specs.Project.{projected, projected_program}
 use Rattle.cpp_conditions.specs.declared.formulas.Formula.{Formula}
 use Rattle.decision_tree.specs.Plain.{Plain, leaf_of, HasTest, IsReduced, TestsBelow}
-use Rattle.decision_tree.specs.View.{plain}
+use Rattle.decision_tree.specs.Listed.{IsNumberedTree}
+use Rattle.decision_tree.specs.View.{numbered, plain}
 use Rattle.leaf_domain.specs.Leaves.{LeafValue, LeafMeaning}
 use Rattle.plain_analysis.specs.declared.options.Options.{Options}
 use Rattle.plain_analysis.specs.Places.{at_by, alarm_by}
@@ -54,6 +55,8 @@ pub record AreFindings {L : Type 0} (value : L → LeafValue) (M : LeafMeaning) 
   pub trees : (m : ℕ) → AreBelow m conditions plausible → All (λ (x : PlaceTree L). IsTreeOf m (leaf_at M o p conditions plausible x.place) (valued value (plain x.tree))) f.places.items
   pub kinds : map (λ (a : AlarmTree). (a.place, a.kind)) f.alarms.items ≡ by_kind (program_places p)
   pub alarms : (m : ℕ) → AreBelow m conditions plausible → All (λ (a : AlarmTree). IsTreeOf m (stop_at M o p conditions plausible (a.place, a.kind)) (plain a.tree)) f.alarms.items
+  pub places_numbered : All (λ (x : PlaceTree L). IsNumberedTree 0 64 (numbered x.tree)) f.places.items
+  pub alarms_numbered : All (λ (a : AlarmTree). IsNumberedTree 0 64 (numbered a.tree)) f.alarms.items
   pub reduced : All (λ (x : PlaceTree L). IsReduced (plain x.tree)) f.places.items
   pub below : (m : ℕ) → AreBelow m conditions plausible → All (λ (x : PlaceTree L). TestsBelow m (plain x.tree)) f.places.items
   pub tests : All (λ (x : PlaceTree L). (k : ℕ) → HasTest k (plain x.tree) → Occurs conditions plausible k) f.places.items

@@ -6,6 +6,7 @@ ghost use Rattle.c_tree.specs.View.{whole};
 ghost use Rattle.c_tree.specs.Whole.{IsProgram};
 ghost use Rattle.c_tree.specs.Places.{program_places};
 ghost use Rattle.c_tree.specs.Project.{IsConditioned};
+ghost use Rattle.decision_tree.specs.Listed.{IsNumberedTree};
 ghost use Rattle.decision_tree.specs.Plain.{HasTest, IsReduced, TestsBelow};
 ghost use Rattle.decision_tree.specs.View.{numbered, plain};
 ghost use Rattle.plain_analysis.specs.Promises.{LoopsSettle, RunsForeseen};
@@ -66,7 +67,7 @@ fn add_end<L: Leaf>(
     tree: Tree<L>,
 ) -> Result<(), NoMemory>
     requires family { IsFamily family.now }
-    requires tree { IsReducedTree family.now (plain tree) }
+    requires tree { IsReducedTree family.now (numbered tree) }
     ensures { OnOk result (HasEnded L.value family.now place (plain tree) noted.old noted.new) }
 {
     noted.places.push(PlaceTree { place, tree })?;
@@ -179,7 +180,7 @@ fn analyse_counted<L: Leaf, K: Ledger>(
 /// is the one reduced tree (after Bryant) whose leaf at each vector is what the analysis of that vector's program alone, with
 /// these options, has at the place, and Nothing where that program lacks the place. For each place there are three alarm
 /// trees, in the order of the kinds, which are true at exactly the vectors at which that analysis has an alarm of the kind
-/// there. Each test of a tree is a number of the formulas. In the mode of the options and from each store that the first leaf
+/// there. Each test of a tree is a number of the formulas, and its subtrees have numbers that tell them apart. In the mode of the options and from each store that the first leaf
 /// of a vector holds, a run of its program is where the leaf holds its store, and the rounds of a loop settle, as for
 /// `analyse_one`. The only refusal is want of memory.
 pub fn analyse_family<L: Leaf>(
@@ -203,6 +204,9 @@ pub fn analyse_family<L: Leaf>(
         → All (λ (a : AlarmTree). IsTreeOf m
         (stop_at L.meaning options.now (whole code.now) conditions.now plausible.now (a.place, a.kind))
         (plain a.tree)) f.alarms.items) }
+    ensures places_numbered { IfOk result (λ f. All (λ p. IsNumberedTree 0 64 (numbered p.tree)) f.places.items) }
+    ensures alarms_numbered { IfOk result
+        (λ f. All (λ (a : AlarmTree). IsNumberedTree 0 64 (numbered a.tree)) f.alarms.items) }
     ensures reduced { IfOk result (λ f. All (λ p. IsReduced (plain p.tree)) f.places.items) }
     ensures below { IfOk result (λ f. (m : ℕ) → AreBelow m conditions.now plausible.now
         → All (λ p. TestsBelow m (plain p.tree)) f.places.items) }

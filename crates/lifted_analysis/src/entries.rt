@@ -57,7 +57,7 @@ fn may_stop<L: Leaf, K: Ledger>(
 ) -> Result<Tree<bool>, NoMemory>
     requires fit { IsCodeOf family.now.variables (front s.now Done) }
     requires state { IsState L.value family.now tables.old.leaves (numbered t.now) }
-    ensures reduced { IfOk result (λ r. IsReducedTree family.now (plain r)) }
+    ensures reduced { IfOk result (λ r. IsReducedTree family.now (numbered r)) }
     ensures at_each { IfOk result (λ r. (v : List Bool)
         → leaf_of (plain r) v ≡ may_at L.meaning family.now.options.mode kind (front s.now Done)
         (L.value (leaf_of (plain t.now) v))) }
@@ -80,7 +80,7 @@ fn add_tree<L: Leaf>(
     place: Place,
     t: &Tree<L>,
 ) -> Result<(), NoMemory>
-    requires { IsReducedTree family.now (plain t.now) }
+    requires { IsReducedTree family.now (numbered t.now) }
     ensures leaves { OnOk result ((v : List Bool)
         → map (leaf_there L.value v) noted.new.places.items
         ≡ map (leaf_there L.value v) noted.old.places.items

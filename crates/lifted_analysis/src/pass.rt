@@ -7,7 +7,7 @@ ghost use Rattle.c_tree.specs.View.{whole};
 ghost use Rattle.c_tree.specs.Whole.{IsProgram};
 ghost use Rattle.c_tree.specs.Places.{program_places};
 ghost use Rattle.c_tree.specs.Project.{IsConditioned};
-ghost use Rattle.decision_tree.specs.View.{plain};
+ghost use Rattle.decision_tree.specs.View.{numbered, plain};
 ghost use Rattle.plain_analysis.specs.Promises.{RunsForeseenBy};
 ghost use Rattle.lifted_analysis.specs.declared.entries.TurnTree.{TurnTree};
 ghost use Rattle.lifted_analysis.specs.declared.findings.AlarmTree.{AlarmTree};
@@ -48,7 +48,7 @@ fn loop_trees<L: Leaf, K: Ledger>(
         → map (loop_there v) made.items
         ≡ map {B = Place × Bool} (λ (t : TurnTree L). (t.place, is_inductive L.meaning (turn_there L.value v t))) turns.now) }
     ensures reduced { IfOk result
-        (λ made. All (λ (l : LoopTree). IsReducedTree family.now (plain l.tree)) made.items) }
+        (λ made. All (λ (l : LoopTree). IsReducedTree family.now (numbered l.tree)) made.items) }
 {
     let mut made = Vec::new(tables.alloc);
     for turn in turns {

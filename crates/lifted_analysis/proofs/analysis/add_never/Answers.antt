@@ -2,7 +2,7 @@ use Rattle.std.proofs.Common.{◌≡◌, ◌∷◌, ◌++◌, [], ◌∙◌, map
 use Rattle.std.proofs.lemmas.List.{map-append}
 use Rattle.decision_tree.specs.Numbered.{erase}
 use Rattle.decision_tree.specs.Plain.{leaf_of}
-use Rattle.decision_tree.specs.View.{plain}
+use Rattle.decision_tree.specs.View.{numbered, plain}
 use Rattle.lifted_analysis.specs.declared.findings.AlarmTree.{AlarmTree}
 use Rattle.lifted_analysis.specs.Entries.{stop_there, IsReducedTree}
 use Rattle.lifted_analysis.proofs.EntryLemmas.{reduced_push}
@@ -21,6 +21,6 @@ pub returns-clause-trees : goal.returns-clause-trees
 returns-clause-trees g c =
     let family = c.args.family.now in
     let never = never_truth family c.requires in
-    let reduced : IsReducedTree family (plain family.never.now) = record { reduced = never.tree.reduced; tests = never.tests } in
-    reduced_push (λ (a : AlarmTree). IsReducedTree family (plain a.tree)) c.args.noted.now.alarms.items c.push.new.self.items (record { place = c.args.place; kind = c.args.kind; tree = c.in_ok-tree.tree })
-    c.in_ok-push.ensures.items (subst (λ t. IsReducedTree family (erase t)) (sym c.in_ok-tree.ensures) reduced)
+    let reduced : IsReducedTree family (numbered family.never.now) = record { tree = never.tree; tests = never.tests } in
+    reduced_push (λ (a : AlarmTree). IsReducedTree family (numbered a.tree)) c.args.noted.now.alarms.items c.push.new.self.items (record { place = c.args.place; kind = c.args.kind; tree = c.in_ok-tree.tree })
+    c.in_ok-push.ensures.items (subst (λ t. IsReducedTree family t) (sym c.in_ok-tree.ensures) reduced)

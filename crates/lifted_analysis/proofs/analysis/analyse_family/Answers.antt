@@ -40,6 +40,14 @@ pub returns-clause-alarm_tests : goal.returns-clause-alarm_tests
 returns-clause-alarm_tests g c =
     if_ok_by c.analyse_counted.result (AreFindings g.L.Leaf.value g.L.Leaf.meaning c.args.options.now (whole c.args.code.now) c.args.conditions.now c.args.plausible.now) _ (λ f h. h.alarm_tests) c.analyse_counted.ensures
 
+pub returns-clause-places_numbered : goal.returns-clause-places_numbered
+returns-clause-places_numbered g c =
+    if_ok_by c.analyse_counted.result (AreFindings g.L.Leaf.value g.L.Leaf.meaning c.args.options.now (whole c.args.code.now) c.args.conditions.now c.args.plausible.now) _ (λ f h. h.places_numbered) c.analyse_counted.ensures
+
+pub returns-clause-alarms_numbered : goal.returns-clause-alarms_numbered
+returns-clause-alarms_numbered g c =
+    if_ok_by c.analyse_counted.result (AreFindings g.L.Leaf.value g.L.Leaf.meaning c.args.options.now (whole c.args.code.now) c.args.conditions.now c.args.plausible.now) _ (λ f h. h.alarms_numbered) c.analyse_counted.ensures
+
 pub returns-clause-reduced : goal.returns-clause-reduced
 returns-clause-reduced g c =
     if_ok_by c.analyse_counted.result (AreFindings g.L.Leaf.value g.L.Leaf.meaning c.args.options.now (whole c.args.code.now) c.args.conditions.now c.args.plausible.now) _ (λ f h. h.reduced) c.analyse_counted.ensures

@@ -1,4 +1,4 @@
-use Rattle.decision_tree.specs.View.{plain}
+use Rattle.decision_tree.specs.View.{numbered, plain}
 use Rattle.lifted_analysis.specs.declared.findings.AlarmTree.{AlarmTree}
 use Rattle.lifted_analysis.specs.Entries.{IsReducedTree}
 use Rattle.lifted_analysis.proofs.EntryLemmas.{reduced_push}
@@ -7,5 +7,5 @@ use Rattle.lifted_analysis.proofs.entries.add_alarm.Goals as goal
 pub returns-clause-trees : goal.returns-clause-trees
 returns-clause-trees g c =
     let family = c.args.family.now in
-    reduced_push (λ (a : AlarmTree). IsReducedTree family (plain a.tree)) c.args.noted.now.alarms.items c.push.new.self.items (record { place = c.args.place; kind = c.args.kind; tree = c.in_ok-tree.tree })
+    reduced_push (λ (a : AlarmTree). IsReducedTree family (numbered a.tree)) c.args.noted.now.alarms.items c.push.new.self.items (record { place = c.args.place; kind = c.args.kind; tree = c.in_ok-tree.tree })
     c.in_ok-push.ensures.items c.in_ok-tree.ensures.reduced

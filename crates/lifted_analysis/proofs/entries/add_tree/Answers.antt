@@ -1,6 +1,6 @@
 use Rattle.std.proofs.Common.{sym, subst}
 use Rattle.decision_tree.specs.Numbered.{erase}
-use Rattle.decision_tree.specs.View.{plain}
+use Rattle.decision_tree.specs.View.{numbered, plain}
 use Rattle.lifted_analysis.specs.declared.findings.PlaceTree.{PlaceTree}
 use Rattle.lifted_analysis.specs.Entries.{IsReducedTree}
 use Rattle.lifted_analysis.proofs.EntryLemmas.{reduced_push}
@@ -9,5 +9,5 @@ use Rattle.lifted_analysis.proofs.entries.add_tree.Goals as goal
 pub returns-clause-trees : goal.returns-clause-trees
 returns-clause-trees g c =
     let family = c.args.family.now in
-    reduced_push (λ (p : PlaceTree g.row.L.Denot). IsReducedTree family (plain p.tree)) c.args.noted.now.places.items c.push.new.self.items (record { place = c.args.place; tree = c.in_ok-tree.tree })
-    c.in_ok-push.ensures.items (subst (λ t. IsReducedTree family (erase t)) (sym c.in_ok-tree.ensures) c.requires)
+    reduced_push (λ (p : PlaceTree g.row.L.Denot). IsReducedTree family (numbered p.tree)) c.args.noted.now.places.items c.push.new.self.items (record { place = c.args.place; tree = c.in_ok-tree.tree })
+    c.in_ok-push.ensures.items (subst (λ t. IsReducedTree family t) (sym c.in_ok-tree.ensures) c.requires)

@@ -1,5 +1,9 @@
-use Rattle.lifted_analysis.proofs.EntryLemmas.{entered_at_last}
+use Rattle.decision_tree.specs.View.{numbered}
+use Rattle.lifted_analysis.proofs.EntryLemmas.{entered_at_last, state_reduced}
 use Rattle.lifted_analysis.proofs.entries.enter.Goals as goal
+
+pub add_tree-requires : goal.add_tree-requires
+add_tree-requires g c = state_reduced g.L.Leaf.value c.args.family.now c.args.tables.now.leaves (numbered c.args.t.now) c.requires.state
 
 pub returns-clause-entered : goal.returns-clause-entered
 returns-clause-entered g c =

@@ -2,7 +2,7 @@ use Rattle.std.proofs.Common.{◌∙◌, ap, sym, subst, arith, map}
 use Rattle.std.specs.List.{All}
 use Rattle.std.proofs.lemmas.List.{take_all}
 use Rattle.std.proofs.lemmas.List.Elements.{All-nil}
-use Rattle.decision_tree.specs.View.{plain}
+use Rattle.decision_tree.specs.View.{numbered, plain}
 use Rattle.lifted_analysis.specs.declared.entries.TurnTree.{TurnTree}
 use Rattle.lifted_analysis.specs.declared.findings.LoopTree.{LoopTree}
 use Rattle.lifted_analysis.specs.Entries.{IsReducedTree, IsSizedTurn}
@@ -14,7 +14,7 @@ use Rattle.lifted_analysis.proofs.pass.loop_trees.Goals as goal
 pub loop-turn-init : goal.loop-turn-init
 loop-turn-init g c = record {
   at_each = λ v. ap (map (loop_there v)) c.new-made.ensures.items;
-  reduced = subst (All (λ (x : LoopTree). IsReducedTree c.args.family.now (plain x.tree))) (sym c.new-made.ensures.items) (All-nil (λ (x : LoopTree). IsReducedTree c.args.family.now (plain x.tree)));
+  reduced = subst (All (λ (x : LoopTree). IsReducedTree c.args.family.now (numbered x.tree))) (sym c.new-made.ensures.items) (All-nil (λ (x : LoopTree). IsReducedTree c.args.family.now (numbered x.tree)));
 }
 
 pub below-requires-clause-t : goal.below-requires-clause-t
@@ -41,8 +41,8 @@ loop-turn-preserved g c =
       at_each = λ v. loop_more g.L.Leaf.value g.L.Leaf.meaning c.args.turns.now c.loop-turn.turn-index c.turn-item.result c.loop-turn.made.items c.push.new.self.items tree v c.loop-turn-test.true c.turn-item.is c.in_ok-push.ensures.items
           (c.in_ok-tree.ensures.at_each v ∙ both_same _ _ _ _ (c.in_ok-entered.ensures.at_each v) (c.in_ok-again.ensures.at_each v))
           (c.loop-turn.invariant.at_each v);
-      reduced = reduced_push (λ (x : LoopTree). IsReducedTree family (plain x.tree)) c.loop-turn.made.items c.push.new.self.items (record { place = c.turn-item.result.place; tree = tree }) c.in_ok-push.ensures.items
-          (record { reduced = c.in_ok-tree.ensures.truth.tree.reduced; tests = c.in_ok-tree.ensures.truth.tests }) c.loop-turn.invariant.reduced;
+      reduced = reduced_push (λ (x : LoopTree). IsReducedTree family (numbered x.tree)) c.loop-turn.made.items c.push.new.self.items (record { place = c.turn-item.result.place; tree = tree }) c.in_ok-push.ensures.items
+          (record { tree = c.in_ok-tree.ensures.truth.tree; tests = c.in_ok-tree.ensures.truth.tests }) c.loop-turn.invariant.reduced;
     }
 
 pub returns-clause-at_each : goal.returns-clause-at_each

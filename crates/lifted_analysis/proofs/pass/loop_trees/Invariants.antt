@@ -1,7 +1,7 @@
 use Rattle.std.proofs.Common.{◌≡◌, take, map, List, Bool}
 use Rattle.std.specs.List.{All}
 use Rattle.fam_outer.specs.declared.faults.Place.{Place}
-use Rattle.decision_tree.specs.View.{plain}
+use Rattle.decision_tree.specs.View.{numbered, plain}
 use Rattle.lifted_analysis.specs.declared.entries.TurnTree.{TurnTree}
 use Rattle.lifted_analysis.specs.declared.findings.LoopTree.{LoopTree}
 use Rattle.lifted_analysis.specs.Entries.{turn_there, IsReducedTree}
@@ -14,5 +14,5 @@ abbrev pub invariant-loop-turn : goal.invariant-loop-turn
 invariant-loop-turn g l =
     record {
       at_each : (v : List Bool) → map (loop_there v) l.made.items ≡ map {B = Place × Bool} (λ (t : TurnTree g.row.L.Denot). (t.place, is_inductive g.L.Leaf.meaning (turn_there g.L.Leaf.value v t))) (take l.turn-index l.turns);
-      reduced : All (λ (x : LoopTree). IsReducedTree l.family (plain x.tree)) l.made.items;
+      reduced : All (λ (x : LoopTree). IsReducedTree l.family (numbered x.tree)) l.made.items;
     }
