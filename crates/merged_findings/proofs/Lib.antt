@@ -1,0 +1,5 @@
+pub mod Restricting
+pub mod Leading
+mod Promised
+mod Pairing
+mod Made

@@ -1,0 +1,3 @@
+pub mod Restricting
+pub mod Merged
+pub mod Pairs
