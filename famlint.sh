@@ -1,13 +1,15 @@
 #!/usr/bin/env bash
 # Runs famlint with the words given: the proved program where it is built, and else a quick run of the same code
-# before any proof, which says so on the error stream.
+# before any proof, which says so on the error stream. Each quick run compiles anew, for about two minutes: for many commands use
+# one `rt try --cases`, as examples/check.sh does.
 set -u
 top=$(cd "$(dirname "$0")" && pwd)
 program=$top/crates/famlint/out/famlint
 if [ -x "$program" ]; then
     exec "$program" "$@"
 fi
-echo "famlint.sh: an unproved quick run; to prove and build the program: cd $top/crates/famlint && rt run -- plain FILE" >&2
+echo "famlint.sh: an unproved quick run, which compiles for about two minutes, as each one does; to prove and build the program:" \
+    "cd $top/crates/famlint && rt run -- plain FILE" >&2
 
 # How many paths a command has, behind its name.
 paths_of() {
