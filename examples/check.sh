@@ -59,7 +59,10 @@ by_quick_run() {
     awk -v work="$work" '
         match($0, /^case=[^ ]+/) { printf "%s", text > (work "/" substr($0, 6, RLENGTH - 5) ".err"); text = ""; next }
         { text = text $0 "\n" }' "$work/err"
-    tail -n 1 "$work/err" >&2
+    if ! grep '^cases=' "$work/err" >&2; then
+        cat "$work/err" >&2
+        exit 2
+    fi
 }
 
 # the lines of the program, without those of the quick run
