@@ -309,8 +309,8 @@ asked_yes : SaysYes → (r : Request) (told : Contents) (answer : Result Done Fa
 asked_yes law (request.Check model file certificate) told answer asked h = law told answer asked h
 asked_yes law (request.Plain file analysis) told answer asked h = absurd asked
 asked_yes law (request.Variant model file settings t) told answer asked h = absurd asked
-asked_yes law (request.Family model file analysis t) told answer asked h = absurd asked
-asked_yes law (request.Generate number analysis) told answer asked h = absurd asked
+asked_yes law (request.Family model file analysis regions t) told answer asked h = absurd asked
+asked_yes law (request.Generate number analysis regions) told answer asked h = absurd asked
 asked_yes law (request.Advice model file settings analysis) told answer asked h = absurd asked
 asked_yes law (request.Features model) told answer asked h = absurd asked
 

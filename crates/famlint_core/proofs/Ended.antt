@@ -104,8 +104,8 @@ advice_low (Some advice) done e = omega (arith, e)
 answered_low : (r : Request) (told : Contents) (done : Done) → Answers r told (Ok done) → done.status ≤ 1
 answered_low (request.Plain file analysis) told done (p, reads, e) = plain_low analysis p done e
 answered_low (request.Variant model file settings t) told done (s, selected, is) = done_low t s done is
-answered_low (request.Family model file analysis t) told done (l, line, is) = family_low (meaning_of analysis.domain) analysis.options t l done is
-answered_low (request.Generate number analysis) told done (l, line, is) = family_low (meaning_of analysis.domain) analysis.options families.Generate l done is
+answered_low (request.Family model file analysis regions t) told done (l, line, is) = family_low (meaning_of analysis.domain) analysis.options t l done is
+answered_low (request.Generate number analysis regions) told done (l, line, is) = family_low (meaning_of analysis.domain) analysis.options families.Generate l done is
 answered_low (request.Check model file certificate) told done (l, line, is) = verdict_low is.verdict done is.status
 answered_low (request.Advice model file settings analysis) told done (s, selected, is) = advice_low is.found done is.status
 answered_low (request.Features model) told done (m, is, uses) = let e : done.status ≡ 0 = uses.status in omega (arith, e)

@@ -16,8 +16,8 @@ use Rattle.famlint_loads.specs.Contents.{Contents}
 abbrev pub IsTold : Request → (List ℕ → Option (List ℕ)) → Contents → Type 0
 IsTold (Plain file analysis) content told = content file ≡ Some told.file
 IsTold (Variant model file settings task) content told = (content model ≡ Some told.model) × (content file ≡ Some told.file)
-IsTold (Family model file analysis task) content told = (content model ≡ Some told.model) × (content file ≡ Some told.file)
-IsTold (Generate number analysis) content told = ⊤
+IsTold (Family model file analysis regions task) content told = (content model ≡ Some told.model) × (content file ≡ Some told.file)
+IsTold (Generate number analysis regions) content told = ⊤
 IsTold (Check model file certificate) content told =
     (content model ≡ Some told.model) × (content file ≡ Some told.file) × (content certificate ≡ Some told.certificate)
 IsTold (Advice model file settings analysis) content told = (content model ≡ Some told.model) × (content file ≡ Some told.file)
@@ -32,8 +32,8 @@ AsksOfCertified other told = ⊥
 abbrev pub Answers : Request → Contents → Result Done Fault → Type 0
 Answers (Plain file analysis) told answer = AnswersPlain analysis told.file answer
 Answers (Variant model file settings task) told answer = AnswersVariant task settings told answer
-Answers (Family model file analysis task) told answer = AnswersFamily analysis task told answer
-Answers (Generate number analysis) told answer = AnswersGenerate analysis number answer
+Answers (Family model file analysis regions task) told answer = AnswersFamily analysis task told answer
+Answers (Generate number analysis regions) told answer = AnswersGenerate analysis number answer
 Answers (Check model file certificate) told answer = AnswersCheck told answer
 Answers (Advice model file settings analysis) told answer = AnswersAdvice analysis settings told answer
 Answers (Features model) told answer = AnswersFeatures told.model answer
@@ -46,8 +46,8 @@ IsAccepted request told = (fault : Fault) → Answers request told (Err fault) �
 abbrev pub IsLoaded : Request → Contents → Option (List ℕ) → Type 0
 IsLoaded (Plain file analysis) told failed = failed ≡ Some file
 IsLoaded (Variant model file settings task) told failed = IsLoadedFor model file told.model failed
-IsLoaded (Family model file analysis task) told failed = IsLoadedFor model file told.model failed
-IsLoaded (Generate number analysis) told failed = ⊥
+IsLoaded (Family model file analysis regions task) told failed = IsLoadedFor model file told.model failed
+IsLoaded (Generate number analysis regions) told failed = ⊥
 IsLoaded (Check model file certificate) told failed = IsLoadedForCheck model file certificate told.model told.file failed
 IsLoaded (Advice model file settings analysis) told failed = IsLoadedFor model file told.model failed
 IsLoaded (Features model) told failed = failed ≡ Some model
@@ -56,8 +56,8 @@ IsLoaded (Features model) told failed = failed ≡ Some model
 abbrev pub Promised : Request → Contents → ℕ → List ℕ → Type 0
 Promised (Plain file analysis) told status text = PromisedPlain analysis told.file status text
 Promised (Variant model file settings task) told status text = PromisedVariant task settings told status text
-Promised (Family model file analysis task) told status text = PromisedFamily analysis task told status text
-Promised (Generate number analysis) told status text = PromisedGenerate analysis number status text
+Promised (Family model file analysis regions task) told status text = PromisedFamily analysis task told status text
+Promised (Generate number analysis regions) told status text = PromisedGenerate analysis number status text
 Promised (Check model file certificate) told status text = PromisedCheck told status
 Promised (Advice model file settings analysis) told status text = PromisedAdvice analysis settings told status text
 Promised (Features model) told status text = status ≡ 0

@@ -45,9 +45,14 @@ pub fn work<F: Files>(alloc: Global, request: &Request, files: &mut F) -> Result
             model,
             file,
             analysis,
+            regions: _,
             task,
         } => family(alloc, model, file, analysis, *task, files),
-        Request::Generate { number, analysis } => Ok(generate(alloc, *number, analysis)?),
+        Request::Generate {
+            number,
+            analysis,
+            regions: _,
+        } => Ok(generate(alloc, *number, analysis)?),
         Request::Check {
             model,
             file,

@@ -12,6 +12,7 @@ use Rattle.command_words.specs.declared.settings.Given.{Given}
 use Rattle.command_words.specs.declared.settings.OptionSettings.{OptionSettings}
 use Rattle.command_words.specs.Spelling.{number_up_to}
 use Rattle.famlint_requests.specs.declared.request.Analysis.{Analysis}
+use Rattle.linear_atoms.specs.declared.regions.Regions.{Regions}
 use Rattle.famlint_requests.specs.declared.request.options.Command.{Command}
 use Rattle.famlint_requests.specs.declared.request.options.Command.TheVariants as command
 use Rattle.famlint_requests.specs.declared.request.FamilyTask.{FamilyTask}
@@ -27,15 +28,19 @@ use Rattle.famlint_requests.specs.declared.request.VariantTask.TheVariants as ta
 
 -- the options of an analysis
 abbrev pub analysis_options : Given
-analysis_options = record { domain = true; delay = true; narrow = true; overflow = true; steps = false; inputs = false }
+analysis_options = record { domain = true; delay = true; narrow = true; overflow = true; regions = false; steps = false; inputs = false }
 
--- the options of an analysis by intervals
+-- the options of an analysis whose report has regions
+abbrev pub family_options : Given
+family_options = record { domain = true; delay = true; narrow = true; overflow = true; regions = true; steps = false; inputs = false }
+
+-- the same, by intervals
 abbrev pub interval_options : Given
-interval_options = record { domain = false; delay = true; narrow = true; overflow = true; steps = false; inputs = false }
+interval_options = record { domain = false; delay = true; narrow = true; overflow = true; regions = true; steps = false; inputs = false }
 
 -- the options of a run
 abbrev pub run_options : Given
-run_options = record { domain = false; delay = false; narrow = false; overflow = true; steps = true; inputs = true }
+run_options = record { domain = false; delay = false; narrow = false; overflow = true; regions = false; steps = true; inputs = true }
 
 -- the options that a command takes
 abbrev pub taken_by : Command → Given
@@ -43,9 +48,9 @@ taken_by command.Plain = analysis_options
 taken_by command.Project = nothing_given
 taken_by command.Variant = analysis_options
 taken_by command.Run = run_options
-taken_by command.Analyse = analysis_options
-taken_by command.Invariants = analysis_options
-taken_by command.Generate = analysis_options
+taken_by command.Analyse = family_options
+taken_by command.Invariants = family_options
+taken_by command.Generate = family_options
 taken_by command.Certify = interval_options
 taken_by command.Check = nothing_given
 taken_by command.Advise = analysis_options
@@ -55,7 +60,8 @@ taken_by command.Features = nothing_given
 abbrev pub are_taken : Given → Given → Bool
 are_taken given taken =
     (not given.domain || taken.domain) && (not given.delay || taken.delay) && (not given.narrow || taken.narrow)
-    && (not given.overflow || taken.overflow) && (not given.steps || taken.steps) && (not given.inputs || taken.inputs)
+    && (not given.overflow || taken.overflow) && (not given.regions || taken.regions) && (not given.steps || taken.steps)
+    && (not given.inputs || taken.inputs)
 
 -- the options suit a command
 abbrev pub suits : Command → Arguments → Bool
@@ -102,21 +108,21 @@ variant_request task (model ∷ []) = None
 variant_request task (model ∷ file ∷ words) = Some (request.Variant model file words task)
 
 -- what is asked of all variants with these words
-abbrev pub family_request : Analysis → FamilyTask → List (List ℕ) → Option Request
-family_request analysis task [] = None
-family_request analysis task (model ∷ []) = None
-family_request analysis task (model ∷ file ∷ []) = Some (request.Family model file analysis task)
-family_request analysis task (model ∷ file ∷ more ∷ words) = None
+abbrev pub family_request : Analysis → Regions → FamilyTask → List (List ℕ) → Option Request
+family_request analysis regions task [] = None
+family_request analysis regions task (model ∷ []) = None
+family_request analysis regions task (model ∷ file ∷ []) = Some (request.Family model file analysis regions task)
+family_request analysis regions task (model ∷ file ∷ more ∷ words) = None
 
 -- the number of blocks that the text spells, from 1 to 2000
 abbrev pub blocks_of : List ℕ → Option ℕ
 blocks_of text = if bytes_eq text (codes "0") then None else number_up_to 2000 text
 
 -- what `generate` asks for with these words
-abbrev pub generate_request : Analysis → List (List ℕ) → Option Request
-generate_request analysis [] = None
-generate_request analysis (number ∷ []) = option_map (λ n. request.Generate n analysis) (blocks_of number)
-generate_request analysis (number ∷ more ∷ words) = None
+abbrev pub generate_request : Analysis → Regions → List (List ℕ) → Option Request
+generate_request analysis regions [] = None
+generate_request analysis regions (number ∷ []) = option_map (λ n. request.Generate n analysis regions) (blocks_of number)
+generate_request analysis regions (number ∷ more ∷ words) = None
 
 -- what `check` asks for with these words
 abbrev pub check_request : List (List ℕ) → Option Request
@@ -148,10 +154,10 @@ request_for command.Plain settings words = plain_request (analysis_of settings.c
 request_for command.Project settings words = variant_request task.Project words
 request_for command.Variant settings words = variant_request (task.Variant (analysis_of settings.chosen)) words
 request_for command.Run settings words = variant_request (run_task settings) words
-request_for command.Analyse settings words = family_request (analysis_of settings.chosen) family.Analyse words
-request_for command.Invariants settings words = family_request (analysis_of settings.chosen) family.Invariants words
-request_for command.Generate settings words = generate_request (analysis_of settings.chosen) words
-request_for command.Certify settings words = family_request (interval_analysis settings.chosen) family.Certify words
+request_for command.Analyse settings words = family_request (analysis_of settings.chosen) settings.chosen.regions family.Analyse words
+request_for command.Invariants settings words = family_request (analysis_of settings.chosen) settings.chosen.regions family.Invariants words
+request_for command.Generate settings words = generate_request (analysis_of settings.chosen) settings.chosen.regions words
+request_for command.Certify settings words = family_request (interval_analysis settings.chosen) settings.chosen.regions family.Certify words
 request_for command.Check settings words = check_request words
 request_for command.Advise settings words = advice_request (analysis_of settings.chosen) words
 request_for command.Features settings words = features_request words
@@ -183,8 +189,8 @@ reading words = option_and_then request_of (arguments_of words)
 abbrev pub paths_of : Request → List (List ℕ)
 paths_of (request.Plain file analysis) = file ∷ []
 paths_of (request.Variant model file settings task) = model ∷ file ∷ []
-paths_of (request.Family model file analysis task) = model ∷ file ∷ []
-paths_of (request.Generate number analysis) = []
+paths_of (request.Family model file analysis regions task) = model ∷ file ∷ []
+paths_of (request.Generate number analysis regions) = []
 paths_of (request.Check model file certificate) = model ∷ file ∷ certificate ∷ []
 paths_of (request.Advice model file settings analysis) = model ∷ file ∷ []
 paths_of (request.Features model) = model ∷ []
@@ -208,8 +214,8 @@ role_of_three failed model file certificate =
 abbrev pub role_of : Request → Option (List ℕ) → Role
 role_of (request.Plain file analysis) failed = role.File
 role_of (request.Variant model file settings task) failed = role_beside failed model
-role_of (request.Family model file analysis task) failed = role_beside failed model
-role_of (request.Generate number analysis) failed = role.File
+role_of (request.Family model file analysis regions task) failed = role_beside failed model
+role_of (request.Generate number analysis regions) failed = role.File
 role_of (request.Check model file certificate) failed = role_of_three failed model file certificate
 role_of (request.Advice model file settings analysis) failed = role_beside failed model
 role_of (request.Features model) failed = role.Model
@@ -226,8 +232,8 @@ HaveInts (task.Run steps inputs mode) = All IsInt inputs
 abbrev pub IsWithinRanges : Request → Type 0
 IsWithinRanges (request.Plain file analysis) = ⊤
 IsWithinRanges (request.Variant model file settings task) = HaveInts task
-IsWithinRanges (request.Family model file analysis task) = ⊤
-IsWithinRanges (request.Generate number analysis) = number ≤ 2000
+IsWithinRanges (request.Family model file analysis regions task) = ⊤
+IsWithinRanges (request.Generate number analysis regions) = number ≤ 2000
 IsWithinRanges (request.Check model file certificate) = ⊤
 IsWithinRanges (request.Advice model file settings analysis) = ⊤
 IsWithinRanges (request.Features model) = ⊤

@@ -11,6 +11,7 @@ ghost use Rattle.famlint_requests.specs.Requests.{role_of, role_beside, role_of_
 use c_tree::Mode;
 use command_words::{Domain, Word};
 use fam_outer::{NoMemory, Text, Values};
+use linear_atoms::Regions;
 use plain_analysis::Options;
 pub use reading::read_request;
 use std::alloc::Global;
@@ -36,12 +37,14 @@ pub enum Request {
         model: Word,
         file: Word,
         analysis: Analysis,
+        regions: Regions,
         task: FamilyTask,
     },
     /// The alarms of the family of so many blocks that is made for measures, and its size.
     Generate {
         number: u32,
         analysis: Analysis,
+        regions: Regions,
     },
     /// Whether CERTIFICATE holds of all variants of FILE, of those that MODEL allows.
     Check {
@@ -195,11 +198,13 @@ impl Request {
                 model,
                 file: _,
                 analysis: _,
+                regions: _,
                 task: _,
             } => role_beside(failed, model),
             Request::Generate {
                 number: _,
                 analysis: _,
+                regions: _,
             } => Role::File,
             Request::Check {
                 model,

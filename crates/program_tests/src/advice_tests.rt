@@ -26,6 +26,7 @@ fn what_models_leave_open(rt: HostRuntime) -> Result<(), Fail> {
         ("features mc f10", 2, "", USAGE),
         ("features mc --delay 1", 2, "", USAGE),
         ("features mc --inputs 1", 2, "", USAGE),
+        ("features mc --regions paths", 2, "", USAGE),
     ];
     for (line, status, output, told) in rows {
         gives(&rt, alloc, line, Vec::new(alloc), (status, output, told))?;
@@ -78,6 +79,7 @@ fn nearest_configurations(rt: HostRuntime) -> Result<(), Fail> {
         ("advise ma nowhere", 6, "", "read fault: file\n"),
         ("advise ma", 2, "", USAGE),
         ("advise ma f1 --steps 3", 2, "", USAGE),
+        ("advise ma f1 --regions merged", 2, "", USAGE),
     ];
     for (line, status, output, told) in rows {
         gives(&rt, alloc, line, Vec::new(alloc), (status, output, told))?;

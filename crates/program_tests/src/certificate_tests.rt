@@ -202,10 +202,12 @@ fn words_and_loads(rt: HostRuntime) -> Result<(), Fail> {
         ("check ma f8", 2, USAGE),
         ("check ma f8 f1 f1", 2, USAGE),
         ("check --overflow wrap ma f8 f1", 2, USAGE),
+        ("check --regions paths ma f8 f1", 2, USAGE),
         ("certify ma", 2, USAGE),
         ("certify ma f8 A", 2, USAGE),
         ("certify --domain octagon ma f8", 2, USAGE),
         ("certify --steps 1 ma f8", 2, USAGE),
+        ("certify --regions=joined ma f8", 2, USAGE),
     ];
     for (line, status, told) in rows {
         gives(&rt, alloc, line, Vec::new(alloc), (status, "", told))?;

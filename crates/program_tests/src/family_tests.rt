@@ -192,6 +192,9 @@ fn other_words_are_refused(rt: HostRuntime) -> Result<(), Fail> {
         "analyse ma f8 --steps 3",
         "invariants ma f8 --inputs=1",
         "invariants ma f8 --domain boxes",
+        "analyse ma f8 --regions",
+        "analyse ma f8 --regions joined",
+        "invariants ma f8 --regions=paths --regions=paths",
     ];
     for line in lines {
         gives(&rt, alloc, line, Vec::new(alloc), (2, "", usage))?;

@@ -20,6 +20,7 @@ fn generated_families(rt: HostRuntime) -> Result<(), Fail> {
             "bytes: 87360\nplaces: 5333\nalarms: 0\n",
             "",
         ),
+        ("generate --regions=paths 3", 0, three, ""),
         ("generate 0", 2, "", USAGE),
         ("generate 2001", 2, "", USAGE),
         ("generate 03", 2, "", USAGE),
@@ -27,6 +28,7 @@ fn generated_families(rt: HostRuntime) -> Result<(), Fail> {
         ("generate", 2, "", USAGE),
         ("generate 1 3", 2, "", USAGE),
         ("generate 3 --steps 1", 2, "", USAGE),
+        ("generate 3 --regions joined", 2, "", USAGE),
     ];
     for (line, status, output, told) in rows {
         gives(&rt, alloc, line, Vec::new(alloc), (status, output, told))?;

@@ -51,6 +51,7 @@ fn refuses_words(rt: HostRuntime) -> Result<(), Fail> {
         "plain -- f --narrow 0",
         "plain f --overflow halt",
         "plain f --domain=boxes",
+        "plain f --regions merged",
     ];
     for line in lines {
         let ran = ran_over(rt.alloc(), line, &[("f", ROW_1)])?;

@@ -138,6 +138,9 @@ fn other_options_are_refused(rt: HostRuntime) -> Result<(), Fail> {
         "variant ma f8 --steps 3",
         "project ma f23 --overflow wrap",
         "variant ma f8 --domain boxes",
+        "variant ma f8 --regions merged",
+        "project ma f23 --regions=paths",
+        "run m0 f6 --regions merged",
     ];
     for line in lines {
         gives(&rt, alloc, line, Vec::new(alloc), (2, "", usage))?;

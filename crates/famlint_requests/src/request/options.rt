@@ -50,16 +50,21 @@ impl Command {
         ensures { result ≡ specs.taken_by self }
     {
         match self {
-            Command::Plain
-            | Command::Variant
-            | Command::Analyse
-            | Command::Invariants
-            | Command::Generate
-            | Command::Advise => Given {
+            Command::Plain | Command::Variant | Command::Advise => Given {
                 domain: true,
                 delay: true,
                 narrow: true,
                 overflow: true,
+                regions: false,
+                steps: false,
+                inputs: false,
+            },
+            Command::Analyse | Command::Invariants | Command::Generate => Given {
+                domain: true,
+                delay: true,
+                narrow: true,
+                overflow: true,
+                regions: true,
                 steps: false,
                 inputs: false,
             },
@@ -68,6 +73,7 @@ impl Command {
                 delay: true,
                 narrow: true,
                 overflow: true,
+                regions: true,
                 steps: false,
                 inputs: false,
             },
@@ -76,6 +82,7 @@ impl Command {
                 delay: false,
                 narrow: false,
                 overflow: false,
+                regions: false,
                 steps: false,
                 inputs: false,
             },
@@ -84,6 +91,7 @@ impl Command {
                 delay: false,
                 narrow: false,
                 overflow: true,
+                regions: false,
                 steps: true,
                 inputs: true,
             },
@@ -99,6 +107,7 @@ fn are_taken(given: Given, taken: Given) -> bool
         && (!given.delay || taken.delay)
         && (!given.narrow || taken.narrow)
         && (!given.overflow || taken.overflow)
+        && (!given.regions || taken.regions)
         && (!given.steps || taken.steps)
         && (!given.inputs || taken.inputs)
 }

@@ -14,6 +14,7 @@ use command_words::{
     Arguments, OptionSettings, Usage, Word, WordsRefusal, number_up_to, read_words,
 };
 use fam_outer::NoMemory;
+use linear_atoms::Regions;
 use std::alloc::Global;
 
 /// What `plain` asks for with these words.
@@ -55,10 +56,11 @@ fn variant_request(
 fn family_request(
     alloc: Global,
     analysis: Analysis,
+    regions: Regions,
     task: FamilyTask,
     words: &[Word],
 ) -> Result<Request, WordsRefusal>
-    ensures answer { AnswersWords (specs.family_request analysis task words.now) result }
+    ensures answer { AnswersWords (specs.family_request analysis regions task words.now) result }
     ensures ranges { IfOk result (λ request. IsWithinRanges request) }
 {
     match words {
@@ -66,6 +68,7 @@ fn family_request(
             model: Word::from_str(alloc, model.as_str())?,
             file: Word::from_str(alloc, file.as_str())?,
             analysis,
+            regions,
             task,
         }),
         _ => Err(WordsRefusal::Fault(Usage)),
@@ -85,13 +88,21 @@ fn blocks_of(text: &str) -> Option<u32>
 }
 
 /// What `generate` asks for with these words.
-fn generate_request(analysis: Analysis, words: &[Word]) -> Result<Request, WordsRefusal>
-    ensures answer { AnswersWords (specs.generate_request analysis words.now) result }
+fn generate_request(
+    analysis: Analysis,
+    regions: Regions,
+    words: &[Word],
+) -> Result<Request, WordsRefusal>
+    ensures answer { AnswersWords (specs.generate_request analysis regions words.now) result }
     ensures ranges { IfOk result (λ request. IsWithinRanges request) }
 {
     match words {
         [word] => match blocks_of(word.as_str()) {
-            Some(number) => Ok(Request::Generate { number, analysis }),
+            Some(number) => Ok(Request::Generate {
+                number,
+                analysis,
+                regions,
+            }),
             None => Err(WordsRefusal::Fault(Usage)),
         },
         _ => Err(WordsRefusal::Fault(Usage)),
@@ -171,6 +182,7 @@ fn request_for(
     ensures ranges { IfOk result (λ request. IsWithinRanges request) }
 {
     let analysis = analysis_of(settings.chosen);
+    let regions = settings.chosen.regions;
     match command {
         Command::Plain => plain_request(alloc, analysis, words),
         Command::Project => variant_request(alloc, VariantTask::Project, words),
@@ -179,12 +191,18 @@ fn request_for(
             let task = run_task(alloc, settings)?;
             variant_request(alloc, task, words)
         }
-        Command::Analyse => family_request(alloc, analysis, FamilyTask::Analyse, words),
-        Command::Invariants => family_request(alloc, analysis, FamilyTask::Invariants, words),
-        Command::Generate => generate_request(analysis, words),
+        Command::Analyse => family_request(alloc, analysis, regions, FamilyTask::Analyse, words),
+        Command::Invariants => family_request(
+            alloc,
+            analysis,
+            regions,
+            FamilyTask::Invariants,
+            words,
+        ),
+        Command::Generate => generate_request(analysis, regions, words),
         Command::Certify => {
             let analysis = interval_analysis(settings.chosen);
-            family_request(alloc, analysis, FamilyTask::Certify, words)
+            family_request(alloc, analysis, regions, FamilyTask::Certify, words)
         }
         Command::Check => check_request(alloc, words),
         Command::Advise => advice_request(alloc, analysis, words),
