@@ -4,6 +4,7 @@ pub mod Meeting
 pub mod Covering
 pub mod Leading
 pub mod Pairing
+pub mod Piecewise
 pub mod Placed
 pub mod Stops
 pub mod Wellformed

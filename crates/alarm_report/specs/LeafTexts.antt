@@ -9,6 +9,7 @@ use Rattle.leaf_domain.specs.declared.range.Range.{Range}
 use Rattle.leaf_domain.specs.Leaves.{LeafValue, LeafMeaning, is_nothing_of}
 use Rattle.leaf_domain.specs.Ranges.{arithmetic_range}
 use Rattle.linear_atoms.specs.declared.atoms.Feature.{Feature}
+use Rattle.linear_atoms.specs.declared.regions.Regions.{Regions}
 use Rattle.alarm_report.specs.Invariants.{Invariant}
 use Rattle.alarm_report.specs.Texts.{joined, place_text, region_text}
 
@@ -75,9 +76,9 @@ leaf_text M names v = if is_nothing_of v then codes "unreachable" else items_tex
 -- ---- invariants
 
 -- `LINE:COLUMN: if REGION: LEAF`
-abbrev pub invariant_line : LeafMeaning → List Feature → List (List ℕ) → Invariant → List ℕ
-invariant_line M features names i =
-    place_text i.place ++ codes ": if " ++ region_text features i.region.literals ++ codes ": " ++ leaf_text M names i.leaf ++ codes "\n"
+abbrev pub invariant_line : Regions → LeafMeaning → List Feature → List (List ℕ) → Invariant → List ℕ
+invariant_line regions M features names i =
+    place_text i.place ++ codes ": if " ++ region_text regions features i.region.literals ++ codes ": " ++ leaf_text M names i.leaf ++ codes "\n"
 
-abbrev pub invariant_text : LeafMeaning → List Feature → List (List ℕ) → List Invariant → List ℕ
-invariant_text M features names is = flat_map (invariant_line M features names) is
+abbrev pub invariant_text : Regions → LeafMeaning → List Feature → List (List ℕ) → List Invariant → List ℕ
+invariant_text regions M features names is = flat_map (invariant_line regions M features names) is

@@ -5,5 +5,6 @@ pub mod Forming
 pub mod Invariants
 pub mod Known
 pub mod LeafTexts
+pub mod Pieces
 pub mod Regions
 pub mod Texts

@@ -7,10 +7,11 @@ use Rattle.c_tree.specs.declared.tree.Kind.{Kind}
 use Rattle.c_tree.specs.declared.tree.Kind.TheVariants.{Overflow, ZeroDivisor, Assertion}
 use Rattle.linear_atoms.specs.declared.atoms.Feature.{Feature}
 use Rattle.linear_atoms.specs.declared.atoms.Literal.{Literal}
-use Rattle.linear_atoms.specs.Texts.{literal_text}
+use Rattle.linear_atoms.specs.declared.regions.Regions.{Regions}
 use Rattle.plain_analysis.specs.declared.alarm.Alarm.{Alarm}
 use Rattle.linear_atoms.specs.SettingTexts.{config_text}
 use Rattle.alarm_report.specs.declared.alarms.FamilyAlarm.{FamilyAlarm}
+use Rattle.alarm_report.specs.Pieces.{piece_text, pieces_of}
 
 -- texts one after another, with a text between
 abbrev pub joined : List ℕ → List (List ℕ) → List ℕ
@@ -51,16 +52,16 @@ HaveWordPlaces alarms = All (λ (a : Alarm). IsWordPlace a.place) alarms
 
 -- ---- the alarms of a family
 
--- a region as a condition: its literals joined by `&&`, or 1 where there is none
-abbrev pub region_text : List Feature → List Literal → List ℕ
-region_text features [] = codes "1"
-region_text features (l ∷ ls) = joined (codes " && ") (map (literal_text features) (l ∷ ls))
+-- a region as a condition: its pieces joined by `&&`, or 1 where there is none
+abbrev pub region_text : Regions → List Feature → List Literal → List ℕ
+region_text regions features [] = codes "1"
+region_text regions features (l ∷ ls) = joined (codes " && ") (map (piece_text features) (pieces_of regions features (l ∷ ls)))
 
 -- the line of an alarm of a family: `LINE:COLUMN: KIND if REGION; example CONFIGURATION`
-abbrev pub family_line : List Feature → FamilyAlarm → List ℕ
-family_line features a = place_text a.place ++ codes ": " ++ kind_text a.kind ++ codes " if " ++ region_text features a.region.literals
+abbrev pub family_line : Regions → List Feature → FamilyAlarm → List ℕ
+family_line regions features a = place_text a.place ++ codes ": " ++ kind_text a.kind ++ codes " if " ++ region_text regions features a.region.literals
     ++ codes "; example " ++ config_text features a.region.example.values ++ codes "\n"
 
 -- the lines of the alarms of a family, and how many they are
-abbrev pub alarm_text : List Feature → List FamilyAlarm → List ℕ
-alarm_text features alarms = flat_map (family_line features) alarms ++ count_line (length alarms)
+abbrev pub alarm_text : Regions → List Feature → List FamilyAlarm → List ℕ
+alarm_text regions features alarms = flat_map (family_line regions features) alarms ++ count_line (length alarms)

@@ -1,14 +1,11 @@
 //! Texts one after another.
 #![tactic(auto)]
 
-ghost use Rattle.std.specs.Prelude.{◌≡◌, length, map, IfOk};
-ghost use Rattle.linear_atoms.specs.Atoms.{AreLiterals};
-ghost use Rattle.linear_atoms.specs.Texts.{literal_text};
+ghost use Rattle.std.specs.Prelude.{◌≡◌, IfOk};
 ghost use Rattle.alarm_report.specs.Texts.{joined as joined_by};
 
 use fam_outer::{NoMemory, Text};
 use linear_atoms::slices::cut;
-use linear_atoms::{Feature, Literal};
 use std::alloc::Global;
 
 /// The texts, with one between.
@@ -24,22 +21,4 @@ pub fn joined(alloc: Global, between: &str, texts: &[Text]) -> Result<Text, NoMe
         }
     }
     Ok(Text::from_vec(whole))
-}
-
-/// The texts of literals.
-pub fn literal_texts(
-    alloc: Global,
-    features: &[Feature],
-    literals: &[Literal],
-) -> Result<Vec<Text>, NoMemory>
-    requires { AreLiterals (length features.now) literals.now }
-    ensures { IfOk result (λ texts. texts.items ≡ map (literal_text features.now) literals.now) }
-{
-    let mut texts = Vec::new(alloc);
-    let mut rest = literals;
-    'literals: while let Some((literal, behind)) = cut(rest) {
-        texts.push(literal.text(alloc, features)?)?;
-        rest = behind;
-    }
-    Ok(texts)
 }

@@ -16,8 +16,8 @@ use crate::texts::{push_place, push_region};
 use c_tree::Op;
 use fam_outer::{NoMemory, Text, decimal};
 use leaf_domain::{Form, Leaf, Range, Terms, arithmetic};
-use linear_atoms::Feature;
 use linear_atoms::slices::cut;
+use linear_atoms::{Feature, Regions};
 use smallvec::SmallVec;
 use std::alloc::Global;
 
@@ -270,6 +270,7 @@ pub fn leaf_text<L: Leaf>(alloc: Global, names: &[Text], leaf: &L) -> Result<Tex
 /// Adds the line of an invariant.
 fn push_line<L: Leaf>(
     alloc: Global,
+    regions: Regions,
     text: &mut Vec<u8>,
     features: &[Feature],
     names: &[Text],
@@ -277,11 +278,11 @@ fn push_line<L: Leaf>(
 ) -> Result<(), NoMemory>
     requires { AreLiterals (length features.now) one.now.region.literals }
     ensures { IfOk result (λ _. text.new.items
-        ≡ text.old.items ++ invariant_line L.meaning features.now names.now (invariant L.value one.now)) }
+        ≡ text.old.items ++ invariant_line regions L.meaning features.now names.now (invariant L.value one.now)) }
 {
     push_place(alloc, text, one.place)?;
     text.extend_from_slice(": if ".as_bytes())?;
-    push_region(alloc, text, features, one.region.literals.items())?;
+    push_region(alloc, regions, text, features, one.region.literals.items())?;
     text.extend_from_slice(": ".as_bytes())?;
     let leaf = leaf_text(alloc, names, &one.leaf.value)?;
     text.extend_from_slice(leaf.bytes())?;
@@ -295,6 +296,7 @@ fn push_line<L: Leaf>(
 /// The atoms of all literals are well formed over the features.
 pub fn invariant_text<L: Leaf>(
     alloc: Global,
+    regions: Regions,
     features: &[Feature],
     names: &[Text],
     invariants: &[FamilyInvariant<L>],
@@ -302,11 +304,11 @@ pub fn invariant_text<L: Leaf>(
     requires { All (λ (i : FamilyInvariant L). AreLiterals
         (length features.now) i.region.literals) invariants.now }
     ensures { IfOk result (λ text. text
-        ≡ invariant_text L.meaning features.now names.now (map (invariant L.value) invariants.now)) }
+        ≡ invariant_text regions L.meaning features.now names.now (map (invariant L.value) invariants.now)) }
 {
     let mut text = Vec::new(alloc);
     'invariants: for one in invariants {
-        push_line(alloc, &mut text, features, names, one)?;
+        push_line(alloc, regions, &mut text, features, names, one)?;
     }
     Ok(Text::from_vec(text))
 }

@@ -11,6 +11,7 @@ pub mod laws;
 pub mod leaf_texts;
 mod literals;
 pub mod path_region;
+pub mod pieces;
 pub mod region;
 pub mod texts;
 

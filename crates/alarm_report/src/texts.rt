@@ -8,11 +8,12 @@ ghost use Rattle.alarm_report.specs.declared.alarms.FamilyAlarm.{FamilyAlarm};
 ghost use Rattle.alarm_report.specs.Texts.{place_text, kind_text as text_of_kind, alarm_line, count_line, variant_text, IsWordPlace, HaveWordPlaces, region_text, family_line, alarm_text};
 
 use crate::alarms::FamilyAlarm;
-use crate::joining::{joined, literal_texts};
+use crate::joining::joined;
+use crate::pieces::piece_texts;
 use c_tree::Kind;
 use fam_outer::{NoMemory, Place, Text};
 use linear_atoms::slices::cut;
-use linear_atoms::{Feature, Literal, config_text};
+use linear_atoms::{Feature, Literal, Regions, config_text};
 use plain_analysis::Alarm;
 use std::alloc::Global;
 
@@ -76,12 +77,13 @@ pub fn variant_report(alloc: Global, alarms: &[Alarm]) -> Result<Text, NoMemory>
 /// Adds the text of a region.
 pub fn push_region(
     alloc: Global,
+    regions: Regions,
     text: &mut Vec<u8>,
     features: &[Feature],
     literals: &[Literal],
 ) -> Result<(), NoMemory>
     requires { AreLiterals (length features.now) literals.now }
-    ensures { IfOk result (λ _. text.new.items ≡ text.old.items ++ region_text features.now literals.now) }
+    ensures { IfOk result (λ _. text.new.items ≡ text.old.items ++ region_text regions features.now literals.now) }
 {
     match cut(literals) {
         None => {
@@ -89,7 +91,7 @@ pub fn push_region(
             Ok(())
         }
         Some((_first, _behind)) => {
-            let texts = literal_texts(alloc, features, literals)?;
+            let texts = piece_texts(alloc, regions, features, literals)?;
             let whole = joined(alloc, " && ", &texts)?;
             text.extend_from_slice(whole.bytes())?;
             Ok(())
@@ -100,18 +102,25 @@ pub fn push_region(
 /// Adds the line of an alarm of a family.
 fn push_line(
     alloc: Global,
+    regions: Regions,
     text: &mut Vec<u8>,
     features: &[Feature],
     alarm: &FamilyAlarm,
 ) -> Result<(), NoMemory>
     requires { AreLiterals (length features.now) alarm.now.region.literals }
-    ensures { IfOk result (λ _. text.new.items ≡ text.old.items ++ family_line features.now alarm.now) }
+    ensures { IfOk result (λ _. text.new.items ≡ text.old.items ++ family_line regions features.now alarm.now) }
 {
     push_place(alloc, text, alarm.place)?;
     let kind = kind_text(alarm.kind);
     let behind = format!(in alloc; ": {kind} if ")?;
     text.extend_from_slice(behind.as_bytes())?;
-    push_region(alloc, text, features, alarm.region.literals.items())?;
+    push_region(
+        alloc,
+        regions,
+        text,
+        features,
+        alarm.region.literals.items(),
+    )?;
     text.extend_from_slice("; example ".as_bytes())?;
     let example = config_text(alloc, features, alarm.region.example.values.items())?;
     text.extend_from_slice(example.bytes())?;
@@ -120,21 +129,22 @@ fn push_line(
 }
 
 /// The report on a family: for each alarm a line `LINE:COLUMN: KIND if REGION; example CONFIGURATION`, then `alarms: N` with their
-/// number. REGION has the texts of the region's literals joined by ` && `, or is `1` where there is none. The only refusal is want
-/// of memory.
+/// number. REGION has the texts of the region's literals joined by ` && `, or is `1` where there is none. Where regions are merged,
+/// `T >= k` and `T <= k` of one region are written as `T == k`, at the place of the first. The only refusal is want of memory.
 ///
 /// The atoms of all literals are well formed over the features.
 pub fn alarm_text(
     alloc: Global,
+    regions: Regions,
     features: &[Feature],
     alarms: &[FamilyAlarm],
 ) -> Result<Text, NoMemory>
     requires { All (λ (a : FamilyAlarm). AreLiterals (length features.now) a.region.literals) alarms.now }
-    ensures { IfOk result (λ text. text ≡ alarm_text features.now alarms.now) }
+    ensures { IfOk result (λ text. text ≡ alarm_text regions features.now alarms.now) }
 {
     let mut text = Vec::new(alloc);
     'alarms: for alarm in alarms {
-        push_line(alloc, &mut text, features, alarm)?;
+        push_line(alloc, regions, &mut text, features, alarm)?;
     }
     push_count(alloc, &mut text, alarms.len())?;
     Ok(Text::from_vec(text))

@@ -2,6 +2,7 @@
 use Rattle.std.specs.Prelude.{ℕ, nat_eq, ℤ, pos, ◌-ℤ◌, int_lt, unsigned_abs, Bool, true, false, ◌&&◌, if◌then◌else◌, List, [], ◌∷◌, ◌++◌, map, codes, slice_index_or}
 use Rattle.std.specs.Fmt.{decimal, signed_decimal}
 use Rattle.std.specs.Ordering.{int_eq}
+use Rattle.linear_atoms.specs.declared.atoms.Atom.{Atom}
 use Rattle.linear_atoms.specs.declared.atoms.Feature.{Feature}
 use Rattle.linear_atoms.specs.declared.atoms.Literal.{Literal}
 
@@ -39,3 +40,7 @@ literal_by false false terms bound = (terms ++ codes " <= ") ++ signed_decimal (
 
 abbrev pub literal_text : List Feature → Literal → List ℕ
 literal_text features literal = literal_by (is_switch features literal.atom.terms literal.atom.bound) literal.positive (terms_text true features literal.atom.terms) literal.atom.bound
+
+-- the terms with the bound as their value: `T == c`
+abbrev pub value_text : List Feature → Atom → List ℕ
+value_text features atom = (terms_text true features atom.terms ++ codes " == ") ++ signed_decimal atom.bound

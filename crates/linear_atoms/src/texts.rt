@@ -5,7 +5,7 @@ ghost use Rattle.std.specs.Prelude.{◌≡◌, ◌++◌, true, length, unsigned_
 ghost use Rattle.std.specs.Fmt.{signed_decimal};
 ghost use Rattle.linear_atoms.specs.Forms.{are_small, is_small};
 ghost use Rattle.linear_atoms.specs.Atoms.{AreBelow, IsAtom};
-ghost use Rattle.linear_atoms.specs.Texts.{sign_text, sized_text, terms_text, is_switch, literal_text};
+ghost use Rattle.linear_atoms.specs.Texts.{sign_text, sized_text, terms_text, is_switch, literal_text, value_text};
 
 use crate::atoms::{Atom, Feature, Literal};
 use fam_outer::{NoMemory, Text, decimal};
@@ -69,7 +69,7 @@ fn terms_text(
 }
 
 /// Whether the atom is one Boolean feature with coefficient 1 and bound 1.
-fn is_switch(atom: &Atom, features: &[Feature]) -> bool
+pub fn is_switch(atom: &Atom, features: &[Feature]) -> bool
     requires { AreBelow (length features.now) atom.now.terms }
     ensures { result ≡ is_switch features.now atom.now.terms atom.now.bound }
 {
@@ -122,5 +122,17 @@ impl Literal {
             (false, true) => comparison(alloc, terms, " >= ", self.atom.bound),
             (false, false) => comparison(alloc, terms, " <= ", self.atom.bound - 1),
         }
+    }
+}
+
+impl Atom {
+    /// The text of the terms with the bound as their value, over the features that the numbers name: `T == c`, with `T`
+    /// as in the text of a literal and `c` the bound.
+    pub fn value_text(&self, alloc: Global, features: &[Feature]) -> Result<Text, NoMemory>
+        requires { IsAtom (length features.now) self.now }
+        ensures { IfOk result (λ text. text ≡ value_text features.now self.now) }
+    {
+        let terms = terms_text(alloc, self.terms.items(), features)?;
+        comparison(alloc, terms, " == ", self.bound)
     }
 }

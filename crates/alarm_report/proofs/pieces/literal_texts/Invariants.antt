@@ -1,7 +1,7 @@
 use Rattle.std.proofs.Common.{◌≡◌, ◌++◌, map, length}
 use Rattle.linear_atoms.specs.Atoms.{AreLiterals}
 use Rattle.linear_atoms.specs.Texts.{literal_text}
-use Rattle.alarm_report.proofs.joining.literal_texts.Given as goal
+use Rattle.alarm_report.proofs.pieces.literal_texts.Given as goal
 
 -- what stands, and what is left, are all
 abbrev pub invariant-literals : goal.invariant-literals
