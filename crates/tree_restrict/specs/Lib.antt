@@ -1,0 +1,4 @@
+pub mod Known
+pub mod Mapped
+pub mod Reached
+pub mod Restricted
