@@ -28,7 +28,7 @@ use Rattle.plain_analysis.specs.Places.{is_same_place, entry_in, at_of, alarm_of
 use Rattle.plain_analysis.specs.Statements.{Entry, passed, entries_by, final_heads}
 use Rattle.plain_analysis.proofs.Located.{listed}
 use Rattle.plain_analysis.proofs.Nothing.{nothing_value}
-use Rattle.lifted_analysis.specs.Canon.{IsTreeOf}
+use Rattle.merged_findings.specs.Merged.{IsTreeWhere}
 use Rattle.lifted_analysis.specs.Lines.{bounded_by, given_at, set_from}
 use Rattle.lifted_analysis.specs.Promises.{truths_of, variant_at, begin_at, leaf_at, stop_at, by_kind}
 use Rattle.lifted_analysis.specs.Turns.{Turn, turns_by, inductive_in, loop_places}
@@ -121,10 +121,10 @@ module _ (M : LeafMeaning) (laws : LeafLaws M) (transfer : (m : Mode) → Transf
   -- ---- the trees at the configuration
 
   abbrev IsLeafTree : LeafTree → Type 0
-  IsLeafTree t = IsTreeOf (length atoms) (leaf_at M o p conditions h.leaves_are.plausible t.place) t.tree
+  IsLeafTree t = IsTreeWhere (length atoms) (leaf_at M o p conditions h.leaves_are.plausible t.place) (formula h.leaves_are.plausible) t.tree
 
   abbrev IsAlarmTreeOf : PlainAlarmTree → Type 0
-  IsAlarmTreeOf t = IsTreeOf (length atoms) (stop_at M o p conditions h.stops_are.plausible (t.place, t.kind)) t.tree
+  IsAlarmTreeOf t = IsTreeWhere (length atoms) (stop_at M o p conditions h.stops_are.plausible (t.place, t.kind)) (formula h.stops_are.plausible) t.tree
 
   leaf_trees : AllByRecursion IsLeafTree (trees_at (loop_places p.body) h.places)
   leaf_trees = kept_trees IsLeafTree (loop_places p.body) h.places (recursion_from_All IsLeafTree h.places h.leaves_are.are)
@@ -140,7 +140,7 @@ module _ (M : LeafMeaning) (laws : LeafLaws M) (transfer : (m : Mode) → Transf
 
   leaves_there : AllByRecursion (λ (t : LeafTree). leaf_of t.tree v ≡ F t.place) (trees_at (loop_places p.body) h.places)
   leaves_there =
-      all_mapped IsLeafTree (λ (t : LeafTree). leaf_of t.tree v ≡ F t.place) (λ t k. k.leads v vector_length ∙ ap (λ x. at_of M o q x t.place) (begins h.leaves_are.plausible (h.leaves_are.valid values valid)))
+      all_mapped IsLeafTree (λ (t : LeafTree). leaf_of t.tree v ≡ F t.place) (λ t k. k.leads v vector_length (h.leaves_are.valid values valid) ∙ ap (λ x. at_of M o q x t.place) (begins h.leaves_are.plausible (h.leaves_are.valid values valid)))
       (trees_at (loop_places p.body) h.places) leaf_trees
 
   loops_within : Within (loop_places p.body) (program_places p)
@@ -214,7 +214,7 @@ module _ (M : LeafMeaning) (laws : LeafLaws M) (transfer : (m : Mode) → Transf
       let t = in_mapped key_of at h.stops (subst (IsIn at) (sym h.stops_are.keys) i) in
       let tree : IsAlarmTreeOf t.0 = one_of_all IsAlarmTreeOf t.0 h.stops stop_trees t.1 in
       let true_there : leaf_of t.0.tree v ≡ true =
-      tree.leads v vector_length ∙ (ap (λ x. alarm_of M o q x t.0.place t.0.kind) (begins h.stops_are.plausible (h.stops_are.valid values valid)) ∙ subst (λ (x : Place × Kind). alarm_of M o q d x.0 x.1 ≡ true) (sym t.2) e) in
+      tree.leads v vector_length (h.stops_are.valid values valid) ∙ (ap (λ x. alarm_of M o q x t.0.place t.0.kind) (begins h.stops_are.plausible (h.stops_are.valid values valid)) ∙ subst (λ (x : Place × Kind). alarm_of M o q d x.0 x.1 ≡ true) (sym t.2) e) in
       let a = told_here model atoms values valid h.stops h.alarms h.alarms_are stops_below t.0 t.1 true_there in
       subst (λ (x : Place × Kind). is_listed c.alarms.items x v ≡ true) t.2
       (alarms_listed model atoms values valid t.0.place t.0.kind h.alarms c.alarms.items h.read.alarms a)

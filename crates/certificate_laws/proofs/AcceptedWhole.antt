@@ -13,10 +13,11 @@ use Rattle.c_tree.specs.Whole.{IsProgram}
 use Rattle.linear_atoms.specs.declared.atoms.Atom.{Atom}
 use Rattle.cpp_conditions.specs.declared.formulas.Formula.{Formula}
 use Rattle.cpp_conditions.specs.declared.models.Model.{Model}
+use Rattle.cpp_conditions.specs.View.{formula}
 use Rattle.leaf_domain.specs.Soundness.{TransferAnswers}
 use Rattle.interval_leaf.specs.Intervals.{intervals}
 use Rattle.interval_leaf.specs.Laws.{interval_laws}
-use Rattle.lifted_analysis.specs.Canon.{IsTreeOf}
+use Rattle.merged_findings.specs.Merged.{IsTreeWhere}
 use Rattle.lifted_analysis.specs.Promises.{leaf_at, stop_at, by_kind}
 use Rattle.lifted_analysis.specs.Turns.{loop_places}
 use Rattle.plain_analysis.specs.declared.options.Options.{Options}
@@ -66,7 +67,7 @@ joined P Q R f (x ∷ xs) h k = (f x h.0 k.0, joined P Q R f xs h.1 k.1)
 module _ (transfer : (m : Mode) → TransferAnswers intervals m) (o : Options) (model : Model) (p : Whole) (conditions : List Formula) (atoms : List Atom) (bytes : List ℕ)
     (program : IsProgram p) (at : All IsPlace (program_places p)) (names : AreNames model atoms p.names) (h : IsWrittenOf o model p conditions atoms bytes) (short : length bytes ≤ certificate_bytes) where
   abbrev IsLeafTree : LeafTree → Type 0
-  IsLeafTree t = IsTreeOf (length atoms) (λ v. leaf_at intervals o p conditions h.leaves_are.plausible t.place v) t.tree
+  IsLeafTree t = IsTreeWhere (length atoms) (λ v. leaf_at intervals o p conditions h.leaves_are.plausible t.place v) (formula h.leaves_are.plausible) t.tree
 
   places_at : AllByRecursion IsPlace (program_places p)
   places_at = recursion_from_All IsPlace (program_places p) at
@@ -78,7 +79,7 @@ module _ (transfer : (m : Mode) → TransferAnswers intervals m) (o : Options) (
       (mapped_places place_of h.places (program_places p) h.leaves_are.keys places_at) (recursion_from_All IsLeafTree h.places h.leaves_are.are)
 
   abbrev IsAlarmTreeOf : PlainAlarmTree → Type 0
-  IsAlarmTreeOf t = IsTreeOf (length atoms) (λ v. stop_at intervals o p conditions h.stops_are.plausible (t.place, t.kind) v) t.tree
+  IsAlarmTreeOf t = IsTreeWhere (length atoms) (λ v. stop_at intervals o p conditions h.stops_are.plausible (t.place, t.kind) v) (formula h.stops_are.plausible) t.tree
 
   stop_trees : AllByRecursion (IsAlarmTree (length atoms)) h.stops
   stop_trees =

@@ -13,7 +13,6 @@ use Rattle.cpp_conditions.specs.declared.formulas.Formula.{Formula}
 use Rattle.cpp_conditions.specs.Propositions.{true_on}
 use Rattle.cpp_conditions.specs.View.{formula}
 use Rattle.decision_tree.specs.Plain.{Plain, leaf, node, leaf_of, HasLeaf}
-use Rattle.decision_tree.proofs.Reached.{reached}
 use Rattle.leaf_domain.specs.Leaves.{LeafValue, LeafMeaning, LeafLaws, IsLeafLike, nothing_of}
 use Rattle.leaf_domain.specs.Transfer.{assumed, assigned, forgotten}
 use Rattle.leaf_domain.specs.Soundness.{Suits, TransferAnswers}
@@ -24,7 +23,7 @@ use Rattle.plain_analysis.specs.Places.{is_same_place, entry_in, leaf_or, at_of}
 use Rattle.plain_analysis.specs.Statements.{Entry, after_of, entries_of}
 use Rattle.plain_analysis.proofs.JoinLemmas.{join_answer}
 use Rattle.plain_analysis.proofs.Recursion.{after_answers, final_of_code}
-use Rattle.lifted_analysis.specs.Canon.{IsTreeOf}
+use Rattle.merged_findings.specs.Merged.{IsTreeWhere}
 use Rattle.lifted_analysis.specs.Promises.{truths_of, variant_at, begin_at, leaf_at}
 use Rattle.certificate_laws.specs.Written.{AllLeaves, IsLeafOver}
 use Rattle.certificate_laws.proofs.Trees.{all_both}
@@ -127,11 +126,11 @@ module _ (M : LeafMeaning) (laws : LeafLaws M) (o : Options) (A : TransferAnswer
       record { valid = a.valid; variables = a.same ∙ d.variables }
 
   -- each leaf of the tree of a place is over the variables of the program
-  pub tree_over : (m : ℕ) (place : Place) (t : Plain LeafValue) → IsTreeOf m (leaf_at M o p cs pl place) t → AllLeaves (IsLeafOver M p.names) t
-  tree_over m place t h = each t (λ x at. by x (reached m t x h.reduced h.tests at))
+  pub tree_over : (m : ℕ) (place : Place) (t : Plain LeafValue) → IsTreeWhere m (leaf_at M o p cs pl place) (formula pl) t → AllLeaves (IsLeafOver M p.names) t
+  tree_over m place t h = each t (λ x at. by x (h.leaves x at))
     where
-      by : (x : LeafValue) → (v : List Bool) × (length v ≡ m) × (leaf_of t v ≡ x) → IsLeafOver M p.names x
-      by x (v, count, e) = subst (IsLeafOver M p.names) (sym (h.leads v count) ∙ e) (leaf_over place v)
+      by : (x : LeafValue) → (v : List Bool) × (length v ≡ m) × (leaf_at M o p cs pl place v ≡ x) → IsLeafOver M p.names x
+      by x (v, count, e) = subst (IsLeafOver M p.names) e (leaf_over place v)
 
       each : (s : Plain LeafValue) → ((x : LeafValue) → HasLeaf x s → IsLeafOver M p.names x) → AllLeaves (IsLeafOver M p.names) s
       each (leaf x) f = f x refl

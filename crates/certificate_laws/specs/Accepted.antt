@@ -12,10 +12,10 @@ use Rattle.cpp_conditions.specs.Propositions.{true_on}
 use Rattle.cpp_conditions.specs.Validity.{plain, IsValid}
 use Rattle.cpp_conditions.specs.View.{formula}
 use Rattle.leaf_domain.specs.Leaves.{LeafValue, LeafMeaning, Alike, IsLeafLike, is_nothing_of}
-use Rattle.lifted_analysis.specs.Canon.{IsTreeOf}
 use Rattle.lifted_analysis.specs.Lines.{set_from}
 use Rattle.lifted_analysis.specs.Promises.{leaf_at, stop_at, by_kind}
 use Rattle.lifted_analysis.specs.Turns.{loop_places}
+use Rattle.merged_findings.specs.Merged.{IsTreeWhere}
 use Rattle.plain_analysis.specs.declared.options.Options.{Options}
 use Rattle.alarm_report.specs.declared.alarms.FamilyAlarm.{FamilyAlarm}
 use Rattle.alarm_report.specs.Alarms.{PlainAlarmTree, AreAlarms}
@@ -46,20 +46,20 @@ AreBelowJoins M = (a b x : LeafValue) → Alike M a b → IsLeafLike M a x → M
 -- ---- analyses and their certificates
 
 module _ (M : LeafMeaning) (o : Options) (model : Model) (p : Whole) (conditions : List Formula) (atoms : List Atom) where
-  -- the one tree of each place in the analysis of a family with these options, where the formula is true at the vector of each
-  -- valid configuration
+  -- a tree of each place in the analysis of a family with these options, that leads where it should wherever the formula is true, as it
+  -- is at the vector of each valid configuration
   pub record AreLeaves (places : List LeafTree) : Type 0 where
     pub plausible : Formula
     pub valid : (values : List ℤ) → IsValid (plain model) values → true_on (vector_at atoms values) (formula plausible) ≡ true
     pub keys : map (λ (t : LeafTree). t.place) places ≡ program_places p
-    pub are : All (λ (t : LeafTree). IsTreeOf (length atoms) (leaf_at M o p conditions plausible t.place) t.tree) places
+    pub are : All (λ (t : LeafTree). IsTreeWhere (length atoms) (leaf_at M o p conditions plausible t.place) (formula plausible) t.tree) places
 
   -- the same of each place and kind
   pub record AreAlarmTrees (stops : List PlainAlarmTree) : Type 0 where
     pub plausible : Formula
     pub valid : (values : List ℤ) → IsValid (plain model) values → true_on (vector_at atoms values) (formula plausible) ≡ true
     pub keys : map (λ (t : PlainAlarmTree). (t.place, t.kind)) stops ≡ by_kind (program_places p)
-    pub are : All (λ (t : PlainAlarmTree). IsTreeOf (length atoms) (stop_at M o p conditions plausible (t.place, t.kind)) t.tree) stops
+    pub are : All (λ (t : PlainAlarmTree). IsTreeWhere (length atoms) (stop_at M o p conditions plausible (t.place, t.kind)) (formula plausible) t.tree) stops
 
   -- the certificate says the invariants of the loops and the alarms of such an analysis
   pub record IsOfAnalysis (c : Certificate) : Type 0 where

@@ -14,10 +14,11 @@ use Rattle.linear_atoms.specs.declared.atoms.Atom.{Atom}
 use Rattle.linear_atoms.specs.Atoms.{AreAtoms}
 use Rattle.cpp_conditions.specs.declared.formulas.Formula.{Formula}
 use Rattle.cpp_conditions.specs.declared.models.Model.{Model}
+use Rattle.cpp_conditions.specs.View.{formula}
+use Rattle.merged_findings.specs.Merged.{IsTreeWhere}
 use Rattle.feature_model.specs.Features.{AreDistinct, AreNamed}
 use Rattle.leaf_domain.specs.Leaves.{LeafMeaning}
 use Rattle.interval_leaf.specs.Intervals.{intervals}
-use Rattle.lifted_analysis.specs.Canon.{IsTreeOf}
 use Rattle.lifted_analysis.specs.Promises.{leaf_at, stop_at, by_kind}
 use Rattle.plain_analysis.specs.declared.options.Options.{Options}
 use Rattle.alarm_report.specs.declared.alarms.FamilyAlarm.{FamilyAlarm}
@@ -88,13 +89,13 @@ pub record IsFamilyOver (model : Model) (text : List ℕ) (f : Family) : Type 0 
   pub program : IsProgram (whole f.code)
   pub spelled : IsFamilyOf model text f
 
--- the tree has the leaf at its place in the analysis of each vector's program
+-- the tree has the leaf at its place in the analysis of each plausible vector's program
 abbrev pub IsLeafTree : Options → Family → Formula → LeafTree → Type 0
-IsLeafTree o f plausible t = IsTreeOf (length f.atoms) (leaf_at intervals o (whole f.code) f.conditions plausible t.place) t.tree
+IsLeafTree o f plausible t = IsTreeWhere (length f.atoms) (leaf_at intervals o (whole f.code) f.conditions plausible t.place) (formula plausible) t.tree
 
--- the tree is true where that analysis has an alarm of its kind at its place
+-- the tree is true at the plausible vectors where that analysis has an alarm of its kind at its place
 abbrev pub IsAlarmTreeOf : Options → Family → Formula → PlainAlarmTree → Type 0
-IsAlarmTreeOf o f plausible t = IsTreeOf (length f.atoms) (stop_at intervals o (whole f.code) f.conditions plausible (t.place, t.kind)) t.tree
+IsAlarmTreeOf o f plausible t = IsTreeWhere (length f.atoms) (stop_at intervals o (whole f.code) f.conditions plausible (t.place, t.kind)) (formula plausible) t.tree
 
 -- the invariants of the loops at these places, and the alarms, of an analysis of a family
 pub record AreOfAnalysis (model : Model) (o : Options) (f : Family) (loops : List Place) (is : List Invariant) (alarms : List FamilyAlarm) : Type 0 where

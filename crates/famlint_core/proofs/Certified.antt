@@ -13,6 +13,7 @@ use Rattle.c_tree.specs.Tree.{Whole}
 use Rattle.c_tree.specs.View.{whole}
 use Rattle.linear_atoms.specs.declared.atoms.Atom.{Atom}
 use Rattle.linear_atoms.specs.declared.atoms.Feature.{Feature}
+use Rattle.linear_atoms.specs.declared.regions.Regions.{Regions}
 use Rattle.cpp_conditions.specs.declared.formulas.Formula.{Formula}
 use Rattle.cpp_conditions.specs.declared.models.Model.{Model}
 use Rattle.cpp_conditions.specs.Distinct.{AreAtomsOf}
@@ -72,6 +73,7 @@ use Rattle.famlint_core.specs.Endings.{EndsWith, status_at}
 use Rattle.famlint_families.specs.FamilyReports.{IsFamilyDone}
 use Rattle.famlint_loads.specs.Loads.{IsModel}
 use Rattle.famlint_loads.specs.ProductLines.{IsProductLine}
+use Rattle.famlint_families.proofs.Told.{told_leads}
 use Rattle.famlint_core.proofs.VariantOnce.{VariantLaws, same_line_model, no_line_refusal}
 
 -- what laws of lower crates say
@@ -245,15 +247,15 @@ verdict_over k l c verdict e h =
 
 -- ---- what is certified is written of an analysis
 
-written_of : (o : Options) (l : ProductLine) (done : Done) (bytes : List ℕ) → IsFamilyDone intervals o task.Certify l done → bytes ≡ done.text
+written_of : (o : Options) (r : Regions) (l : ProductLine) (done : Done) (bytes : List ℕ) → IsFamilyDone intervals o r task.Certify l done → bytes ≡ done.text
     → IsWrittenOf o l.model (whole l.family.code) l.family.conditions l.family.atoms bytes
-written_of o l done bytes (loops, alarms, a, b, e) text = record {
+written_of o r l done bytes (loops, alarms, a, b, e) text = record {
   places = a.trees;
   stops = b.trees;
   invariants = loops;
   alarms = alarms;
-  leaves_are = record { plausible = a.plausible; valid = valid_plausible l.model l.family.atoms (formula a.plausible) a.plausible_is; keys = a.keys; are = a.are };
-  stops_are = record { plausible = b.plausible; valid = valid_plausible l.model l.family.atoms (formula b.plausible) b.plausible_is; keys = b.keys; are = b.are };
+  leaves_are = record { plausible = a.plausible; valid = valid_plausible l.model l.family.atoms (formula a.plausible) a.plausible_is; keys = a.keys; are = All-weaker _ _ (λ t is. told_leads r _ _ (formula a.plausible) t.tree is) a.trees a.are };
+  stops_are = record { plausible = b.plausible; valid = valid_plausible l.model l.family.atoms (formula b.plausible) b.plausible_is; keys = b.keys; are = All-weaker _ _ (λ t is. told_leads r _ _ (formula b.plausible) t.tree is) b.trees b.are };
   loops_are = a.regions;
   alarms_are = b.regions;
   text = text ∙ ap (λ (d : Done). d.text) e;
@@ -278,7 +280,7 @@ module _ (laws : CertifiedLaws) (m f bytes : List ℕ) (h : IsWrittenByCertify m
       → IsReadAndAccepted l.model (whole l.family.code) l.family.conditions l.family.atoms result
   read_accepted k result line answers =
       laws.written h.options l.model (whole l.family.code) l.family.conditions l.family.atoms bytes result h.line_is.usable.program
-      (laws.files l.model f l.family h.line_is.family).placed names (written_of h.options l h.done bytes h.done_is h.text) h.short
+      (laws.files l.model f l.family h.line_is.family).placed names (written_of h.options h.regions l h.done bytes h.done_is h.text) h.short
       (read_over k l bytes result (are_same laws m f k l line h.line_is) answers)
 
   status_yes : (k : ProductLine) (done : Done) → IsProductLine m f k → IsCheckDone k bytes done → done.status ≡ 0

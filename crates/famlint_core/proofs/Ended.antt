@@ -6,6 +6,7 @@ use Rattle.std.specs.Io.KnownBytes.{append_known}
 use Rattle.c_tree.specs.Tree.{Whole}
 use Rattle.leaf_domain.specs.Leaves.{LeafMeaning}
 use Rattle.plain_analysis.specs.declared.alarm.Alarm.{Alarm}
+use Rattle.linear_atoms.specs.declared.regions.Regions.{Regions}
 use Rattle.plain_analysis.specs.declared.options.Options.{Options}
 use Rattle.alarm_report.specs.declared.alarms.FamilyAlarm.{FamilyAlarm}
 use Rattle.configuration_advice.specs.declared.comparing.Advice.{Advice}
@@ -86,11 +87,11 @@ done_low (task.Run steps inputs mode) s done (p, is, e) = rw e (omega arith)
 family_status_low : (alarms : List FamilyAlarm) → family_status alarms ≤ 1
 family_status_low alarms = elim (nat_lt 0 (length alarms)) as (λ b. (if b then 1 else 0) ≤ 1) [ true ↦ omega arith | false ↦ omega arith ]
 
-family_low : (M : LeafMeaning) (o : Options) (t : FamilyTask) (l : ProductLine) (done : Done) → IsFamilyDone M o t l done → done.status ≤ 1
-family_low M o families.Analyse l done (alarms, are, e) = rw e (family_status_low alarms)
-family_low M o families.Invariants l done (invariants, alarms, are, have, e) = rw e (family_status_low alarms)
-family_low M o families.Certify l done (loops, alarms, are, have, e) = rw e (family_status_low alarms)
-family_low M o families.Generate l done (alarms, are, e) = rw e (family_status_low alarms)
+family_low : (M : LeafMeaning) (o : Options) (r : Regions) (t : FamilyTask) (l : ProductLine) (done : Done) → IsFamilyDone M o r t l done → done.status ≤ 1
+family_low M o r families.Analyse l done (alarms, are, e) = rw e (family_status_low alarms)
+family_low M o r families.Invariants l done (invariants, alarms, are, have, e) = rw e (family_status_low alarms)
+family_low M o r families.Certify l done (loops, alarms, are, have, e) = rw e (family_status_low alarms)
+family_low M o r families.Generate l done (alarms, are, e) = rw e (family_status_low alarms)
 
 verdict_low : (verdict : Verdict) (done : Done) → done.status ≡ verdict_status verdict → done.status ≤ 1
 verdict_low Yes done e = omega (arith, e)
@@ -104,8 +105,8 @@ advice_low (Some advice) done e = omega (arith, e)
 answered_low : (r : Request) (told : Contents) (done : Done) → Answers r told (Ok done) → done.status ≤ 1
 answered_low (request.Plain file analysis) told done (p, reads, e) = plain_low analysis p done e
 answered_low (request.Variant model file settings t) told done (s, selected, is) = done_low t s done is
-answered_low (request.Family model file analysis regions t) told done (l, line, is) = family_low (meaning_of analysis.domain) analysis.options t l done is
-answered_low (request.Generate number analysis regions) told done (l, line, is) = family_low (meaning_of analysis.domain) analysis.options families.Generate l done is
+answered_low (request.Family model file analysis regions t) told done (l, line, is) = family_low (meaning_of analysis.domain) analysis.options regions t l done is
+answered_low (request.Generate number analysis regions) told done (l, line, is) = family_low (meaning_of analysis.domain) analysis.options regions families.Generate l done is
 answered_low (request.Check model file certificate) told done (l, line, is) = verdict_low is.verdict done is.status
 answered_low (request.Advice model file settings analysis) told done (s, selected, is) = advice_low is.found done is.status
 answered_low (request.Features model) told done (m, is, uses) = let e : done.status ≡ 0 = uses.status in omega (arith, e)

@@ -1,4 +1,5 @@
 pub mod Answering
 pub mod Certified
 pub mod Ended
+mod Risen
 pub mod VariantOnce

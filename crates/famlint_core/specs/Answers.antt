@@ -32,8 +32,8 @@ AsksOfCertified other told = ⊥
 abbrev pub Answers : Request → Contents → Result Done Fault → Type 0
 Answers (Plain file analysis) told answer = AnswersPlain analysis told.file answer
 Answers (Variant model file settings task) told answer = AnswersVariant task settings told answer
-Answers (Family model file analysis regions task) told answer = AnswersFamily analysis task told answer
-Answers (Generate number analysis regions) told answer = AnswersGenerate analysis number answer
+Answers (Family model file analysis regions task) told answer = AnswersFamily analysis regions task told answer
+Answers (Generate number analysis regions) told answer = AnswersGenerate analysis regions number answer
 Answers (Check model file certificate) told answer = AnswersCheck told answer
 Answers (Advice model file settings analysis) told answer = AnswersAdvice analysis settings told answer
 Answers (Features model) told answer = AnswersFeatures told.model answer
@@ -56,8 +56,8 @@ IsLoaded (Features model) told failed = failed ≡ Some model
 abbrev pub Promised : Request → Contents → ℕ → List ℕ → Type 0
 Promised (Plain file analysis) told status text = PromisedPlain analysis told.file status text
 Promised (Variant model file settings task) told status text = PromisedVariant task settings told status text
-Promised (Family model file analysis regions task) told status text = PromisedFamily analysis task told status text
-Promised (Generate number analysis regions) told status text = PromisedGenerate analysis number status text
+Promised (Family model file analysis regions task) told status text = PromisedFamily analysis regions task told status text
+Promised (Generate number analysis regions) told status text = PromisedGenerate analysis regions number status text
 Promised (Check model file certificate) told status text = PromisedCheck told status
 Promised (Advice model file settings analysis) told status text = PromisedAdvice analysis settings told status text
 Promised (Features model) told status text = status ≡ 0

@@ -45,14 +45,14 @@ pub fn work<F: Files>(alloc: Global, request: &Request, files: &mut F) -> Result
             model,
             file,
             analysis,
-            regions: _,
+            regions,
             task,
-        } => family(alloc, model, file, analysis, *task, files),
+        } => family(alloc, model, file, analysis, *regions, *task, files),
         Request::Generate {
             number,
             analysis,
-            regions: _,
-        } => Ok(generate(alloc, *number, analysis)?),
+            regions,
+        } => Ok(generate(alloc, *number, analysis, *regions)?),
         Request::Check {
             model,
             file,

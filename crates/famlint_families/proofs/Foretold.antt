@@ -16,15 +16,18 @@ use Rattle.c_tree.specs.Value.{IsInt}
 use Rattle.c_tree.specs.View.{whole}
 use Rattle.c_tree.specs.Whole.{IsRising}
 use Rattle.linear_atoms.specs.declared.atoms.Atom.{Atom}
+use Rattle.linear_atoms.specs.declared.regions.Regions.{Regions}
+use Rattle.linear_atoms.specs.declared.regions.Regions.TheVariants.{Paths}
 use Rattle.cpp_conditions.specs.declared.models.Model.{Model}
 use Rattle.cpp_conditions.specs.Numbering.{vector_at}
 use Rattle.cpp_conditions.specs.Validity.{plain, IsValid}
+use Rattle.cpp_conditions.specs.View.{formula}
 use Rattle.decision_tree.specs.Plain.{Plain, leaf_of}
 use Rattle.leaf_domain.specs.Leaves.{LeafValue, LeafMeaning, LeafLaws, nothing_of}
 use Rattle.lifted_analysis.specs.declared.findings.AlarmTree.{AlarmTree}
 use Rattle.lifted_analysis.specs.declared.findings.FamilyFindings.{FamilyFindings}
 use Rattle.lifted_analysis.specs.declared.findings.PlaceTree.{PlaceTree}
-use Rattle.lifted_analysis.specs.Promises.{begin_at}
+use Rattle.lifted_analysis.specs.Promises.{begin_at, leaf_at, stop_at}
 use Rattle.plain_analysis.specs.declared.alarm.Alarm.{Alarm}
 use Rattle.plain_analysis.specs.declared.options.Options.{Options}
 use Rattle.plain_analysis.specs.Places.{at_of, alarm_of, alarms_of, alarm_where, alarms_at, alarms_over}
@@ -45,6 +48,7 @@ use Rattle.famlint_families.specs.FamilyReports.{IsAlarmTreeOf, IsLeafTree, IsFa
 use Rattle.famlint_families.specs.Findings.{IsFound, AreGoodAlarms, AreGoodInvariants, IsGoodText}
 use Rattle.famlint_families.specs.Headline.{AreItsAlarms, AreItsInvariants, AreAlarmsOfAll, HasState, Reaches, PromisedOfAll}
 use Rattle.famlint_loads.specs.ProductLines.{IsUsableLine}
+use Rattle.famlint_families.proofs.Told.{told_leads}
 use Rattle.famlint_programs.proofs.Keys.{all_at, keyed, placed, place_there, alarm_tree_there, leaf_tree_there}
 use Rattle.famlint_programs.proofs.Reached.{alarm_there, leaf_there}
 use Rattle.famlint_loads.proofs.Selecting.{is_program_at}
@@ -121,7 +125,7 @@ record IsTrueAt (trees : List PlainAlarmTree) (v : List Bool) : Type 0 where
 
 -- ---- one variant
 
-module _ {L : Type 0} (value : L → LeafValue) (M : LeafMeaning) (laws : LeafLaws M) (o : Options) (l : ProductLine) (f : FamilyFindings L) (found : IsFound value M o l f)
+module _ {L : Type 0} (value : L → LeafValue) (M : LeafMeaning) (laws : LeafLaws M) (o : Options) (r : Regions) (l : ProductLine) (f : FamilyFindings L) (found : IsFound value M o r l f)
     (rising : IsRising (program_places (whole l.family.code))) (law : VariantsAreRead) (spelled : IsFamilyOf l.model l.text l.family) where
   abbrev stops : List PlainAlarmTree
   stops = map plain_alarm_tree f.alarms.items
@@ -147,13 +151,15 @@ module _ {L : Type 0} (value : L → LeafValue) (M : LeafMeaning) (laws : LeafLa
   stop_says : (values : List ℤ) → IsValid (plain l.model) values → (n : ℕ) (t : PlainAlarmTree) → slice_get stops n ≡ Some t
       → leaf_of t.tree (vector values) ≡ alarm_of M o (program values) (start values) t.place t.kind
   stop_says values valid n t there =
-      (all_at (IsAlarmTreeOf M o l found.plausible) stops n t found.stops there).leads (vector values) (long values)
+      (told_leads r (length l.family.atoms) (stop_at M o (whole l.family.code) l.family.conditions found.plausible (t.place, t.kind)) (formula found.plausible) t.tree
+      (all_at (IsAlarmTreeOf M o r l found.plausible) stops n t found.stops there)).leads (vector values) (long values) (found.valid values valid)
       ∙ ap (λ d. alarm_of M o (program values) d t.place t.kind) (begins values valid)
 
   leaf_says : (values : List ℤ) → IsValid (plain l.model) values → (n : ℕ) (t : LeafTree) → slice_get leaves n ≡ Some t
       → leaf_of t.tree (vector values) ≡ at_of M o (program values) (start values) t.place
   leaf_says values valid n t there =
-      (all_at (IsLeafTree M o l found.plausible) leaves n t found.leaves there).leads (vector values) (long values)
+      (told_leads r (length l.family.atoms) (leaf_at M o (whole l.family.code) l.family.conditions found.plausible t.place) (formula found.plausible) t.tree
+      (all_at (IsLeafTree M o r l found.plausible) leaves n t found.leaves there)).leads (vector values) (long values) (found.valid values valid)
       ∙ ap (λ d. at_of M o (program values) d t.place) (begins values valid)
 
   foreseen : (values : List ℤ) → IsValid (plain l.model) values → (inputs : List ℤ) (n : ℕ) → All IsInt inputs
@@ -208,7 +214,7 @@ module _ {L : Type 0} (value : L → LeafValue) (M : LeafMeaning) (laws : LeafLa
       only = told_only values valid;
     }
 
-    pub good_alarms : AreAlarms l.model l.family.atoms stops alarms → AreGoodAlarms M o l alarms
+    pub good_alarms : AreAlarms l.model l.family.atoms stops alarms → AreGoodAlarms M o r l alarms
     good_alarms regions = record {
       are = record { plausible = found.plausible; plausible_is = found.plausible_is; trees = stops; keys = found.kinds; are = found.stops; regions = regions };
       all = record {
@@ -269,9 +275,6 @@ module _ {L : Type 0} (value : L → LeafValue) (M : LeafMeaning) (laws : LeafLa
     before = λ others valid same earlier. has_alarm others valid (loud_by others (λ quiet. h.first others valid quiet same earlier));
   }
 
-  pub is_advice : (given : List ℤ) (advice : Option Advice) → Advises l.model l.family.atoms (trees_of stops) given advice → IsNearestWithoutAlarms M o l given advice
-  is_advice given advice h = record { plausible = found.plausible; plausible_is = found.plausible_is; trees = stops; keys = found.kinds; are = found.stops; advises = h }
-
   -- ---- invariants
 
   module _ (invariants : List Invariant) (cover : CoversPlaces l.model l.family.atoms leaves invariants) where
@@ -302,7 +305,7 @@ module _ {L : Type 0} (value : L → LeafValue) (M : LeafMeaning) (laws : LeafLa
       leaves = has_once values valid;
     }
 
-    pub good_invariants : AreInvariants l.model l.family.atoms leaves invariants → AreGoodInvariants M o l invariants
+    pub good_invariants : AreInvariants l.model l.family.atoms leaves invariants → AreGoodInvariants M o r l invariants
     good_invariants regions = record {
       are = record { plausible = found.plausible; plausible_is = found.plausible_is; trees = leaves; keys = found.places; are = found.leaves; regions = regions };
       all = λ values valid. (program values, is_program_at law l values (program values) spelled valid refl, its_invariants values valid);
@@ -327,20 +330,20 @@ pub record AreInvariantsFrom {L : Type 0} (value : L → LeafValue) (model : Mod
 module _ {L : Type 0} (value : L → LeafValue) (M : LeafMeaning) (laws : LeafLaws M) (l : ProductLine) (u : IsUsableLine l) (law : VariantsAreRead) (f : FamilyFindings L)
     (model : Model) (atoms : List Atom) (same_model : model ≡ l.model) (same_atoms : atoms ≡ l.family.atoms) where
   pub alarms_from : (trees : List AlarmTree) → trees ≡ f.alarms.items → (alarms : List FamilyAlarm) → AreAlarmsFrom model atoms trees alarms
-      → (o : Options) → IsFound value M o l f → AreGoodAlarms M o l alarms
-  alarms_from trees same alarms from o found =
+      → (o : Options) (r : Regions) → IsFound value M o r l f → AreGoodAlarms M o r l alarms
+  alarms_from trees same alarms from o r found =
       let here : AreAlarmsFrom l.model l.family.atoms f.alarms.items alarms =
       subst (λ m. AreAlarmsFrom m l.family.atoms f.alarms.items alarms) same_model
       (subst (λ xs. AreAlarmsFrom model xs f.alarms.items alarms) same_atoms (subst (λ ts. AreAlarmsFrom model atoms ts alarms) same from)) in
-      good_alarms value M laws o l f found u.family.program.rising law u.spelled alarms (here.cover (stops_keyed value M laws o l f found u.family.program.rising law u.spelled)) here.regions
+      good_alarms value M laws o r l f found u.family.program.rising law u.spelled alarms (here.cover (stops_keyed value M laws o r l f found u.family.program.rising law u.spelled)) here.regions
 
   pub invariants_from : (trees : List (PlaceTree L)) → trees ≡ f.places.items → (invariants : List Invariant) → AreInvariantsFrom value model atoms trees invariants
-      → (o : Options) → IsFound value M o l f → AreGoodInvariants M o l invariants
-  invariants_from trees same invariants from o found =
+      → (o : Options) (r : Regions) → IsFound value M o r l f → AreGoodInvariants M o r l invariants
+  invariants_from trees same invariants from o r found =
       let here : AreInvariantsFrom value l.model l.family.atoms f.places.items invariants =
       subst (λ m. AreInvariantsFrom value m l.family.atoms f.places.items invariants) same_model
       (subst (λ xs. AreInvariantsFrom value model xs f.places.items invariants) same_atoms (subst (λ ts. AreInvariantsFrom value model atoms ts invariants) same from)) in
-      good_invariants value M laws o l f found u.family.program.rising law u.spelled invariants (here.cover (leaves_placed value M laws o l f found u.family.program.rising law u.spelled)) here.regions
+      good_invariants value M laws o r l f found u.family.program.rising law u.spelled invariants (here.cover (leaves_placed value M laws o r l f found u.family.program.rising law u.spelled)) here.regions
 
 -- ---- advice
 
@@ -348,7 +351,7 @@ pub record IsAdvised (M : LeafMeaning) (o : Options) (l : ProductLine) (given : 
   pub answer : IsNearestWithoutAlarms M o l given advice
   pub good : IsGood M o l given advice
 
-pub advised : {L : Type 0} (value : L → LeafValue) (M : LeafMeaning) (laws : LeafLaws M) (o : Options) (l : ProductLine) (f : FamilyFindings L) → IsFound value M o l f → IsUsableLine l → VariantsAreRead
+pub advised : {L : Type 0} (value : L → LeafValue) (M : LeafMeaning) (laws : LeafLaws M) (o : Options) (l : ProductLine) (f : FamilyFindings L) → IsFound value M o Paths l f → IsUsableLine l → VariantsAreRead
     → (model : Model) (atoms : List Atom) (trees : List (Plain Bool)) (given : List ℤ) (advice : Option Advice) → model ≡ l.model → atoms ≡ l.family.atoms → trees ≡ trees_of (map plain_alarm_tree f.alarms.items)
     → Advises model atoms trees given advice → IsAdvised M o l given advice
 advised value M laws o l f found u law model atoms trees given advice same_model same_atoms same_trees h =
@@ -356,24 +359,24 @@ advised value M laws o l f found u law model atoms trees given advice same_model
     subst (λ m. Advises m l.family.atoms (trees_of (map plain_alarm_tree f.alarms.items)) given advice) same_model
     (subst (λ xs. Advises model xs (trees_of (map plain_alarm_tree f.alarms.items)) given advice) same_atoms (subst (λ ts. Advises model atoms ts given advice) same_trees h)) in
     record {
-      answer = is_advice value M laws o l f found u.family.program.rising law u.spelled given advice here;
-      good = good_advice value M laws o l f found u.family.program.rising law u.spelled given advice here;
+      answer = record { plausible = found.plausible; plausible_is = found.plausible_is; trees = map plain_alarm_tree f.alarms.items; keys = found.kinds; are = found.stops; advises = here };
+      good = good_advice value M laws o Paths l f found u.family.program.rising law u.spelled given advice here;
     }
 
 -- ---- the whole report
 
-pub done_as : (M : LeafMeaning) (o : Options) (task : FamilyTask) (l : ProductLine) (alarms : List FamilyAlarm) (text : List ℕ) (status : ℕ)
-    → AreGoodAlarms M o l alarms → IsGoodText M o task l alarms text → status ≡ family_status alarms → IsFamilyDone M o task l (record { text = text; status = status })
-done_as M o tasks.Analyse l alarms text status good is e = (alarms, good.are, rw (is, e) refl)
-done_as M o tasks.Invariants l alarms text status good is e = (is.invariants, alarms, is.good.are, good.are, rw (is.is, e) refl)
-done_as M o tasks.Certify l alarms text status good is e = (is.loops, alarms, is.are, good.are, rw (is.is, e) refl)
-done_as M o tasks.Generate l alarms text status good is e = (alarms, good.are, rw (is, e) refl)
+pub done_as : (M : LeafMeaning) (o : Options) (r : Regions) (task : FamilyTask) (l : ProductLine) (alarms : List FamilyAlarm) (text : List ℕ) (status : ℕ)
+    → AreGoodAlarms M o r l alarms → IsGoodText M o r task l alarms text → status ≡ family_status alarms → IsFamilyDone M o r task l (record { text = text; status = status })
+done_as M o r tasks.Analyse l alarms text status good is e = (alarms, good.are, rw (is, e) refl)
+done_as M o r tasks.Invariants l alarms text status good is e = (is.invariants, alarms, is.good.are, good.are, rw (is.is, e) refl)
+done_as M o r tasks.Certify l alarms text status good is e = (is.loops, alarms, is.are, good.are, rw (is.is, e) refl)
+done_as M o r tasks.Generate l alarms text status good is e = (alarms, good.are, rw (is, e) refl)
 
-pub promised_as : (M : LeafMeaning) (o : Options) (task : FamilyTask) (l : ProductLine) (alarms : List FamilyAlarm) (text : List ℕ) (status : ℕ)
-    → AreGoodAlarms M o l alarms → IsGoodText M o task l alarms text → status ≡ family_status alarms → PromisedOfAll M o task l status text
-promised_as M o tasks.Analyse l alarms text status good is e = (alarms, is, subst (λ n. AreAlarmsOfAll M o l alarms n) (sym e) good.all)
-promised_as M o tasks.Invariants l alarms text status good is e =
+pub promised_as : (M : LeafMeaning) (o : Options) (r : Regions) (task : FamilyTask) (l : ProductLine) (alarms : List FamilyAlarm) (text : List ℕ) (status : ℕ)
+    → AreGoodAlarms M o r l alarms → IsGoodText M o r task l alarms text → status ≡ family_status alarms → PromisedOfAll M o r task l status text
+promised_as M o r tasks.Analyse l alarms text status good is e = (alarms, is, subst (λ n. AreAlarmsOfAll M o l alarms n) (sym e) good.all)
+promised_as M o r tasks.Invariants l alarms text status good is e =
     (is.invariants, alarms, is.is, is.good.all, subst (λ n. AreAlarmsOfAll M o l alarms n) (sym e) good.all)
-promised_as M o tasks.Certify l alarms text status good is e =
+promised_as M o r tasks.Certify l alarms text status good is e =
     (is.loops, alarms, is.is, subst (λ n. AreAlarmsOfAll M o l alarms n) (sym e) good.all)
-promised_as M o tasks.Generate l alarms text status good is e = (alarms, is, subst (λ n. AreAlarmsOfAll M o l alarms n) (sym e) good.all)
+promised_as M o r tasks.Generate l alarms text status good is e = (alarms, is, subst (λ n. AreAlarmsOfAll M o l alarms n) (sym e) good.all)

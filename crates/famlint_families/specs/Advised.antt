@@ -8,6 +8,7 @@ use Rattle.c_tree.specs.Tree.{Whole}
 use Rattle.c_tree.specs.View.{whole}
 use Rattle.cpp_conditions.specs.declared.formulas.Formula.{Formula}
 use Rattle.cpp_conditions.specs.Validity.{plain, IsValid}
+use Rattle.linear_atoms.specs.declared.regions.Regions.TheVariants.{Paths}
 use Rattle.atom_solver.specs.Solutions.{IsBefore}
 use Rattle.decision_tree.specs.Plain.{Plain}
 use Rattle.leaf_domain.specs.Leaves.{LeafMeaning}
@@ -38,7 +39,7 @@ pub record IsNearestWithoutAlarms (M : LeafMeaning) (o : Options) (l : ProductLi
   pub plausible_is : IsPlausibleFor l plausible
   pub trees : List PlainAlarmTree
   pub keys : map (λ (t : PlainAlarmTree). (t.place, t.kind)) trees ≡ by_kind (program_places (whole l.family.code))
-  pub are : All (IsAlarmTreeOf M o l plausible) trees
+  pub are : All (IsAlarmTreeOf M o Paths l plausible) trees
   pub advises : Advises l.model l.family.atoms (trees_of trees) given found
 
 -- the line of such advice, with its status

@@ -1,6 +1,7 @@
 -- What the commands on all variants are answered, and what is promised of it: `analyse`, `invariants`, `certify`, `generate`, `advise` and
 -- `features`.
 use Rattle.std.specs.Prelude.{ℕ, List, Result, Ok, Err}
+use Rattle.linear_atoms.specs.declared.regions.Regions.{Regions}
 use Rattle.cpp_conditions.specs.declared.models.Model.{Model}
 use Rattle.famlint_requests.specs.declared.request.Analysis.{Analysis}
 use Rattle.famlint_loads.specs.declared.fault.Done.{Done}
@@ -21,20 +22,20 @@ use Rattle.famlint_programs.specs.ProgramAnswers.{meaning_of}
 use Rattle.famlint_loads.specs.Contents.{Contents}
 
 -- what is asked of all variants at once, or the refusal of the model or the file
-abbrev pub AnswersFamily : Analysis → FamilyTask → Contents → Result Done Fault → Type 0
-AnswersFamily analysis task told (Ok done) =
-    (l : ProductLine) × IsProductLine told.model told.file l × IsFamilyDone (meaning_of analysis.domain) analysis.options task l done
-AnswersFamily analysis task told (Err fault) = IsLineRefused told.model told.file fault
+abbrev pub AnswersFamily : Analysis → Regions → FamilyTask → Contents → Result Done Fault → Type 0
+AnswersFamily analysis r task told (Ok done) =
+    (l : ProductLine) × IsProductLine told.model told.file l × IsFamilyDone (meaning_of analysis.domain) analysis.options r task l done
+AnswersFamily analysis r task told (Err fault) = IsLineRefused told.model told.file fault
 
 -- the sizes and the alarms of the family that is generated for a number
-abbrev pub IsGenerateDone : Analysis → ℕ → Done → Type 0
-IsGenerateDone analysis number done =
-    (l : ProductLine) × IsGeneratedLine number l × IsFamilyDone (meaning_of analysis.domain) analysis.options Generate l done
+abbrev pub IsGenerateDone : Analysis → Regions → ℕ → Done → Type 0
+IsGenerateDone analysis r number done =
+    (l : ProductLine) × IsGeneratedLine number l × IsFamilyDone (meaning_of analysis.domain) analysis.options r Generate l done
 
 -- no fault answers it: each generated family is accepted
-abbrev pub AnswersGenerate : Analysis → ℕ → Result Done Fault → Type 0
-AnswersGenerate analysis number (Ok done) = IsGenerateDone analysis number done
-AnswersGenerate analysis number (Err fault) = ⊥
+abbrev pub AnswersGenerate : Analysis → Regions → ℕ → Result Done Fault → Type 0
+AnswersGenerate analysis r number (Ok done) = IsGenerateDone analysis r number done
+AnswersGenerate analysis r number (Err fault) = ⊥
 
 -- the advice for the configuration that settings give, or the refusal of the model, the file or the settings
 abbrev pub AnswersAdvice : Analysis → List (List ℕ) → Contents → Result Done Fault → Type 0
@@ -48,14 +49,14 @@ AnswersFeatures bytes (Ok done) = (model : Model) × IsModel bytes (Ok model) ×
 AnswersFeatures bytes (Err fault) = IsModel bytes (Err fault)
 
 -- what is promised of the report on all variants: see `Headline`
-abbrev pub PromisedFamily : Analysis → FamilyTask → Contents → ℕ → List ℕ → Type 0
-PromisedFamily analysis task told status text =
-    (l : ProductLine) × IsProductLine told.model told.file l × PromisedOfAll (meaning_of analysis.domain) analysis.options task l status text
+abbrev pub PromisedFamily : Analysis → Regions → FamilyTask → Contents → ℕ → List ℕ → Type 0
+PromisedFamily analysis r task told status text =
+    (l : ProductLine) × IsProductLine told.model told.file l × PromisedOfAll (meaning_of analysis.domain) analysis.options r task l status text
 
 -- what is promised of the report on a generated family: as of each family
-abbrev pub PromisedGenerate : Analysis → ℕ → ℕ → List ℕ → Type 0
-PromisedGenerate analysis number status text =
-    (l : ProductLine) × IsGeneratedLine number l × PromisedOfAll (meaning_of analysis.domain) analysis.options Generate l status text
+abbrev pub PromisedGenerate : Analysis → Regions → ℕ → ℕ → List ℕ → Type 0
+PromisedGenerate analysis r number status text =
+    (l : ProductLine) × IsGeneratedLine number l × PromisedOfAll (meaning_of analysis.domain) analysis.options r Generate l status text
 
 -- what is promised of advice: see `Advised`
 abbrev pub PromisedAdvice : Analysis → List (List ℕ) → Contents → ℕ → List ℕ → Type 0

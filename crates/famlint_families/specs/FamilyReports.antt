@@ -6,9 +6,9 @@ use Rattle.c_tree.specs.Places.{program_places}
 use Rattle.c_tree.specs.View.{whole}
 use Rattle.cpp_conditions.specs.declared.formulas.Formula.{Formula}
 use Rattle.cpp_conditions.specs.View.{formula}
+use Rattle.linear_atoms.specs.declared.regions.Regions.{Regions}
 use Rattle.atom_solver.specs.Plausible.{IsPlausible}
 use Rattle.leaf_domain.specs.Leaves.{LeafMeaning}
-use Rattle.lifted_analysis.specs.Canon.{IsTreeOf}
 use Rattle.lifted_analysis.specs.Promises.{leaf_at, stop_at, by_kind}
 use Rattle.lifted_analysis.specs.Turns.{loop_places}
 use Rattle.plain_analysis.specs.declared.options.Options.{Options}
@@ -23,44 +23,47 @@ use Rattle.famlint_loads.specs.declared.fault.Done.{Done}
 use Rattle.famlint_loads.specs.declared.product_line.ProductLine.{ProductLine}
 use Rattle.famlint_requests.specs.declared.request.FamilyTask.{FamilyTask}
 use Rattle.famlint_requests.specs.declared.request.FamilyTask.TheVariants.{Analyse, Invariants, Certify, Generate}
+use Rattle.famlint_families.specs.Told.{IsToldTree}
 
 -- the formula is true at exactly the vectors that the constraints and the order of the atoms allow
 abbrev pub IsPlausibleFor : ProductLine → Formula → Type 0
 IsPlausibleFor l plausible = IsPlausible l.model.constraints l.family.atoms (formula plausible)
 
--- the tree is the one reduced tree of the function 'the analysis of this vector's variant has an alarm of the kind at the place'
-abbrev pub IsAlarmTreeOf : LeafMeaning → Options → ProductLine → Formula → PlainAlarmTree → Type 0
-IsAlarmTreeOf M o l plausible t = IsTreeOf (length l.family.atoms) (stop_at M o (whole l.family.code) l.family.conditions plausible (t.place, t.kind)) t.tree
+-- the tree that is told of the function 'the analysis of this vector's variant has an alarm of the kind at the place'
+abbrev pub IsAlarmTreeOf : LeafMeaning → Options → Regions → ProductLine → Formula → PlainAlarmTree → Type 0
+IsAlarmTreeOf M o r l plausible t =
+    IsToldTree r (length l.family.atoms) (stop_at M o (whole l.family.code) l.family.conditions plausible (t.place, t.kind)) (formula plausible) t.tree
 
--- the tree is the one reduced tree of the function 'the leaf at the place in the analysis of this vector's variant'
-abbrev pub IsLeafTree : LeafMeaning → Options → ProductLine → Formula → LeafTree → Type 0
-IsLeafTree M o l plausible t = IsTreeOf (length l.family.atoms) (leaf_at M o (whole l.family.code) l.family.conditions plausible t.place) t.tree
+-- the tree that is told of the function 'the leaf at the place in the analysis of this vector's variant'
+abbrev pub IsLeafTree : LeafMeaning → Options → Regions → ProductLine → Formula → LeafTree → Type 0
+IsLeafTree M o r l plausible t =
+    IsToldTree r (length l.family.atoms) (leaf_at M o (whole l.family.code) l.family.conditions plausible t.place) (formula plausible) t.tree
 
--- the alarms of a product line: the regions of the one tree of each place and kind, in the order of the text and of the kinds
-pub record AreAlarmsOf (M : LeafMeaning) (o : Options) (l : ProductLine) (alarms : List FamilyAlarm) : Type 0 where
+-- the alarms of a product line: the regions of the tree of each place and kind, in the order of the text and of the kinds
+pub record AreAlarmsOf (M : LeafMeaning) (o : Options) (r : Regions) (l : ProductLine) (alarms : List FamilyAlarm) : Type 0 where
   pub plausible : Formula
   pub plausible_is : IsPlausibleFor l plausible
   pub trees : List PlainAlarmTree
   pub keys : map (λ (t : PlainAlarmTree). (t.place, t.kind)) trees ≡ by_kind (program_places (whole l.family.code))
-  pub are : All (IsAlarmTreeOf M o l plausible) trees
+  pub are : All (IsAlarmTreeOf M o r l plausible) trees
   pub regions : AreAlarms l.model l.family.atoms trees alarms
 
--- the invariants of a product line: the regions of the one tree of each place, in the order of the text, with their leaves
-pub record AreInvariantsOf (M : LeafMeaning) (o : Options) (l : ProductLine) (invariants : List Invariant) : Type 0 where
+-- the invariants of a product line: the regions of the tree of each place, in the order of the text, with their leaves
+pub record AreInvariantsOf (M : LeafMeaning) (o : Options) (r : Regions) (l : ProductLine) (invariants : List Invariant) : Type 0 where
   pub plausible : Formula
   pub plausible_is : IsPlausibleFor l plausible
   pub trees : List LeafTree
   pub keys : map (λ (t : LeafTree). t.place) trees ≡ program_places (whole l.family.code)
-  pub are : All (IsLeafTree M o l plausible) trees
+  pub are : All (IsLeafTree M o r l plausible) trees
   pub regions : AreInvariants l.model l.family.atoms trees invariants
 
 -- the invariants of the loops of a product line: of the same trees those at the places of loops
-pub record AreLoopsOf (M : LeafMeaning) (o : Options) (l : ProductLine) (loops : List Invariant) : Type 0 where
+pub record AreLoopsOf (M : LeafMeaning) (o : Options) (r : Regions) (l : ProductLine) (loops : List Invariant) : Type 0 where
   pub plausible : Formula
   pub plausible_is : IsPlausibleFor l plausible
   pub trees : List LeafTree
   pub keys : map (λ (t : LeafTree). t.place) trees ≡ program_places (whole l.family.code)
-  pub are : All (IsLeafTree M o l plausible) trees
+  pub are : All (IsLeafTree M o r l plausible) trees
   pub regions : AreInvariants l.model l.family.atoms (trees_at (loop_places (whole l.family.code).body) trees) loops
 
 -- 1 where there is an alarm
@@ -72,22 +75,22 @@ abbrev pub sizes_text : ProductLine → List ℕ
 sizes_text l = codes "bytes: " ++ decimal (length l.text) ++ codes "\nplaces: " ++ decimal (length (program_places (whole l.family.code))) ++ codes "\n"
 
 -- what is asked of a product line is this
-abbrev pub IsFamilyDone : LeafMeaning → Options → FamilyTask → ProductLine → Done → Type 0
-IsFamilyDone M o Analyse l done =
-    (alarms : List FamilyAlarm) × AreAlarmsOf M o l alarms
+abbrev pub IsFamilyDone : LeafMeaning → Options → Regions → FamilyTask → ProductLine → Done → Type 0
+IsFamilyDone M o r Analyse l done =
+    (alarms : List FamilyAlarm) × AreAlarmsOf M o r l alarms
     × (done ≡ record { text = alarm_text l.model.features alarms; status = family_status alarms })
-IsFamilyDone M o Invariants l done =
-    (invariants : List Invariant) × (alarms : List FamilyAlarm) × AreInvariantsOf M o l invariants × AreAlarmsOf M o l alarms
+IsFamilyDone M o r Invariants l done =
+    (invariants : List Invariant) × (alarms : List FamilyAlarm) × AreInvariantsOf M o r l invariants × AreAlarmsOf M o r l alarms
     × (done ≡ record {
       text = invariant_text M l.model.features (whole l.family.code).names invariants ++ alarm_text l.model.features alarms;
       status = family_status alarms;
     })
-IsFamilyDone M o Certify l done =
-    (loops : List Invariant) × (alarms : List FamilyAlarm) × AreLoopsOf M o l loops × AreAlarmsOf M o l alarms
+IsFamilyDone M o r Certify l done =
+    (loops : List Invariant) × (alarms : List FamilyAlarm) × AreLoopsOf M o r l loops × AreAlarmsOf M o r l alarms
     × (done ≡ record {
       text = certificate_text M l.model.features (whole l.family.code).names o.mode loops alarms;
       status = family_status alarms;
     })
-IsFamilyDone M o Generate l done =
-    (alarms : List FamilyAlarm) × AreAlarmsOf M o l alarms
+IsFamilyDone M o r Generate l done =
+    (alarms : List FamilyAlarm) × AreAlarmsOf M o r l alarms
     × (done ≡ record { text = sizes_text l ++ alarm_text l.model.features alarms; status = family_status alarms })

@@ -10,6 +10,7 @@ use Rattle.cpp_conditions.specs.Validity.{plain, IsValid}
 use Rattle.cpp_conditions.specs.View.{formula}
 use Rattle.decision_tree.specs.Plain.{TestsBelow}
 use Rattle.decision_tree.specs.View as tree
+use Rattle.linear_atoms.specs.declared.regions.Regions.{Regions}
 use Rattle.linear_atoms.specs.Atoms.{AreLiterals}
 use Rattle.leaf_domain.specs.Leaves.{LeafValue, LeafMeaning}
 use Rattle.lifted_analysis.specs.declared.findings.AlarmTree.{AlarmTree}
@@ -31,15 +32,15 @@ use Rattle.famlint_requests.specs.declared.request.FamilyTask.TheVariants.{Analy
 use Rattle.famlint_families.specs.FamilyReports.{IsPlausibleFor, IsAlarmTreeOf, IsLeafTree, AreAlarmsOf, AreInvariantsOf, AreLoopsOf, sizes_text, family_status}
 use Rattle.famlint_families.specs.Headline.{AreAlarmsOfAll, AreInvariantsOfAll}
 
--- the trees of stops and of leaves, of one analysis
-pub record IsFound {L : Type 0} (value : L → LeafValue) (M : LeafMeaning) (o : Options) (l : ProductLine) (f : FamilyFindings L) : Type 0 where
+-- the trees of stops and of leaves that are told of one analysis
+pub record IsFound {L : Type 0} (value : L → LeafValue) (M : LeafMeaning) (o : Options) (r : Regions) (l : ProductLine) (f : FamilyFindings L) : Type 0 where
   pub plausible : Formula
   pub plausible_is : IsPlausibleFor l plausible
   pub valid : (values : List ℤ) → IsValid (plain l.model) values → true_on (vector_at l.family.atoms values) (formula plausible) ≡ true
   pub kinds : map (λ (t : PlainAlarmTree). (t.place, t.kind)) (map plain_alarm_tree f.alarms.items) ≡ by_kind (program_places (whole l.family.code))
-  pub stops : All (IsAlarmTreeOf M o l plausible) (map plain_alarm_tree f.alarms.items)
+  pub stops : All (IsAlarmTreeOf M o r l plausible) (map plain_alarm_tree f.alarms.items)
   pub places : map (λ (t : LeafTree). t.place) (map (leaf_tree value) f.places.items) ≡ program_places (whole l.family.code)
-  pub leaves : All (IsLeafTree M o l plausible) (map (leaf_tree value) f.places.items)
+  pub leaves : All (IsLeafTree M o r l plausible) (map (leaf_tree value) f.places.items)
   pub runs : (v : List Bool)
       → RunsForeseen M o (variant_at (whole l.family.code) l.family.conditions v) (begin_at M (whole l.family.code) l.family.conditions plausible v)
 
@@ -57,30 +58,30 @@ abbrev pub AreInvariantsWithLiterals : {L : Type 0} → ProductLine → List (Fa
 AreInvariantsWithLiterals {L} l invariants = All (λ (i : FamilyInvariant L). AreLiterals (length l.model.features) i.region.literals) invariants
 
 -- the alarms are the product line's, and what is promised of them
-pub record AreGoodAlarms (M : LeafMeaning) (o : Options) (l : ProductLine) (alarms : List FamilyAlarm) : Type 0 where
-  pub are : AreAlarmsOf M o l alarms
+pub record AreGoodAlarms (M : LeafMeaning) (o : Options) (r : Regions) (l : ProductLine) (alarms : List FamilyAlarm) : Type 0 where
+  pub are : AreAlarmsOf M o r l alarms
   pub all : AreAlarmsOfAll M o l alarms (family_status alarms)
 
 -- the same of the invariants
-pub record AreGoodInvariants (M : LeafMeaning) (o : Options) (l : ProductLine) (invariants : List Invariant) : Type 0 where
-  pub are : AreInvariantsOf M o l invariants
+pub record AreGoodInvariants (M : LeafMeaning) (o : Options) (r : Regions) (l : ProductLine) (invariants : List Invariant) : Type 0 where
+  pub are : AreInvariantsOf M o r l invariants
   pub all : AreInvariantsOfAll M o l invariants
 
 -- the text of such invariants, and behind it this text
-pub record AreInvariantsBefore (M : LeafMeaning) (o : Options) (l : ProductLine) (behind text : List ℕ) : Type 0 where
+pub record AreInvariantsBefore (M : LeafMeaning) (o : Options) (r : Regions) (l : ProductLine) (behind text : List ℕ) : Type 0 where
   pub invariants : List Invariant
-  pub good : AreGoodInvariants M o l invariants
+  pub good : AreGoodInvariants M o r l invariants
   pub is : text ≡ invariant_text M l.model.features (whole l.family.code).names invariants ++ behind
 
 -- the text of the certificate of the loops' invariants and of these alarms
-pub record IsCertificateText (M : LeafMeaning) (o : Options) (l : ProductLine) (alarms : List FamilyAlarm) (text : List ℕ) : Type 0 where
+pub record IsCertificateText (M : LeafMeaning) (o : Options) (r : Regions) (l : ProductLine) (alarms : List FamilyAlarm) (text : List ℕ) : Type 0 where
   pub loops : List Invariant
-  pub are : AreLoopsOf M o l loops
+  pub are : AreLoopsOf M o r l loops
   pub is : text ≡ certificate_text M l.model.features (whole l.family.code).names o.mode loops alarms
 
 -- the whole text that is asked for
-abbrev pub IsGoodText : LeafMeaning → Options → FamilyTask → ProductLine → List FamilyAlarm → List ℕ → Type 0
-IsGoodText M o Analyse l alarms text = text ≡ alarm_text l.model.features alarms
-IsGoodText M o Invariants l alarms text = AreInvariantsBefore M o l (alarm_text l.model.features alarms) text
-IsGoodText M o Certify l alarms text = IsCertificateText M o l alarms text
-IsGoodText M o Generate l alarms text = text ≡ sizes_text l ++ alarm_text l.model.features alarms
+abbrev pub IsGoodText : LeafMeaning → Options → Regions → FamilyTask → ProductLine → List FamilyAlarm → List ℕ → Type 0
+IsGoodText M o r Analyse l alarms text = text ≡ alarm_text l.model.features alarms
+IsGoodText M o r Invariants l alarms text = AreInvariantsBefore M o r l (alarm_text l.model.features alarms) text
+IsGoodText M o r Certify l alarms text = IsCertificateText M o r l alarms text
+IsGoodText M o r Generate l alarms text = text ≡ sizes_text l ++ alarm_text l.model.features alarms

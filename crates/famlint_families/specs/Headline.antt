@@ -14,6 +14,7 @@ use Rattle.c_tree.specs.Tree.{Whole}
 use Rattle.c_tree.specs.Value.{IsInt}
 use Rattle.c_tree.specs.View.{whole}
 use Rattle.cpp_conditions.specs.Validity.{plain, IsValid}
+use Rattle.linear_atoms.specs.declared.regions.Regions.{Regions}
 use Rattle.atom_solver.specs.Solutions.{IsFirst, all_hold}
 use Rattle.leaf_domain.specs.Leaves.{LeafMeaning}
 use Rattle.plain_analysis.specs.declared.options.Options.{Options}
@@ -83,16 +84,16 @@ AreInvariantsOfAll M o l invariants =
 
 -- the whole output is the text of such alarms; under `invariants`, the text of such invariants, and then of such alarms; under
 -- `certify`, the certificate of such alarms, and of invariants of loops; under `generate`, the sizes, and then the text of such alarms
-abbrev pub PromisedOfAll : LeafMeaning → Options → FamilyTask → ProductLine → ℕ → List ℕ → Type 0
-PromisedOfAll M o Analyse l status text =
+abbrev pub PromisedOfAll : LeafMeaning → Options → Regions → FamilyTask → ProductLine → ℕ → List ℕ → Type 0
+PromisedOfAll M o r Analyse l status text =
     (alarms : List FamilyAlarm) × (text ≡ alarm_text l.model.features alarms) × AreAlarmsOfAll M o l alarms status
-PromisedOfAll M o Invariants l status text =
+PromisedOfAll M o r Invariants l status text =
     (invariants : List Invariant) × (alarms : List FamilyAlarm)
     × (text ≡ invariant_text M l.model.features (whole l.family.code).names invariants ++ alarm_text l.model.features alarms)
     × AreInvariantsOfAll M o l invariants × AreAlarmsOfAll M o l alarms status
-PromisedOfAll M o Certify l status text =
+PromisedOfAll M o r Certify l status text =
     (loops : List Invariant) × (alarms : List FamilyAlarm)
     × (text ≡ certificate_text M l.model.features (whole l.family.code).names o.mode loops alarms)
     × AreAlarmsOfAll M o l alarms status
-PromisedOfAll M o Generate l status text =
+PromisedOfAll M o r Generate l status text =
     (alarms : List FamilyAlarm) × (text ≡ sizes_text l ++ alarm_text l.model.features alarms) × AreAlarmsOfAll M o l alarms status

@@ -5,3 +5,4 @@ pub mod FeatureUses
 pub mod Findings
 pub mod Generated
 pub mod Headline
+pub mod Told

@@ -27,7 +27,7 @@ use famlint_requests::{Analysis, SettingWords};
 use interval_leaf::IntervalLeaf;
 use leaf_domain::Leaf;
 use lifted_analysis::AlarmTree;
-use linear_atoms::Config;
+use linear_atoms::{Config, Regions};
 use octagon_leaf::OctagonLeaf;
 use plain_analysis::Options;
 use product_leaf::StrideLeaf;
@@ -60,7 +60,7 @@ fn advice_in<L: Leaf>(
     ensures good { IfOk result (λ found. IsGood L.meaning options.now line.now given.now.values found) }
 {
     variants_are_projections();
-    let findings = found_in::<L>(alloc, line, options)?;
+    let findings = found_in::<L>(alloc, line, options, Regions::Paths)?;
     let trees = trees_of(alloc, &findings.alarms)?;
     let atoms = line.family.atoms.items();
     let found = nearest(alloc, &line.model, atoms, &trees, given)?;

@@ -2,6 +2,7 @@
 #![tactic(auto)]
 
 ghost use Rattle.std.specs.Prelude.{◌≡◌, IfOk, map};
+ghost use Rattle.linear_atoms.specs.declared.regions.Regions.{Regions};
 ghost use Rattle.plain_analysis.specs.declared.options.Options.{Options};
 ghost use Rattle.alarm_report.specs.Invariants.{invariant};
 ghost use Rattle.famlint_families.specs.FamilyReports.{AreLoopsOf};
@@ -15,6 +16,7 @@ use fam_outer::{NoMemory, Text};
 use famlint_loads::ProductLine;
 use leaf_domain::Leaf;
 use lifted_analysis::FamilyFindings;
+use linear_atoms::Regions;
 use plain_analysis::Options;
 use std::alloc::Global;
 
@@ -28,8 +30,8 @@ fn loops_in<L: Leaf>(
     requires line { IsUsableLine line.now }
     requires prepared { prepared.now ≡ line.now.model }
     requires tested { AreTested line.now findings.now }
-    ensures are { (o : Options) → IsFound L.value L.meaning o line.now findings.now
-        → IfOk result (λ made. AreLoopsOf L.meaning o line.now (map (invariant L.value) made.items)) }
+    ensures are { (o : Options) (r : Regions) → IsFound L.value L.meaning o r line.now findings.now
+        → IfOk result (λ made. AreLoopsOf L.meaning o r line.now (map (invariant L.value) made.items)) }
     ensures fit { IfOk result (λ made. AreInvariantsWithLiterals line.now made.items) }
 {
     let atoms = line.family.atoms.items();
@@ -44,6 +46,7 @@ pub(crate) fn certificate_of<L: Leaf>(
     alloc: Global,
     line: &ProductLine,
     options: &Options,
+    regions: Regions,
     prepared: &Prepared,
     findings: &FamilyFindings<L>,
     alarms: &[FamilyAlarm],
@@ -52,8 +55,8 @@ pub(crate) fn certificate_of<L: Leaf>(
     requires prepared { prepared.now ≡ line.now.model }
     requires tested { AreTested line.now findings.now }
     requires fit { AreAlarmsWithLiterals line.now alarms.now }
-    ensures { IsFound L.value L.meaning options.now line.now findings.now
-        → IfOk result (λ text. IsCertificateText L.meaning options.now line.now alarms.now text) }
+    ensures { IsFound L.value L.meaning options.now regions line.now findings.now
+        → IfOk result (λ text. IsCertificateText L.meaning options.now regions line.now alarms.now text) }
 {
     let loops = loops_in(alloc, line, prepared, findings)?;
     let features = line.model.features.items();

@@ -2,6 +2,7 @@
 #![tactic(auto)]
 
 ghost use Rattle.std.specs.Prelude.{◌≡◌, ◌≤◌, ◌++◌, ℕ, List, [], ◌∷◌, Some, IfOk, map};
+ghost use Rattle.linear_atoms.specs.declared.regions.Regions.{Regions};
 ghost use Rattle.plain_analysis.specs.declared.options.Options.{Options};
 ghost use Rattle.alarm_report.specs.Invariants.{invariant};
 ghost use Rattle.famlint_families.specs.FamilyAnswers.{AnswersFamily, PromisedFamily};
@@ -27,6 +28,8 @@ use famlint_requests::{Analysis, FamilyTask};
 use interval_leaf::IntervalLeaf;
 use leaf_domain::Leaf;
 use lifted_analysis::{FamilyFindings, analyse_family};
+use linear_atoms::Regions;
+use merged_findings::merged_findings;
 use octagon_leaf::OctagonLeaf;
 use plain_analysis::Options;
 use product_leaf::StrideLeaf;
@@ -37,16 +40,20 @@ pub(crate) fn found_in<L: Leaf>(
     alloc: Global,
     line: &ProductLine,
     options: &Options,
+    regions: Regions,
 ) -> Result<FamilyFindings<L>, NoMemory>
     requires { IsUsableLine line.now }
-    ensures found { IfOk result (λ f. IsFound L.value L.meaning options.now line.now f) }
+    ensures found { IfOk result (λ f. IsFound L.value L.meaning options.now regions line.now f) }
     ensures tested { IfOk result (λ f. AreTested line.now f) }
 {
     let family = &line.family;
     let plausible = plausible(alloc, &line.model, family.atoms.items())?;
     let conditions = family.conditions.items();
     let findings = analyse_family(alloc, &family.code, conditions, &plausible, options)?;
-    Ok(findings)
+    match regions {
+        Regions::Paths => Ok(findings),
+        Regions::Merged => merged_findings(alloc, &findings, &plausible),
+    }
 }
 
 /// The alarms that were found.
@@ -59,8 +66,8 @@ fn alarms_in<L: Leaf>(
     requires line { IsUsableLine line.now }
     requires prepared { prepared.now ≡ line.now.model }
     requires tested { AreTested line.now findings.now }
-    ensures good { (o : Options) → IsFound L.value L.meaning o line.now findings.now
-        → IfOk result (λ alarms. AreGoodAlarms L.meaning o line.now alarms) }
+    ensures good { (o : Options) (r : Regions) → IsFound L.value L.meaning o r line.now findings.now
+        → IfOk result (λ alarms. AreGoodAlarms L.meaning o r line.now alarms) }
     ensures fit { IfOk result (λ alarms. AreAlarmsWithLiterals line.now alarms) }
 {
     variants_are_projections();
@@ -79,8 +86,8 @@ fn invariants_in<L: Leaf>(
     requires line { IsUsableLine line.now }
     requires prepared { prepared.now ≡ line.now.model }
     requires tested { AreTested line.now findings.now }
-    ensures good { (o : Options) → IsFound L.value L.meaning o line.now findings.now
-        → IfOk result (λ made. AreGoodInvariants L.meaning o line.now (map (invariant L.value) made.items)) }
+    ensures good { (o : Options) (r : Regions) → IsFound L.value L.meaning o r line.now findings.now
+        → IfOk result (λ made. AreGoodInvariants L.meaning o r line.now (map (invariant L.value) made.items)) }
     ensures fit { IfOk result (λ made. AreInvariantsWithLiterals line.now made.items) }
 {
     variants_are_projections();
@@ -107,8 +114,8 @@ fn invariants_before<L: Leaf>(
     requires line { IsUsableLine line.now }
     requires prepared { prepared.now ≡ line.now.model }
     requires tested { AreTested line.now findings.now }
-    ensures { (o : Options) → IsFound L.value L.meaning o line.now findings.now
-        → IfOk result (λ text. AreInvariantsBefore L.meaning o line.now alarms.now text) }
+    ensures { (o : Options) (r : Regions) → IsFound L.value L.meaning o r line.now findings.now
+        → IfOk result (λ text. AreInvariantsBefore L.meaning o r line.now alarms.now text) }
 {
     let invariants = invariants_in(alloc, line, prepared, findings)?;
     let features = line.model.features.items();
@@ -126,7 +133,7 @@ fn sizes_before<L: Leaf>(
     findings: &FamilyFindings<L>,
     told: &Text,
 ) -> Result<Text, NoMemory>
-    ensures { (o : Options) → IsFound L.value L.meaning o line.now findings.now
+    ensures { (o : Options) (r : Regions) → IsFound L.value L.meaning o r line.now findings.now
         → IfOk result (λ text. text ≡ sizes_text line.now ++ told.now) }
 {
     let bytes = line.text.bytes().len();
@@ -142,6 +149,7 @@ fn text_for<L: Leaf>(
     alloc: Global,
     line: &ProductLine,
     options: &Options,
+    regions: Regions,
     task: FamilyTask,
     prepared: &Prepared,
     findings: &FamilyFindings<L>,
@@ -151,17 +159,19 @@ fn text_for<L: Leaf>(
     requires prepared { prepared.now ≡ line.now.model }
     requires tested { AreTested line.now findings.now }
     requires fit { AreAlarmsWithLiterals line.now alarms.now }
-    ensures { IsFound L.value L.meaning options.now line.now findings.now
-        → IfOk result (λ text. IsGoodText L.meaning options.now task line.now alarms.now text) }
+    ensures { IsFound L.value L.meaning options.now regions line.now findings.now
+        → IfOk result (λ text. IsGoodText L.meaning options.now regions task line.now alarms.now text) }
 {
     let features = line.model.features.items();
     match task {
         FamilyTask::Analyse => alarm_text(alloc, features, alarms),
         FamilyTask::Invariants => {
             let told = alarm_text(alloc, features, alarms)?;
-            invariants_before(alloc, line, prepared, findings, &told)
+            invariants_before(alloc, line, regions, prepared, findings, &told)
         }
-        FamilyTask::Certify => { certificate_of(alloc, line, options, prepared, findings, alarms) }
+        FamilyTask::Certify => {
+            certificate_of(alloc, line, options, regions, prepared, findings, alarms)
+        }
         FamilyTask::Generate => {
             let told = alarm_text(alloc, features, alarms)?;
             sizes_before(alloc, line, findings, &told)
@@ -174,18 +184,19 @@ fn report_on<L: Leaf>(
     alloc: Global,
     line: &ProductLine,
     options: &Options,
+    regions: Regions,
     task: FamilyTask,
 ) -> Result<Done, NoMemory>
     requires { IsUsableLine line.now }
-    ensures answer { IfOk result (λ done. IsFamilyDone L.meaning options.now task line.now done) }
-    ensures promise { IfOk result (λ done. PromisedOfAll L.meaning options.now task line.now done.status done.text) }
+    ensures answer { IfOk result (λ done. IsFamilyDone L.meaning options.now regions task line.now done) }
+    ensures promise { IfOk result (λ done. PromisedOfAll L.meaning options.now regions task line.now done.status done.text) }
     ensures status { IfOk result (λ done. done.status ≤ 1) }
 {
-    let findings = found_in::<L>(alloc, line, options)?;
+    let findings = found_in::<L>(alloc, line, options, regions)?;
     let prepared = Prepared::new(alloc, &line.model)?;
     let found = alarms_in(alloc, line, &prepared, &findings)?;
     let alarms = found.items();
-    let text = text_for(alloc, line, options, task, &prepared, &findings, alarms)?;
+    let text = text_for(alloc, line, options, regions, task, &prepared, &findings, alarms)?;
     Ok(Done {
         text,
         status: family_status(alarms),
@@ -197,19 +208,20 @@ pub(crate) fn report_by(
     alloc: Global,
     line: &ProductLine,
     analysis: &Analysis,
+    regions: Regions,
     task: FamilyTask,
 ) -> Result<Done, NoMemory>
     requires { IsUsableLine line.now }
     ensures answer { IfOk result (λ done. IsFamilyDone
-        (meaning_of analysis.now.domain) analysis.now.options task line.now done) }
+        (meaning_of analysis.now.domain) analysis.now.options regions task line.now done) }
     ensures promise { IfOk result (λ done. PromisedOfAll
-        (meaning_of analysis.now.domain) analysis.now.options task line.now done.status done.text) }
+        (meaning_of analysis.now.domain) analysis.now.options regions task line.now done.status done.text) }
     ensures status { IfOk result (λ done. done.status ≤ 1) }
 {
     match analysis.domain {
-        Domain::Interval => report_on::<IntervalLeaf>(alloc, line, &analysis.options, task),
-        Domain::Octagon => report_on::<OctagonLeaf>(alloc, line, &analysis.options, task),
-        Domain::Stride => report_on::<StrideLeaf>(alloc, line, &analysis.options, task),
+        Domain::Interval => report_on::<IntervalLeaf>(alloc, line, &analysis.options, regions, task),
+        Domain::Octagon => report_on::<OctagonLeaf>(alloc, line, &analysis.options, regions, task),
+        Domain::Stride => report_on::<StrideLeaf>(alloc, line, &analysis.options, regions, task),
     }
 }
 
@@ -219,15 +231,16 @@ pub fn family<F: Files>(
     model: &Word,
     file: &Word,
     analysis: &Analysis,
+    regions: Regions,
     task: FamilyTask,
     files: &mut F,
 ) -> Result<Done, Failure>
     ensures answer { (told : Contents) → F.content files.old model.now ≡ Some told.model
         → F.content files.old file.now ≡ Some told.file
-        → Comes (AnswersFamily analysis.now task told) result }
+        → Comes (AnswersFamily analysis.now regions task told) result }
     ensures promise { (told : Contents) → F.content files.old model.now ≡ Some told.model
         → F.content files.old file.now ≡ Some told.file
-        → IfOk result (λ done. PromisedFamily analysis.now task told done.status done.text) }
+        → IfOk result (λ done. PromisedFamily analysis.now regions task told done.status done.text) }
     ensures status { IfOk result (λ done. done.status ≤ 1) }
     ensures order { (m : List ℕ) → F.content files.old model.now ≡ Some m → IsReadFault result
         → IsLoadedFor model.now file.now m (F.failed files.new) }
@@ -236,5 +249,5 @@ pub fn family<F: Files>(
         (F.failed files.new) result }
 {
     let line = load_product_line(alloc, model.as_str(), file.as_str(), files)?;
-    Ok(report_by(alloc, &line, analysis, task)?)
+    Ok(report_by(alloc, &line, analysis, regions, task)?)
 }

@@ -11,6 +11,7 @@ use fam_outer::NoMemory;
 use family_generator::{GeneratedFamily, generated_family};
 use famlint_loads::{Done, ProductLine};
 use famlint_requests::{Analysis, FamilyTask};
+use linear_atoms::Regions;
 use std::alloc::Global;
 
 /// The model and the family that are generated for a number of blocks.
@@ -32,12 +33,17 @@ fn generated_line(alloc: Global, number: u32) -> Result<ProductLine, NoMemory>
 }
 
 /// The work of `generate`. The only refusal is want of memory, since a generated family is accepted.
-pub fn generate(alloc: Global, number: u32, analysis: &Analysis) -> Result<Done, NoMemory>
+pub fn generate(
+    alloc: Global,
+    number: u32,
+    analysis: &Analysis,
+    regions: Regions,
+) -> Result<Done, NoMemory>
     requires { number ≤ 2000 }
-    ensures answer { IfOk result (λ done. IsGenerateDone analysis.now number done) }
-    ensures promise { IfOk result (λ done. PromisedGenerate analysis.now number done.status done.text) }
+    ensures answer { IfOk result (λ done. IsGenerateDone analysis.now regions number done) }
+    ensures promise { IfOk result (λ done. PromisedGenerate analysis.now regions number done.status done.text) }
     ensures status { IfOk result (λ done. done.status ≤ 1) }
 {
     let line = generated_line(alloc, number)?;
-    report_by(alloc, &line, analysis, FamilyTask::Generate)
+    report_by(alloc, &line, analysis, regions, FamilyTask::Generate)
 }

@@ -20,7 +20,7 @@ invariants_of-requires-clause-tests g c =
     (c.in_ok-trees.ensures.tests (length l.family.atoms) places))
 
 pub returns-clause-are : goal.returns-clause-are
-returns-clause-are g c = λ o found.
+returns-clause-are g c = λ o r found.
     let l = c.args.line.now in
     let f = c.args.findings.now in
     let value = g.L.Leaf.value in
@@ -30,6 +30,6 @@ returns-clause-are g c = λ o found.
     ∙ (c.in_ok-trees.ensures.trees
     ∙ (ap (λ qs. trees_at qs (map (leaf_tree value) c.as_slice.result.now)) (c.deref.ensures.value ∙ c.in_ok-loops.ensures)
     ∙ ap (λ ts. trees_at places (map (leaf_tree value) ts)) c.as_slice.ensures.value)) in
-    loops_from value g.L.Leaf.meaning o l f c.args.prepared.now c.items-atoms.result.now (map (leaf_tree value) c.deref-2.result.now)
+    loops_from value g.L.Leaf.meaning o r l f c.args.prepared.now c.items-atoms.result.now (map (leaf_tree value) c.deref-2.result.now)
     (map (invariant value) c.in_ok-invariants.invariants.items) found c.requires.prepared c.items-atoms.ensures trees_are
     c.in_ok-invariants.ensures.invariants
