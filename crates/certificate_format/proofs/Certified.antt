@@ -8,7 +8,7 @@ use Rattle.c_tree.specs.declared.tree.Mode.{Mode}
 use Rattle.c_tree.specs.declared.tree.Mode.TheVariants as modes
 use Rattle.leaf_domain.specs.declared.range.Range.{Range}
 use Rattle.lifted_analysis.specs.declared.lines.LoopLine.{LoopLine}
-use Rattle.certificate_format.specs.declared.literals.Numbered.{Numbered}
+use Rattle.certificate_format.specs.declared.literals.Piece.{Piece}
 use Rattle.certificate_format.specs.declared.certificates.AlarmLine.{AlarmLine}
 use Rattle.certificate_format.specs.declared.certificates.CertificateFault.TheVariants as faults
 use Rattle.certificate_format.specs.declared.certificates.Entry.{Entry}
@@ -23,27 +23,27 @@ use Rattle.certificate_format.proofs.Shapes.{no_leaf, no_saying}
 
 -- ---- one line
 
-pub loop_without_leaf : (of : List ℕ → Option Numbered) (names : List (List ℕ)) (n : ℕ) (p : Place) (r l : List ℕ) → ((b : Option (List Range)) → AreIntBounds names b → l ≢ bounds_text names b)
+pub loop_without_leaf : (of : List ℕ → Option Piece) (names : List (List ℕ)) (n : ℕ) (p : Place) (r l : List ℕ) → ((b : Option (List Range)) → AreIntBounds names b → l ≢ bounds_text names b)
     → (line : List ℕ) → IsLoopText line p r l → IsLineRead of names line n (Err (Fault (faults.Line n)))
 loop_without_leaf of names n p r l none line a = (refl, no_leaf names line p r l a none)
 
 loop_says : (names : List (List ℕ)) (line : List ℕ) (p : Place) (r l : List ℕ) (b : Option (List Range)) → IsLoopText line p r l → AreIntBounds names b → l ≡ bounds_text names b → Says names line (Loop p r b)
 loop_says names line p r l b a bounds is = (subst (λ v. IsLoopText line p r v) is a, bounds)
 
-pub strange_loop : (of : List ℕ → Option Numbered) (names : List (List ℕ)) (n : ℕ) (p : Place) (r l : List ℕ) (b : Option (List Range)) → AreIntBounds names b → l ≡ bounds_text names b → IsStrange of r
+pub strange_loop : (of : List ℕ → Option Piece) (names : List (List ℕ)) (n : ℕ) (p : Place) (r l : List ℕ) (b : Option (List Range)) → AreIntBounds names b → l ≡ bounds_text names b → IsStrange of r
     → (line : List ℕ) → IsLoopText line p r l → IsLineRead of names line n (Err (Fault (faults.Test n)))
 strange_loop of names n p r l b bounds is strange line a = (refl, (Loop p r b, loop_says names line p r l b a bounds is, strange))
 
-pub strange_alarm : (of : List ℕ → Option Numbered) (names : List (List ℕ)) (n : ℕ) (p : Place) (k : Kind) (r : List ℕ) → IsStrange of r → (line : List ℕ) → IsAlarmLine line p k r → IsLineRead of names line n (Err (Fault (faults.Test n)))
+pub strange_alarm : (of : List ℕ → Option Piece) (names : List (List ℕ)) (n : ℕ) (p : Place) (k : Kind) (r : List ℕ) → IsStrange of r → (line : List ℕ) → IsAlarmLine line p k r → IsLineRead of names line n (Err (Fault (faults.Test n)))
 strange_alarm of names n p k r strange line a = (refl, (Alarm p k r, a, strange))
 
-pub no_line : (of : List ℕ → Option Numbered) (names : List (List ℕ)) (line : List ℕ) (n : ℕ) → ((p : Place) (r l : List ℕ) → ¬ (IsLoopText line p r l)) → ((p : Place) (k : Kind) (r : List ℕ) → ¬ (IsAlarmLine line p k r))
+pub no_line : (of : List ℕ → Option Piece) (names : List (List ℕ)) (line : List ℕ) (n : ℕ) → ((p : Place) (r l : List ℕ) → ¬ (IsLoopText line p r l)) → ((p : Place) (k : Kind) (r : List ℕ) → ¬ (IsAlarmLine line p k r))
     → IsLineRead of names line n (Err (Fault (faults.Line n)))
 no_line of names line n loops alarms = (refl, no_saying names line loops alarms)
 
 -- ---- entries
 
-pub entries_more : (of : List ℕ → Option Numbered) (names : List (List ℕ)) (lines : List (List ℕ)) (entries : List Entry) (line : List ℕ) (e : Entry) → AreEntries of names lines entries → IsEntry of names line e → AreEntries of names (lines ++ (line ∷ [])) (entries ++ (e ∷ []))
+pub entries_more : (of : List ℕ → Option Piece) (names : List (List ℕ)) (lines : List (List ℕ)) (entries : List Entry) (line : List ℕ) (e : Entry) → AreEntries of names lines entries → IsEntry of names line e → AreEntries of names (lines ++ (line ∷ [])) (entries ++ (e ∷ []))
 entries_more of names [] [] line e h k = (k, tt)
 entries_more of names [] (f ∷ entries) line e h k = absurd h
 entries_more of names (l ∷ lines) [] line e h k = absurd h
@@ -62,7 +62,7 @@ alarms_append (entry.Alarm a ∷ es) fs = ap (λ v. a ∷ v) (alarms_append es f
 -- ---- the lines up to a rest
 
 -- the lines before the rest are read, and line n begins there
-pub record IsReached (of : List ℕ → Option Numbered) (names : List (List ℕ)) (text rest : List ℕ) (n : ℕ) (loops : List LoopLine) (alarms : List AlarmLine) : Type 0 where
+pub record IsReached (of : List ℕ → Option Piece) (names : List (List ℕ)) (text rest : List ℕ) (n : ℕ) (loops : List LoopLine) (alarms : List AlarmLine) : Type 0 where
   pub lines : List (List ℕ)
   pub entries : List Entry
   pub begins : Begins (codes "\n") text lines rest
@@ -72,7 +72,7 @@ pub record IsReached (of : List ℕ → Option Numbered) (names : List (List ℕ
   pub number : n ≡ length lines + 2
   pub room : length lines + length rest ≤ length text
 
-pub reached_more : (of : List ℕ → Option Numbered) (names : List (List ℕ)) (text rest : List ℕ) (n : ℕ) (loops more_loops : List LoopLine) (alarms more_alarms : List AlarmLine) (line behind : List ℕ) (e : Entry)
+pub reached_more : (of : List ℕ → Option Piece) (names : List (List ℕ)) (text rest : List ℕ) (n : ℕ) (loops more_loops : List LoopLine) (alarms more_alarms : List AlarmLine) (line behind : List ℕ) (e : Entry)
     → IsReached of names text rest n loops alarms → IsCut (codes "\n") rest line behind → IsEntry of names line e → more_loops ≡ loops ++ loops_of (e ∷ []) → more_alarms ≡ alarms ++ alarms_of (e ∷ [])
     → IsReached of names text behind (n + 1) more_loops more_alarms
 reached_more of names text rest n loops more_loops alarms more_alarms line behind e h c is f g = record {

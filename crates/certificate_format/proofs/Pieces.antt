@@ -1,13 +1,15 @@
 -- The pieces of a region, and their literals, each once.
-use Rattle.std.proofs.Common.{◌≡◌, ◌⊎◌, inl, inr, ℕ, Bool, true, false, not, ◌&&◌, ◌||◌, true≢false, append-nil, List, [], ◌∷◌, ◌++◌, codes, map, refl, sym, ap, ap₂, subst, ◌∙◌}
-use Rattle.std.specs.Prelude.{nat_eq, filter, if◌then◌else◌, Option, Some}
+use Rattle.std.proofs.Common.{◌≡◌, ◌⊎◌, inl, inr, ℕ, Bool, true, false, not, ◌&&◌, ◌||◌, true≢false, append-nil, append_assoc, List, [], ◌∷◌, ◌++◌, codes, map, refl, sym, ap, ap₂, subst, ◌∙◌}
+use Rattle.std.specs.Prelude.{nat_eq, filter, flat_map, if◌then◌else◌, Option, Some}
 use Rattle.std.specs.List.{list_any}
 use Rattle.std.proofs.lemmas.List.{map-append}
+use Rattle.std.proofs.lemmas.Grind.{flat_map-append}
 use Rattle.std.proofs.lemmas.Bool.Decides.{Decides-eqb}
 use Rattle.certificate_format.specs.declared.literals.Numbered.{Numbered}
+use Rattle.certificate_format.specs.declared.literals.Piece.{Piece}
 use Rattle.certificate_format.specs.Cuts.{Lacks, IsCut, Begins, AreBetween}
-use Rattle.certificate_format.specs.Regions.{is_same, same_bool, distinct}
-use Rattle.certificate_format.specs.Rows.{added}
+use Rattle.certificate_format.specs.Regions.{is_same, same_bool, distinct, literals_in}
+use Rattle.certificate_format.specs.Rows.{added, all_added}
 
 -- ---- parts
 
@@ -113,46 +115,56 @@ pub distinct_more : (literals : List Numbered) (x : Numbered) → distinct (lite
 distinct_more [] x = refl
 distinct_more (l ∷ literals) x = ap (λ d. l ∷ others l d) (distinct_more literals x) ∙ added_cons l x (distinct literals)
 
+all_distinct : (literals more : List Numbered) → distinct (literals ++ more) ≡ all_added (distinct literals) more
+all_distinct literals [] = ap distinct (append-nil literals)
+all_distinct literals (x ∷ more) =
+    ap distinct (sym (append_assoc literals (x ∷ []) more)) ∙ all_distinct (literals ++ (x ∷ [])) more ∙ ap (λ d. all_added d more) (distinct_more literals x)
+
+piece_more : (pieces : List Piece) (p : Piece) → distinct (flat_map literals_in (pieces ++ (p ∷ []))) ≡ all_added (distinct (flat_map literals_in pieces)) (literals_in p)
+piece_more pieces p =
+    ap distinct (flat_map-append literals_in pieces (p ∷ []) ∙ ap (λ ls. flat_map literals_in pieces ++ ls) (append-nil (literals_in p)))
+    ∙ all_distinct (flat_map literals_in pieces) (literals_in p)
+
 -- ---- the pieces up to a rest
 
 -- the literals of the pieces before the rest are found
-pub record AreFound (of : List ℕ → Option Numbered) (region rest : List ℕ) (found : List Numbered) : Type 0 where
-  pub pieces : List (List ℕ)
-  pub literals : List Numbered
-  pub begins : Begins (codes " && ") region pieces rest
-  pub spelled : map of pieces ≡ map Some literals
-  pub found_is : found ≡ distinct literals
+pub record AreFound (of : List ℕ → Option Piece) (region rest : List ℕ) (found : List Numbered) : Type 0 where
+  pub texts : List (List ℕ)
+  pub pieces : List Piece
+  pub begins : Begins (codes " && ") region texts rest
+  pub spelled : map of texts ≡ map Some pieces
+  pub found_is : found ≡ distinct (flat_map literals_in pieces)
 
-pub none_found : (of : List ℕ → Option Numbered) (region : List ℕ) (found : List Numbered) → found ≡ [] → AreFound of region region found
+pub none_found : (of : List ℕ → Option Piece) (region : List ℕ) (found : List Numbered) → found ≡ [] → AreFound of region region found
 none_found of region found e = record {
+  texts = [];
   pieces = [];
-  literals = [];
   begins = refl;
   spelled = refl;
   found_is = e;
 }
 
-spelled_more : (of : List ℕ → Option Numbered) (pieces : List (List ℕ)) (literals : List Numbered) (piece : List ℕ) (l : Numbered) → map of pieces ≡ map Some literals → of piece ≡ Some l
-    → map of (pieces ++ (piece ∷ [])) ≡ map Some (literals ++ (l ∷ []))
-spelled_more of pieces literals piece l e f =
-    map-append of pieces (piece ∷ []) ∙ ap₂ (λ x y. x ++ (y ∷ [])) e f ∙ sym (map-append Some literals (l ∷ []))
+spelled_more : (of : List ℕ → Option Piece) (texts : List (List ℕ)) (pieces : List Piece) (text : List ℕ) (p : Piece) → map of texts ≡ map Some pieces → of text ≡ Some p
+    → map of (texts ++ (text ∷ [])) ≡ map Some (pieces ++ (p ∷ []))
+spelled_more of texts pieces text p e f =
+    map-append of texts (text ∷ []) ∙ ap₂ (λ x y. x ++ (y ∷ [])) e f ∙ sym (map-append Some pieces (p ∷ []))
 
-pub found_more : (of : List ℕ → Option Numbered) (region rest : List ℕ) (found : List Numbered) (piece more : List ℕ) (l : Numbered) (new : List Numbered) → AreFound of region rest found → IsCut (codes " && ") rest piece more
-    → of piece ≡ Some l → new ≡ added found l → AreFound of region more new
-found_more of region rest found piece more l new f c is e = record {
-  pieces = f.pieces ++ (piece ∷ []);
-  literals = f.literals ++ (l ∷ []);
-  begins = begins_more (codes " && ") region f.pieces rest piece more f.begins c;
-  spelled = spelled_more of f.pieces f.literals piece l f.spelled is;
-  found_is = e ∙ ap (λ d. added d l) f.found_is ∙ sym (distinct_more f.literals l);
+pub found_more : (of : List ℕ → Option Piece) (region rest : List ℕ) (found : List Numbered) (text more : List ℕ) (p : Piece) (new : List Numbered) → AreFound of region rest found → IsCut (codes " && ") rest text more
+    → of text ≡ Some p → new ≡ all_added found (literals_in p) → AreFound of region more new
+found_more of region rest found text more p new f c is e = record {
+  texts = f.texts ++ (text ∷ []);
+  pieces = f.pieces ++ (p ∷ []);
+  begins = begins_more (codes " && ") region f.texts rest text more f.begins c;
+  spelled = spelled_more of f.texts f.pieces text p f.spelled is;
+  found_is = e ∙ ap (λ d. all_added d (literals_in p)) f.found_is ∙ sym (piece_more f.pieces p);
 }
 
-pub all_found : (of : List ℕ → Option Numbered) (region rest : List ℕ) (found : List Numbered) (l : Numbered) (new : List Numbered) → AreFound of region rest found → Lacks (codes " && ") rest → of rest ≡ Some l → new ≡ added found l
-    → (pieces : List (List ℕ)) × (literals : List Numbered) × AreBetween (codes " && ") region pieces × (map of pieces ≡ map Some literals) × (new ≡ distinct literals)
-all_found of region rest found l new f none is e = (
-  f.pieces ++ (rest ∷ []),
-  f.literals ++ (l ∷ []),
-  record { front = f.pieces; last = rest; begins = f.begins; ends = none; parts_are = refl },
-  spelled_more of f.pieces f.literals rest l f.spelled is,
-  e ∙ ap (λ d. added d l) f.found_is ∙ sym (distinct_more f.literals l),
+pub all_found : (of : List ℕ → Option Piece) (region rest : List ℕ) (found : List Numbered) (p : Piece) (new : List Numbered) → AreFound of region rest found → Lacks (codes " && ") rest → of rest ≡ Some p
+    → new ≡ all_added found (literals_in p) → (texts : List (List ℕ)) × (pieces : List Piece) × AreBetween (codes " && ") region texts × (map of texts ≡ map Some pieces) × (new ≡ distinct (flat_map literals_in pieces))
+all_found of region rest found p new f none is e = (
+  f.texts ++ (rest ∷ []),
+  f.pieces ++ (p ∷ []),
+  record { front = f.texts; last = rest; begins = f.begins; ends = none; parts_are = refl },
+  spelled_more of f.texts f.pieces rest p f.spelled is,
+  e ∙ ap (λ d. all_added d (literals_in p)) f.found_is ∙ sym (piece_more f.pieces p),
 )

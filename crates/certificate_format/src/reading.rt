@@ -13,7 +13,7 @@ ghost use Rattle.certificate_format.specs.Bounds.{AreIntBounds};
 ghost use Rattle.fam_outer.specs.Limits.{certificate_bytes};
 ghost use Rattle.certificate_format.specs.Certificates.{IsCertificateRead, IsLineRead, header, loops_of, alarms_of};
 ghost use Rattle.certificate_format.specs.Lines.{IsLoopText, IsAlarmLine};
-ghost use Rattle.certificate_format.specs.Regions.{literal_of};
+ghost use Rattle.certificate_format.specs.Regions.{piece_of};
 ghost use Rattle.certificate_format.specs.Rows.{row_of};
 
 use crate::certificates::{AlarmLine, Certificate, CertificateFault, Entry};
@@ -162,14 +162,16 @@ fn read_lines(
 /// place are from 1 to 4294967295. LEAF is `unreachable`, or has an item `x in [l,h]` of each name in order, joined by `, `, or
 /// is `reachable` where there is no name; the ends of an item are numbers of `int`, the low not above the high. The region of a
 /// loop's line ends before the first `: ` behind ` if `, that of an alarm's before the newline. REGION is `1`, which is true, or
-/// has texts of literals of the atoms, joined by ` && `: its formula is that all of these hold, each taken once, in the order of
-/// their first places. Of literals with one text it is the first, in the order of the atoms, an atom before its negation.
+/// has pieces, joined by ` && `: its formula is that all of their literals hold, each taken once, in the order of their first
+/// places. A piece is the text of a literal of the atoms, of literals with one text the first, in the order of the atoms, an atom
+/// before its negation; or it is `T == k`, where `T >= k` and `T <= k` are both literals of the atoms, and then stands for both, in
+/// this order.
 ///
 /// Its refusals, in this order:
 /// - `TooLong`, at more than 16,777,216 bytes;
 /// - `Header`, where the bytes do not begin with one of the two first lines and its newline;
 /// - `Line`, where of the lines behind the first the first that has a fault has neither form, or no newline;
-/// - `Test`, where that line has a form, but a region that is not `1`, of which a piece is the text of no literal.
+/// - `Test`, where that line has a form, but a region that is not `1`, of which a piece is the text of no literal and of no such value.
 ///
 /// The numbers of lines count the whole text's from 1. It answers `NoMemory` for want of memory.
 pub fn read_certificate(
@@ -181,7 +183,7 @@ pub fn read_certificate(
 ) -> Result<Certificate, Refusal<CertificateFault>>
     requires atoms { AreAtoms (length features.now) atoms.now }
     requires few { length atoms.now ≤ 64 }
-    ensures answers { IsCertificateRead (literal_of features.now atoms.now) names.now bytes.now result }
+    ensures answers { IsCertificateRead (piece_of features.now atoms.now) names.now bytes.now result }
     ensures loops { IfOk result (λ c. All (λ (l : LoopLine). IsBelow
         (length atoms.now) (formula l.region)) c.loops.items) }
     ensures alarms { IfOk result (λ c. All (λ (a : AlarmLine). IsBelow

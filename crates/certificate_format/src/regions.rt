@@ -1,16 +1,16 @@
 //! Regions read as formulas.
 #![tactic(auto)]
 
-ghost use Rattle.std.specs.Prelude.{◌≡◌, ℕ, List, codes, Option, Some, None, map, IfOk, MatchOption};
+ghost use Rattle.std.specs.Prelude.{◌≡◌, ℕ, List, codes, Option, Some, None, map, flat_map, IfOk, MatchOption};
 ghost use Rattle.std.specs.List.{list_any};
 ghost use Rattle.cpp_conditions.specs.View.{formula};
-ghost use Rattle.certificate_format.specs.declared.literals.Numbered.{Numbered};
+ghost use Rattle.certificate_format.specs.declared.literals.Piece.{Piece};
 ghost use Rattle.certificate_format.specs.Cuts.{AreBetween, IsBetween};
-ghost use Rattle.certificate_format.specs.Regions.{test_of, all_of, is_same, distinct, IsMeant, IsStrange};
-ghost use Rattle.certificate_format.specs.Rows.{row_of, added};
+ghost use Rattle.certificate_format.specs.Regions.{test_of, all_of, is_same, distinct, literals_in, IsMeant, IsStrange};
+ghost use Rattle.certificate_format.specs.Rows.{row_of, added, all_added};
 
 use crate::cutting::cut_at;
-use crate::literals::{Numbered, Row, literal_of};
+use crate::literals::{Numbered, Piece, Row, piece_of};
 use cpp_conditions::Formula;
 use cpp_conditions::formulas::{both, negation};
 use fam_outer::NoMemory;
@@ -47,6 +47,27 @@ fn add(found: &mut Vec<Numbered>, literal: Numbered) -> Result<(), NoMemory>
     Ok(())
 }
 
+/// Adds the literals of a piece, each unless it is there.
+fn add_piece(found: &mut Vec<Numbered>, piece: Piece) -> Result<(), NoMemory>
+    ensures { IfOk result (λ _. found.new.items ≡ all_added found.old.items (literals_in piece)) }
+{
+    match piece {
+        Piece::Literal(literal) => add(found, literal),
+        Piece::Value(lower, upper) => {
+            let lower = Numbered {
+                number: lower,
+                positive: true,
+            };
+            let upper = Numbered {
+                number: upper,
+                positive: false,
+            };
+            add(found, lower)?;
+            add(found, upper)
+        }
+    }
+}
+
 /// The literals of the pieces of a region, each once.
 fn literals_of(
     alloc: Global,
@@ -55,23 +76,22 @@ fn literals_of(
 ) -> Result<Option<Vec<Numbered>>, NoMemory>
     ensures { IfOk result (λ found. MatchOption found
         ((piece : List ℕ) × IsBetween (codes " && ") region.now piece × (row_of rows.now piece ≡ None))
-        (λ v. (pieces : List (List ℕ)) × (literals : List Numbered)
-        × AreBetween (codes " && ") region.now pieces
-        × (map (row_of rows.now) pieces ≡ map Some literals) × (v.items ≡ distinct literals))) }
+        (λ v. (texts : List (List ℕ)) × (pieces : List Piece) × AreBetween (codes " && ") region.now texts
+        × (map (row_of rows.now) texts ≡ map Some pieces) × (v.items ≡ distinct (flat_map literals_in pieces)))) }
 {
     let mut found = Vec::new(alloc);
     let mut rest = region;
-    'pieces: while let Some((piece, behind)) = cut_at(rest, b" && ") {
-        let Some(literal) = literal_of(rows, piece) else {
+    'pieces: while let Some((text, behind)) = cut_at(rest, b" && ") {
+        let Some(piece) = piece_of(rows, text) else {
             return Ok(None);
         };
-        add(&mut found, literal)?;
+        add_piece(&mut found, piece)?;
         rest = behind;
     }
-    let Some(literal) = literal_of(rows, rest) else {
+    let Some(piece) = piece_of(rows, rest) else {
         return Ok(None);
     };
-    add(&mut found, literal)?;
+    add_piece(&mut found, piece)?;
     Ok(Some(found))
 }
 

@@ -15,7 +15,7 @@ use alarm_report::{FamilyAlarm, FamilyInvariant, kind_text, leaf_text};
 use c_tree::Mode;
 use fam_outer::{NoMemory, Text};
 use leaf_domain::Leaf;
-use linear_atoms::Feature;
+use linear_atoms::{Feature, Regions};
 use std::alloc::Global;
 
 /// The first line of a certificate.
@@ -31,6 +31,7 @@ fn header(mode: Mode) -> &'static [u8]
 /// Adds the line of a loop.
 fn push_loop<L: Leaf>(
     alloc: Global,
+    regions: Regions,
     text: &mut Vec<u8>,
     features: &[Feature],
     names: &[Text],
@@ -38,12 +39,12 @@ fn push_loop<L: Leaf>(
 ) -> Result<(), NoMemory>
     requires { AreLiterals (length features.now) one.now.region.literals }
     ensures { IfOk result (λ _. text.new.items
-        ≡ text.old.items ++ loop_line L.meaning features.now names.now (invariant L.value one.now)) }
+        ≡ text.old.items ++ loop_line regions L.meaning features.now names.now (invariant L.value one.now)) }
 {
     text.extend_from_slice(b"loop ")?;
     push_place(alloc, text, one.place)?;
     text.extend_from_slice(b" if ")?;
-    push_region(alloc, text, features, one.region.literals.items())?;
+    push_region(alloc, regions, text, features, one.region.literals.items())?;
     text.extend_from_slice(b": ")?;
     let leaf = leaf_text(alloc, names, &one.leaf.value)?;
     text.extend_from_slice(leaf.bytes())?;
@@ -54,19 +55,26 @@ fn push_loop<L: Leaf>(
 /// Adds the line of an alarm.
 fn push_alarm(
     alloc: Global,
+    regions: Regions,
     text: &mut Vec<u8>,
     features: &[Feature],
     alarm: &FamilyAlarm,
 ) -> Result<(), NoMemory>
     requires { AreLiterals (length features.now) alarm.now.region.literals }
-    ensures { IfOk result (λ _. text.new.items ≡ text.old.items ++ alarm_line features.now alarm.now) }
+    ensures { IfOk result (λ _. text.new.items ≡ text.old.items ++ alarm_line regions features.now alarm.now) }
 {
     text.extend_from_slice(b"alarm ")?;
     push_place(alloc, text, alarm.place)?;
     text.extend_from_slice(b": ")?;
     text.extend_from_slice(kind_text(alarm.kind).as_bytes())?;
     text.extend_from_slice(b" if ")?;
-    push_region(alloc, text, features, alarm.region.literals.items())?;
+    push_region(
+        alloc,
+        regions,
+        text,
+        features,
+        alarm.region.literals.items(),
+    )?;
     text.push(b'\n')?;
     Ok(())
 }
@@ -74,6 +82,7 @@ fn push_alarm(
 /// Adds the lines of loops.
 fn push_loops<L: Leaf>(
     alloc: Global,
+    regions: Regions,
     text: &mut Vec<u8>,
     features: &[Feature],
     names: &[Text],
@@ -82,11 +91,11 @@ fn push_loops<L: Leaf>(
     requires { All (λ (i : FamilyInvariant L). AreLiterals
         (length features.now) i.region.literals) loops.now }
     ensures { IfOk result (λ _. text.new.items
-        ≡ text.old.items ++ flat_map (loop_line L.meaning features.now names.now)
+        ≡ text.old.items ++ flat_map (loop_line regions L.meaning features.now names.now)
         (map (invariant L.value) loops.now)) }
 {
     'loops: for one in loops {
-        push_loop(alloc, text, features, names, one)?;
+        push_loop(alloc, regions, text, features, names, one)?;
     }
     Ok(())
 }
@@ -94,6 +103,7 @@ fn push_loops<L: Leaf>(
 /// Adds the lines of alarms.
 fn push_alarms(
     alloc: Global,
+    regions: Regions,
     text: &mut Vec<u8>,
     features: &[Feature],
     alarms: &[FamilyAlarm],
@@ -101,10 +111,10 @@ fn push_alarms(
     requires { All (λ (a : FamilyAlarm). AreLiterals
         (length features.now) a.region.literals) alarms.now }
     ensures { IfOk result (λ _. text.new.items
-        ≡ text.old.items ++ flat_map (alarm_line features.now) alarms.now) }
+        ≡ text.old.items ++ flat_map (alarm_line regions features.now) alarms.now) }
 {
     'alarms: for alarm in alarms {
-        push_alarm(alloc, text, features, alarm)?;
+        push_alarm(alloc, regions, text, features, alarm)?;
     }
     Ok(())
 }
@@ -116,6 +126,7 @@ fn push_alarms(
 /// The atoms of all literals are well formed over the features.
 pub fn certificate_text<L: Leaf>(
     alloc: Global,
+    regions: Regions,
     features: &[Feature],
     names: &[Text],
     mode: Mode,
@@ -127,10 +138,10 @@ pub fn certificate_text<L: Leaf>(
     requires alarms { All (λ (a : FamilyAlarm). AreLiterals
         (length features.now) a.region.literals) alarms.now }
     ensures { IfOk result (λ text. text
-        ≡ text_of L.meaning features.now names.now mode (map (invariant L.value) loops.now) alarms.now) }
+        ≡ text_of regions L.meaning features.now names.now mode (map (invariant L.value) loops.now) alarms.now) }
 {
     let mut text = Vec::from_slice(alloc, header(mode))?;
-    push_loops(alloc, &mut text, features, names, loops)?;
-    push_alarms(alloc, &mut text, features, alarms)?;
+    push_loops(alloc, regions, &mut text, features, names, loops)?;
+    push_alarms(alloc, regions, &mut text, features, alarms)?;
     Ok(Text::from_vec(text))
 }

@@ -9,7 +9,7 @@ use Rattle.lifted_analysis.specs.Lines.{AreVariableBounds, AreRegionsBelow}
 use Rattle.certificate_format.specs.declared.certificates.AlarmLine.{AlarmLine}
 use Rattle.certificate_format.specs.declared.certificates.Certificate.{Certificate}
 use Rattle.certificate_format.specs.Certificates.{SpellsCertificate, HasFault}
-use Rattle.certificate_format.specs.Regions.{literal_of}
+use Rattle.certificate_format.specs.Regions.{piece_of}
 use Rattle.famlint_loads.specs.declared.fault.Fault.{Fault}
 use Rattle.famlint_loads.specs.declared.fault.Fault.TheVariants as fault
 use Rattle.famlint_loads.specs.declared.product_line.ProductLine.{ProductLine}
@@ -17,8 +17,8 @@ use Rattle.famlint_loads.specs.ProductLines.{IsProductLine, IsLineRefused, IsLoa
 
 -- the certificate that bytes spell over the literals and the names of a product line, or why they are refused
 abbrev pub ReadsCertificate : ProductLine → List ℕ → Result Certificate Fault → Type 0
-ReadsCertificate l bytes (Ok c) = SpellsCertificate (literal_of l.model.features l.family.atoms) (whole l.family.code).names bytes c
-ReadsCertificate l bytes (Err (fault.Certificate given)) = HasFault (literal_of l.model.features l.family.atoms) (whole l.family.code).names bytes given
+ReadsCertificate l bytes (Ok c) = SpellsCertificate (piece_of l.model.features l.family.atoms) (whole l.family.code).names bytes c
+ReadsCertificate l bytes (Err (fault.Certificate given)) = HasFault (piece_of l.model.features l.family.atoms) (whole l.family.code).names bytes given
 ReadsCertificate l bytes (Err other) = ⊥
 
 -- what is known of a certificate that was read over a product line

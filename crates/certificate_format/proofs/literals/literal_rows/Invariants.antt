@@ -1,7 +1,7 @@
 use Rattle.std.proofs.Common.{◌≡◌, ◌+◌, ◌++◌, length}
 use Rattle.linear_atoms.specs.Atoms.{AreAtoms}
 use Rattle.certificate_format.specs.Rows.{rows_from}
-use Rattle.certificate_format.proofs.literals.rows_of.Given as goal
+use Rattle.certificate_format.proofs.literals.literal_rows.Given as goal
 
 abbrev pub invariant-atoms : goal.invariant-atoms
 invariant-atoms l = record {

@@ -8,10 +8,10 @@ pieces-init c = none_found (row_of c.args.rows.now) c.args.region.now c.new-foun
 
 pub pieces-preserved : goal.pieces-preserved
 pieces-preserved c =
-    found_more (row_of c.args.rows.now) c.args.region.now c.pieces.rest.now c.pieces.found.items c.in-Some.piece.now c.in-Some.behind.now c.in-Some-literal_of.literal c.add.new.found.items
-    c.pieces.invariant c.in-Some.ensures (sym c.in-Some-literal_of.ensures) c.in_ok-add.ensures
+    found_more (row_of c.args.rows.now) c.args.region.now c.pieces.rest.now c.pieces.found.items c.in-Some.text.now c.in-Some.behind.now c.in-Some-piece_of.piece c.add_piece.new.found.items
+    c.pieces.invariant c.in-Some.ensures (sym c.in-Some-piece_of.ensures) c.in_ok-add_piece.ensures
 
 pub returns : goal.returns
 returns c =
-    all_found (row_of c.args.rows.now) c.args.region.now c.pieces.rest.now c.pieces.found.items c.in-Some-literal_of-2.literal c.add-2.new.found.items
-    c.pieces.invariant c.in_default.ensures (sym c.in-Some-literal_of-2.ensures) c.in_ok-add-2.ensures
+    all_found (row_of c.args.rows.now) c.args.region.now c.pieces.rest.now c.pieces.found.items c.in-Some-piece_of-2.piece c.add_piece-2.new.found.items
+    c.pieces.invariant c.in_default.ensures (sym c.in-Some-piece_of-2.ensures) c.in_ok-add_piece-2.ensures
