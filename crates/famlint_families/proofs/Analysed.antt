@@ -165,9 +165,9 @@ pub merged_of : {L E : Type 0} (value : L → LeafValue) (p : Formula) (f : Fami
     → IfOk result (λ made. map (λ (x : PlaceTree L). x.place) made.places.items ≡ map (λ (x : PlaceTree L). x.place) f.places.items)
     → IfOk result (λ made. map (λ (a : AlarmTree). (a.place, a.kind)) made.alarms.items ≡ map (λ (a : AlarmTree). (a.place, a.kind)) f.alarms.items)
     → IfOk result (λ made. (m : ℕ) (g : Place → List Bool → LeafValue) → IsBelow m (formula p) → All (λ (x : PlaceTree L). IsTreeOf m (g x.place) (valued value (tree.plain x.tree))) f.places.items
-      → All (λ (x : PlaceTree L). IsMergedTree m (g x.place) (formula p) (valued value (tree.plain x.tree))) made.places.items)
+    → All (λ (x : PlaceTree L). IsMergedTree m (g x.place) (formula p) (valued value (tree.plain x.tree))) made.places.items)
     → IfOk result (λ made. (m : ℕ) (g : Place × Kind → List Bool → Bool) → IsBelow m (formula p) → All (λ (a : AlarmTree). IsTreeOf m (g (a.place, a.kind)) (tree.plain a.tree)) f.alarms.items
-      → All (λ (a : AlarmTree). IsMergedTree m (g (a.place, a.kind)) (formula p) (tree.plain a.tree)) made.alarms.items)
+    → All (λ (a : AlarmTree). IsMergedTree m (g (a.place, a.kind)) (formula p) (tree.plain a.tree)) made.alarms.items)
     → IfOk result (IsMergedOf value p f)
 merged_of value p f (Ok made) a b c d = record { place_keys = a; alarm_keys = b; trees = c; alarm_trees = d }
 merged_of value p f (Err e) a b c d = tt

@@ -78,19 +78,19 @@ sizes_text l = codes "bytes: " ++ decimal (length l.text) ++ codes "\nplaces: " 
 abbrev pub IsFamilyDone : LeafMeaning → Options → Regions → FamilyTask → ProductLine → Done → Type 0
 IsFamilyDone M o r Analyse l done =
     (alarms : List FamilyAlarm) × AreAlarmsOf M o r l alarms
-    × (done ≡ record { text = alarm_text l.model.features alarms; status = family_status alarms })
+    × (done ≡ record { text = alarm_text r l.model.features alarms; status = family_status alarms })
 IsFamilyDone M o r Invariants l done =
     (invariants : List Invariant) × (alarms : List FamilyAlarm) × AreInvariantsOf M o r l invariants × AreAlarmsOf M o r l alarms
     × (done ≡ record {
-      text = invariant_text M l.model.features (whole l.family.code).names invariants ++ alarm_text l.model.features alarms;
+      text = invariant_text r M l.model.features (whole l.family.code).names invariants ++ alarm_text r l.model.features alarms;
       status = family_status alarms;
     })
 IsFamilyDone M o r Certify l done =
     (loops : List Invariant) × (alarms : List FamilyAlarm) × AreLoopsOf M o r l loops × AreAlarmsOf M o r l alarms
     × (done ≡ record {
-      text = certificate_text M l.model.features (whole l.family.code).names o.mode loops alarms;
+      text = certificate_text r M l.model.features (whole l.family.code).names o.mode loops alarms;
       status = family_status alarms;
     })
 IsFamilyDone M o r Generate l done =
     (alarms : List FamilyAlarm) × AreAlarmsOf M o r l alarms
-    × (done ≡ record { text = sizes_text l ++ alarm_text l.model.features alarms; status = family_status alarms })
+    × (done ≡ record { text = sizes_text l ++ alarm_text r l.model.features alarms; status = family_status alarms })

@@ -71,17 +71,17 @@ pub record AreGoodInvariants (M : LeafMeaning) (o : Options) (r : Regions) (l : 
 pub record AreInvariantsBefore (M : LeafMeaning) (o : Options) (r : Regions) (l : ProductLine) (behind text : List ℕ) : Type 0 where
   pub invariants : List Invariant
   pub good : AreGoodInvariants M o r l invariants
-  pub is : text ≡ invariant_text M l.model.features (whole l.family.code).names invariants ++ behind
+  pub is : text ≡ invariant_text r M l.model.features (whole l.family.code).names invariants ++ behind
 
 -- the text of the certificate of the loops' invariants and of these alarms
 pub record IsCertificateText (M : LeafMeaning) (o : Options) (r : Regions) (l : ProductLine) (alarms : List FamilyAlarm) (text : List ℕ) : Type 0 where
   pub loops : List Invariant
   pub are : AreLoopsOf M o r l loops
-  pub is : text ≡ certificate_text M l.model.features (whole l.family.code).names o.mode loops alarms
+  pub is : text ≡ certificate_text r M l.model.features (whole l.family.code).names o.mode loops alarms
 
 -- the whole text that is asked for
 abbrev pub IsGoodText : LeafMeaning → Options → Regions → FamilyTask → ProductLine → List FamilyAlarm → List ℕ → Type 0
-IsGoodText M o r Analyse l alarms text = text ≡ alarm_text l.model.features alarms
-IsGoodText M o r Invariants l alarms text = AreInvariantsBefore M o r l (alarm_text l.model.features alarms) text
+IsGoodText M o r Analyse l alarms text = text ≡ alarm_text r l.model.features alarms
+IsGoodText M o r Invariants l alarms text = AreInvariantsBefore M o r l (alarm_text r l.model.features alarms) text
 IsGoodText M o r Certify l alarms text = IsCertificateText M o r l alarms text
-IsGoodText M o r Generate l alarms text = text ≡ sizes_text l ++ alarm_text l.model.features alarms
+IsGoodText M o r Generate l alarms text = text ≡ sizes_text l ++ alarm_text r l.model.features alarms

@@ -86,14 +86,14 @@ AreInvariantsOfAll M o l invariants =
 -- `certify`, the certificate of such alarms, and of invariants of loops; under `generate`, the sizes, and then the text of such alarms
 abbrev pub PromisedOfAll : LeafMeaning → Options → Regions → FamilyTask → ProductLine → ℕ → List ℕ → Type 0
 PromisedOfAll M o r Analyse l status text =
-    (alarms : List FamilyAlarm) × (text ≡ alarm_text l.model.features alarms) × AreAlarmsOfAll M o l alarms status
+    (alarms : List FamilyAlarm) × (text ≡ alarm_text r l.model.features alarms) × AreAlarmsOfAll M o l alarms status
 PromisedOfAll M o r Invariants l status text =
     (invariants : List Invariant) × (alarms : List FamilyAlarm)
-    × (text ≡ invariant_text M l.model.features (whole l.family.code).names invariants ++ alarm_text l.model.features alarms)
+    × (text ≡ invariant_text r M l.model.features (whole l.family.code).names invariants ++ alarm_text r l.model.features alarms)
     × AreInvariantsOfAll M o l invariants × AreAlarmsOfAll M o l alarms status
 PromisedOfAll M o r Certify l status text =
     (loops : List Invariant) × (alarms : List FamilyAlarm)
-    × (text ≡ certificate_text M l.model.features (whole l.family.code).names o.mode loops alarms)
+    × (text ≡ certificate_text r M l.model.features (whole l.family.code).names o.mode loops alarms)
     × AreAlarmsOfAll M o l alarms status
 PromisedOfAll M o r Generate l status text =
-    (alarms : List FamilyAlarm) × (text ≡ sizes_text l ++ alarm_text l.model.features alarms) × AreAlarmsOfAll M o l alarms status
+    (alarms : List FamilyAlarm) × (text ≡ sizes_text l ++ alarm_text r l.model.features alarms) × AreAlarmsOfAll M o l alarms status

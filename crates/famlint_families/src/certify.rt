@@ -63,6 +63,7 @@ pub(crate) fn certificate_of<L: Leaf>(
     let names = line.family.code.names.items();
     let text = certificate_text(
         alloc,
+        regions,
         features,
         names,
         options.mode,

@@ -107,6 +107,7 @@ fn family_status(alarms: &[FamilyAlarm]) -> u8
 fn invariants_before<L: Leaf>(
     alloc: Global,
     line: &ProductLine,
+    regions: Regions,
     prepared: &Prepared,
     findings: &FamilyFindings<L>,
     alarms: &Text,
@@ -114,13 +115,13 @@ fn invariants_before<L: Leaf>(
     requires line { IsUsableLine line.now }
     requires prepared { prepared.now ≡ line.now.model }
     requires tested { AreTested line.now findings.now }
-    ensures { (o : Options) (r : Regions) → IsFound L.value L.meaning o r line.now findings.now
-        → IfOk result (λ text. AreInvariantsBefore L.meaning o r line.now alarms.now text) }
+    ensures { (o : Options) → IsFound L.value L.meaning o regions line.now findings.now
+        → IfOk result (λ text. AreInvariantsBefore L.meaning o regions line.now alarms.now text) }
 {
     let invariants = invariants_in(alloc, line, prepared, findings)?;
     let features = line.model.features.items();
     let names = line.family.code.names.items();
-    let front = invariant_text(alloc, features, names, invariants.as_slice())?;
+    let front = invariant_text(alloc, regions, features, names, invariants.as_slice())?;
     let mut text = Vec::from_slice(alloc, front.bytes())?;
     text.extend_from_slice(alarms.bytes())?;
     Ok(Text::from_vec(text))
@@ -164,16 +165,16 @@ fn text_for<L: Leaf>(
 {
     let features = line.model.features.items();
     match task {
-        FamilyTask::Analyse => alarm_text(alloc, features, alarms),
+        FamilyTask::Analyse => alarm_text(alloc, regions, features, alarms),
         FamilyTask::Invariants => {
-            let told = alarm_text(alloc, features, alarms)?;
+            let told = alarm_text(alloc, regions, features, alarms)?;
             invariants_before(alloc, line, regions, prepared, findings, &told)
         }
         FamilyTask::Certify => {
             certificate_of(alloc, line, options, regions, prepared, findings, alarms)
         }
         FamilyTask::Generate => {
-            let told = alarm_text(alloc, features, alarms)?;
+            let told = alarm_text(alloc, regions, features, alarms)?;
             sizes_before(alloc, line, findings, &told)
         }
     }
@@ -196,7 +197,9 @@ fn report_on<L: Leaf>(
     let prepared = Prepared::new(alloc, &line.model)?;
     let found = alarms_in(alloc, line, &prepared, &findings)?;
     let alarms = found.items();
-    let text = text_for(alloc, line, options, regions, task, &prepared, &findings, alarms)?;
+    let text = text_for(
+        alloc, line, options, regions, task, &prepared, &findings, alarms,
+    )?;
     Ok(Done {
         text,
         status: family_status(alarms),
@@ -219,7 +222,13 @@ pub(crate) fn report_by(
     ensures status { IfOk result (λ done. done.status ≤ 1) }
 {
     match analysis.domain {
-        Domain::Interval => report_on::<IntervalLeaf>(alloc, line, &analysis.options, regions, task),
+        Domain::Interval => report_on::<IntervalLeaf>(
+            alloc,
+            line,
+            &analysis.options,
+            regions,
+            task,
+        ),
         Domain::Octagon => report_on::<OctagonLeaf>(alloc, line, &analysis.options, regions, task),
         Domain::Stride => report_on::<StrideLeaf>(alloc, line, &analysis.options, regions, task),
     }

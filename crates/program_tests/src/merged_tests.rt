@@ -11,7 +11,8 @@ const STEPS: &[u8] = b"int main(void){\n#if N>=3\n#endif\n#if N>=5\n#endif\nasse
 const THREE: &[u8] = b"int main(void){\n#if N==3\nassert(0);\n#endif\n}\n";
 
 /// A loop that one value of a number keeps.
-const COUNTED: &[u8] = b"int x;\nint main(void){\n#if N==3\nwhile(x<5)x++;\n#endif\nassert(x==0);\n}\n";
+const COUNTED: &[u8] =
+    b"int x;\nint main(void){\n#if N==3\nwhile(x<5)x++;\n#endif\nassert(x==0);\n}\n";
 
 /// The invariants of the loop and the alarm of the last.
 const COUNTED_CERTIFICATE: &str =
@@ -46,11 +47,7 @@ fn reports_by_paths_and_merged(rt: HostRuntime) -> Result<(), Fail> {
             THREE,
             "3:1: if N <= 2: unreachable\n3:1: if N == 3: reachable\n3:1: if N >= 4: unreachable\n5:1: if N <= 2: reachable\n5:1: if N == 3: unreachable\n5:1: if N >= 4: reachable\n3:1: assertion if N == 3; example N=3\nalarms: 1\n",
         ),
-        (
-            "certify --regions=merged m f",
-            COUNTED,
-            COUNTED_CERTIFICATE,
-        ),
+        ("certify --regions=merged m f", COUNTED, COUNTED_CERTIFICATE),
     ];
     for (line, file, output) in rows {
         let files = two_files(content_of("mn"), file);
@@ -64,7 +61,8 @@ fn reports_by_paths_and_merged(rt: HostRuntime) -> Result<(), Fail> {
 #[test]
 fn merged_regions_of_the_queue(rt: HostRuntime) -> Result<(), Fail> {
     let alloc = rt.alloc();
-    let output = "22:9: overflow if LOG; example LOG=1 FAST=0 RETRY=0 SAFE=0 BULK=0 SIZE=1 LIMIT=0\n26:5: overflow if !SAFE && BULK; example LOG=0 FAST=0 RETRY=0 SAFE=0 BULK=1 SIZE=1 LIMIT=0\n34:5: zero-divisor if FAST && RETRY && LIMIT >= 1; example LOG=0 FAST=1 RETRY=1 SAFE=0 BULK=0 SIZE=1 LIMIT=1\nalarms: 3\n";
+    let output =
+        "22:9: overflow if LOG; example LOG=1 FAST=0 RETRY=0 SAFE=0 BULK=0 SIZE=1 LIMIT=0\n26:5: overflow if !SAFE && BULK; example LOG=0 FAST=0 RETRY=0 SAFE=0 BULK=1 SIZE=1 LIMIT=0\n34:5: zero-divisor if FAST && RETRY && LIMIT >= 1; example LOG=0 FAST=1 RETRY=1 SAFE=0 BULK=0 SIZE=1 LIMIT=1\nalarms: 3\n";
     gives(
         &rt,
         alloc,
@@ -86,9 +84,19 @@ fn merged_certificates_are_accepted(rt: HostRuntime) -> Result<(), Fail> {
 fn commands_that_have_no_regions(rt: HostRuntime) -> Result<(), Fail> {
     let alloc = rt.alloc();
     let rows = [
-        ("generate 3 --regions=merged", 0, "bytes: 164\nplaces: 9\nalarms: 0\n", ""),
+        (
+            "generate 3 --regions=merged",
+            0,
+            "bytes: 164\nplaces: 9\nalarms: 0\n",
+            "",
+        ),
         ("analyse ma f1 --regions=each", 2, "", USAGE),
-        ("analyse ma f1 --regions=paths --regions=merged", 2, "", USAGE),
+        (
+            "analyse ma f1 --regions=paths --regions=merged",
+            2,
+            "",
+            USAGE,
+        ),
         ("plain f1 --regions=merged", 2, "", USAGE),
         ("advise ma f1 --regions=merged", 2, "", USAGE),
         ("check ma f1 c --regions=merged", 2, "", USAGE),
