@@ -18,19 +18,17 @@ ghost use Rattle.famlint_loads.specs.ProductLines.{IsLoadedFor, IsUsableLine};
 
 use crate::family::found_in;
 use c_parser::variants::variants_are_projections;
-use command_words::{Domain, Word};
+use command_words::Word;
 use configuration_advice::{Advice, advice_text, nearest};
 use decision_tree::Tree;
 use fam_outer::{Files, NoMemory};
 use famlint_loads::{Done, Failure, ProductLine, Selected, select};
+use famlint_programs::over_domain;
 use famlint_requests::{Analysis, SettingWords};
-use interval_leaf::IntervalLeaf;
 use leaf_domain::Leaf;
 use lifted_analysis::AlarmTree;
 use linear_atoms::{Config, Regions};
-use octagon_leaf::OctagonLeaf;
 use plain_analysis::Options;
-use product_leaf::StrideLeaf;
 use std::alloc::Global;
 
 /// The trees of stops alone, each with one more owner.
@@ -91,11 +89,7 @@ fn advice_by(
     ensures good { IfOk result (λ found. IsGood
         (meaning_of analysis.now.domain) analysis.now.options line.now given.now.values found) }
 {
-    match analysis.domain {
-        Domain::Interval => advice_in::<IntervalLeaf>(alloc, line, given, &analysis.options),
-        Domain::Octagon => advice_in::<OctagonLeaf>(alloc, line, given, &analysis.options),
-        Domain::Stride => advice_in::<StrideLeaf>(alloc, line, given, &analysis.options),
-    }
+    over_domain!(analysis.domain, advice_in(alloc, line, given, &analysis.options))
 }
 
 /// The line of the advice, with its status.

@@ -21,18 +21,16 @@ use alarm_report::{
 };
 use atom_solver::{Prepared, plausible};
 use c_parser::variants::variants_are_projections;
-use command_words::{Domain, Word};
+use command_words::Word;
 use fam_outer::{Files, NoMemory, Text};
 use famlint_loads::{Done, Failure, ProductLine, load_product_line};
+use famlint_programs::over_domain;
 use famlint_requests::{Analysis, FamilyTask};
-use interval_leaf::IntervalLeaf;
 use leaf_domain::Leaf;
 use lifted_analysis::{FamilyFindings, analyse_family};
 use linear_atoms::Regions;
 use merged_findings::merged_findings;
-use octagon_leaf::OctagonLeaf;
 use plain_analysis::Options;
-use product_leaf::StrideLeaf;
 use std::alloc::Global;
 
 /// What the analysis of all variants finds, over a kind of leaf.
@@ -221,17 +219,10 @@ pub(crate) fn report_by(
         (meaning_of analysis.now.domain) analysis.now.options regions task line.now done.status done.text) }
     ensures status { IfOk result (λ done. done.status ≤ 1) }
 {
-    match analysis.domain {
-        Domain::Interval => report_on::<IntervalLeaf>(
-            alloc,
-            line,
-            &analysis.options,
-            regions,
-            task,
-        ),
-        Domain::Octagon => report_on::<OctagonLeaf>(alloc, line, &analysis.options, regions, task),
-        Domain::Stride => report_on::<StrideLeaf>(alloc, line, &analysis.options, regions, task),
-    }
+    over_domain!(
+        analysis.domain,
+        report_on(alloc, line, &analysis.options, regions, task)
+    )
 }
 
 /// The work of `analyse`, `invariants` and `certify`.

@@ -7,17 +7,14 @@ ghost use Rattle.c_tree.specs.Whole.{IsProgram, IsPlainProgram};
 ghost use Rattle.famlint_programs.specs.ProgramAnswers.{meaning_of, plain_done};
 ghost use Rattle.famlint_programs.specs.Report.{report_status as status_of, report_done, IsReport};
 
+use crate::over_domain;
 use alarm_report::{reports_tell_their_alarms, variant_report};
 use c_tree::Program;
-use command_words::Domain;
 use fam_outer::NoMemory;
 use famlint_loads::Done;
 use famlint_requests::Analysis;
-use interval_leaf::IntervalLeaf;
 use leaf_domain::Leaf;
-use octagon_leaf::OctagonLeaf;
 use plain_analysis::{Alarm, Options, analyse_one};
-use product_leaf::StrideLeaf;
 use std::alloc::Global;
 
 /// The status of a report: 1 where there is an alarm.
@@ -55,9 +52,5 @@ pub fn report_by(alloc: Global, program: &Program, analysis: &Analysis) -> Resul
         (meaning_of analysis.now.domain) analysis.now.options (whole program.now) done.status done.text) }
     ensures status { IfOk result (λ done. done.status ≤ 1) }
 {
-    match analysis.domain {
-        Domain::Interval => report_on::<IntervalLeaf>(alloc, program, &analysis.options),
-        Domain::Octagon => report_on::<OctagonLeaf>(alloc, program, &analysis.options),
-        Domain::Stride => report_on::<StrideLeaf>(alloc, program, &analysis.options),
-    }
+    over_domain!(analysis.domain, report_on(alloc, program, &analysis.options))
 }
