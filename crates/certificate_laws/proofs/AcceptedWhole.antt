@@ -28,7 +28,7 @@ use Rattle.certificate_format.specs.declared.certificates.CertificateFault.{Cert
 use Rattle.fam_outer.specs.Limits.{certificate_bytes}
 use Rattle.certificate_format.specs.Certificates.{IsCertificateRead}
 use Rattle.certificate_format.specs.Lines.{IsPlace}
-use Rattle.certificate_format.specs.Regions.{literal_of}
+use Rattle.certificate_format.specs.Regions.{piece_of}
 use Rattle.certificate_format.specs.Loops.{trees_at}
 use Rattle.certificate_laws.specs.Certified.{IsWrittenOf, IsReadAndAccepted}
 use Rattle.certificate_laws.specs.Laws.{AreNames, AreOfTrees, AnswersBack}
@@ -106,6 +106,6 @@ module _ (transfer : (m : Mode) → TransferAnswers intervals m) (o : Options) (
   accepted (Err NoMemory) k = tt
   accepted (Err (Fault fault)) k = k
 
-  pub read_and_accepted : (result : Result Certificate (Refusal CertificateFault)) → IsCertificateRead (literal_of model.features atoms) p.names bytes result → IsReadAndAccepted model p conditions atoms result
+  pub read_and_accepted : (result : Result Certificate (Refusal CertificateFault)) → IsCertificateRead (piece_of model.features atoms) p.names bytes result → IsReadAndAccepted model p conditions atoms result
   read_and_accepted result answered =
-      accepted result (intervals_are_read_back model atoms p.names o.mode h.invariants h.alarms bytes result names of_trees h.text short answered)
+      accepted result (intervals_are_read_back h.regions model atoms p.names o.mode h.invariants h.alarms bytes result names of_trees h.text short answered)

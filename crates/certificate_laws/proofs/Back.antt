@@ -8,6 +8,7 @@ use Rattle.fam_outer.specs.declared.refusal.Refusal.TheVariants.{NoMemory, Fault
 use Rattle.c_tree.specs.declared.tree.Mode.{Mode}
 use Rattle.linear_atoms.specs.declared.atoms.Atom.{Atom}
 use Rattle.linear_atoms.specs.declared.atoms.Literal.{Literal}
+use Rattle.linear_atoms.specs.declared.regions.Regions.{Regions}
 use Rattle.linear_atoms.specs.Atoms.{AreAtoms}
 use Rattle.cpp_conditions.specs.declared.models.Model.{Model}
 use Rattle.cpp_conditions.specs.Numbering.{vector_at}
@@ -20,7 +21,7 @@ use Rattle.alarm_report.specs.declared.alarms.FamilyAlarm.{FamilyAlarm}
 use Rattle.alarm_report.specs.Invariants.{Invariant}
 use Rattle.alarm_report.specs.Texts.{region_text}
 use Rattle.alarm_report.specs.LeafTexts.{leaf_text}
-use Rattle.certificate_format.specs.declared.literals.Numbered.{Numbered}
+use Rattle.certificate_format.specs.declared.literals.Piece.{Piece}
 use Rattle.certificate_format.specs.declared.certificates.AlarmLine.{AlarmLine}
 use Rattle.certificate_format.specs.declared.certificates.Certificate.{Certificate}
 use Rattle.certificate_format.specs.declared.certificates.CertificateFault.{CertificateFault}
@@ -30,7 +31,7 @@ use Rattle.certificate_format.specs.Bounds.{bounds_text}
 use Rattle.fam_outer.specs.Limits.{certificate_bytes}
 use Rattle.certificate_format.specs.Certificates.{AreRead, HasFault, IsEntry, AreEntries, loops_of, alarms_of, header, IsCertificateRead}
 use Rattle.certificate_format.specs.Lines.{Saying, Loop, Alarm, region_of, Says, IsLoopText, IsAlarmLine}
-use Rattle.certificate_format.specs.Regions.{literal_of, IsMeant, IsStrange}
+use Rattle.certificate_format.specs.Regions.{piece_of, IsMeant, IsStrange}
 use Rattle.certificate_format.proofs.Shapes.{one_loop, not_both}
 use Rattle.certificate_format.specs.Texts.{loop_line, alarm_line, certificate_text}
 use Rattle.certificate_laws.proofs.Naming.{HaveNames}
@@ -40,18 +41,19 @@ use Rattle.certificate_laws.specs.ReadBack as back
 use Rattle.certificate_laws.specs.Written.{IsOneLine}
 use Rattle.certificate_laws.proofs.Writable.{AreOver, TellsNoForm, IsLoopWritten, IsAlarmWritten}
 use Rattle.certificate_laws.proofs.Texts.{IsInLine, region_in_line}
-use Rattle.certificate_laws.proofs.Formulas.{over_fit, region_says, region_known}
+use Rattle.certificate_laws.proofs.Formulas.{region_says, region_known}
+use Rattle.certificate_laws.proofs.Standing.{over_fit}
 use Rattle.certificate_laws.proofs.Leaves.{IsToldBy, leaf_told, one_bounds}
 use Rattle.certificate_laws.proofs.LineTexts as texts
 use Rattle.certificate_laws.proofs.Known.{lines_text, IsKnown, whole_text, no_fault, all_read}
 
 module _ (M : LeafMeaning) (laws : LeafLaws M) (tells : TellsNoForm M) (model : Model) (named : HaveNames model.features) (atoms : List Atom) (well : AreAtoms (length model.features) atoms)
-    (names : List (List ℕ)) (lines : AllByRecursion IsOneLine names) where
-  abbrev of : List ℕ → Option Numbered
-  of = literal_of model.features atoms
+    (names : List (List ℕ)) (lines : AllByRecursion IsOneLine names) (regions : Regions) where
+  abbrev of : List ℕ → Option Piece
+  of = piece_of model.features atoms
 
   abbrev region : List Literal → List ℕ
-  region ls = region_text model.features ls
+  region ls = region_text regions model.features ls
 
   abbrev loop_body : Invariant → List ℕ
   loop_body i = texts.loop_text i.place (region i.region.literals) (leaf_text M names i.leaf)
@@ -60,13 +62,13 @@ module _ (M : LeafMeaning) (laws : LeafLaws M) (tells : TellsNoForm M) (model : 
   alarm_body a = texts.alarm_text a.place a.kind (region a.region.literals)
 
   in_line : (ls : List Literal) → AreOver atoms ls → AllByRecursion IsInLine (region ls)
-  in_line ls h = region_in_line model.features named ls (over_fit (length model.features) atoms ls well h)
+  in_line ls h = region_in_line regions model.features named ls (over_fit (length model.features) atoms ls well h)
 
   known : (ls : List Literal) → AreOver atoms ls → (text : List ℕ) → region ls ≡ text → ¬ (IsStrange of text)
-  known ls h text e s = region_known model.features named atoms well ls h (subst (IsStrange of) (sym e) s)
+  known ls h text e s = region_known model.features named atoms well regions ls h (subst (IsStrange of) (sym e) s)
 
   says_region : (ls : List Literal) → AreOver atoms ls → (text : List ℕ) (p : Proposition ℕ) → region ls ≡ text → IsMeant of text p → (values : List ℤ) → true_on (vector_at atoms values) p ≡ all_hold ls values
-  says_region ls h text p e m values = region_says model.features named atoms well values ls p h (subst (λ t. IsMeant of t p) (sym e) m)
+  says_region ls h text p e m values = region_says model.features named atoms well regions values ls p h (subst (λ t. IsMeant of t p) (sym e) m)
 
   -- ---- loops
 
@@ -158,26 +160,26 @@ module _ (M : LeafMeaning) (laws : LeafLaws M) (tells : TellsNoForm M) (model : 
 
   -- ---- the text
 
-  loop_line_is : (i : Invariant) → loop_line M model.features names i ≡ loop_body i ++ codes "\n"
+  loop_line_is : (i : Invariant) → loop_line regions M model.features names i ≡ loop_body i ++ codes "\n"
   loop_line_is i = simp append_assoc
 
-  alarm_line_is : (a : FamilyAlarm) → alarm_line model.features a ≡ alarm_body a ++ codes "\n"
+  alarm_line_is : (a : FamilyAlarm) → alarm_line regions model.features a ≡ alarm_body a ++ codes "\n"
   alarm_line_is a = simp append_assoc
 
-  loops_text : (is : List Invariant) → flat_map (loop_line M model.features names) is ≡ lines_text (map loop_body is)
+  loops_text : (is : List Invariant) → flat_map (loop_line regions M model.features names) is ≡ lines_text (map loop_body is)
   loops_text [] = refl
   loops_text (i ∷ is) = ap₂ (λ a b. a ++ b) (loop_line_is i) (loops_text is)
 
-  alarms_text : (alarms : List FamilyAlarm) → flat_map (alarm_line model.features) alarms ≡ lines_text (map alarm_body alarms)
+  alarms_text : (alarms : List FamilyAlarm) → flat_map (alarm_line regions model.features) alarms ≡ lines_text (map alarm_body alarms)
   alarms_text [] = refl
   alarms_text (a ∷ alarms) = ap₂ (λ x y. x ++ y) (alarm_line_is a) (alarms_text alarms)
 
-  text_is : (mode : Mode) (is : List Invariant) (alarms : List FamilyAlarm) → certificate_text M model.features names mode is alarms ≡ whole_text of names mode (bodies is alarms)
+  text_is : (mode : Mode) (is : List Invariant) (alarms : List FamilyAlarm) → certificate_text regions M model.features names mode is alarms ≡ whole_text of names mode (bodies is alarms)
   text_is mode is alarms =
       ap (λ t. header mode ++ t) (ap₂ (λ a b. a ++ b) (loops_text is) (alarms_text alarms) ∙ sym (flat_map-append (λ line. line ++ codes "\n") (map loop_body is) (map alarm_body alarms)))
 
   pub read_back : (mode : Mode) (is : List Invariant) (alarms : List FamilyAlarm) (bytes : List ℕ) (result : Result Certificate (Refusal CertificateFault)) → AllByRecursion (IsLoopWritten M atoms names) is
-      → AllByRecursion (IsAlarmWritten atoms) alarms → bytes ≡ certificate_text M model.features names mode is alarms → length bytes ≤ certificate_bytes → IsCertificateRead of names bytes result → AnswersBack M model atoms names mode is alarms result
+      → AllByRecursion (IsAlarmWritten atoms) alarms → bytes ≡ certificate_text regions M model.features names mode is alarms → length bytes ≤ certificate_bytes → IsCertificateRead of names bytes result → AnswersBack M model atoms names mode is alarms result
   read_back mode is alarms bytes (Ok c) h k e short a =
       let text = e ∙ text_is mode is alarms in
       let r = subst (λ t. AreRead of names t c.mode a.lines a.entries []) text a.read in

@@ -63,14 +63,14 @@ kinds_placed (p ∷ places) h = (h.0, (h.0, (h.0, kinds_placed places h.1)))
 -- ---- certificates
 
 pub families_are_read_back : ((m : Mode) → TransferAnswers intervals m) → FamilyCertificatesAreReadBack
-families_are_read_back A model text f o loops mode is alarms bytes result over a text_is short answers =
+families_are_read_back A regions model text f o loops mode is alarms bytes result over a text_is short answers =
     let told = family_told model text f over.spelled in
     let placed = recursion_from_All IsPlace (program_places (whole f.code)) told.placed in
     let leaves = loop_trees A model text f over o a.plausible a.places (subst (AllByRecursion IsPlace) (sym a.places_are) placed) (recursion_from_All (IsLeafTree o f a.plausible) a.places a.leaf_trees) in
     let own = IsLoopTree intervals (length f.atoms) (whole f.code).names in
     let kinds = subst (AllByRecursion (λ (k : Place × Kind). IsPlace k.0)) (sym a.stops_are) (kinds_placed (program_places (whole f.code)) placed) in
     let stops = alarm_trees A model text f over o a.plausible a.stops kinds (recursion_from_All (IsAlarmTreeOf o f a.plausible) a.stops a.stop_trees) in
-    intervals_are_read_back model f.atoms (whole f.code).names mode is alarms bytes result
+    intervals_are_read_back regions model f.atoms (whole f.code).names mode is alarms bytes result
     (record { named = over.named; distinct = over.distinct; well = over.atoms; lines = told.lines })
     (record {
       loops = trees_at loops a.places;

@@ -10,7 +10,7 @@ use Rattle.certificate_laws.proofs.Trees.{loops_written, alarms_written}
 use Rattle.certificate_laws.proofs.Back.{read_back}
 
 pub intervals_are_read_back : CertificatesAreReadBack
-intervals_are_read_back model atoms names mode is alarms bytes result n t text short answers =
-    read_back intervals interval_laws (λ v f. refl) model (have_names model.features n.named n.distinct) atoms n.well names (recursion_from_All IsOneLine names n.lines) mode is alarms bytes result
+intervals_are_read_back regions model atoms names mode is alarms bytes result n t text short answers =
+    read_back intervals interval_laws (λ v f. refl) model (have_names model.features n.named n.distinct) atoms n.well names (recursion_from_All IsOneLine names n.lines) regions mode is alarms bytes result
     (loops_written intervals model atoms names t.loops is (recursion_from_All (IsLoopTree intervals (length atoms) names) t.loops t.loop_trees) t.invariants_are)
     (alarms_written model atoms t.stops alarms (recursion_from_All (IsAlarmTree (length atoms)) t.stops t.alarm_trees) t.alarms_are) text short answers

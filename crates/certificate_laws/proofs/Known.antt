@@ -5,7 +5,7 @@ use Rattle.std.specs.List.{AllByRecursion}
 use Rattle.std.proofs.lemmas.List.{append_cancel_left}
 use Rattle.c_tree.specs.declared.tree.Mode.{Mode}
 use Rattle.c_tree.specs.declared.tree.Mode.TheVariants.{Stop, Wrap}
-use Rattle.certificate_format.specs.declared.literals.Numbered.{Numbered}
+use Rattle.certificate_format.specs.declared.literals.Piece.{Piece}
 use Rattle.certificate_format.specs.declared.certificates.CertificateFault.{CertificateFault}
 use Rattle.certificate_format.specs.declared.certificates.CertificateFault.TheVariants.{TooLong, Header, Line, Test}
 use Rattle.certificate_format.specs.declared.certificates.Entry.{Entry}
@@ -70,13 +70,13 @@ one_header Wrap Stop r s e = let byte : 119 ≡ 115 = ap (λ t. get_or t 22 0) e
 -- ---- lines that have a form
 
 -- the line has no newline and a form, and no piece of its region is strange
-pub record IsKnown (of : List ℕ → Option Numbered) (names : List (List ℕ)) (line : List ℕ) : Type 0 where
+pub record IsKnown (of : List ℕ → Option Piece) (names : List (List ℕ)) (line : List ℕ) : Type 0 where
   pub one : IsOneLine line
   pub says : Saying
   pub said : Says names line says
   pub spelled : (s : Saying) → Says names line s → ¬ (IsStrange of (region_of s))
 
-module _ (of : List ℕ → Option Numbered) (names : List (List ℕ)) (mode : Mode) where
+module _ (of : List ℕ → Option Piece) (names : List (List ℕ)) (mode : Mode) where
   abbrev AreKnown : List (List ℕ) → Type 0
   AreKnown lines = AllByRecursion (IsKnown of names) lines
 

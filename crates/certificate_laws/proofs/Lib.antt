@@ -24,3 +24,5 @@ pub mod AcceptedTrees
 pub mod AcceptedVerdict
 pub mod AcceptedIntervals
 pub mod AcceptedWhole
+pub mod Values
+pub mod Standing

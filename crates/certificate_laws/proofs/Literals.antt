@@ -103,11 +103,11 @@ term_more fs t ts x =
     ∙ append_assoc (32 ∷ mark (int_lt t.1 (pos 0)) ∷ 32 ∷ sized_text t.1 (name_at fs t.0)) (terms_text false fs ts) x
     ∙ append_assoc (32 ∷ mark (int_lt t.1 (pos 0)) ∷ 32 ∷ []) (sized_text t.1 (name_at fs t.0)) (terms_text false fs ts ++ x)
 
--- the text ends, or goes on with ` <` or ` >`
+-- the text ends, or goes on with ` <`, ` =` or ` >`
 abbrev pub Ends : List ℕ → Type 0
 Ends [] = ⊤
 Ends (b ∷ []) = ⊥
-Ends (b ∷ c ∷ bs) = (b ≡ 32) × ((c ≡ 60) ⊎ (c ≡ 62))
+Ends (b ∷ c ∷ bs) = (b ≡ 32) × (60 ≤ c) × (c ≤ 62)
 
 ends_stop : (x : List ℕ) → Ends x → Stops x
 ends_stop [] h = tt
@@ -122,8 +122,8 @@ terms_stop fs (t ∷ ts) x h = subst Stops (sym (term_more fs t ts x)) space_sto
 no_term : (x : List ℕ) (b : Bool) (r : List ℕ) → Ends x → x ≡ 32 ∷ mark b ∷ r → ⊥
 no_term [] b r h e = let l : 0 ≡ length (32 ∷ mark b ∷ r) = ap length e in omega (arith, l)
 no_term (a ∷ []) b r h e = h
-no_term (a ∷ c ∷ x) true r h e = let same : c ≡ 45 = ap (λ t. get_or t 1 0) e in elim h.1 [ inl f ↦ omega (arith, same, f) | inr f ↦ omega (arith, same, f) ]
-no_term (a ∷ c ∷ x) false r h e = let same : c ≡ 43 = ap (λ t. get_or t 1 0) e in elim h.1 [ inl f ↦ omega (arith, same, f) | inr f ↦ omega (arith, same, f) ]
+no_term (a ∷ c ∷ x) true r h e = let same : c ≡ 45 = ap (λ t. get_or t 1 0) e in omega (arith, same, h.1.0)
+no_term (a ∷ c ∷ x) false r h e = let same : c ≡ 43 = ap (λ t. get_or t 1 0) e in omega (arith, same, h.1.0)
 
 size_small : (a : ℤ) → is_small a ≡ true → size a < 2 ^ 64
 size_small a h = let k : unsigned_abs a ≤ 2147483648 = grind (arith, nat_tests) in omega (arith, k)
@@ -191,7 +191,7 @@ first_terms fs named (t ∷ ts) (u ∷ us) x y p q l m h k e =
     (λ i. (number i, coefficient i) ∷ rest.0 i, rest.1)
 
 -- terms do not begin with `!`
-no_bang : (fs : List Feature) → HaveNames fs → (ts : List (ℕ × ℤ)) (x r : List ℕ) → AreShown fs ts → LeadsPositive ts → terms_text true fs ts ++ x ≡ 33 ∷ r → ⊥
+pub no_bang : (fs : List Feature) → HaveNames fs → (ts : List (ℕ × ℤ)) (x r : List ℕ) → AreShown fs ts → LeadsPositive ts → terms_text true fs ts ++ x ≡ 33 ∷ r → ⊥
 no_bang fs named [] x r p l e = l
 no_bang fs named (t ∷ ts) x r p l e = by (by_truth (nat_eq (size t.1) 1))
   where
@@ -215,25 +215,25 @@ no_bang fs named (t ∷ ts) x r p l e = by (by_truth (nat_eq (size t.1) 1))
 
 -- ---- literals
 
-abbrev bang : Bool → List ℕ
+abbrev pub bang : Bool → List ℕ
 bang true = 33 ∷ []
 bang false = []
 
-abbrev tail : Bool → Bool → ℤ → List ℕ
+abbrev pub tail : Bool → Bool → ℤ → List ℕ
 tail true p b = []
 tail false true b = codes " >= " ++ signed_decimal b
 tail false false b = codes " <= " ++ signed_decimal (b -ℤ pos 1)
 
-parts : (s p : Bool) (t : List ℕ) (b : ℤ) → literal_by s p t b ≡ bang (s && not p) ++ (t ++ tail s p b)
+pub parts : (s p : Bool) (t : List ℕ) (b : ℤ) → literal_by s p t b ≡ bang (s && not p) ++ (t ++ tail s p b)
 parts true true t b = sym (append-nil t)
 parts true false t b = ap (λ v. 33 ∷ v) (sym (append-nil t))
 parts false true t b = append_assoc t (codes " >= ") (signed_decimal b)
 parts false false t b = append_assoc t (codes " <= ") (signed_decimal (b -ℤ pos 1))
 
-tail_ends : (s p : Bool) (b : ℤ) → Ends (tail s p b)
+pub tail_ends : (s p : Bool) (b : ℤ) → Ends (tail s p b)
 tail_ends true p b = tt
-tail_ends false true b = (refl, inr refl)
-tail_ends false false b = (refl, inl refl)
+tail_ends false true b = (refl, (omega arith, omega arith))
+tail_ends false false b = (refl, (omega arith, omega arith))
 
 abbrev pub IsBound : ℤ → Type 0
 IsBound b = unsigned_abs b ≤ 2147483649
@@ -242,7 +242,7 @@ pub bound_mag : (b : ℤ) → IsBound b → mag b < 2 ^ 63
 bound_mag (pos n) h = omega (arith, h)
 bound_mag (negsuc n) h = omega (arith, h)
 
-one_bound : (b c : ℤ) → IsBound b → IsBound c → signed_decimal b ≡ signed_decimal c → b ≡ c
+pub one_bound : (b c : ℤ) → IsBound b → IsBound c → signed_decimal b ≡ signed_decimal c → b ≡ c
 one_bound b c h k e = signed_decimal_injective b c (bound_mag b h) (bound_mag c k) e
 
 pub below_bound : (b : ℤ) → IsBound b → mag (b -ℤ pos 1) < 2 ^ 63
@@ -269,7 +269,7 @@ one_tail false false false true b c h k f g n e = absurd (omega (arith, ap (λ v
 one_tail false false false false b c h k f g n e =
     (refl, below_injective b c (signed_decimal_injective (b -ℤ pos 1) (c -ℤ pos 1) (below_bound b h) (below_bound c k) (ap (drop 4) e)))
 
-one_front : (a b : Bool) (t u : List ℕ) → ((r : List ℕ) → t ≡ 33 ∷ r → ⊥) → ((r : List ℕ) → u ≡ 33 ∷ r → ⊥) → bang a ++ t ≡ bang b ++ u → (a ≡ b) × (t ≡ u)
+pub one_front : (a b : Bool) (t u : List ℕ) → ((r : List ℕ) → t ≡ 33 ∷ r → ⊥) → ((r : List ℕ) → u ≡ 33 ∷ r → ⊥) → bang a ++ t ≡ bang b ++ u → (a ≡ b) × (t ≡ u)
 one_front true true t u h k e = (refl, ap (drop 1) e)
 one_front true false t u h k e = absurd (k t (sym e))
 one_front false true t u h k e = absurd (h u e)

@@ -7,6 +7,7 @@ use Rattle.c_tree.specs.Places.{program_places}
 use Rattle.c_tree.specs.Tree.{Whole}
 use Rattle.c_tree.specs.Whole.{IsProgram}
 use Rattle.linear_atoms.specs.declared.atoms.Atom.{Atom}
+use Rattle.linear_atoms.specs.declared.regions.Regions.{Regions}
 use Rattle.cpp_conditions.specs.declared.formulas.Formula.{Formula}
 use Rattle.cpp_conditions.specs.declared.models.Model.{Model}
 use Rattle.interval_leaf.specs.Intervals.{intervals}
@@ -20,7 +21,7 @@ use Rattle.certificate_format.specs.declared.certificates.CertificateFault.{Cert
 use Rattle.fam_outer.specs.Limits.{certificate_bytes}
 use Rattle.certificate_format.specs.Certificates.{IsCertificateRead}
 use Rattle.certificate_format.specs.Lines.{IsPlace}
-use Rattle.certificate_format.specs.Regions.{literal_of}
+use Rattle.certificate_format.specs.Regions.{piece_of}
 use Rattle.certificate_format.specs.Loops.{trees_at}
 use Rattle.certificate_format.specs.Texts.{certificate_text}
 use Rattle.invariant_certificate.specs.declared.verdicts.Verdict.{Verdict}
@@ -30,8 +31,10 @@ use Rattle.certificate_laws.specs.Accepted.{AreLeaves, AreAlarmTrees}
 use Rattle.certificate_laws.specs.Laws.{AreNames}
 
 module _ (o : Options) (model : Model) (p : Whole) (conditions : List Formula) (atoms : List Atom) where
-  -- the text of the invariants of the loops and of the alarms that an analysis by intervals finds of a family
+  -- the text of the invariants of the loops and of the alarms that an analysis by intervals finds of a family, in which regions
+  -- are told so
   pub record IsWrittenOf (bytes : List ℕ) : Type 0 where
+    pub regions : Regions
     pub places : List LeafTree
     pub stops : List PlainAlarmTree
     pub invariants : List Invariant
@@ -40,7 +43,7 @@ module _ (o : Options) (model : Model) (p : Whole) (conditions : List Formula) (
     pub stops_are : AreAlarmTrees intervals o model p conditions atoms stops
     pub loops_are : AreInvariants model atoms (trees_at (loop_places p.body) places) invariants
     pub alarms_are : AreAlarms model atoms stops alarms
-    pub text : bytes ≡ certificate_text intervals model.features p.names o.mode invariants alarms
+    pub text : bytes ≡ certificate_text regions intervals model.features p.names o.mode invariants alarms
 
 -- a certificate was read of which a check has no verdict but yes, or memory ran out
 abbrev pub IsReadAndAccepted : Model → Whole → List Formula → List Atom → Result Certificate (Refusal CertificateFault) → Type 0
@@ -53,4 +56,4 @@ abbrev pub WrittenAnalysesAreAccepted : Type 0
 WrittenAnalysesAreAccepted =
     (o : Options) (model : Model) (p : Whole) (conditions : List Formula) (atoms : List Atom) (bytes : List ℕ) (result : Result Certificate (Refusal CertificateFault))
     → IsProgram p → All IsPlace (program_places p) → AreNames model atoms p.names → IsWrittenOf o model p conditions atoms bytes → length bytes ≤ certificate_bytes
-    → IsCertificateRead (literal_of model.features atoms) p.names bytes result → IsReadAndAccepted model p conditions atoms result
+    → IsCertificateRead (piece_of model.features atoms) p.names bytes result → IsReadAndAccepted model p conditions atoms result

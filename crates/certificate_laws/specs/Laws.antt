@@ -11,6 +11,7 @@ use Rattle.c_tree.specs.Whole.{IsProgram}
 use Rattle.c_parser.specs.declared.family.Family.{Family}
 use Rattle.c_parser.specs.FamilyReading.{IsFamilyOf}
 use Rattle.linear_atoms.specs.declared.atoms.Atom.{Atom}
+use Rattle.linear_atoms.specs.declared.regions.Regions.{Regions}
 use Rattle.linear_atoms.specs.Atoms.{AreAtoms}
 use Rattle.cpp_conditions.specs.declared.formulas.Formula.{Formula}
 use Rattle.cpp_conditions.specs.declared.models.Model.{Model}
@@ -29,7 +30,7 @@ use Rattle.certificate_format.specs.declared.certificates.CertificateFault.{Cert
 use Rattle.fam_outer.specs.Limits.{certificate_bytes}
 use Rattle.certificate_format.specs.Certificates.{IsCertificateRead}
 use Rattle.certificate_format.specs.Lines.{IsPlace}
-use Rattle.certificate_format.specs.Regions.{literal_of}
+use Rattle.certificate_format.specs.Regions.{piece_of}
 use Rattle.certificate_format.specs.Loops.{trees_at}
 use Rattle.certificate_format.specs.Texts.{certificate_text}
 use Rattle.certificate_laws.specs.ReadBack.{IsReadBack}
@@ -72,12 +73,12 @@ pub record AreOfTrees (model : Model) (atoms : List Atom) (names : List (List �
   pub invariants_are : AreInvariants model atoms loops is
   pub alarms_are : AreAlarms model atoms stops alarms
 
--- of a text that is not too long the reader answers a certificate that says what it was written of, or memory ran out
+-- of a text that is not too long, however its regions are told, the reader answers a certificate that says what it was written of, or memory ran out
 abbrev pub CertificatesAreReadBack : Type 0
 CertificatesAreReadBack =
-    (model : Model) (atoms : List Atom) (names : List (List ℕ)) (mode : Mode) (is : List Invariant) (alarms : List FamilyAlarm) (bytes : List ℕ) (result : Result Certificate (Refusal CertificateFault)) → AreNames model atoms names
-    → AreOfTrees model atoms names is alarms → bytes ≡ certificate_text intervals model.features names mode is alarms → length bytes ≤ certificate_bytes
-    → IsCertificateRead (literal_of model.features atoms) names bytes result → AnswersBack intervals model atoms names mode is alarms result
+    (regions : Regions) (model : Model) (atoms : List Atom) (names : List (List ℕ)) (mode : Mode) (is : List Invariant) (alarms : List FamilyAlarm) (bytes : List ℕ) (result : Result Certificate (Refusal CertificateFault)) → AreNames model atoms names
+    → AreOfTrees model atoms names is alarms → bytes ≡ certificate_text regions intervals model.features names mode is alarms → length bytes ≤ certificate_bytes
+    → IsCertificateRead (piece_of model.features atoms) names bytes result → AnswersBack intervals model atoms names mode is alarms result
 
 -- ---- certificates of families
 
@@ -112,6 +113,6 @@ pub record AreOfAnalysis (model : Model) (o : Options) (f : Family) (loops : Lis
 -- the certificate of a family is read back
 abbrev pub FamilyCertificatesAreReadBack : Type 0
 FamilyCertificatesAreReadBack =
-    (model : Model) (text : List ℕ) (f : Family) (o : Options) (loops : List Place) (mode : Mode) (is : List Invariant) (alarms : List FamilyAlarm) (bytes : List ℕ) (result : Result Certificate (Refusal CertificateFault))
-    → IsFamilyOver model text f → AreOfAnalysis model o f loops is alarms → bytes ≡ certificate_text intervals model.features (whole f.code).names mode is alarms → length bytes ≤ certificate_bytes
-    → IsCertificateRead (literal_of model.features f.atoms) (whole f.code).names bytes result → AnswersBack intervals model f.atoms (whole f.code).names mode is alarms result
+    (regions : Regions) (model : Model) (text : List ℕ) (f : Family) (o : Options) (loops : List Place) (mode : Mode) (is : List Invariant) (alarms : List FamilyAlarm) (bytes : List ℕ) (result : Result Certificate (Refusal CertificateFault))
+    → IsFamilyOver model text f → AreOfAnalysis model o f loops is alarms → bytes ≡ certificate_text regions intervals model.features (whole f.code).names mode is alarms → length bytes ≤ certificate_bytes
+    → IsCertificateRead (piece_of model.features f.atoms) (whole f.code).names bytes result → AnswersBack intervals model f.atoms (whole f.code).names mode is alarms result

@@ -46,7 +46,8 @@ use Rattle.lifted_analysis.specs.Turns.{turns_by, inductive_in}
 use Rattle.certificate_format.specs.declared.certificates.Certificate.{Certificate}
 use Rattle.certificate_format.specs.declared.certificates.CertificateFault.{CertificateFault}
 use Rattle.certificate_format.specs.Certificates as reader
-use Rattle.certificate_format.specs.Regions.{literal_of}
+use Rattle.certificate_format.specs.Regions.{piece_of}
+use Rattle.linear_atoms.specs.declared.regions.Regions.TheVariants.{Paths}
 use Rattle.invariant_certificate.specs.declared.verdicts.Verdict.{Verdict}
 use Rattle.invariant_certificate.specs.declared.verdicts.Verdict.TheVariants.{Yes, NotInductive, Unlisted}
 use Rattle.invariant_certificate.specs.Failing.{HoldsAlways, AllHold, IsFirstFailing}
@@ -184,12 +185,12 @@ are_same laws m f k l h i =
 -- ---- the same reading and the same verdict
 
 read_over : (k l : ProductLine) (bytes : List ℕ) (result : Result Certificate (Refusal CertificateFault)) → AreSameLines k l
-    → reader.IsCertificateRead (literal_of k.model.features k.family.atoms) (whole k.family.code).names bytes result
-    → reader.IsCertificateRead (literal_of l.model.features l.family.atoms) (whole l.family.code).names bytes result
+    → reader.IsCertificateRead (piece_of k.model.features k.family.atoms) (whole k.family.code).names bytes result
+    → reader.IsCertificateRead (piece_of l.model.features l.family.atoms) (whole l.family.code).names bytes result
 read_over k l bytes result e h =
-    subst (λ (p : Whole). reader.IsCertificateRead (literal_of l.model.features l.family.atoms) p.names bytes result) e.code
-    (subst (λ (atoms : List Atom). reader.IsCertificateRead (literal_of l.model.features atoms) (whole k.family.code).names bytes result) e.atoms
-    (subst (λ (m : Plain). reader.IsCertificateRead (literal_of m.features k.family.atoms) (whole k.family.code).names bytes result) e.model h))
+    subst (λ (p : Whole). reader.IsCertificateRead (piece_of l.model.features l.family.atoms) p.names bytes result) e.code
+    (subst (λ (atoms : List Atom). reader.IsCertificateRead (piece_of l.model.features atoms) (whole k.family.code).names bytes result) e.atoms
+    (subst (λ (m : Plain). reader.IsCertificateRead (piece_of m.features k.family.atoms) (whole k.family.code).names bytes result) e.model h))
 
 module _ {X : Type 0} (a b : Model) (e : plain a ≡ plain b) (holds says : X → List ℤ → Bool) (same : (x : X) (values : List ℤ) → holds x values ≡ says x values) where
   always : (x : X) → HoldsAlways a (holds x) → HoldsAlways b (says x)
@@ -250,6 +251,7 @@ verdict_over k l c verdict e h =
 written_of : (o : Options) (r : Regions) (l : ProductLine) (done : Done) (bytes : List ℕ) → IsFamilyDone intervals o r task.Certify l done → bytes ≡ done.text
     → IsWrittenOf o l.model (whole l.family.code) l.family.conditions l.family.atoms bytes
 written_of o r l done bytes (loops, alarms, a, b, e) text = record {
+  regions = r;
   places = a.trees;
   stops = b.trees;
   invariants = loops;
@@ -276,7 +278,7 @@ module _ (laws : CertifiedLaws) (m f bytes : List ℕ) (h : IsWrittenByCertify m
       }
 
   read_accepted : (k : ProductLine) (result : Result Certificate (Refusal CertificateFault)) → IsProductLine m f k
-      → reader.IsCertificateRead (literal_of k.model.features k.family.atoms) (whole k.family.code).names bytes result
+      → reader.IsCertificateRead (piece_of k.model.features k.family.atoms) (whole k.family.code).names bytes result
       → IsReadAndAccepted l.model (whole l.family.code) l.family.conditions l.family.atoms result
   read_accepted k result line answers =
       laws.written h.options l.model (whole l.family.code) l.family.conditions l.family.atoms bytes result h.line_is.usable.program

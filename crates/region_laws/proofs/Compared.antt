@@ -6,17 +6,18 @@ use Rattle.std.proofs.lemmas.Int.{ints}
 use Rattle.std.proofs.lemmas.List.{append-nil, append_assoc}
 use Rattle.std.specs.Fmt.{signed_decimal}
 use Rattle.std.specs.Ordering.{int_eq}
+use Rattle.linear_atoms.specs.declared.atoms.Atom.{Atom}
 use Rattle.linear_atoms.specs.declared.atoms.Feature.{Feature}
 use Rattle.linear_atoms.specs.declared.atoms.Literal.{Literal}
 use Rattle.linear_atoms.specs.Atoms.{IsAtom, literal_holds}
 use Rattle.linear_atoms.specs.Forms.{sum_at}
-use Rattle.linear_atoms.specs.Texts.{name_at, boolean_at, terms_text, is_switch, literal_by, literal_text}
+use Rattle.linear_atoms.specs.Texts.{name_at, boolean_at, terms_text, is_switch, literal_by, literal_text, value_text}
 use Rattle.cpp_conditions.specs.Expressions.{before, bit}
 use Rattle.feature_model.specs.Features.{AreDistinct, AreNamed, HaveSwitches}
-use Rattle.cpp_conditions.specs.declared.operators.Operator.TheVariants.{AtMost, AtLeast}
+use Rattle.cpp_conditions.specs.declared.operators.Operator.TheVariants.{AtMost, AtLeast, Equal}
 use Rattle.cpp_conditions.specs.declared.operators.Prefix.TheVariants.{Inverse}
 use Rattle.region_laws.proofs.Named.{switch_at}
-use Rattle.region_laws.proofs.Spelling.{IsTold, any, numbers, looser, with_value, with_text, told_name, told_inverse, told_integer, told_both, at_least_mark, at_most_mark}
+use Rattle.region_laws.proofs.Spelling.{IsTold, any, numbers, looser, with_value, with_text, told_name, told_inverse, told_integer, told_both, at_least_mark, at_most_mark, equal_mark}
 use Rattle.region_laws.proofs.Summed.{AreTerms, are_terms, told_terms}
 
 -- ---- numbers
@@ -108,3 +109,12 @@ module _ {features : List Feature} (named : AreNamed features) (distinct : AreDi
   -- a literal's text has its truth as C's value
   pub told_literal : (l : Literal) → IsAtom (length features) l.atom → IsTold features 3 false (literal_text features l) (λ values. bit (literal_holds l values))
   told_literal l atom = told_by l.atom.terms l.atom.bound l.positive (is_switch features l.atom.terms l.atom.bound) atom refl
+
+  -- so has a value's
+  pub told_value : (a : Atom) → IsAtom (length features) a → IsTold features 4 false (value_text features a) (λ values. bit (int_eq (sum_at a.terms values) a.bound))
+  told_value a atom =
+      let terms = looser (looser (told_terms named distinct a.terms atom.positive (are_terms (length features) a.terms atom.below atom.small))) in
+      let number = looser (looser (looser (told_integer features a.bound (bound_small a.bound atom.bounded)))) in
+      let text = terms_text true features a.terms in
+      with_text ((text ++ codes " == ") ++ signed_decimal a.bound) (sym (append_assoc text (codes " == ") (signed_decimal a.bound)))
+      (told_both features Equal true true false (λ e. absurd (false≢true e)) (codes " == ") text (signed_decimal a.bound) (λ values. sum_at a.terms values) (λ values. a.bound) equal_mark terms number (numbers (terms.number refl) (number.number refl)))

@@ -8,8 +8,8 @@ use Rattle.std.proofs.lemmas.List.{append-nil, append_assoc}
 use Rattle.linear_atoms.specs.declared.atoms.Atom.{Atom}
 use Rattle.linear_atoms.specs.declared.atoms.Feature.{Feature}
 use Rattle.linear_atoms.specs.declared.atoms.Literal.{Literal}
-use Rattle.linear_atoms.specs.Atoms.{AreLiterals, IsWithin, literal_holds}
-use Rattle.linear_atoms.specs.Texts.{literal_text}
+use Rattle.linear_atoms.specs.declared.regions.Regions.{Regions}
+use Rattle.linear_atoms.specs.Atoms.{AreLiterals, IsAtom, IsWithin}
 use Rattle.cpp_conditions.specs.Expressions.{Expression, between, bit, is_nonzero}
 use Rattle.cpp_conditions.specs.Grammar.{CSpells, ReadsAs, Spells, has_reserved, is_small_condition, judged, no_tokens, too_deep, no_condition, read}
 use Rattle.cpp_conditions.specs.Meaning.{is_linear, cond}
@@ -17,12 +17,15 @@ use Rattle.cpp_conditions.specs.Propositions.{Proposition, true_at}
 use Rattle.cpp_conditions.proofs.Lexemes.{one_list}
 use Rattle.cpp_conditions.proofs.Once.{has_value, spelled_once}
 use Rattle.atom_solver.specs.Solutions.{all_hold}
-use Rattle.alarm_report.specs.Texts.{region_text}
+use Rattle.alarm_report.specs.Pieces.{Piece, Single, Value, pieces_of, piece_text}
+use Rattle.alarm_report.specs.Texts.{joined, region_text}
+use Rattle.alarm_report.proofs.Piecewise.{atom_of, ArePieces, AreSome, pieces_are, some_pieces}
 use Rattle.feature_model.specs.Features.{AreDistinct, AreNamed, HaveSwitches}
 use Rattle.cpp_conditions.specs.declared.operators.Operator.TheVariants.{Both}
 use Rattle.region_laws.proofs.Spelling.{IsTold, any, looser, with_value, with_text, told_one, told_both, both_mark, c_spells}
 use Rattle.region_laws.specs.Spelled.{SpellsRegion, IsOfSize}
-use Rattle.region_laws.proofs.Compared.{told_literal}
+use Rattle.region_laws.proofs.Compared.{told_literal, told_value}
+use Rattle.region_laws.proofs.Piecewise.{piece_holds, pieces_hold, all_pieces_hold}
 
 both_bits : (a b : Bool) → between Both (bit a) (bit b) ≡ bit (a && b)
 both_bits true true = refl
@@ -37,9 +40,9 @@ bit_told : (b : Bool) → is_nonzero (bit b) ≡ b
 bit_told true = refl
 bit_told false = refl
 
--- ` && ` and a literal, for each
-abbrev behind : List Feature → List Literal → List ℕ
-behind features ls = flat_map (λ (u : List ℕ). codes " && " ++ u) (map (literal_text features) ls)
+-- ` && ` and a piece, for each
+abbrev behind : List Feature → List Piece → List ℕ
+behind features ps = flat_map (λ (u : List ℕ). codes " && " ++ u) (map (piece_text features) ps)
 
 -- ---- refusals
 
@@ -71,36 +74,46 @@ refused features bytes e _ fault c allowed linear (read ts d s few spells) is =
     judged_by_size features e fault allowed linear (subst (λ x. judged features x ≡ Err fault) same is)
 
 module _ {features : List Feature} (named : AreNamed features) (distinct : AreDistinct features) (switches : HaveSwitches features) where
-  told_behind : (text : List ℕ) (f : List ℤ → Bool) (ls : List Literal) → AreLiterals (length features) ls → IsTold features 5 false text (λ values. bit (f values))
-      → IsTold features 5 false (text ++ behind features ls) (λ values. bit (f values && all_hold ls values))
-  told_behind text f [] are t = with_text (text ++ []) (sym (append-nil text)) (with_value (λ values. bit (f values && true)) (λ values within. ap bit (and_true (f values))) t)
-  told_behind text f (l ∷ ls) are t =
-      let one = told_literal named distinct switches l are.0 in
-      let own = literal_text features l in
-      let two : IsTold features 5 false (text ++ (codes " && " ++ own)) (λ values. bit (f values && literal_holds l values)) =
-      with_value (λ values. bit (f values && literal_holds l values)) (λ values within. both_bits (f values) (literal_holds l values))
-      (told_both features Both false false false (λ e. absurd (false≢true e)) (codes " && ") text own (λ values. bit (f values)) (λ values. bit (literal_holds l values)) both_mark t (looser one) refl) in
-      with_text (text ++ ((codes " && " ++ own) ++ behind features ls)) (append_assoc text (codes " && " ++ own) (behind features ls))
-      (with_value (λ values. bit (f values && (literal_holds l values && all_hold ls values))) (λ values within. ap bit (and_assoc (f values) (literal_holds l values) (all_hold ls values)))
-      (told_behind (text ++ (codes " && " ++ own)) (λ values. f values && literal_holds l values) ls are.1 two))
+  told_piece : (p : Piece) → IsAtom (length features) (atom_of p) → IsTold features 4 false (piece_text features p) (λ values. bit (piece_holds p values))
+  told_piece (Single l) h = looser (told_literal named distinct switches l h)
+  told_piece (Value a) h = told_value named distinct switches a h
 
-  pub told_region : (ls : List Literal) → AreLiterals (length features) ls → IsTold features 6 false (region_text features ls) (λ values. bit (all_hold ls values))
-  told_region [] are = looser (looser (looser (looser (looser (looser (any (told_one features)))))))
-  told_region (l ∷ ls) are = looser (told_behind (literal_text features l) (literal_holds l) ls are.1 (looser (looser (told_literal named distinct switches l are.0))))
+  told_behind : (text : List ℕ) (f : List ℤ → Bool) (ps : List Piece) → ArePieces (length features) ps → IsTold features 5 false text (λ values. bit (f values))
+      → IsTold features 5 false (text ++ behind features ps) (λ values. bit (f values && pieces_hold ps values))
+  told_behind text f [] are t = with_text (text ++ []) (sym (append-nil text)) (with_value (λ values. bit (f values && true)) (λ values within. ap bit (and_true (f values))) t)
+  told_behind text f (p ∷ ps) are t =
+      let one = told_piece p are.0 in
+      let own = piece_text features p in
+      let two : IsTold features 5 false (text ++ (codes " && " ++ own)) (λ values. bit (f values && piece_holds p values)) =
+      with_value (λ values. bit (f values && piece_holds p values)) (λ values within. both_bits (f values) (piece_holds p values))
+      (told_both features Both false false false (λ e. absurd (false≢true e)) (codes " && ") text own (λ values. bit (f values)) (λ values. bit (piece_holds p values)) both_mark t one refl) in
+      with_text (text ++ ((codes " && " ++ own) ++ behind features ps)) (append_assoc text (codes " && " ++ own) (behind features ps))
+      (with_value (λ values. bit (f values && (piece_holds p values && pieces_hold ps values))) (λ values within. ap bit (and_assoc (f values) (piece_holds p values) (pieces_hold ps values)))
+      (told_behind (text ++ (codes " && " ++ own)) (λ values. f values && piece_holds p values) ps are.1 two))
+
+  told_pieces : (ps : List Piece) → AreSome ps → ArePieces (length features) ps → IsTold features 6 false (joined (codes " && ") (map (piece_text features) ps)) (λ values. bit (pieces_hold ps values))
+  told_pieces [] some are = absurd some
+  told_pieces (p ∷ ps) some are = looser (told_behind (piece_text features p) (piece_holds p) ps are.1 (looser (told_piece p are.0)))
+
+  pub told_region : (regions : Regions) (ls : List Literal) → AreLiterals (length features) ls → IsTold features 6 false (region_text regions features ls) (λ values. bit (all_hold ls values))
+  told_region regions [] are = looser (looser (looser (looser (looser (looser (any (told_one features)))))))
+  told_region regions (l ∷ ls) are =
+      with_value (λ values. bit (all_hold (l ∷ ls) values)) (λ values within. ap bit (all_pieces_hold regions features (l ∷ ls) values))
+      (told_pieces (pieces_of regions features (l ∷ ls)) (some_pieces regions features l ls) (pieces_are regions (length features) features (l ∷ ls) are))
 
   -- what a region's text is read as is true exactly where all literals hold
-  pub read_truly : (ls : List Literal) (p : Proposition Atom) (values : List ℤ) → AreLiterals (length features) ls → ReadsAs features (region_text features ls) (Ok p) → IsWithin features values
+  pub read_truly : (regions : Regions) (ls : List Literal) (p : Proposition Atom) (values : List ℤ) → AreLiterals (length features) ls → ReadsAs features (region_text regions features ls) (Ok p) → IsWithin features values
       → true_at values p ≡ all_hold ls values
-  read_truly ls p values are r within =
-      let t = told_region ls are in
-      has_value features (region_text features ls) p r t.tree values (c_spells t) within ∙ ap is_nonzero (t.value_is values within) ∙ bit_told (all_hold ls values)
+  read_truly regions ls p values are r within =
+      let t = told_region regions ls are in
+      has_value features (region_text regions features ls) p r t.tree values (c_spells t) within ∙ ap is_nonzero (t.value_is values within) ∙ bit_told (all_hold ls values)
 
-  pub region_spelled : (ls : List Literal) → AreLiterals (length features) ls → SpellsRegion features ls
-  region_spelled ls are =
-      let t = told_region ls are in
+  pub region_spelled : (regions : Regions) (ls : List Literal) → AreLiterals (length features) ls → SpellsRegion regions features ls
+  region_spelled regions ls are =
+      let t = told_region regions ls are in
       record { expression = t.tree; spelled = c_spells t; true_where = λ values within. ap is_nonzero (t.value_is values within) ∙ bit_told (all_hold ls values) }
 
-  pub refused_by_size : (ls : List Literal) (fault : ConditionFault) → AreLiterals (length features) ls → ReadsAs features (region_text features ls) (Err fault) → IsOfSize fault
-  refused_by_size ls fault are r =
-      let t = told_region ls are in
-      refused features (region_text features ls) t.tree (Err fault) fault (c_spells t) t.allowed t.linear r refl
+  pub refused_by_size : (regions : Regions) (ls : List Literal) (fault : ConditionFault) → AreLiterals (length features) ls → ReadsAs features (region_text regions features ls) (Err fault) → IsOfSize fault
+  refused_by_size regions ls fault are r =
+      let t = told_region regions ls are in
+      refused features (region_text regions features ls) t.tree (Err fault) fault (c_spells t) t.allowed t.linear r refl

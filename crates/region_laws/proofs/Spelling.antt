@@ -14,7 +14,7 @@ use Rattle.cpp_conditions.specs.Tokens.{Token, Digits, Word, Bang, Oper, SpellsT
 use Rattle.cpp_conditions.specs.Tokens as tokens
 use Rattle.feature_model.specs.Features.{AreDistinct, AreNamed}
 use Rattle.cpp_conditions.specs.declared.operators.Operator.{Operator}
-use Rattle.cpp_conditions.specs.declared.operators.Operator.TheVariants.{Times, Plus, Minus, AtLeast, AtMost, Both, Differs}
+use Rattle.cpp_conditions.specs.declared.operators.Operator.TheVariants.{Times, Plus, Minus, AtLeast, AtMost, Equal, Both, Differs}
 use Rattle.cpp_conditions.specs.declared.operators.Prefix.TheVariants.{Inverse, Negative}
 use Rattle.region_laws.proofs.Named.{IsNamed, is_named, value_of_name}
 use Rattle.region_laws.proofs.Numerals.{number_token, alphanumeric_stops, minus_apart}
@@ -158,6 +158,9 @@ at_least_mark = record { stops = λ rest. refl; read = λ rest us s. tokens.spac
 
 pub at_most_mark : IsMark AtMost (codes " <= ")
 at_most_mark = record { stops = λ rest. refl; read = λ rest us s. tokens.space 32 refl (tokens.pair 60 61 (Oper AtMost) refl (tokens.space 32 refl s)) }
+
+pub equal_mark : IsMark Equal (codes " == ")
+equal_mark = record { stops = λ rest. refl; read = λ rest us s. tokens.space 32 refl (tokens.pair 61 61 (Oper Equal) refl (tokens.space 32 refl s)) }
 
 pub both_mark : IsMark Both (codes " && ")
 both_mark = record { stops = λ rest. refl; read = λ rest us s. tokens.space 32 refl (tokens.pair 38 38 (Oper Both) refl (tokens.space 32 refl s)) }

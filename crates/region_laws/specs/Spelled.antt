@@ -4,6 +4,7 @@ use Rattle.fam_outer.specs.declared.faults.ConditionFault.{ConditionFault}
 use Rattle.fam_outer.specs.declared.faults.ConditionFault.TheVariants as faults
 use Rattle.linear_atoms.specs.declared.atoms.Feature.{Feature}
 use Rattle.linear_atoms.specs.declared.atoms.Literal.{Literal}
+use Rattle.linear_atoms.specs.declared.regions.Regions.{Regions}
 use Rattle.linear_atoms.specs.Atoms.{IsWithin}
 use Rattle.cpp_conditions.specs.Expressions.{Expression, is_nonzero, value}
 use Rattle.cpp_conditions.specs.Grammar.{CSpells}
@@ -11,9 +12,9 @@ use Rattle.atom_solver.specs.Solutions.{all_hold}
 use Rattle.alarm_report.specs.Texts.{region_text}
 
 -- an expression of C, whose value is not 0 exactly where all literals hold
-pub record SpellsRegion (features : List Feature) (literals : List Literal) : Type 0 where
+pub record SpellsRegion (regions : Regions) (features : List Feature) (literals : List Literal) : Type 0 where
   pub expression : Expression
-  pub spelled : CSpells expression (region_text features literals)
+  pub spelled : CSpells expression (region_text regions features literals)
   pub true_where : (values : List ℤ) → IsWithin features values → is_nonzero (value features values expression) ≡ all_hold literals values
 
 -- the refusal is one of size

@@ -6,6 +6,7 @@ ghost use Rattle.fam_outer.specs.declared.faults.ConditionFault.{ConditionFault}
 ghost use Rattle.linear_atoms.specs.declared.atoms.Atom.{Atom};
 ghost use Rattle.linear_atoms.specs.declared.atoms.Feature.{Feature};
 ghost use Rattle.linear_atoms.specs.declared.atoms.Literal.{Literal};
+ghost use Rattle.linear_atoms.specs.declared.regions.Regions.{Regions};
 ghost use Rattle.linear_atoms.specs.Atoms.{AreLiterals, IsWithin};
 ghost use Rattle.cpp_conditions.specs.Grammar.{ReadsAs};
 ghost use Rattle.cpp_conditions.specs.Propositions.{Proposition, true_at};
@@ -14,26 +15,26 @@ ghost use Rattle.alarm_report.specs.Texts.{region_text};
 ghost use Rattle.feature_model.specs.Features.{AreDistinct, AreNamed, HaveSwitches};
 ghost use Rattle.region_laws.specs.Spelled.{IsOfSize, SpellsRegion};
 
-/// The text of a region over the features of a model spells an expression in C whose value is not 0 exactly where all
-/// literals of the region hold, at values within the ranges (ISO/IEC 9899:2011, 6.10.1 and 6.5).
+/// The text of a region over the features of a model, however regions are told, spells an expression in C whose value is
+/// not 0 exactly where all literals of the region hold, at values within the ranges (ISO/IEC 9899:2011, 6.10.1 and 6.5).
 pub fn region_texts_are_conditions()
-    ensures { (features : List Feature) (literals : List Literal) → AreNamed features → AreDistinct features
-        → HaveSwitches features → AreLiterals (length features) literals → SpellsRegion features literals }
+    ensures { (regions : Regions) (features : List Feature) (literals : List Literal) → AreNamed features → AreDistinct features
+        → HaveSwitches features → AreLiterals (length features) literals → SpellsRegion regions features literals }
 {}
 
 /// The text of a region, read as a condition over the features of a model, is true at values within the ranges exactly
 /// where all literals of the region hold.
 pub fn region_texts_have_the_meaning_of_regions()
-    ensures { (features : List Feature) (literals : List Literal) (p : Proposition Atom) (values : List ℤ)
+    ensures { (regions : Regions) (features : List Feature) (literals : List Literal) (p : Proposition Atom) (values : List ℤ)
         → AreNamed features → AreDistinct features → HaveSwitches features
-        → AreLiterals (length features) literals → ReadsAs features (region_text features literals) (Ok p)
+        → AreLiterals (length features) literals → ReadsAs features (region_text regions features literals) (Ok p)
         → IsWithin features values → true_at values p ≡ all_hold literals values }
 {}
 
 /// The text of a region is read as a condition, or refused as one that is too deep or too large, and for nothing else.
 pub fn region_texts_are_refused_by_size()
-    ensures { (features : List Feature) (literals : List Literal) (fault : ConditionFault)
+    ensures { (regions : Regions) (features : List Feature) (literals : List Literal) (fault : ConditionFault)
         → AreNamed features → AreDistinct features → HaveSwitches features
         → AreLiterals (length features) literals
-        → ReadsAs features (region_text features literals) (Err fault) → IsOfSize fault }
+        → ReadsAs features (region_text regions features literals) (Err fault) → IsOfSize fault }
 {}

@@ -1,2 +1,3 @@
+pub mod FourFeatures
 pub mod Literals
 pub mod OneFeature

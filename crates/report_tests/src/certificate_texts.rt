@@ -11,7 +11,7 @@ use decision_tree::Kept;
 use fam_outer::{NoMemory, Place, Text, Values};
 use interval_leaf::IntervalLeaf;
 use leaf_domain::{Leaf, Range};
-use linear_atoms::{Atom, Config, Feature, Literal, Terms};
+use linear_atoms::{Atom, Config, Feature, Literal, Regions, Terms};
 use smallvec::SmallVec;
 use std::alloc::Global;
 use std::rc::Rc;
@@ -95,17 +95,41 @@ fn certificates_have_texts(rt: HostRuntime) -> Result<(), Fail> {
         kind: Kind::Overflow,
         region: region(alloc, false)?,
     }];
-    let stops = certificate_text(alloc, &features, &names, Mode::Stop, &loops, &alarms)?;
+    let stops = certificate_text(
+        alloc,
+        Regions::Paths,
+        &features,
+        &names,
+        Mode::Stop,
+        &loops,
+        &alarms,
+    )?;
     assert_eq!(rt;
         stops.bytes(),
         b"famlint certificate 1 stop\nloop 4:1 if !A: x in [0,2147483647], i in [0,10]\nloop 4:1 if A: x in [0,0], i in [0,10]\nalarm 9:1: overflow if !A\n".as_slice()
     );
-    let wraps = certificate_text(alloc, &features, &names, Mode::Wrap, &loops, &[])?;
+    let wraps = certificate_text(
+        alloc,
+        Regions::Paths,
+        &features,
+        &names,
+        Mode::Wrap,
+        &loops,
+        &[],
+    )?;
     assert_eq!(rt;
         wraps.bytes(),
         b"famlint certificate 1 wrap\nloop 4:1 if !A: x in [0,2147483647], i in [0,10]\nloop 4:1 if A: x in [0,0], i in [0,10]\n".as_slice()
     );
-    let none = certificate_text::<IntervalLeaf>(alloc, &features, &names, Mode::Stop, &[], &[])?;
+    let none = certificate_text::<IntervalLeaf>(
+        alloc,
+        Regions::Paths,
+        &features,
+        &names,
+        Mode::Stop,
+        &[],
+        &[],
+    )?;
     assert_eq!(rt; none.bytes(), b"famlint certificate 1 stop\n".as_slice());
     Ok(())
 }

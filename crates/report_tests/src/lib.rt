@@ -11,3 +11,5 @@ mod certificates_read;
 mod regions;
 #[cfg(test)]
 mod reports;
+#[cfg(test)]
+mod values;

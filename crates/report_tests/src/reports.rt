@@ -15,7 +15,7 @@ use decision_tree::Kept;
 use fam_outer::{NoMemory, Place, Text, Values};
 use interval_leaf::IntervalLeaf;
 use leaf_domain::Leaf;
-use linear_atoms::{Atom, Config, Feature, Literal, Terms};
+use linear_atoms::{Atom, Config, Feature, Literal, Regions, Terms};
 use octagon_leaf::OctagonLeaf;
 use plain_analysis::{Alarm, Findings, Options, analyse_one};
 use smallvec::SmallVec;
@@ -100,12 +100,12 @@ fn alarms_have_texts(rt: HostRuntime) -> Result<(), Fail> {
         kind: Kind::ZeroDivisor,
         region: region(alloc, Vec::new(alloc), [0, -5, -5])?,
     };
-    let text = alarm_text(alloc, &features, &[first, second])?;
+    let text = alarm_text(alloc, Regions::Paths, &features, &[first, second])?;
     assert_eq!(rt;
         text.bytes(),
         b"9:1: overflow if !A && N <= 2 && N - 2*M >= 3; example A=0 N=-5 M=-5\n12:30: zero-divisor if 1; example A=0 N=-5 M=-5\nalarms: 2\n".as_slice()
     );
-    let none = alarm_text(alloc, &features, &[])?;
+    let none = alarm_text(alloc, Regions::Paths, &features, &[])?;
     assert_eq!(rt; none.bytes(), b"alarms: 0\n".as_slice());
     let one = Alarm {
         place: at(3, 1),
@@ -268,7 +268,7 @@ fn invariants_have_texts(rt: HostRuntime) -> Result<(), Fail> {
         region: region(alloc, vec![in alloc; off]?, [0, -5, -5])?,
         leaf: Rc::new(alloc, Kept { number: 0, value })?,
     };
-    let text = invariant_text(alloc, &features, names.items(), &[one])?;
+    let text = invariant_text(alloc, Regions::Paths, &features, names.items(), &[one])?;
     assert_eq!(rt;
         text.bytes(),
         b"6:1: if !A: x in [3,3], y in [-4,-4]\n".as_slice()
