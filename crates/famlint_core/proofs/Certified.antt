@@ -47,7 +47,6 @@ use Rattle.certificate_format.specs.declared.certificates.Certificate.{Certifica
 use Rattle.certificate_format.specs.declared.certificates.CertificateFault.{CertificateFault}
 use Rattle.certificate_format.specs.Certificates as reader
 use Rattle.certificate_format.specs.Regions.{piece_of}
-use Rattle.linear_atoms.specs.declared.regions.Regions.TheVariants.{Paths}
 use Rattle.invariant_certificate.specs.declared.verdicts.Verdict.{Verdict}
 use Rattle.invariant_certificate.specs.declared.verdicts.Verdict.TheVariants.{Yes, NotInductive, Unlisted}
 use Rattle.invariant_certificate.specs.Failing.{HoldsAlways, AllHold, IsFirstFailing}
