@@ -1,5 +1,5 @@
 -- What the formula of a region's text says.
-use Rattle.std.proofs.Common.{◌≡◌, ◌≢◌, ℕ, zero, suc, ◌+◌, ℤ, Bool, true, false, not, ◌&&◌, true≢false, List, [], ◌∷◌, ◌++◌, inl, inr, length, map, refl, sym, ap, ap₂, subst, ◌∙◌, arith}
+use Rattle.std.proofs.Common.{◌≡◌, ◌≢◌, ℕ, zero, suc, ◌+◌, ℤ, Bool, true, false, not, ◌&&◌, true≢false, List, [], ◌∷◌, ◌⊎◌, inl, inr, codes, length, map, refl, sym, ap, ap₂, subst, ◌∙◌, arith}
 use Rattle.std.specs.Prelude.{if◌then◌else◌, filter, flat_map, slice_get, slice_index_or, Option, Some, None}
 use Rattle.linear_atoms.specs.declared.atoms.Atom.{Atom}
 use Rattle.linear_atoms.specs.declared.atoms.Feature.{Feature}

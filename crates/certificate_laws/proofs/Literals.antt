@@ -122,8 +122,8 @@ terms_stop fs (t ∷ ts) x h = subst Stops (sym (term_more fs t ts x)) space_sto
 no_term : (x : List ℕ) (b : Bool) (r : List ℕ) → Ends x → x ≡ 32 ∷ mark b ∷ r → ⊥
 no_term [] b r h e = let l : 0 ≡ length (32 ∷ mark b ∷ r) = ap length e in omega (arith, l)
 no_term (a ∷ []) b r h e = h
-no_term (a ∷ c ∷ x) true r h e = let same : c ≡ 45 = ap (λ t. get_or t 1 0) e in omega (arith, same, h.1.0)
-no_term (a ∷ c ∷ x) false r h e = let same : c ≡ 43 = ap (λ t. get_or t 1 0) e in omega (arith, same, h.1.0)
+no_term (a ∷ c ∷ x) true r h e = let same : c ≡ 45 = ap (λ t. get_or t 1 0) e in omega (arith, same, h.1)
+no_term (a ∷ c ∷ x) false r h e = let same : c ≡ 43 = ap (λ t. get_or t 1 0) e in omega (arith, same, h.1)
 
 size_small : (a : ℤ) → is_small a ≡ true → size a < 2 ^ 64
 size_small a h = let k : unsigned_abs a ≤ 2147483648 = grind (arith, nat_tests) in omega (arith, k)
@@ -232,8 +232,8 @@ parts false false t b = append_assoc t (codes " <= ") (signed_decimal (b -ℤ po
 
 pub tail_ends : (s p : Bool) (b : ℤ) → Ends (tail s p b)
 tail_ends true p b = tt
-tail_ends false true b = (refl, (omega arith, omega arith))
-tail_ends false false b = (refl, (omega arith, omega arith))
+tail_ends false true b = (refl, omega arith, omega arith)
+tail_ends false false b = (refl, omega arith, omega arith)
 
 abbrev pub IsBound : ℤ → Type 0
 IsBound b = unsigned_abs b ≤ 2147483649

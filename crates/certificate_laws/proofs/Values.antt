@@ -13,7 +13,7 @@ abbrev value_tail : ℤ → List ℕ
 value_tail b = codes " == " ++ signed_decimal b
 
 value_ends : (b : ℤ) → Ends (value_tail b)
-value_ends b = (refl, (omega arith, omega arith))
+value_ends b = (refl, omega arith, omega arith)
 
 value_parts : (fs : List Feature) (a : Atom) → value_text fs a ≡ terms_text true fs a.terms ++ value_tail a.bound
 value_parts fs a = append_assoc (terms_text true fs a.terms) (codes " == ") (signed_decimal a.bound)
