@@ -89,7 +89,10 @@ fn advice_by(
     ensures good { IfOk result (λ found. IsGood
         (meaning_of analysis.now.domain) analysis.now.options line.now given.now.values found) }
 {
-    over_domain!(analysis.domain, advice_in(alloc, line, given, &analysis.options))
+    over_domain!(
+        analysis.domain,
+        advice_in(alloc, line, given, &analysis.options)
+    )
 }
 
 /// The line of the advice, with its status.

@@ -52,5 +52,8 @@ pub fn report_by(alloc: Global, program: &Program, analysis: &Analysis) -> Resul
         (meaning_of analysis.now.domain) analysis.now.options (whole program.now) done.status done.text) }
     ensures status { IfOk result (λ done. done.status ≤ 1) }
 {
-    over_domain!(analysis.domain, report_on(alloc, program, &analysis.options))
+    over_domain!(
+        analysis.domain,
+        report_on(alloc, program, &analysis.options)
+    )
 }
