@@ -29,7 +29,7 @@ use Rattle.plain_analysis.specs.Promises.{RunsForeseen}
 use Rattle.plain_analysis.specs.Statements.{Heads, passed, final_heads}
 use Rattle.plain_analysis.proofs.Held.{analysis_foresees}
 use Rattle.tree_unify.specs.Formulas as formulas
-use Rattle.lifted_analysis.specs.declared.entries.Noted.{Noted}
+use Rattle.lifted_analysis.specs.declared.noted.Noted.{Noted}
 use Rattle.lifted_analysis.specs.declared.family_context.FamilyContext.{FamilyContext}
 use Rattle.lifted_analysis.specs.declared.findings.AlarmTree.{AlarmTree}
 use Rattle.lifted_analysis.specs.declared.findings.PlaceTree.{PlaceTree}
@@ -39,7 +39,7 @@ use Rattle.lifted_analysis.specs.Entries.{visits_at, leaves_in, stops_in, turns_
 use Rattle.lifted_analysis.specs.Findings.{HasEnded, HasNoted, AreFindings}
 use Rattle.lifted_analysis.specs.Promises.{truths_of, variant_at, begin_at, leaf_at, stop_at, by_kind, valued, Occurs}
 use Rattle.lifted_analysis.specs.Start.{start_at}
-use Rattle.lifted_analysis.specs.declared.entries.TurnTree.{TurnTree}
+use Rattle.lifted_analysis.specs.declared.noted.TurnTree.{TurnTree}
 use Rattle.lifted_analysis.specs.Rules.{passed_with}
 use Rattle.lifted_analysis.specs.States.{truths_in, IsTest, HasRegionNumber}
 use Rattle.lifted_analysis.specs.Turns.{Turn, is_inductive}

@@ -28,8 +28,8 @@ use Rattle.c_tree.specs.declared.tree.Mode.{Mode}
 use Rattle.plain_analysis.specs.Statements.{Heads, passed}
 use Rattle.plain_analysis.proofs.Listed.{front-If, front-While, front-Block}
 use Rattle.tree_unify.specs.Leafwise.{TestsAreOf}
-use Rattle.lifted_analysis.specs.declared.entries.Noted.{Noted}
-use Rattle.lifted_analysis.specs.declared.entries.TurnTree.{TurnTree}
+use Rattle.lifted_analysis.specs.declared.noted.Noted.{Noted}
+use Rattle.lifted_analysis.specs.declared.noted.TurnTree.{TurnTree}
 use Rattle.lifted_analysis.specs.declared.family_context.FamilyContext.{FamilyContext}
 use Rattle.lifted_analysis.specs.Entries.{Visit, visits_at, loop_visit, leaves_in, stops_in, turn_of, turns_in, leaf_there, stop_there, turn_there, IsReducedTree, AreReduced, AreReducedStops, AreSized, HasEntered}
 use Rattle.lifted_analysis.specs.Rules.{heads_where}

@@ -31,8 +31,8 @@ use Rattle.plain_analysis.specs.Statements.{Heads, passed}
 use Rattle.plain_analysis.proofs.JoinLemmas.{join_answer}
 use Rattle.plain_analysis.proofs.Promised.{runs}
 use Rattle.tree_unify.specs.Formulas as formulas
-use Rattle.lifted_analysis.specs.declared.entries.Noted.{Noted}
-use Rattle.lifted_analysis.specs.declared.entries.TurnTree.{TurnTree}
+use Rattle.lifted_analysis.specs.declared.noted.Noted.{Noted}
+use Rattle.lifted_analysis.specs.declared.noted.TurnTree.{TurnTree}
 use Rattle.lifted_analysis.specs.declared.family_context.FamilyContext.{FamilyContext}
 use Rattle.lifted_analysis.specs.declared.findings.AlarmTree.{AlarmTree}
 use Rattle.lifted_analysis.specs.declared.findings.LoopTree.{LoopTree}

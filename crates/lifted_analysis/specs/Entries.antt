@@ -15,8 +15,8 @@ use Rattle.leaf_domain.specs.Leaves.{LeafValue, LeafMeaning}
 use Rattle.leaf_domain.specs.Transfer.{assumed, assigned, forgotten}
 use Rattle.leaf_domain.specs.Stops.{may_at}
 use Rattle.plain_analysis.specs.Statements.{Heads, passed}
-use Rattle.lifted_analysis.specs.declared.entries.Noted.{Noted}
-use Rattle.lifted_analysis.specs.declared.entries.TurnTree.{TurnTree}
+use Rattle.lifted_analysis.specs.declared.noted.Noted.{Noted}
+use Rattle.lifted_analysis.specs.declared.noted.TurnTree.{TurnTree}
 use Rattle.lifted_analysis.specs.declared.family_context.FamilyContext.{FamilyContext}
 use Rattle.lifted_analysis.specs.declared.findings.PlaceTree.{PlaceTree}
 use Rattle.lifted_analysis.specs.declared.findings.AlarmTree.{AlarmTree}

@@ -15,8 +15,8 @@ use Rattle.leaf_domain.specs.Leaves.{LeafValue, LeafMeaning}
 use Rattle.plain_analysis.specs.declared.options.Options.{Options}
 use Rattle.plain_analysis.specs.Places.{at_by, alarm_by}
 use Rattle.plain_analysis.specs.Statements.{Heads}
-use Rattle.lifted_analysis.specs.declared.entries.Noted.{Noted}
-use Rattle.lifted_analysis.specs.declared.entries.TurnTree.{TurnTree}
+use Rattle.lifted_analysis.specs.declared.noted.Noted.{Noted}
+use Rattle.lifted_analysis.specs.declared.noted.TurnTree.{TurnTree}
 use Rattle.lifted_analysis.specs.declared.family_context.FamilyContext.{FamilyContext}
 use Rattle.lifted_analysis.specs.declared.findings.AlarmTree.{AlarmTree}
 use Rattle.lifted_analysis.specs.declared.findings.FamilyFindings.{FamilyFindings}

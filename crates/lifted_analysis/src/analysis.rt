@@ -20,10 +20,11 @@ ghost use Rattle.lifted_analysis.specs.States.{IsFamily, IsTruth};
 ghost use Rattle.lifted_analysis.specs.Promises.{variant_at, begin_at, leaf_at, stop_at, by_kind, valued, Occurs, AreBelow};
 
 use crate::conditions::family_trees;
-use crate::entries::{Noted, enter_list};
+use crate::entries::enter_list;
 use crate::family_context::FamilyContext;
 use crate::finals::Finals;
 use crate::findings::{AlarmTree, FamilyFindings, PlaceTree};
+use crate::noted::Noted;
 use crate::rule::rule_of;
 use crate::start::start_tree;
 use crate::tables::Tables;

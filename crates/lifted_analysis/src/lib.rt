@@ -11,6 +11,7 @@ mod finals;
 pub mod findings;
 pub mod laws;
 pub mod lines;
+mod noted;
 mod operations;
 pub mod pass;
 mod rule;

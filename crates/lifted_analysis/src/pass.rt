@@ -9,7 +9,7 @@ ghost use Rattle.c_tree.specs.Places.{program_places};
 ghost use Rattle.c_tree.specs.Project.{IsConditioned};
 ghost use Rattle.decision_tree.specs.View.{numbered, plain};
 ghost use Rattle.plain_analysis.specs.Promises.{RunsForeseenBy};
-ghost use Rattle.lifted_analysis.specs.declared.entries.TurnTree.{TurnTree};
+ghost use Rattle.lifted_analysis.specs.declared.noted.TurnTree.{TurnTree};
 ghost use Rattle.lifted_analysis.specs.declared.findings.AlarmTree.{AlarmTree};
 ghost use Rattle.lifted_analysis.specs.declared.findings.LoopTree.{LoopTree};
 ghost use Rattle.lifted_analysis.specs.declared.lines.LoopLine.{LoopLine};
@@ -22,10 +22,10 @@ ghost use Rattle.lifted_analysis.specs.Turns.{AreInductive, is_inductive, loop_p
 
 use crate::analysis::noted_in;
 use crate::conditions::family_trees;
-use crate::entries::TurnTree;
 use crate::family_context::FamilyContext;
 use crate::findings::{LoopTree, PassFindings};
 use crate::lines::LoopLine;
+use crate::noted::TurnTree;
 use crate::states::{below, within};
 use crate::tables::Tables;
 use c_tree::{Mode, Program};

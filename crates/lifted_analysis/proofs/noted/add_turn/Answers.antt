@@ -1,8 +1,8 @@
 use Rattle.decision_tree.specs.View.{numbered}
-use Rattle.lifted_analysis.specs.declared.entries.TurnTree.{TurnTree}
+use Rattle.lifted_analysis.specs.declared.noted.TurnTree.{TurnTree}
 use Rattle.lifted_analysis.specs.Entries.{IsSizedTurn}
 use Rattle.lifted_analysis.proofs.EntryLemmas.{turns_inserted, sized_as, all_inserted}
-use Rattle.lifted_analysis.proofs.entries.add_turn.Goals as goal
+use Rattle.lifted_analysis.proofs.noted.add_turn.Goals as goal
 
 pub returns-clause-turns : goal.returns-clause-turns
 returns-clause-turns g c =

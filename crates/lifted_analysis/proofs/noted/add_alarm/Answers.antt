@@ -2,7 +2,7 @@ use Rattle.decision_tree.specs.View.{numbered, plain}
 use Rattle.lifted_analysis.specs.declared.findings.AlarmTree.{AlarmTree}
 use Rattle.lifted_analysis.specs.Entries.{IsReducedTree}
 use Rattle.lifted_analysis.proofs.EntryLemmas.{reduced_push}
-use Rattle.lifted_analysis.proofs.entries.add_alarm.Goals as goal
+use Rattle.lifted_analysis.proofs.noted.add_alarm.Goals as goal
 
 pub returns-clause-trees : goal.returns-clause-trees
 returns-clause-trees g c =

@@ -4,7 +4,7 @@ use Rattle.decision_tree.specs.View.{numbered, plain}
 use Rattle.lifted_analysis.specs.declared.findings.PlaceTree.{PlaceTree}
 use Rattle.lifted_analysis.specs.Entries.{IsReducedTree}
 use Rattle.lifted_analysis.proofs.EntryLemmas.{reduced_push}
-use Rattle.lifted_analysis.proofs.entries.add_tree.Goals as goal
+use Rattle.lifted_analysis.proofs.noted.add_tree.Goals as goal
 
 pub returns-clause-trees : goal.returns-clause-trees
 returns-clause-trees g c =

@@ -1,6 +1,6 @@
 use Rattle.decision_tree.specs.View.{numbered}
 use Rattle.lifted_analysis.proofs.EntryLemmas.{entered_at_last, state_reduced}
-use Rattle.lifted_analysis.proofs.entries.enter.Goals as goal
+use Rattle.lifted_analysis.proofs.noted.enter.Goals as goal
 
 pub add_tree-requires : goal.add_tree-requires
 add_tree-requires g c = state_reduced g.L.Leaf.value c.args.family.now c.args.tables.now.leaves (numbered c.args.t.now) c.requires.state
