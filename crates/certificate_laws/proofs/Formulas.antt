@@ -1,12 +1,12 @@
 -- What the formula of a region's text says.
-use Rattle.std.proofs.Common.{◌≡◌, ◌≢◌, ℕ, zero, suc, ◌+◌, ℤ, Bool, true, false, not, ◌&&◌, true≢false, List, [], ◌∷◌, ◌⊎◌, inl, inr, codes, length, map, refl, sym, ap, ap₂, subst, ◌∙◌, arith}
+use Rattle.std.proofs.Common.{◌≡◌, ℕ, zero, suc, ℤ, Bool, true, false, not, ◌&&◌, List, [], ◌∷◌, ◌⊎◌, inl, inr, codes, length, map, refl, sym, ap, ap₂, subst, ◌∙◌, arith}
 use Rattle.std.specs.Prelude.{if◌then◌else◌, filter, flat_map, slice_get, slice_index_or, Option, Some, None}
 use Rattle.linear_atoms.specs.declared.atoms.Atom.{Atom}
 use Rattle.linear_atoms.specs.declared.atoms.Feature.{Feature}
 use Rattle.linear_atoms.specs.declared.atoms.Literal.{Literal}
-use Rattle.linear_atoms.specs.Atoms.{holds, literal_holds, IsAtom, AreAtoms, AreLiterals}
+use Rattle.linear_atoms.specs.Atoms.{holds, literal_holds, AreAtoms}
 use Rattle.linear_atoms.specs.declared.regions.Regions.{Regions}
-use Rattle.cpp_conditions.specs.Numbering.{IsAmong, vector_at}
+use Rattle.cpp_conditions.specs.Numbering.{vector_at}
 use Rattle.cpp_conditions.specs.Propositions.{Proposition, true_on}
 use Rattle.atom_solver.specs.Solutions.{all_hold}
 use Rattle.alarm_report.specs.Pieces.{pieces_of, piece_text}
