@@ -8,6 +8,7 @@ ghost use Rattle.c_tree.specs.Whole.{IsProgram};
 ghost use Rattle.c_tree.specs.Project.{IsConditioned};
 ghost use Rattle.analysis_tests.specs.Families.{outer_loop, rest_of_body, unsteady_loop, spread_body, restarted_loops};
 
+use crate::small_programs::binary;
 use c_tree::{Declarations, Declared, Expr, Guard, Guards, Names, Op, Program, Stmt};
 use fam_outer::{NoMemory, Place, Text, Values};
 use std::alloc::Global;
@@ -16,14 +17,6 @@ fn at(line: u32) -> Place
     ensures { result ≡ record { line = line; column = 1 } }
 {
     Place { line, column: 1 }
-}
-
-/// `a op b`.
-fn binary(alloc: Global, op: Op, a: Expr, b: Expr) -> Result<Expr, NoMemory>
-    ensures { IfOk result (λ e. term e ≡ Binary op (term a) (term b)) }
-{
-    let a = Box::new(alloc, a)?;
-    Ok(Expr::Binary(op, a, Box::new(alloc, b)?))
 }
 
 /// The sum of a variable and a number.

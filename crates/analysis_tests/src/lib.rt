@@ -16,6 +16,8 @@ mod octagon_programs;
 #[cfg(test)]
 mod passes;
 #[cfg(test)]
+mod small_programs;
+#[cfg(test)]
 mod steps;
 #[cfg(test)]
 mod stride_programs;

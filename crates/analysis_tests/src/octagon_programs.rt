@@ -1,52 +1,18 @@
 //! The alarms of small programs by octagons, compared with alarms that were found by hand.
 
-ghost use Rattle.std.specs.Prelude.{◌≡◌, ◌≤◌, ◌<◌, ◌≤ℤ◌, IfOk, [], ◌∷◌, pos, length};
+ghost use Rattle.std.specs.Prelude.{◌≤◌, ◌<◌, ◌≤ℤ◌, IfOk, pos};
 ghost use Rattle.c_tree.specs.Fit.{IsTermOf};
-ghost use Rattle.c_tree.specs.Tree.{Binary};
 ghost use Rattle.c_tree.specs.Value.{IsInt};
 ghost use Rattle.c_tree.specs.View.{term, whole};
 ghost use Rattle.c_tree.specs.Whole.{IsProgram, IsPlainProgram, operators};
 
-use c_tree::{Declarations, Expr, Kind, Mode, Names, Op, Program, Stmt};
-use fam_outer::{NoMemory, Place, Text, Values};
+use crate::small_programs::{alarms_of, are, at, binary, names, starts};
+use c_tree::{Declarations, Expr, Kind, Mode, Op, Program, Stmt};
+use fam_outer::NoMemory;
 use interval_leaf::IntervalLeaf;
-use leaf_domain::Leaf;
 use octagon_leaf::OctagonLeaf;
-use plain_analysis::{Alarms, Options, analyse_one};
 use std::alloc::Global;
 use std::test::Fail;
-
-fn at(line: u32, column: u32) -> Place
-    ensures { result ≡ record { line = line; column = column } }
-{
-    Place { line, column }
-}
-
-/// `a op b`.
-fn binary(alloc: Global, op: Op, a: Expr, b: Expr) -> Result<Expr, NoMemory>
-    ensures { IfOk result (λ e. term e ≡ Binary op (term a) (term b)) }
-{
-    let a = Box::new(alloc, a)?;
-    Ok(Expr::Binary(op, a, Box::new(alloc, b)?))
-}
-
-fn names(alloc: Global) -> Result<Names, NoMemory>
-    ensures { IfOk result (λ made. made ≡ (120 ∷ []) ∷ (121 ∷ []) ∷ []) }
-{
-    let mut list = Vec::new(alloc);
-    list.push(Text::from_bytes(alloc, b"x")?)?;
-    list.push(Text::from_bytes(alloc, b"y")?)?;
-    Ok(Names::from_vec(list))
-}
-
-fn starts(alloc: Global, x: i64) -> Result<Values, NoMemory>
-    ensures { IfOk result (λ made. made ≡ x ∷ pos 0 ∷ []) }
-{
-    let mut list = Vec::new(alloc);
-    list.push(x)?;
-    list.push(0)?;
-    Ok(Values::from_vec(list))
-}
 
 /// `while (x < LIMIT) { x = x + 1; y = y + 1; }` in line 3, and `assert(x == y);` in line 4.
 fn counting(alloc: Global, limit: i64) -> Result<Program, NoMemory>
@@ -56,7 +22,7 @@ fn counting(alloc: Global, limit: i64) -> Result<Program, NoMemory>
     ensures plain { IfOk result (λ p. IsPlainProgram (whole p)) }
 {
     let names = names(alloc)?;
-    let start = starts(alloc, 0)?;
+    let start = starts(alloc)?;
     let mut inner = Vec::new(alloc);
     inner.push(Stmt::Assign {
         place: at(3, 20),
@@ -93,7 +59,7 @@ fn above(alloc: Global) -> Result<Program, NoMemory>
     ensures plain { IfOk result (λ p. IsPlainProgram (whole p)) }
 {
     let names = names(alloc)?;
-    let start = starts(alloc, 0)?;
+    let start = starts(alloc)?;
     let mut body = Vec::new(alloc);
     body.push(Stmt::Input {
         place: at(3, 1),
@@ -123,7 +89,7 @@ fn cornered(alloc: Global) -> Result<Program, NoMemory>
     ensures plain { IfOk result (λ p. IsPlainProgram (whole p)) }
 {
     let names = names(alloc)?;
-    let start = starts(alloc, 0)?;
+    let start = starts(alloc)?;
     let mut inner = Vec::new(alloc);
     inner.push(Stmt::Assert {
         place: at(6, 1),
@@ -184,34 +150,6 @@ fn corner(alloc: Global) -> Result<Expr, NoMemory>
     let both = binary(alloc, Op::And, small(alloc, 0)?, small(alloc, 1)?)?;
     let sum = binary(alloc, Op::And, both, at_most(alloc, Op::Add, 1)?)?;
     binary(alloc, Op::And, sum, at_most(alloc, Op::Sub, 0)?)
-}
-
-/// The alarms of a program from its start values, by a kind of leaf.
-fn alarms_of<L: Leaf>(
-    alloc: Global,
-    program: &Program,
-    start: &L,
-    mode: Mode,
-) -> Result<Alarms, NoMemory>
-    requires program { IsProgram (whole program.now) }
-    requires plain { IsPlainProgram (whole program.now) }
-    requires variables { (L.value start.now).variables ≡ length program.now.names }
-{
-    let options = Options {
-        delay: 0,
-        narrow: 1,
-        mode,
-    };
-    let findings = analyse_one(alloc, program, start, &options)?;
-    Ok(findings.alarms)
-}
-
-fn are(alarms: &Alarms, expected: &[(u32, u32, Kind)]) -> bool {
-    let found = alarms.items();
-    found.len() == expected.len()
-        && found.iter().zip(expected).all(|(a, e)| {
-            a.place.line == e.0 && a.place.column == e.1 && a.kind == e.2
-        })
 }
 
 // the difference of both counts stays 0, which intervals don't see

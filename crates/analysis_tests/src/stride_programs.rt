@@ -1,51 +1,17 @@
 //! The alarms of small programs by intervals with strides, compared with alarms that were found by hand.
 
-ghost use Rattle.std.specs.Prelude.{◌≡◌, ◌≤◌, ◌≤ℤ◌, IfOk, [], ◌∷◌, pos, length};
-ghost use Rattle.c_tree.specs.Tree.{Binary};
+ghost use Rattle.std.specs.Prelude.{◌≤ℤ◌, IfOk, pos};
 ghost use Rattle.c_tree.specs.Value.{IsInt};
-ghost use Rattle.c_tree.specs.View.{term, whole};
+ghost use Rattle.c_tree.specs.View.{whole};
 ghost use Rattle.c_tree.specs.Whole.{IsProgram, IsPlainProgram};
 
-use c_tree::{Declarations, Expr, Kind, Mode, Names, Op, Program, Stmt};
-use fam_outer::{NoMemory, Place, Text, Values};
+use crate::small_programs::{alarms_of, are, at, binary, names, starts};
+use c_tree::{Declarations, Expr, Kind, Mode, Op, Program, Stmt};
+use fam_outer::NoMemory;
 use interval_leaf::IntervalLeaf;
-use leaf_domain::Leaf;
-use plain_analysis::{Alarms, Options, analyse_one};
 use product_leaf::StrideLeaf;
 use std::alloc::Global;
 use std::test::Fail;
-
-fn at(line: u32, column: u32) -> Place
-    ensures { result ≡ record { line = line; column = column } }
-{
-    Place { line, column }
-}
-
-/// `a op b`.
-fn binary(alloc: Global, op: Op, a: Expr, b: Expr) -> Result<Expr, NoMemory>
-    ensures { IfOk result (λ e. term e ≡ Binary op (term a) (term b)) }
-{
-    let a = Box::new(alloc, a)?;
-    Ok(Expr::Binary(op, a, Box::new(alloc, b)?))
-}
-
-fn names(alloc: Global) -> Result<Names, NoMemory>
-    ensures { IfOk result (λ made. made ≡ (120 ∷ []) ∷ (121 ∷ []) ∷ []) }
-{
-    let mut list = Vec::new(alloc);
-    list.push(Text::from_bytes(alloc, b"x")?)?;
-    list.push(Text::from_bytes(alloc, b"y")?)?;
-    Ok(Names::from_vec(list))
-}
-
-fn starts(alloc: Global, x: i64) -> Result<Values, NoMemory>
-    ensures { IfOk result (λ made. made ≡ x ∷ pos 0 ∷ []) }
-{
-    let mut list = Vec::new(alloc);
-    list.push(x)?;
-    list.push(0)?;
-    Ok(Values::from_vec(list))
-}
 
 /// `while (x < 10) x = x + STEP;` in line 3, and `assert(x == WANTED);` in line 4.
 fn counting(alloc: Global, step: i64, wanted: i64) -> Result<Program, NoMemory>
@@ -57,7 +23,7 @@ fn counting(alloc: Global, step: i64, wanted: i64) -> Result<Program, NoMemory>
     ensures plain { IfOk result (λ p. IsPlainProgram (whole p)) }
 {
     let names = names(alloc)?;
-    let start = starts(alloc, 0)?;
+    let start = starts(alloc)?;
     let mut inner = Vec::new(alloc);
     inner.push(Stmt::Assign {
         place: at(3, 17),
@@ -90,7 +56,7 @@ fn choosing(alloc: Global) -> Result<Program, NoMemory>
     ensures plain { IfOk result (λ p. IsPlainProgram (whole p)) }
 {
     let names = names(alloc)?;
-    let start = starts(alloc, 0)?;
+    let start = starts(alloc)?;
     let mut yes = Vec::new(alloc);
     yes.push(Stmt::Assign {
         place: at(5, 12),
@@ -140,7 +106,7 @@ fn spaced(alloc: Global) -> Result<Program, NoMemory>
     ensures plain { IfOk result (λ p. IsPlainProgram (whole p)) }
 {
     let names = names(alloc)?;
-    let start = starts(alloc, 0)?;
+    let start = starts(alloc)?;
     let mut body = Vec::new(alloc);
     body.push(Stmt::Input {
         place: at(3, 1),
@@ -168,34 +134,6 @@ fn spaced(alloc: Global) -> Result<Program, NoMemory>
         body,
         end: at(7, 1),
     })
-}
-
-/// The alarms of a program from its start values, by a kind of leaf.
-fn alarms_of<L: Leaf>(
-    alloc: Global,
-    program: &Program,
-    start: &L,
-    mode: Mode,
-) -> Result<Alarms, NoMemory>
-    requires program { IsProgram (whole program.now) }
-    requires plain { IsPlainProgram (whole program.now) }
-    requires variables { (L.value start.now).variables ≡ length program.now.names }
-{
-    let options = Options {
-        delay: 0,
-        narrow: 1,
-        mode,
-    };
-    let findings = analyse_one(alloc, program, start, &options)?;
-    Ok(findings.alarms)
-}
-
-fn are(alarms: &Alarms, expected: &[(u32, u32, Kind)]) -> bool {
-    let found = alarms.items();
-    found.len() == expected.len()
-        && found.iter().zip(expected).all(|(a, e)| {
-            a.place.line == e.0 && a.place.column == e.1 && a.kind == e.2
-        })
 }
 
 // x goes 0, 2, 4, 6, 8, 10 and ends at 10, which intervals don't see
