@@ -48,7 +48,10 @@ fn line_of(alloc: Global, found: &Arguments) -> Result<String, NoMemory> {
         regions,
         steps,
     } = found.settings.chosen;
-    write!(text, "| {domain:?} {delay} {narrow} {overflow:?} {regions:?} {steps} |")?;
+    write!(
+        text,
+        "| {domain:?} {delay} {narrow} {overflow:?} {regions:?} {steps} |"
+    )?;
     for input in found.settings.inputs.items() {
         write!(text, " {input}")?;
     }
@@ -117,7 +120,10 @@ fn words_are_read(rt: HostRuntime) -> Result<(), Fail> {
             "--regions merged | Interval 0 1 Stop Paths 1000 | |",
         ),
         ("plain -", "plain - | Interval 0 1 Stop Paths 1000 | |"),
-        ("-- --delay -x", "--delay -x | Interval 0 1 Stop Paths 1000 | |"),
+        (
+            "-- --delay -x",
+            "--delay -x | Interval 0 1 Stop Paths 1000 | |",
+        ),
         ("a -- b -- c", "a b -- c | Interval 0 1 Stop Paths 1000 | |"),
         (
             "plain -- F --narrow 0",
