@@ -50,7 +50,7 @@ impl<W: Write> Write for Interrupted<W> {
     }
 }
 
-fn interrupted<T>(inner: T, good: u32) -> Interrupted<T> {
+fn with_interrupts<T>(inner: T, good: u32) -> Interrupted<T> {
     Interrupted {
         inner,
         good,
