@@ -235,7 +235,7 @@ pub(crate) const FILES: [(&str, &str); 59] = [
 ];
 
 /// The words of each command, with its output and then its line on the error stream.
-pub(crate) const COMMANDS: [(&str, &str); 72] = [
+pub(crate) const COMMANDS: [(&str, &str); 73] = [
     ("plain assertion.c", "7:5: assertion\nalarms: 1\n"),
     ("plain logger.c", "20:9: overflow\nalarms: 1\n"),
     ("plain logger_mended.c", "alarms: 0\n"),
@@ -281,6 +281,10 @@ pub(crate) const COMMANDS: [(&str, &str); 72] = [
     (
         "variant --domain octagon queue.json queue.c LOG SIZE=4 LIMIT=2",
         "alarms: 0\n",
+    ),
+    (
+        "analyse --regions merged queue.json queue.c",
+        "22:9: overflow if LOG; example LOG=1 FAST=0 RETRY=0 SAFE=0 BULK=0 SIZE=1 LIMIT=0\n26:5: overflow if !SAFE && BULK; example LOG=0 FAST=0 RETRY=0 SAFE=0 BULK=1 SIZE=1 LIMIT=0\n34:5: zero-divisor if FAST && RETRY && LIMIT >= 1; example LOG=0 FAST=1 RETRY=1 SAFE=0 BULK=0 SIZE=1 LIMIT=1\nalarms: 3\n",
     ),
     (
         "variant queue.json queue.c FAST SAFE SIZE=4 LIMIT=2",

@@ -57,21 +57,6 @@ fn reports_by_paths_and_merged(rt: HostRuntime) -> Result<(), Fail> {
     Ok(())
 }
 
-/// Where `FAST` and `SAFE` exclude each other, 22:9 has one line in place of two.
-#[test]
-fn merged_regions_of_the_queue(rt: HostRuntime) -> Result<(), Fail> {
-    let alloc = rt.alloc();
-    let output =
-        "22:9: overflow if LOG; example LOG=1 FAST=0 RETRY=0 SAFE=0 BULK=0 SIZE=1 LIMIT=0\n26:5: overflow if !SAFE && BULK; example LOG=0 FAST=0 RETRY=0 SAFE=0 BULK=1 SIZE=1 LIMIT=0\n34:5: zero-divisor if FAST && RETRY && LIMIT >= 1; example LOG=0 FAST=1 RETRY=1 SAFE=0 BULK=0 SIZE=1 LIMIT=1\nalarms: 3\n";
-    gives(
-        &rt,
-        alloc,
-        "analyse --regions merged queue.json queue.c",
-        Vec::new(alloc),
-        (1, output, ""),
-    )
-}
-
 #[test]
 fn merged_certificates_are_accepted(rt: HostRuntime) -> Result<(), Fail> {
     let alloc = rt.alloc();
