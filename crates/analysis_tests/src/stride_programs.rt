@@ -9,6 +9,7 @@ use crate::small_programs::{alarms_of, are, at, binary, names, starts};
 use c_tree::{Declarations, Expr, Kind, Mode, Op, Program, Stmt};
 use fam_outer::NoMemory;
 use interval_leaf::IntervalLeaf;
+use leaf_domain::Leaf;
 use product_leaf::StrideLeaf;
 use std::alloc::Global;
 use std::test::Fail;
