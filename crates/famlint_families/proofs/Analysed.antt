@@ -106,7 +106,7 @@ module _ {L : Type 0} (value : L → LeafValue) (M : LeafMeaning) (o : Options) 
 -- what merging answers of findings
 pub record IsMergedOf {L : Type 0} (value : L → LeafValue) (p : Formula) (f made : FamilyFindings L) : Type 0 where
   pub place_keys : map (λ (x : PlaceTree L). x.place) made.places.items ≡ map (λ (x : PlaceTree L). x.place) f.places.items
-  pub alarm_keys : map (λ (a : AlarmTree). (a.place, a.kind)) made.alarms.items ≡ map (λ (a : AlarmTree). (a.place, a.kind)) f.alarms.items
+  pub alarm_keys : map {B = Place × Kind} (λ (a : AlarmTree). (a.place, a.kind)) made.alarms.items ≡ map {B = Place × Kind} (λ (a : AlarmTree). (a.place, a.kind)) f.alarms.items
   pub trees : (m : ℕ) (g : Place → List Bool → LeafValue) → IsBelow m (formula p) → All (λ (x : PlaceTree L). IsTreeOf m (g x.place) (valued value (tree.plain x.tree))) f.places.items
       → All (λ (x : PlaceTree L). IsMergedTree m (g x.place) (formula p) (valued value (tree.plain x.tree))) made.places.items
   pub alarm_trees : (m : ℕ) (g : Place × Kind → List Bool → Bool) → IsBelow m (formula p) → All (λ (a : AlarmTree). IsTreeOf m (g (a.place, a.kind)) (tree.plain a.tree)) f.alarms.items
@@ -163,7 +163,7 @@ merged_all value M o l u p f h (Err e) k = tt
 
 pub merged_of : {L E : Type 0} (value : L → LeafValue) (p : Formula) (f : FamilyFindings L) (result : Result (FamilyFindings L) E)
     → IfOk result (λ made. map (λ (x : PlaceTree L). x.place) made.places.items ≡ map (λ (x : PlaceTree L). x.place) f.places.items)
-    → IfOk result (λ made. map (λ (a : AlarmTree). (a.place, a.kind)) made.alarms.items ≡ map (λ (a : AlarmTree). (a.place, a.kind)) f.alarms.items)
+    → IfOk result (λ made. map {B = Place × Kind} (λ (a : AlarmTree). (a.place, a.kind)) made.alarms.items ≡ map {B = Place × Kind} (λ (a : AlarmTree). (a.place, a.kind)) f.alarms.items)
     → IfOk result (λ made. (m : ℕ) (g : Place → List Bool → LeafValue) → IsBelow m (formula p) → All (λ (x : PlaceTree L). IsTreeOf m (g x.place) (valued value (tree.plain x.tree))) f.places.items
     → All (λ (x : PlaceTree L). IsMergedTree m (g x.place) (formula p) (valued value (tree.plain x.tree))) made.places.items)
     → IfOk result (λ made. (m : ℕ) (g : Place × Kind → List Bool → Bool) → IsBelow m (formula p) → All (λ (a : AlarmTree). IsTreeOf m (g (a.place, a.kind)) (tree.plain a.tree)) f.alarms.items

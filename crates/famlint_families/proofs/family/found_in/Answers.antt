@@ -73,8 +73,8 @@ returns-in-Paths-clause-tested g c =
     let all = subst (λ atoms. IsAnalysed value M o l p f atoms l.family.conditions) c.items.ensures (subst (λ cs. IsAnalysed value M o l p f c.items.result.now cs) c.items-conditions.ensures given) in
     are_tested value M o l c.requires p f all
 
-pub returns-in-Merged-clause-found : goal.returns-in-Merged-clause-found
-returns-in-Merged-clause-found g c =
+pub returns-clause-found : goal.returns-clause-found
+returns-clause-found g c =
     let l = c.args.line.now in
     let p = c.in_ok-plausible.plausible in
     let f = c.in_ok-findings.findings in
@@ -98,8 +98,8 @@ returns-in-Merged-clause-found g c =
     let of = merged_of value p f made ensures.place_keys ensures.alarm_keys ensures.trees ensures.alarm_trees in
     subst (λ r. IfOk made (λ x. IsFound value M o r l x)) (sym c.in-Merged.is) (found_by value M o l made (merged_all value M o l c.requires p f all made of))
 
-pub returns-in-Merged-clause-tested : goal.returns-in-Merged-clause-tested
-returns-in-Merged-clause-tested g c =
+pub returns-clause-tested : goal.returns-clause-tested
+returns-clause-tested g c =
     let l = c.args.line.now in
     let p = c.in_ok-plausible.plausible in
     let f = c.in_ok-findings.findings in
