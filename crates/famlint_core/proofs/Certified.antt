@@ -1,8 +1,9 @@
 -- What `certify` writes is answered yes by `check`.
-use Rattle.std.proofs.Common.{◌≡◌, ◌≢◌, ◌⊎◌, ℕ, ℤ, Bool, true, false, not, ◌||◌, List, ◌++◌, map, refl, sym, ap, subst, ◌∙◌, inl, inr, nat_eq}
+use Rattle.std.proofs.Common.{◌≡◌, ◌≢◌, ◌⊎◌, ℕ, ℤ, Bool, true, false, not, ◌||◌, List, ◌++◌, map, length, refl, sym, ap, subst, ◌∙◌, inl, inr, nat_eq}
 use Rattle.std.proofs.lemmas.Bool.{eqb-true, eqb-false}
 use Rattle.std.proofs.lemmas.List.Elements.{All-weaker}
 use Rattle.std.specs.Prelude.{Option, Some, None, Result, Ok, Err, if◌then◌else◌}
+use Rattle.std.specs.List.{All}
 use Rattle.fam_outer.specs.declared.faults.FileCode.{FileCode}
 use Rattle.fam_outer.specs.declared.faults.Place.{Place}
 use Rattle.fam_outer.specs.declared.refusal.Refusal.{Refusal}
@@ -41,8 +42,11 @@ use Rattle.interval_leaf.specs.Intervals.{intervals}
 use Rattle.plain_analysis.specs.declared.options.Options.{Options}
 use Rattle.plain_analysis.specs.Places.{alarm_by}
 use Rattle.lifted_analysis.specs.Lines.{given_heads}
-use Rattle.lifted_analysis.specs.Promises.{truths_of}
+use Rattle.lifted_analysis.specs.Promises.{truths_of, leaf_at, stop_at}
 use Rattle.lifted_analysis.specs.Turns.{turns_by, inductive_in}
+use Rattle.merged_findings.specs.Merged.{IsTreeWhere}
+use Rattle.alarm_report.specs.Alarms.{PlainAlarmTree}
+use Rattle.alarm_report.specs.Invariants.{LeafTree}
 use Rattle.certificate_format.specs.declared.certificates.Certificate.{Certificate}
 use Rattle.certificate_format.specs.declared.certificates.CertificateFault.{CertificateFault}
 use Rattle.certificate_format.specs.Certificates as reader
@@ -70,7 +74,7 @@ use Rattle.famlint_checks.specs.Checked.{IsCheckDone, verdict_status}
 use Rattle.famlint_core.specs.Certified.{IsWrittenByCertify, IsYes}
 use Rattle.famlint_loads.specs.CertificateLoads as checked
 use Rattle.famlint_core.specs.Endings.{EndsWith, status_at}
-use Rattle.famlint_families.specs.FamilyReports.{IsFamilyDone}
+use Rattle.famlint_families.specs.FamilyReports.{IsFamilyDone, IsLeafTree, IsAlarmTreeOf}
 use Rattle.famlint_loads.specs.Loads.{IsModel}
 use Rattle.famlint_loads.specs.ProductLines.{IsProductLine}
 use Rattle.famlint_families.proofs.Told.{told_leads}
@@ -247,6 +251,18 @@ verdict_over k l c verdict e h =
 
 -- ---- what is certified is written of an analysis
 
+leaves_lead : (o : Options) (r : Regions) (l : ProductLine) (p : Formula) (trees : List LeafTree) → All (IsLeafTree intervals o r l p) trees
+    → All (λ (t : LeafTree). IsTreeWhere (length l.family.atoms) (leaf_at intervals o (whole l.family.code) l.family.conditions p t.place) (formula p) t.tree) trees
+leaves_lead o r l p trees all =
+    All-weaker (IsLeafTree intervals o r l p) (λ (t : LeafTree). IsTreeWhere (length l.family.atoms) (leaf_at intervals o (whole l.family.code) l.family.conditions p t.place) (formula p) t.tree)
+    (λ (t : LeafTree) is. told_leads r (length l.family.atoms) (leaf_at intervals o (whole l.family.code) l.family.conditions p t.place) (formula p) t.tree is) trees all
+
+stops_lead : (o : Options) (r : Regions) (l : ProductLine) (p : Formula) (trees : List PlainAlarmTree) → All (IsAlarmTreeOf intervals o r l p) trees
+    → All (λ (t : PlainAlarmTree). IsTreeWhere (length l.family.atoms) (stop_at intervals o (whole l.family.code) l.family.conditions p (t.place, t.kind)) (formula p) t.tree) trees
+stops_lead o r l p trees all =
+    All-weaker (IsAlarmTreeOf intervals o r l p) (λ (t : PlainAlarmTree). IsTreeWhere (length l.family.atoms) (stop_at intervals o (whole l.family.code) l.family.conditions p (t.place, t.kind)) (formula p) t.tree)
+    (λ (t : PlainAlarmTree) is. told_leads r (length l.family.atoms) (stop_at intervals o (whole l.family.code) l.family.conditions p (t.place, t.kind)) (formula p) t.tree is) trees all
+
 written_of : (o : Options) (r : Regions) (l : ProductLine) (done : Done) (bytes : List ℕ) → IsFamilyDone intervals o r task.Certify l done → bytes ≡ done.text
     → IsWrittenOf o l.model (whole l.family.code) l.family.conditions l.family.atoms bytes
 written_of o r l done bytes (loops, alarms, a, b, e) text = record {
@@ -255,8 +271,8 @@ written_of o r l done bytes (loops, alarms, a, b, e) text = record {
   stops = b.trees;
   invariants = loops;
   alarms = alarms;
-  leaves_are = record { plausible = a.plausible; valid = valid_plausible l.model l.family.atoms (formula a.plausible) a.plausible_is; keys = a.keys; are = All-weaker _ _ (λ t is. told_leads r _ _ (formula a.plausible) t.tree is) a.trees a.are };
-  stops_are = record { plausible = b.plausible; valid = valid_plausible l.model l.family.atoms (formula b.plausible) b.plausible_is; keys = b.keys; are = All-weaker _ _ (λ t is. told_leads r _ _ (formula b.plausible) t.tree is) b.trees b.are };
+  leaves_are = record { plausible = a.plausible; valid = valid_plausible l.model l.family.atoms (formula a.plausible) a.plausible_is; keys = a.keys; are = leaves_lead o r l a.plausible a.trees a.are };
+  stops_are = record { plausible = b.plausible; valid = valid_plausible l.model l.family.atoms (formula b.plausible) b.plausible_is; keys = b.keys; are = stops_lead o r l b.plausible b.trees b.are };
   loops_are = a.regions;
   alarms_are = b.regions;
   text = text ∙ ap (λ (d : Done). d.text) e;
