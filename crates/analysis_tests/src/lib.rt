@@ -18,6 +18,8 @@ mod passes;
 #[cfg(test)]
 mod small_programs;
 #[cfg(test)]
+mod start_chains;
+#[cfg(test)]
 mod steps;
 #[cfg(test)]
 mod stride_programs;

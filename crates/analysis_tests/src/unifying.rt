@@ -157,7 +157,7 @@ fn formulas_and_restrictions(rt: HostRuntime) -> Result<(), Fail> {
 }
 
 /// The formula that one test implies another.
-fn implication(alloc: Global, greater: u32, lesser: u32) -> Result<Formula, NoMemory>
+pub(crate) fn implication(alloc: Global, greater: u32, lesser: u32) -> Result<Formula, NoMemory>
     requires greater { greater < 64 }
     requires lesser { lesser < 64 }
     ensures { IfOk result (λ f. IsBelow 64 (formula f)) }
