@@ -47,16 +47,26 @@ fn atom(alloc: Global, terms: &[(u32, i64)], bound: i64) -> Result<Atom, Fail>
     Ok(Atom { terms, bound })
 }
 
-/// Whether `A` is on, or whether `B` is.
-fn switch(alloc: Global, is_second: bool, positive: bool) -> Result<Literal, Fail>
+/// Whether `A` is on.
+fn first_is_on(alloc: Global) -> Result<Literal, Fail>
     ensures { IfOk result (λ made. IsAtom 4 made.atom) }
 {
-    let atom = if is_second {
-        atom(alloc, &[(1, 1)], 1)?
-    } else {
-        atom(alloc, &[(0, 1)], 1)?
-    };
-    Ok(Literal { atom, positive })
+    let atom = atom(alloc, &[(0, 1)], 1)?;
+    Ok(Literal {
+        atom,
+        positive: true,
+    })
+}
+
+/// Whether `B` is off.
+fn second_is_off(alloc: Global) -> Result<Literal, Fail>
+    ensures { IfOk result (λ made. IsAtom 4 made.atom) }
+{
+    let atom = atom(alloc, &[(1, 1)], 1)?;
+    Ok(Literal {
+        atom,
+        positive: false,
+    })
 }
 
 /// `N` is at least a bound.
@@ -96,7 +106,7 @@ fn numbers(alloc: Global, low: i64, high: i64) -> Result<Vec<Literal>, Fail>
 fn between(alloc: Global) -> Result<Vec<Literal>, Fail>
     ensures { IfOk result (λ made. AreLiterals 4 made.items) }
 {
-    let first = switch(alloc, false, true)?;
+    let first = first_is_on(alloc)?;
     let lower = Literal {
         atom: number(alloc, 3)?,
         positive: true,
@@ -105,7 +115,7 @@ fn between(alloc: Global) -> Result<Vec<Literal>, Fail>
         atom: number(alloc, 4)?,
         positive: false,
     };
-    let last = switch(alloc, true, false)?;
+    let last = second_is_off(alloc)?;
     Ok(vec![in alloc; first, lower, upper, last]?)
 }
 
