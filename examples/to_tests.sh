@@ -16,11 +16,26 @@ pair() {
     printf '    (\n        "%s",\n        "%s",\n    ),\n' "$1" "$(quoted "$2")"
 }
 
+# a constant NAME with the pairs of these outputs: the words of the command, and what is expected
+commands() {
+    local name=$1 output words
+    shift
+    echo "pub(crate) const $name: [(&str, &str); $#] = ["
+    for output in "$@"; do
+        words=${output%.expected}.words
+        if [ -e "$words" ]; then
+            pair "$(tr -d '\n' < "$words")" "$output"
+        else
+            pair "plain $(basename "${output%.expected}").c" "$output"
+        fi
+    done
+    echo '];'
+}
+
 cd "$here"
 files=(*.c refused/*.c {,refused/}families/*.{c,json,certificate})
-outputs=(*.expected refused/*.expected {,refused/}families/*.expected)
 # the tests know each file by its name alone
-twice=$(basename -a "${files[@]}" "${outputs[@]}" | sort | uniq -d)
+twice=$(basename -a "${files[@]}" {,refused/}{,families/}*.expected | sort | uniq -d)
 [ -z "$twice" ] || { echo "to_tests.sh: in two folders: $twice" >&2; exit 1; }
 {
     echo '//! The example files, and the words of commands on them with what is expected, as `examples/to_tests.sh` writes them.'
@@ -32,16 +47,13 @@ twice=$(basename -a "${files[@]}" "${outputs[@]}" | sort | uniq -d)
     done
     echo '];'
     echo
-    echo '/// The words of each command, with its output and then its line on the error stream.'
-    echo "pub(crate) const COMMANDS: [(&str, &str); ${#outputs[@]}] = ["
-    for output in "${outputs[@]}"; do
-        words=${output%.expected}.words
-        if [ -e "$words" ]; then
-            pair "$(tr -d '\n' < "$words")" "$output"
-        else
-            pair "plain $(basename "${output%.expected}").c" "$output"
-        fi
-    done
-    echo '];'
+    echo '/// The words of each command on a program without variants, with its output and then its line on the error stream.'
+    commands PROGRAMS *.expected refused/*.expected
+    echo
+    echo '/// Those on families.'
+    commands FAMILIES families/*.expected
+    echo
+    echo '/// Those on families that are refused.'
+    commands REFUSED_FAMILIES refused/families/*.expected
 } > "$target"
 cd "$here/../crates/program_tests" && rt fmt > /dev/null

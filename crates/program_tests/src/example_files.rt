@@ -234,8 +234,8 @@ pub(crate) const FILES: [(&str, &str); 59] = [
     ),
 ];
 
-/// The words of each command, with its output and then its line on the error stream.
-pub(crate) const COMMANDS: [(&str, &str); 73] = [
+/// The words of each command on a program without variants, with its output and then its line on the error stream.
+pub(crate) const PROGRAMS: [(&str, &str); 18] = [
     ("plain assertion.c", "7:5: assertion\nalarms: 1\n"),
     ("plain logger.c", "20:9: overflow\nalarms: 1\n"),
     ("plain logger_mended.c", "alarms: 0\n"),
@@ -254,6 +254,10 @@ pub(crate) const COMMANDS: [(&str, &str); 73] = [
     ("plain F21.c", "file: F21 at 4:1\n"),
     ("plain F3.c", "file: F3 at 1:1\n"),
     ("plain F4.c", "file: F4 at 1:1\n"),
+];
+
+/// Those on families.
+pub(crate) const FAMILIES: [(&str, &str); 17] = [
     (
         "advise queue.json queue.c FAST RETRY SIZE=4 LIMIT=2",
         "advice: LOG=0 FAST=0 RETRY=1 SAFE=0 BULK=0 SIZE=4 LIMIT=2; changed 1\n",
@@ -319,6 +323,10 @@ pub(crate) const COMMANDS: [(&str, &str); 73] = [
         "check ring.json ring.c ring_narrow.certificate",
         "certificate: no: 13:5 loop; example SLOTS=32\n",
     ),
+];
+
+/// Those on families that are refused.
+pub(crate) const REFUSED_FAMILIES: [(&str, &str); 38] = [
     (
         "check buffer.json buffer.c E2.certificate",
         "certificate: E2\n",

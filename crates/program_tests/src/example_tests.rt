@@ -1,6 +1,6 @@
 //! The example files: what is written beside each is what its command writes.
 
-use crate::example_files::{COMMANDS, FILES};
+use crate::example_files::{FAMILIES, FILES, PROGRAMS, REFUSED_FAMILIES};
 use crate::running::words_of;
 use fam_outer::{CallNumbers, Entries, MemoryFiles, MemorySink, NoMemory, Text};
 use famlint_core::famlint;
@@ -37,8 +37,26 @@ fn written(alloc: Global, line: &str) -> Result<Vec<u8>, NoMemory> {
 }
 
 #[test]
-fn examples_are_as_expected(rt: HostRuntime) -> Result<(), Fail> {
-    for (line, expected) in COMMANDS {
+fn programs_are_as_expected(rt: HostRuntime) -> Result<(), Fail> {
+    for (line, expected) in PROGRAMS {
+        let text = written(rt.alloc(), line).map_err(|_| "memory")?;
+        assert_eq!(rt; text.as_slice(), expected.as_bytes(), "at {line}");
+    }
+    Ok(())
+}
+
+#[test]
+fn families_are_as_expected(rt: HostRuntime) -> Result<(), Fail> {
+    for (line, expected) in FAMILIES {
+        let text = written(rt.alloc(), line).map_err(|_| "memory")?;
+        assert_eq!(rt; text.as_slice(), expected.as_bytes(), "at {line}");
+    }
+    Ok(())
+}
+
+#[test]
+fn refused_families_are_as_expected(rt: HostRuntime) -> Result<(), Fail> {
+    for (line, expected) in REFUSED_FAMILIES {
         let text = written(rt.alloc(), line).map_err(|_| "memory")?;
         assert_eq!(rt; text.as_slice(), expected.as_bytes(), "at {line}");
     }
