@@ -12,7 +12,7 @@ use Rattle.c_tree.proofs.Wholes.{IsProgram-projected}
 use Rattle.cpp_conditions.specs.declared.formulas.Formula.{Formula}
 use Rattle.cpp_conditions.specs.Propositions.{true_on}
 use Rattle.cpp_conditions.specs.View.{formula}
-use Rattle.decision_tree.specs.Plain.{Plain, leaf, node, leaf_of, HasLeaf}
+use Rattle.decision_tree.specs.Plain.{Plain, leaf, node, HasLeaf}
 use Rattle.leaf_domain.specs.Leaves.{LeafValue, LeafMeaning, LeafLaws, IsLeafLike, nothing_of}
 use Rattle.leaf_domain.specs.Transfer.{assumed, assigned, forgotten}
 use Rattle.leaf_domain.specs.Soundness.{Suits, TransferAnswers}

@@ -1,7 +1,7 @@
 -- Where merged trees lead.
-use Rattle.std.proofs.Common.{◌≡◌, ◌∙◌, ℕ, Bool, true, List, length, sym}
-use Rattle.cpp_conditions.specs.Propositions.{Proposition, true_on}
-use Rattle.decision_tree.specs.Plain.{Plain, leaf_of, HasLeaf}
+use Rattle.std.proofs.Common.{◌≡◌, ◌∙◌, ℕ, Bool, List, length, sym}
+use Rattle.cpp_conditions.specs.Propositions.{Proposition}
+use Rattle.decision_tree.specs.Plain.{Plain, HasLeaf}
 use Rattle.decision_tree.proofs.Reached.{reached}
 use Rattle.lifted_analysis.specs.Canon.{IsTreeOf}
 use Rattle.merged_findings.specs.Merged.{IsMergedTree, IsTreeWhere}

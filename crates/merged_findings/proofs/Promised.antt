@@ -1,12 +1,12 @@
 -- What is promised of merged findings.
-use Rattle.std.proofs.Common.{◌≡◌, ◌∙◌, ℕ, Bool, true, false, List, [], ◌∷◌, map, length, refl, ap, sym, subst, inl, inr}
+use Rattle.std.proofs.Common.{◌≡◌, ◌∙◌, ℕ, Bool, true, false, List, [], ◌∷◌, map, refl, ap, sym, subst, inl, inr}
 use Rattle.std.specs.Prelude.{Result, Ok, Err, IfOk}
 use Rattle.std.specs.List.{All, AllByRecursion}
 use Rattle.std.proofs.lemmas.List.Elements.{All-from_recursion, recursion_from_All}
 use Rattle.fam_outer.specs.declared.faults.Place.{Place}
 use Rattle.c_tree.specs.declared.tree.Kind.{Kind}
 use Rattle.cpp_conditions.specs.Propositions.{Proposition, IsBelow, true_on}
-use Rattle.decision_tree.specs.Plain.{Plain, leaf, node, TestsBelow, HasTest, IsNodeOf}
+use Rattle.decision_tree.specs.Plain.{Plain, leaf, node, IsNodeOf}
 use Rattle.decision_tree.specs.View.{plain}
 use Rattle.decision_tree.proofs.Reduced.{tests_below}
 use Rattle.leaf_domain.specs.Leaves.{LeafValue}

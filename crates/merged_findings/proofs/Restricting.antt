@@ -1,9 +1,9 @@
 -- What a restricted tree leads to, tests and has for leaves.
-use Rattle.std.proofs.Common.{◌≡◌, ◌≢◌, ◌⊎◌, ◌∙◌, ℕ, ◌+◌, ◌<◌, Bool, true, false, cond, not, ◌&&◌, ◌==◌, nat_lt, List, [], ◌∷◌, ◌++◌, refl, sym, ap, subst, inl, inr, arith}
+use Rattle.std.proofs.Common.{◌≡◌, ◌⊎◌, ◌∙◌, ℕ, ◌+◌, Bool, true, false, cond, ◌&&◌, ◌==◌, nat_lt, List, [], ◌∷◌, ◌++◌, refl, sym, ap, subst, inl, inr, arith}
 use Rattle.std.specs.Prelude.{slice_index_or}
 use Rattle.std.proofs.lemmas.Bool.{eqb-true}
-use Rattle.decision_tree.specs.Plain.{Plain, leaf, node, leaf_of, HasTest, HasLeaf, TestsBelow, IsExact, IsNodeOf}
-use Rattle.tree_restrict.specs.Restricted.{is_false, never, after, afters, same, joined, sides_left, restricted_by, restricted}
+use Rattle.decision_tree.specs.Plain.{Plain, leaf, node, leaf_of, HasLeaf, TestsBelow, IsExact, IsNodeOf}
+use Rattle.tree_restrict.specs.Restricted.{is_false, never, after, afters, same, sides_left, restricted_by, restricted}
 use Rattle.merged_findings.specs.Restricting.{IsLeft, IsRestrictedBy, IsOwn, IsRestrictedTo}
 
 -- ---- where one of some trees is true

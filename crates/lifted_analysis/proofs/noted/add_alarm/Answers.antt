@@ -1,4 +1,4 @@
-use Rattle.decision_tree.specs.View.{numbered, plain}
+use Rattle.decision_tree.specs.View.{numbered}
 use Rattle.lifted_analysis.specs.declared.findings.AlarmTree.{AlarmTree}
 use Rattle.lifted_analysis.specs.Entries.{IsReducedTree}
 use Rattle.lifted_analysis.proofs.EntryLemmas.{reduced_push}

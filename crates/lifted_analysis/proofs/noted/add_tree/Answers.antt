@@ -1,6 +1,5 @@
 use Rattle.std.proofs.Common.{sym, subst}
-use Rattle.decision_tree.specs.Numbered.{erase}
-use Rattle.decision_tree.specs.View.{numbered, plain}
+use Rattle.decision_tree.specs.View.{numbered}
 use Rattle.lifted_analysis.specs.declared.findings.PlaceTree.{PlaceTree}
 use Rattle.lifted_analysis.specs.Entries.{IsReducedTree}
 use Rattle.lifted_analysis.proofs.EntryLemmas.{reduced_push}

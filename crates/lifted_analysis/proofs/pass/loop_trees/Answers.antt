@@ -2,7 +2,7 @@ use Rattle.std.proofs.Common.{◌∙◌, ap, sym, subst, arith, map}
 use Rattle.std.specs.List.{All}
 use Rattle.std.proofs.lemmas.List.{take_all}
 use Rattle.std.proofs.lemmas.List.Elements.{All-nil}
-use Rattle.decision_tree.specs.View.{numbered, plain}
+use Rattle.decision_tree.specs.View.{numbered}
 use Rattle.lifted_analysis.specs.declared.noted.TurnTree.{TurnTree}
 use Rattle.lifted_analysis.specs.declared.findings.LoopTree.{LoopTree}
 use Rattle.lifted_analysis.specs.Entries.{IsReducedTree, IsSizedTurn}
