@@ -47,9 +47,9 @@ and_both a b e f = ap (λ x. x && b) e ∙ f
 
 -- ---- the constraints' atoms
 
-pub all_stand : (cs : List Condition) (atoms : List Atom) (f : Proposition ℕ) → AreAtomsOf (map proposition cs) atoms → IsConjunction cs atoms f → IsBelow (length atoms) f → StandsForAll cs atoms f
+pub all_stand : (cs : List Condition) (atoms : List Atom) (f : Proposition ℕ) → AreAtomsOf (map proposition cs) atoms → IsConjunction cs atoms (Const true) f → IsBelow (length atoms) f → StandsForAll cs atoms f
 all_stand cs atoms f h c b = record {
-  met = λ vs m. c.truth (vector_at atoms vs) ∙ all_numbered_true atoms cs c.numbered vs c.are_numbered m;
+  met = λ vs m. c.truth (vector_at atoms vs) ∙ ap (λ x. x && true) (all_numbered_true atoms cs c.numbered vs c.are_numbered m);
   below = b;
   fit = λ n k. all_atoms n atoms (λ a i. fit_in n cs a k (h.only a i));
 }
