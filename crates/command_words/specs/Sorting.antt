@@ -1,5 +1,5 @@
 -- How words are read.
-use Rattle.std.specs.Prelude.{ℕ, Bool, false, not, ◌≡◌, ◌==◌, ◌&&◌, ⊤, List, [], ◌∷◌, ◌++◌, length, nat_lt, codes, if◌then◌else◌}
+use Rattle.std.specs.Prelude.{ℕ, Bool, true, false, not, ◌≡◌, ◌==◌, ◌&&◌, ⊤, List, [], ◌∷◌, ◌++◌, length, nat_lt, codes, if◌then◌else◌}
 use Rattle.std.specs.Prelude.{Option, Some, None, is_some, option_and_then, Result, Ok, Err}
 use Rattle.std.specs.Str.{bytes_eq}
 use Rattle.std.specs.List.{before_first, after_first, position_or_len}

@@ -1,11 +1,11 @@
 //! Laws of what words say.
 #![tactic(auto)]
 
-ghost use Rattle.std.specs.Prelude.{◌≡◌, ◌++◌, List, ℕ, Some, codes, not, true, false};
+ghost use Rattle.std.specs.Prelude.{◌≡◌, ◌++◌, ◌∷◌, List, ℕ, Some, codes, not, true, false};
 ghost use Rattle.std.specs.List.{list_all};
 ghost use Rattle.std.specs.Str.{bytes_eq};
 ghost use Rattle.command_words.specs.Arguments.{arguments_of, all_positional};
-ghost use Rattle.command_words.specs.Sorting.{begins_with_dash};
+ghost use Rattle.command_words.specs.Sorting.{begins_with_dash, text_of};
 ghost use Rattle.command_words.specs.declared.named.OptionName.{OptionName};
 
 /// Words of which none begins with `-` are all positional, and all settings have their defaults.
