@@ -16,3 +16,4 @@ mod SoundNodes
 mod SoundLemmas
 mod SoundStops
 mod FitLemmas
+pub mod ThresholdLemmas

@@ -1,6 +1,6 @@
 -- What a leaf is, what its operations mean, and the laws of their meanings.
 use Rattle.std.specs.Ordering.{int_eq}
-use Rattle.std.specs.Prelude.{◌≡◌, ◌==◌, ◌&&◌, [], ◌∷◌, ◌⊎◌, ℕ, ◌<◌, ◌≤◌, ℤ, pos, Bool, true, false, List, Option, Some, None, length, slice_index_or, slice_set, is_none, All, ◌↔◌}
+use Rattle.std.specs.Prelude.{◌≡◌, ◌==◌, ◌&&◌, [], ◌∷◌, ◌⊎◌, ℕ, ◌+◌, ◌*◌, ◌<◌, ◌≤◌, ℤ, pos, Bool, true, false, List, Option, Some, None, length, slice_index_or, slice_set, is_none, All, ◌↔◌}
 use Rattle.leaf_domain.specs.declared.form.Form.{Form}
 use Rattle.leaf_domain.specs.declared.range.Range.{Range}
 use Rattle.leaf_domain.specs.declared.compare.Compare.{Compare}
@@ -31,13 +31,13 @@ pub record LeafMeaning : Type 1 where
   pub holds : LeafValue → List ℤ → Type 0
   pub start : List ℤ → LeafValue
   pub bound_count : ℕ → ℕ
-  -- how many bounds are not the type's
-  pub own_bounds : LeafValue → ℕ
+  -- how many steps to these thresholds and to the type's bounds its bounds can still take in all
+  pub steps_left : List ℤ → LeafValue → ℕ
   pub best : LeafValue → LeafValue
   pub leq : LeafValue → LeafValue → Bool
   pub join : LeafValue → LeafValue → LeafValue
-  pub widen : LeafValue → LeafValue → LeafValue
-  pub narrow : LeafValue → LeafValue → LeafValue
+  pub widen : List ℤ → LeafValue → LeafValue → LeafValue
+  pub narrow : List ℤ → LeafValue → LeafValue → LeafValue
   pub bounds_of : LeafValue → ℕ → Range
   pub form_range : LeafValue → Form → Option Range
   pub meet_range : LeafValue → ℕ → Range → LeafValue
@@ -80,15 +80,15 @@ pub record LeafLaws (M : LeafMeaning) : Type 0 where
   pub join_holds : (a b : LeafValue) (s : List ℤ) → Alike M a b → M.holds a s ⊎ M.holds b s → M.holds (M.join a b) s
   pub join_nothing : (a : LeafValue) → M.join (nothing_of a.variables) a ≡ a
   pub nothing_join : (a : LeafValue) → M.join a (nothing_of a.variables) ≡ a
-  -- each store of either; a leaf that does not hold the other has fewer bounds of its own after it
-  pub widen_answers : (a b : LeafValue) → Alike M a b → IsLeafLike M a (M.widen a b)
-  pub widen_holds : (a b : LeafValue) (s : List ℤ) → Alike M a b → M.holds a s ⊎ M.holds b s → M.holds (M.widen a b) s
-  pub widen_grows : (a b : LeafValue) → Alike M a b → is_nothing_of a ≡ false → is_nothing_of b ≡ false → M.leq b a ≡ false → M.own_bounds (M.widen a b) < M.own_bounds a
-  pub own_bounds_le : (a : LeafValue) → M.valid a → M.own_bounds a ≤ M.bound_count a.variables
+  -- each store of either; a leaf that does not hold the other has fewer steps left after it
+  pub widen_answers : (ts : List ℤ) (a b : LeafValue) → Alike M a b → IsLeafLike M a (M.widen ts a b)
+  pub widen_holds : (ts : List ℤ) (a b : LeafValue) (s : List ℤ) → Alike M a b → M.holds a s ⊎ M.holds b s → M.holds (M.widen ts a b) s
+  pub widen_grows : (ts : List ℤ) (a b : LeafValue) → Alike M a b → is_nothing_of a ≡ false → is_nothing_of b ≡ false → M.leq b a ≡ false → M.steps_left ts (M.widen ts a b) < M.steps_left ts a
+  pub steps_few : (ts : List ℤ) (a : LeafValue) → M.valid a → M.steps_left ts a ≤ M.bound_count a.variables * (length ts + 1)
   -- each store of the second, where it is below the first
-  pub narrow_answers : (a b : LeafValue) → Alike M a b → IsLeafLike M a (M.narrow a b)
-  pub narrow_holds : (a b : LeafValue) (s : List ℤ) → Alike M a b → M.leq b a ≡ true → M.holds b s → M.holds (M.narrow a b) s
-  pub narrow_nothing : (n : ℕ) (a : LeafValue) → is_nothing_of (M.narrow (nothing_of n) a) ≡ true
+  pub narrow_answers : (ts : List ℤ) (a b : LeafValue) → Alike M a b → IsLeafLike M a (M.narrow ts a b)
+  pub narrow_holds : (ts : List ℤ) (a b : LeafValue) (s : List ℤ) → Alike M a b → M.leq b a ≡ true → M.holds b s → M.holds (M.narrow ts a b) s
+  pub narrow_nothing : (ts : List ℤ) (n : ℕ) (a : LeafValue) → is_nothing_of (M.narrow ts (nothing_of n) a) ≡ true
   -- the values at each store
   pub bounds_in_int : (a : LeafValue) (x : ℕ) → M.valid a → x < a.variables → IsInInt (M.bounds_of a x)
   pub bounds_hold : (a : LeafValue) (x : ℕ) (s : List ℤ) → M.valid a → x < a.variables → M.holds a s → Within (at_store s x) (M.bounds_of a x)

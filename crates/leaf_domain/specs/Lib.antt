@@ -8,3 +8,5 @@ pub mod Evaluations
 pub mod Stops
 pub mod Soundness
 pub mod Variables
+pub mod Thresholds
+pub mod Exactness

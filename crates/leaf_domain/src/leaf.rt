@@ -10,6 +10,7 @@ ghost use Rattle.leaf_domain.specs.Leaves.{LeafValue, LeafMeaning, LeafLaws, not
 use crate::compare::Compare;
 use crate::form::Form;
 use crate::range::Range;
+use crate::thresholds::Thresholds;
 use fam_outer::NoMemory;
 use std::alloc::Global;
 use std::hash::Hash;
@@ -69,15 +70,26 @@ pub trait Leaf: Eq + Hash + Drop {
         requires { (value self.now).variables ≡ (value other.now).variables }
         ensures { IfOk result (λ leaf. value leaf ≡ meaning.join (value self.now) (value other.now)) };
 
-    /// The stores of both, with each bound that the other moves put as the type's.
-    fn widen(&self, alloc: Global, other: &Self) -> Result<Self, NoMemory>
+    /// The stores of both, with each bound that the other moves put as the nearest threshold that covers the other's, and as
+    /// the type's where none does.
+    fn widen(
+        &self,
+        alloc: Global,
+        other: &Self,
+        thresholds: &Thresholds,
+    ) -> Result<Self, NoMemory>
         requires { (value self.now).variables ≡ (value other.now).variables }
-        ensures { IfOk result (λ leaf. value leaf ≡ meaning.widen (value self.now) (value other.now)) };
+        ensures { IfOk result (λ leaf. value leaf ≡ meaning.widen thresholds.now (value self.now) (value other.now)) };
 
-    /// The leaf with each bound that is the type's put as the other's.
-    fn narrow(&self, alloc: Global, other: &Self) -> Result<Self, NoMemory>
+    /// The leaf with each bound that is the type's or that of a threshold put as the other's.
+    fn narrow(
+        &self,
+        alloc: Global,
+        other: &Self,
+        thresholds: &Thresholds,
+    ) -> Result<Self, NoMemory>
         requires { (value self.now).variables ≡ (value other.now).variables }
-        ensures { IfOk result (λ leaf. value leaf ≡ meaning.narrow (value self.now) (value other.now)) };
+        ensures { IfOk result (λ leaf. value leaf ≡ meaning.narrow thresholds.now (value self.now) (value other.now)) };
 
     /// The range of a variable, empty at Nothing.
     fn bounds_of(&self, x: u32) -> Range

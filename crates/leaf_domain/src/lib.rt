@@ -13,6 +13,7 @@ mod sides;
 pub mod statements;
 mod stops;
 mod survey;
+pub mod thresholds;
 pub mod transfer;
 
 pub use compare::{Compare, cut, cut_is_sound, mirror};
@@ -24,4 +25,5 @@ pub use linear_terms::Terms;
 pub use range::{Range, arithmetic, arithmetic_is_sound, fold_is_sound};
 pub use sides::Sides;
 pub use statements::may;
+pub use thresholds::{Multiple, Thresholds};
 pub use transfer::{assign, assume, fits, forget, range_of, raw_of, split};
