@@ -23,15 +23,6 @@ use Rattle.certificate_laws.proofs.AcceptedLists.{all_left, all_right, all_both,
 -- ---- final leaves
 
 module _ (M : LeafMeaning) (laws : LeafLaws M) (o : Options) (A : TransferAnswers M o.mode) (joins : AreBelowJoins M) where
-  -- narrowing keeps what comes in below the head
-  narrowed_settle : (G : LeafValue → LeafValue) (m : ℕ) (x : LeafValue) → M.leq (G x) x ≡ true → M.leq (G (narrowings_of M G m x)) (narrowings_of M G m x) ≡ true
-  narrowed_settle G zero x e = e
-  narrowed_settle G (suc m) x e = narrowed_settle G m (narrowing_of M G x) (by_test (M.leq (G (M.narrow x (G x))) (M.narrow x (G x))) refl)
-    where
-      by_test : (t : Bool) → M.leq (G (M.narrow x (G x))) (M.narrow x (G x)) ≡ t → M.leq (G (if t then M.narrow x (G x) else x)) (if t then M.narrow x (G x) else x) ≡ true
-      by_test true f = f
-      by_test false f = e
-
   -- a loop's head has n variables, and the loop is inductive
   pub record IsGood (n : ℕ) (t : Turn) : Type 0 where
     pub valid : M.valid t.head
@@ -56,7 +47,7 @@ module _ (M : LeafMeaning) (laws : LeafLaws M) (o : Options) (A : TransferAnswer
       let i = final_of_code M laws o A e body v h ot ob in
       let t = answers_then v x _ i (A.assumed_answers e true x (own e x i.valid (subst (λ m. IsTermOf m e) (sym i.same) ot))) in
       let b = after body v (assumed M o.mode e true x) t ob in
-      let settled : M.leq (G x) x ≡ true = narrowed_settle G o.narrow (widened_leaf M o.delay G v) (loops_settle M laws o A e body v h ot ob) in
+      let settled : M.leq (G x) x ≡ true = finals_are_inductive M laws o A e body v h ot ob in
       let parts = joins v (after_of M o body (assumed M o.mode e true x)) x (record { first = h; second = b.valid; same = sym b.same }) i settled in
       record { valid = i.valid; count = i.same; inductive = both_true _ _ parts.0 parts.1 }
 

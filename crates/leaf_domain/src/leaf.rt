@@ -72,22 +72,12 @@ pub trait Leaf: Eq + Hash + Drop {
 
     /// The stores of both, with each bound that the other moves put as the nearest threshold that covers the other's, and as
     /// the type's where none does.
-    fn widen(
-        &self,
-        alloc: Global,
-        other: &Self,
-        thresholds: &Thresholds,
-    ) -> Result<Self, NoMemory>
+    fn widen(&self, alloc: Global, other: &Self, thresholds: &Thresholds) -> Result<Self, NoMemory>
         requires { (value self.now).variables ≡ (value other.now).variables }
         ensures { IfOk result (λ leaf. value leaf ≡ meaning.widen thresholds.now (value self.now) (value other.now)) };
 
     /// The leaf with each bound that is the type's or that of a threshold put as the other's.
-    fn narrow(
-        &self,
-        alloc: Global,
-        other: &Self,
-        thresholds: &Thresholds,
-    ) -> Result<Self, NoMemory>
+    fn narrow(&self, alloc: Global, other: &Self, thresholds: &Thresholds) -> Result<Self, NoMemory>
         requires { (value self.now).variables ≡ (value other.now).variables }
         ensures { IfOk result (λ leaf. value leaf ≡ meaning.narrow thresholds.now (value self.now) (value other.now)) };
 

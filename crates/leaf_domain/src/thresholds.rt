@@ -60,7 +60,11 @@ fn nearest(numbers: &[i64], multiple: Multiple, limit: i64, bound: i64) -> i64
         Some((first, rest)) => {
             let step = times(multiple, first);
             let other = nearest(rest, multiple, limit, bound);
-            if bound <= step { step.min(other) } else { other }
+            if bound <= step {
+                step.min(other)
+            } else {
+                other
+            }
         }
     }
 }

@@ -63,7 +63,7 @@ module _ {L : Type 0} (value : L → LeafValue) (family : FamilyContext) where
       → IsLifted value family a b f t i → IsLifted value family b c g t j → IsLifted value family c d p (erase i) r → IsLifted value family d e q (erase j) s
       → ((v : List Bool) → (p v (f v (value (leaf_of t v)))).variables ≡ family.variables → (q v (g v (value (leaf_of t v)))).variables ≡ family.variables
       → M.join (p v (f v (value (leaf_of t v)))) (q v (g v (value (leaf_of t v)))) ≡ h v (value (leaf_of t v)))
-      → IfOk made (λ x. IsJoint value family e z (λ v. combined_by M Join) (erase r) (erase s) (numbered x))
+      → IfOk made (λ x. IsJoint value family e z (λ v. combined_by M family.options.now.thresholds Join) (erase r) (erase s) (numbered x))
       → IfOk made (λ x. IsLifted value family a z h t (numbered x))
   both_made (Ok x) M a b c d e z f g p q h t i j r s fi gj pr qs says m = record {
     state = m.state;
@@ -78,17 +78,17 @@ module _ {L : Type 0} (value : L → LeafValue) (family : FamilyContext) where
   both_made (Err x) M a b c d e z f g p q h t i j r s fi gj pr qs says m = tt
 
   -- Nothing everywhere goes through
-  pub nothing_stays : (M : LeafMeaning) → LeafLaws M → TransferAnswers M family.options.mode → IsFamily family → (forest : List (Plain L)) (t : Numbered L) (c : Code) → IsState value family forest t
+  pub nothing_stays : (M : LeafMeaning) → LeafLaws M → TransferAnswers M family.options.now.mode → IsFamily family → (forest : List (Plain L)) (t : Numbered L) (c : Code) → IsState value family forest t
       → ((v : List Bool) → is_nothing_of (value (leaf_of (erase t) v)) ≡ true) → (v : List Bool) → value (leaf_of (erase t) v) ≡ after_at M family c v (value (leaf_of (erase t) v))
   nothing_stays M laws answers is forest t c s e v =
       let x = value (leaf_of (erase t) v) in
       let few : x.variables ≤ 16 = subst (λ n. n ≤ 16) (sym (counted value family forest t v s)) is.few in
-      sym (after_stays M laws family.options answers x few (e v) (projected (truths_in family.choices.now v) c))
+      sym (after_stays M laws family.options.now answers x few (e v) (projected (truths_in family.choices.now v) c))
 
-  pub nothing_ends : (M : LeafMeaning) → LeafLaws M → TransferAnswers M family.options.mode → IsFamily family → (forest : List (Plain L)) (t : Numbered L) (test : Term) (c : Code) → IsState value family forest t
+  pub nothing_ends : (M : LeafMeaning) → LeafLaws M → TransferAnswers M family.options.now.mode → IsFamily family → (forest : List (Plain L)) (t : Numbered L) (test : Term) (c : Code) → IsState value family forest t
       → ((v : List Bool) → is_nothing_of (value (leaf_of (erase t) v)) ≡ true) → (v : List Bool) → value (leaf_of (erase t) v) ≡ final_at M family test c v (value (leaf_of (erase t) v))
   nothing_ends M laws answers is forest t test c s e v =
       let x = value (leaf_of (erase t) v) in
       let b = projected (truths_in family.choices.now v) c in
       let n : x ≡ nothing_of family.variables = nothing_value x family.variables (e v) (counted value family forest t v s) in
-      sym (ap (final_at M family test c v) n ∙ (loop_nothing M laws family.options answers family.variables is.few test (after_of M family.options b) (after_nothing M laws family.options answers family.variables is.few b) ∙ sym n))
+      sym (ap (final_at M family test c v) n ∙ (loop_nothing M laws family.options.now answers family.variables is.few test (after_of M family.options.now b) (after_nothing M laws family.options.now answers family.variables is.few b) ∙ sym n))

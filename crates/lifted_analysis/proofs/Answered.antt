@@ -159,7 +159,7 @@ module _ {L : Type 0} (value : L → LeafValue) (family : FamilyContext) where
         alarm_trees = λ q. m (j (g q));
       }
 
-  module _ (M : LeafMeaning) (laws : LeafLaws M) (A : TransferAnswers M family.options.mode) (N : NothingStops M family.options.mode) (p : Whole) (program : IsProgram p) (count : family.variables ≡ length p.names) where
+  module _ (M : LeafMeaning) (laws : LeafLaws M) (A : TransferAnswers M family.options.now.mode) (N : NothingStops M family.options.now.mode) (p : Whole) (program : IsProgram p) (count : family.variables ≡ length p.names) where
     begin_valid : (b : Bool) (ts : List Bool) → M.valid (if b then M.start (projected_start ts p.declared p.start) else nothing_of family.variables)
     begin_valid true ts =
         laws.start_valid (projected_start ts p.declared p.start) (subst (λ n. n ≤ 16) (sym (length-start ts p.declared 0 p.start ∙ program.starts)) program.few)
@@ -177,14 +177,14 @@ module _ {L : Type 0} (value : L → LeafValue) (family : FamilyContext) where
     start_count v = begin_count (leaf_of (plain family.plausible.now) v) (truths_in family.choices.now v)
 
     -- all that is found
-    pub noted_made : (K H : List Bool → Heads) (a b z : Noted L) (c : Code) (start tree : Plain L) → ((v : List Bool) → K v ≡ H v) → ((v : List Bool) → AreFit M family.options.mode (length p.names) (H v))
+    pub noted_made : (K H : List Bool → Heads) (a b z : Noted L) (c : Code) (start tree : Plain L) → ((v : List Bool) → K v ≡ H v) → ((v : List Bool) → AreFit M family.options.now.mode (length p.names) (H v))
         → c ≡ p.body → a.places.items ≡ [] → a.alarms.items ≡ [] → a.turns.items ≡ []
         → HasEntered value M family a b (entered_with value M family K c start)
         → ((v : List Bool) → value (leaf_of start v) ≡ start_at M family p.start p.declared v)
         → ((v : List Bool) → value (leaf_of tree v) ≡ passed_with M family K c v (value (leaf_of start v)))
         → HasEnded value family p.end tree b z → HasNoted value M family p H z
     noted_made K H a b z c start tree heads fit body none no_alarms no_turns entered started after ended =
-        let mode = family.options.mode in
+        let mode = family.options.now.mode in
         let d : List Bool → LeafValue = λ v. start_at M family p.start p.declared v in
         let ts : List Bool → List Bool = λ v. truths_in family.choices.now v in
         let is : (v : List Bool) → entered_with value M family K c start v ≡ visits_at M mode (ts v) (H v) p.body (d v) = λ v.
@@ -236,29 +236,29 @@ module _ {L : Type 0} (value : L → LeafValue) (exact : (a b : L) → value a �
   occurs k (inr (inl w)) = inr (tests_each cs family.choices.now k trees w)
   occurs k (inr (inr w)) = absurd (subst (HasRegionNumber k) no_lines w)
 
-  module _ (f : Noted L) (h : HasNoted value M family p (λ v. final_heads M family.options) f) where
-    leaves_at : (v : List Bool) → map (leaf_there value v) f.places.items ≡ map (λ (q : Place). (q, leaf_at M family.options p cs pl q v)) (program_places p)
+  module _ (f : Noted L) (h : HasNoted value M family p (λ v. final_heads M family.options.now) f) where
+    leaves_at : (v : List Bool) → map (leaf_there value v) f.places.items ≡ map (λ (q : Place). (q, leaf_at M family.options.now p cs pl q v)) (program_places p)
     leaves_at v =
-        let H = final_heads M family.options in
-        let mode = family.options.mode in
+        let H = final_heads M family.options.now in
+        let mode = family.options.now.mode in
         h.leaves v
         ∙ (ap (λ ts. map (λ (q : Place). (q, at_by M mode H (projected_program ts p) (start_at M family p.start p.declared v) q)) (program_places p)) (truths_same cs family.choices.now v trees)
         ∙ ap (λ d. map (λ (q : Place). (q, at_by M mode H (variant_at p cs v) d q)) (program_places p)) (begins M family p cs pl trees plausible count v))
 
-    stops_at : (v : List Bool) → map (stop_there v) f.alarms.items ≡ map (λ (q : Place × Kind). (q, stop_at M family.options p cs pl q v)) (by_kind (program_places p))
+    stops_at : (v : List Bool) → map (stop_there v) f.alarms.items ≡ map (λ (q : Place × Kind). (q, stop_at M family.options.now p cs pl q v)) (by_kind (program_places p))
     stops_at v =
-        let H = final_heads M family.options in
-        let mode = family.options.mode in
+        let H = final_heads M family.options.now in
+        let mode = family.options.now.mode in
         h.stops v
         ∙ (ap (λ ts. map (λ (q : Place × Kind). (q, alarm_by M mode H (projected_program ts p) (start_at M family p.start p.declared v) q.0 q.1)) (by_kind (program_places p))) (truths_same cs family.choices.now v trees)
         ∙ ap (λ d. map (λ (q : Place × Kind). (q, alarm_by M mode H (variant_at p cs v) d q.0 q.1)) (by_kind (program_places p))) (begins M family p cs pl trees plausible count v))
 
-    pub are_findings : AreFindings value M family.options p cs pl (record { places = f.places; alarms = f.alarms })
+    pub are_findings : AreFindings value M family.options.now p cs pl (record { places = f.places; alarms = f.alarms })
     are_findings = record {
-      places = keys_are (leaf_there value []) (λ q. leaf_at M family.options p cs pl q []) f.places.items (program_places p) (leaves_at []);
-      trees = λ m b. leaf_findings family m (λ k w. occurs_below m k cs pl b (occurs k w)) value exact f.places.items (program_places p) (λ q v. leaf_at M family.options p cs pl q v) h.trees leaves_at;
-      kinds = keys_are (stop_there []) (λ q. stop_at M family.options p cs pl q []) f.alarms.items (by_kind (program_places p)) (stops_at []);
-      alarms = λ m b. truth_findings family m (λ k w. occurs_below m k cs pl b (occurs k w)) (λ (a : AlarmTree). (a.place, a.kind)) (λ (a : AlarmTree). a.tree) f.alarms.items (by_kind (program_places p)) (λ q v. stop_at M family.options p cs pl q v) h.alarm_trees stops_at;
+      places = keys_are (leaf_there value []) (λ q. leaf_at M family.options.now p cs pl q []) f.places.items (program_places p) (leaves_at []);
+      trees = λ m b. leaf_findings family m (λ k w. occurs_below m k cs pl b (occurs k w)) value exact f.places.items (program_places p) (λ q v. leaf_at M family.options.now p cs pl q v) h.trees leaves_at;
+      kinds = keys_are (stop_there []) (λ q. stop_at M family.options.now p cs pl q []) f.alarms.items (by_kind (program_places p)) (stops_at []);
+      alarms = λ m b. truth_findings family m (λ k w. occurs_below m k cs pl b (occurs k w)) (λ (a : AlarmTree). (a.place, a.kind)) (λ (a : AlarmTree). a.tree) f.alarms.items (by_kind (program_places p)) (λ q v. stop_at M family.options.now p cs pl q v) h.alarm_trees stops_at;
       places_numbered = λ k d lt. (h.trees k d lt).tree;
       alarms_numbered = λ k d lt. (h.alarm_trees k d lt).tree;
       reduced = λ k d lt. (h.trees k d lt).tree.reduced;

@@ -87,7 +87,7 @@ module _ {L : Type 0} (value : L → LeafValue) (M : LeafMeaning) (family : Fami
   pub entered_then : (a b c : Noted L) (xs ys zs : List Bool → List Visit) → ((v : List Bool) → xs v ++ ys v ≡ zs v) → HasEntered value M family a b xs → HasEntered value M family b c ys → HasEntered value M family a c zs
   entered_then a b c xs ys zs e h k = record {
     leaves = λ v. onward (map (leaf_there value v) a.places.items) (map (leaf_there value v) b.places.items) (map (leaf_there value v) c.places.items) (leaves_in (xs v)) (leaves_in (ys v)) (leaves_in (zs v)) (h.leaves v) (k.leaves v) (ap leaves_in (sym (e v)) ∙ leaves_in-append (xs v) (ys v));
-    stops = λ v. onward (map (stop_there v) a.alarms.items) (map (stop_there v) b.alarms.items) (map (stop_there v) c.alarms.items) (stops_in M family.options.mode (xs v)) (stops_in M family.options.mode (ys v)) (stops_in M family.options.mode (zs v)) (h.stops v) (k.stops v) (ap (stops_in M family.options.mode) (sym (e v)) ∙ stops_in-append M family.options.mode (xs v) (ys v));
+    stops = λ v. onward (map (stop_there v) a.alarms.items) (map (stop_there v) b.alarms.items) (map (stop_there v) c.alarms.items) (stops_in M family.options.now.mode (xs v)) (stops_in M family.options.now.mode (ys v)) (stops_in M family.options.now.mode (zs v)) (h.stops v) (k.stops v) (ap (stops_in M family.options.now.mode) (sym (e v)) ∙ stops_in-append M family.options.now.mode (xs v) (ys v));
     turns = λ v. onward (map (turn_there value v) a.turns.items) (map (turn_there value v) b.turns.items) (map (turn_there value v) c.turns.items) (turns_in (xs v)) (turns_in (ys v)) (turns_in (zs v)) (h.turns v) (k.turns v) (ap turns_in (sym (e v)) ∙ turns_in-append (xs v) (ys v));
     trees = λ r. k.trees (h.trees r);
     alarm_trees = λ r. k.alarm_trees (h.alarm_trees r);
@@ -97,7 +97,7 @@ module _ {L : Type 0} (value : L → LeafValue) (M : LeafMeaning) (family : Fami
   pub entered_as : (a b : Noted L) (xs ys : List Bool → List Visit) → ((v : List Bool) → xs v ≡ ys v) → HasEntered value M family a b xs → HasEntered value M family a b ys
   entered_as a b xs ys e h = record {
     leaves = λ v. h.leaves v ∙ ap (λ l. map (leaf_there value v) a.places.items ++ leaves_in l) (e v);
-    stops = λ v. h.stops v ∙ ap (λ l. map (stop_there v) a.alarms.items ++ stops_in M family.options.mode l) (e v);
+    stops = λ v. h.stops v ∙ ap (λ l. map (stop_there v) a.alarms.items ++ stops_in M family.options.now.mode l) (e v);
     turns = λ v. h.turns v ∙ ap (λ l. map (turn_there value v) a.turns.items ++ turns_in l) (e v);
     trees = h.trees;
     alarm_trees = h.alarm_trees;
@@ -108,11 +108,11 @@ module _ {L : Type 0} (value : L → LeafValue) (M : LeafMeaning) (family : Fami
   pub entered_at_last : {E : Type 0} (made : Result (Unit {0}) E) (a b c d z : Noted L) (place : Place) (s : Code) (x : List Bool → LeafValue)
       → ((v : List Bool) → map (leaf_there value v) b.places.items ≡ map (leaf_there value v) a.places.items ++ (place, x v) ∷ [])
       → (AreReduced family a.places.items → AreReduced family b.places.items) → b.alarms.items ≡ a.alarms.items → b.turns.items ≡ a.turns.items → c.turns.items ≡ b.turns.items → d.turns.items ≡ c.turns.items → z.turns.items ≡ d.turns.items
-      → ((v : List Bool) → map (stop_there v) c.alarms.items ≡ map (stop_there v) b.alarms.items ++ ((place, Overflow), may_at M family.options.mode Overflow s (x v)) ∷ [])
+      → ((v : List Bool) → map (stop_there v) c.alarms.items ≡ map (stop_there v) b.alarms.items ++ ((place, Overflow), may_at M family.options.now.mode Overflow s (x v)) ∷ [])
       → (AreReducedStops family b.alarms.items → AreReducedStops family c.alarms.items) → c.places.items ≡ b.places.items
-      → ((v : List Bool) → map (stop_there v) d.alarms.items ≡ map (stop_there v) c.alarms.items ++ ((place, ZeroDivisor), may_at M family.options.mode ZeroDivisor s (x v)) ∷ [])
+      → ((v : List Bool) → map (stop_there v) d.alarms.items ≡ map (stop_there v) c.alarms.items ++ ((place, ZeroDivisor), may_at M family.options.now.mode ZeroDivisor s (x v)) ∷ [])
       → (AreReducedStops family c.alarms.items → AreReducedStops family d.alarms.items) → d.places.items ≡ c.places.items
-      → OnOk made ((v : List Bool) → map (stop_there v) z.alarms.items ≡ map (stop_there v) d.alarms.items ++ ((place, Assertion), may_at M family.options.mode Assertion s (x v)) ∷ [])
+      → OnOk made ((v : List Bool) → map (stop_there v) z.alarms.items ≡ map (stop_there v) d.alarms.items ++ ((place, Assertion), may_at M family.options.now.mode Assertion s (x v)) ∷ [])
       → OnOk made (AreReducedStops family d.alarms.items → AreReducedStops family z.alarms.items) → z.places.items ≡ d.places.items
       → OnOk made (HasEntered value M family a z (λ v. record { place = place; statement = s; leaf = x v; turn = None } ∷ []))
   entered_at_last (Err e) a b c d z place s x leaves trees same t1 t2 t3 t4 f g h i j k l m n = tt
@@ -122,7 +122,7 @@ module _ {L : Type 0} (value : L → LeafValue) (M : LeafMeaning) (family : Fami
       record {
         leaves = λ v. ap (map (leaf_there value v)) places ∙ leaves v;
         stops = λ v. three (map (stop_there v) a.alarms.items) (map (stop_there v) c.alarms.items) (map (stop_there v) d.alarms.items) (map (stop_there v) z.alarms.items) _ _ _
-            (f v ∙ ap (λ q. map (stop_there v) q ++ ((place, Overflow), may_at M family.options.mode Overflow s (x v)) ∷ []) same) (i v) (l v);
+            (f v ∙ ap (λ q. map (stop_there v) q ++ ((place, Overflow), may_at M family.options.now.mode Overflow s (x v)) ∷ []) same) (i v) (l v);
         turns = λ v. ap (map (turn_there value v)) turns ∙ sym (append-nil (map (turn_there value v) a.turns.items));
         trees = λ r. subst (AreReduced family) (sym places) (trees r);
         alarm_trees = λ r. m (j (g (subst (AreReducedStops family) (sym same) r)));

@@ -40,25 +40,25 @@ module _ (M : LeafMeaning) (family : FamilyContext) where
       → after_at M family (code (take (i + 1) list)) v x ≡ after_at M family (front s Done) v (after_at M family (code (take i list)) v x)
   after_at-more list i s v x h e =
       let ts = truths_in family.choices.now v in
-      ap (λ c. after_of M family.options c x) (projected-take_more ts list i s h e)
-      ∙ after_of-followed M family.options (projected ts (code (take i list))) (projected ts (front s Done)) x
+      ap (λ c. after_of M family.options.now c x) (projected-take_more ts list i s h e)
+      ∙ after_of-followed M family.options.now (projected ts (code (take i list))) (projected ts (front s Done)) x
 
   pub after_at-If : (s : Stmt) (place : Place) (e : Expr) (p q : Vec Stmt Global) (v : List Bool) (x : LeafValue) → s ≡ variant.If place e p q
       → if_at M family (term e) (code p.items) (code q.items) v x ≡ after_at M family (front s Done) v x
   after_at-If s place e p q v x h =
-      ap (λ c. after_of M family.options (projected (truths_in family.choices.now v) c) x) (sym (ap (λ s. front s Done) h ∙ front-If place e p q))
+      ap (λ c. after_of M family.options.now (projected (truths_in family.choices.now v) c) x) (sym (ap (λ s. front s Done) h ∙ front-If place e p q))
 
   pub after_at-While : (s : Stmt) (place : Place) (e : Expr) (body : Vec Stmt Global) (v : List Bool) (x : LeafValue) → s ≡ variant.While place e body
-      → assumed M family.options.mode (term e) false (final_at M family (term e) (code body.items) v x) ≡ after_at M family (front s Done) v x
+      → assumed M family.options.now.mode (term e) false (final_at M family (term e) (code body.items) v x) ≡ after_at M family (front s Done) v x
   after_at-While s place e body v x h =
-      ap (λ c. after_of M family.options (projected (truths_in family.choices.now v) c) x) (sym (ap (λ s. front s Done) h ∙ front-While place e body))
+      ap (λ c. after_of M family.options.now (projected (truths_in family.choices.now v) c) x) (sym (ap (λ s. front s Done) h ∙ front-While place e body))
 
   pub after_at-Block : (s : Stmt) (place : Place) (body : Vec Stmt Global) (v : List Bool) (x : LeafValue) → s ≡ variant.Block place body
       → after_at M family (code body.items) v x ≡ after_at M family (front s Done) v x
   after_at-Block s place body v x h =
-      ap (λ c. after_of M family.options (projected (truths_in family.choices.now v) c) x) (sym (ap (λ s. front s Done) h ∙ front-Block place body))
+      ap (λ c. after_of M family.options.now (projected (truths_in family.choices.now v) c) x) (sym (ap (λ s. front s Done) h ∙ front-Block place body))
 
-  chosen : (b : Bool) (p q : Code) (x : LeafValue) → (if b then after_of M family.options p x else after_of M family.options q x) ≡ after_of M family.options (cond b p q) x
+  chosen : (b : Bool) (p q : Code) (x : LeafValue) → (if b then after_of M family.options.now p x else after_of M family.options.now q x) ≡ after_of M family.options.now (cond b p q) x
   chosen true p q x = refl
   chosen false p q x = refl
 
@@ -69,22 +69,22 @@ module _ (M : LeafMeaning) (family : FamilyContext) where
   after_at-Cond s number p q b v x h e =
       let ts = truths_in family.choices.now v in
       chosen b (projected ts (code p.items)) (projected ts (code q.items)) x
-      ∙ ap (λ c. after_of M family.options c x) (sym (ap (λ s. projected ts (front s Done)) h ∙ projected-Cond ts number p q b e))
+      ∙ ap (λ c. after_of M family.options.now c x) (sym (ap (λ s. projected ts (front s Done)) h ∙ projected-Cond ts number p q b e))
 
   -- where two sides are entered with Nothing where they are not kept, their join is what the kept one gives
-  module _ (laws : LeafLaws M) (answers : TransferAnswers M family.options.mode) (few : family.variables ≤ 16) where
+  module _ (laws : LeafLaws M) (answers : TransferAnswers M family.options.now.mode) (few : family.variables ≤ 16) where
     pub kept_joins : (p q : Code) (v : List Bool) (b : Bool) (x : LeafValue) → x.variables ≡ family.variables
         → (after_at M family p v (kept_by true b x)).variables ≡ family.variables → (after_at M family q v (kept_by false b x)).variables ≡ family.variables
         → M.join (after_at M family p v (kept_by true b x)) (after_at M family q v (kept_by false b x)) ≡ (if b then after_at M family p v x else after_at M family q v x)
     kept_joins p q v true x e f g =
         let c = projected (truths_in family.choices.now v) q in
-        ap (λ n. M.join (after_at M family p v x) (after_of M family.options c (nothing_of n))) e
-        ∙ (ap (M.join (after_at M family p v x)) (after_nothing M laws family.options answers family.variables few c ∙ ap (λ n. nothing_of n) (sym f))
+        ap (λ n. M.join (after_at M family p v x) (after_of M family.options.now c (nothing_of n))) e
+        ∙ (ap (M.join (after_at M family p v x)) (after_nothing M laws family.options.now answers family.variables few c ∙ ap (λ n. nothing_of n) (sym f))
         ∙ laws.nothing_join (after_at M family p v x))
     kept_joins p q v false x e f g =
         let c = projected (truths_in family.choices.now v) p in
-        ap (λ n. M.join (after_of M family.options c (nothing_of n)) (after_at M family q v x)) e
-        ∙ (ap (λ y. M.join y (after_at M family q v x)) (after_nothing M laws family.options answers family.variables few c ∙ ap (λ n. nothing_of n) (sym g))
+        ap (λ n. M.join (after_of M family.options.now c (nothing_of n)) (after_at M family q v x)) e
+        ∙ (ap (λ y. M.join y (after_at M family q v x)) (after_nothing M laws family.options.now answers family.variables few c ∙ ap (λ n. nothing_of n) (sym g))
         ∙ laws.join_nothing (after_at M family q v x))
 
 -- ---- the trees of conditions

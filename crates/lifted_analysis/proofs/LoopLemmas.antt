@@ -1,20 +1,20 @@
 -- The rounds of a loop at one vector.
-use Rattle.std.proofs.Common.{◌≡◌, ℕ, suc, ◌+◌, ◌-◌, ◌<◌, Bool, true, false, if◌then◌else◌, nat_lt, refl, ap, sym, ◌∙◌, arith}
+use Rattle.std.proofs.Common.{◌≡◌, ℕ, suc, ◌+◌, ◌-◌, ◌<◌, Bool, true, false, if◌then◌else◌, nat_lt, ℤ, List, refl, ap, sym, ◌∙◌, arith}
 use Rattle.leaf_domain.specs.Leaves.{LeafValue, LeafMeaning}
 use Rattle.plain_analysis.specs.Loops.{round_by, rounds_of, taken_by, narrowing_of}
 
 -- one round more
-pub rounds_go : (M : LeafMeaning) (delay : ℕ) (G : LeafValue → LeafValue) (n k : ℕ) (x w y z : LeafValue) → k < n → w ≡ G x → y ≡ round_by M (nat_lt k delay) x w
-    → rounds_of M delay G (n - k) k x ≡ z → rounds_of M delay G (n - (k + 1)) (k + 1) y ≡ z
-rounds_go M delay G n k x w y z l e h f =
+pub rounds_go : (M : LeafMeaning) (ts : List ℤ) (delay : ℕ) (G : LeafValue → LeafValue) (n k : ℕ) (x w y z : LeafValue) → k < n → w ≡ G x → y ≡ round_by M ts (nat_lt k delay) x w
+    → rounds_of M ts delay G (n - k) k x ≡ z → rounds_of M ts delay G (n - (k + 1)) (k + 1) y ≡ z
+rounds_go M ts delay G n k x w y z l e h f =
     let g : suc (n - (k + 1)) ≡ n - k = omega arith in
-    ap (λ u. rounds_of M delay G (n - (k + 1)) (k + 1) u) (h ∙ ap (round_by M (nat_lt k delay) x) e) ∙ (ap (λ m. rounds_of M delay G m k x) g ∙ f)
+    ap (λ u. rounds_of M ts delay G (n - (k + 1)) (k + 1) u) (h ∙ ap (round_by M ts (nat_lt k delay) x) e) ∙ (ap (λ m. rounds_of M ts delay G m k x) g ∙ f)
 
 -- the candidate, or what was there
-pub narrowing_is : (M : LeafMeaning) (G : LeafValue → LeafValue) (x w c g y : LeafValue) (b : Bool) → w ≡ G x → c ≡ M.narrow x w → g ≡ G c → b ≡ M.leq g c
-    → y ≡ (if b then c else x) → narrowing_of M G x ≡ y
-narrowing_is M G x w c g y b ew ec eg eb ey =
-    let e : c ≡ M.narrow x (G x) = ec ∙ ap (M.narrow x) ew in
+pub narrowing_is : (M : LeafMeaning) (ts : List ℤ) (G : LeafValue → LeafValue) (x w c g y : LeafValue) (b : Bool) → w ≡ G x → c ≡ M.narrow ts x w → g ≡ G c → b ≡ M.leq g c
+    → y ≡ (if b then c else x) → narrowing_of M ts G x ≡ y
+narrowing_is M ts G x w c g y b ew ec eg eb ey =
+    let e : c ≡ M.narrow ts x (G x) = ec ∙ ap (M.narrow ts x) ew in
     ap (λ u. taken_by M x u (G u)) (sym e) ∙ (ap (λ u. if M.leq u c then c else x) (sym eg) ∙ (ap (λ (t : Bool). if t then c else x) (sym eb) ∙ sym ey))
 
 either : (b : Bool) (x : LeafValue) → (if b then x else x) ≡ x
@@ -22,9 +22,9 @@ either true x = refl
 either false x = refl
 
 -- a candidate that is what was there changes nothing
-pub narrowing_stays : (M : LeafMeaning) (G : LeafValue → LeafValue) (x w c : LeafValue) → w ≡ G x → c ≡ M.narrow x w → c ≡ x → narrowing_of M G x ≡ x
-narrowing_stays M G x w c ew ec e =
-    let f : M.narrow x (G x) ≡ x = sym (ec ∙ ap (M.narrow x) ew) ∙ e in
+pub narrowing_stays : (M : LeafMeaning) (ts : List ℤ) (G : LeafValue → LeafValue) (x w c : LeafValue) → w ≡ G x → c ≡ M.narrow ts x w → c ≡ x → narrowing_of M ts G x ≡ x
+narrowing_stays M ts G x w c ew ec e =
+    let f : M.narrow ts x (G x) ≡ x = sym (ec ∙ ap (M.narrow ts x) ew) ∙ e in
     ap (λ u. taken_by M x u (G u)) f ∙ either (M.leq (G x) x) x
 
 -- the next leaf that belongs to what was chosen

@@ -172,7 +172,7 @@ module _ {L : Type 0} (value : L → LeafValue) (exact : (a b : L) → value a �
       (at_loops : (v : List Bool) → map (loop_there v) loops.items ≡ map {B = Place × Bool} (λ (t : TurnTree L). (t.place, is_inductive M (turn_there value v t))) f.turns.items)
       (reduced : All (λ (l : LoopTree). IsReducedTree family (numbered l.tree)) loops.items) where
     abbrev mode : Mode
-    mode = family.options.mode
+    mode = family.options.now.mode
 
     -- by formulas, whatever is made of heads, truths and start values
     over_formulas : {Y : Type 0} (F : Heads → List Bool → LeafValue → Y) (v : List Bool)
@@ -191,7 +191,7 @@ module _ {L : Type 0} (value : L → LeafValue) (exact : (a b : L) → value a �
     loops_at : (v : List Bool) → map (loop_there v) loops.items ≡ map (λ (q : Place). (q, inductive_at M mode p cs pl lines q v)) (loop_places p.body)
     loops_at v = at_loops v ∙ (h.turns v ∙ over_formulas (λ H ts d. map (λ (q : Place). (q, inductive_in M (turns_by M mode H (projected ts p.body) d) q)) (loop_places p.body)) v)
 
-    pub are_pass_findings : ArePassFindings value M family.options.mode p cs pl lines (record { places = f.places; alarms = f.alarms; loops = loops })
+    pub are_pass_findings : ArePassFindings value M family.options.now.mode p cs pl lines (record { places = f.places; alarms = f.alarms; loops = loops })
     are_pass_findings = record {
       places = keys_are (leaf_there value []) (λ q. passed_at M mode p cs pl lines q []) f.places.items (program_places p) (leaves_at []);
       trees = λ m b r. leaf_findings family m (small m b r) value exact f.places.items (program_places p) (λ q v. passed_at M mode p cs pl lines q v) h.trees leaves_at;

@@ -15,6 +15,7 @@ use Rattle.leaf_domain.specs.Soundness.{Suits, TransferAnswers}
 use Rattle.leaf_domain.specs.Transfer.{assumed, assigned, forgotten}
 use Rattle.leaf_domain.proofs.Answered.{answers_self, answers_then}
 use Rattle.plain_analysis.specs.declared.options.Options.{Options}
+use Rattle.lifted_analysis.proofs.StateLemmas.{without_rounds}
 use Rattle.plain_analysis.specs.Places.{is_same_place}
 use Rattle.plain_analysis.specs.Statements.{Heads, passed, final_heads}
 use Rattle.plain_analysis.proofs.JoinLemmas.{join_answer}
@@ -84,7 +85,7 @@ module _ (M : LeafMeaning) (laws : LeafLaws M) (mode : Mode) (A : TransferAnswer
 
 module _ (M : LeafMeaning) (laws : LeafLaws M) (mode : Mode) (A : TransferAnswers M mode) (n : ℕ) (few : n ≤ 16) where
   abbrev o : Options
-  o = record { delay = 0; narrow = 0; mode = mode }
+  o = without_rounds mode
 
   pub assigned_nothing : (place : Place) (x : ℕ) (e : Term) → assigned M mode x e (nothing_of n) ≡ nothing_of n
   assigned_nothing place x e = after_nothing M laws o A n few (Assign place x e Done)

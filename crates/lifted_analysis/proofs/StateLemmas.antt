@@ -12,6 +12,7 @@ use Rattle.decision_tree.proofs.Numbers.{tree_stays, numbered_tree, keeps_same, 
 use Rattle.decision_tree.proofs.Reached.{has_leaf_of}
 use Rattle.leaf_domain.specs.Leaves.{LeafValue, LeafMeaning, LeafLaws, nothing_of, is_nothing_of}
 use Rattle.leaf_domain.specs.Soundness.{TransferAnswers}
+use Rattle.plain_analysis.specs.declared.options.Options.{Options}
 use Rattle.plain_analysis.proofs.Nothing.{nothing_value, after_stays}
 use Rattle.tree_unify.specs.Leafwise.{IsMapped, IsUnified, LeavesComeFrom, LeavesComeFromBoth, TestsAreOf, TestsAreOfEither}
 use Rattle.lifted_analysis.specs.declared.family_context.FamilyContext.{FamilyContext}
@@ -41,10 +42,14 @@ bounded_stays : (M : LeafMeaning) → LeafLaws M → (n : ℕ) (b : Option (List
 bounded_stays M laws n None = refl
 bounded_stays M laws n (Some rs) = set_stays M laws n 0 rs
 
+-- an analysis without rounds of joining and narrowing, and without thresholds
+abbrev pub without_rounds : Mode → Options
+without_rounds mode = record { delay = 0; narrow = 0; thresholds = []; mode = mode }
+
 -- a step of Nothing
 pub stepped_stays : (M : LeafMeaning) → LeafLaws M → (mode : Mode) → TransferAnswers M mode → (x : LeafValue) → x.variables ≤ 16 → is_nothing_of x ≡ true → (s : Step) → stepped_by M mode s x ≡ x
-stepped_stays M laws mode answers x few is (step.Assign y e) = after_stays M laws (record { delay = 0; narrow = 0; mode = mode }) answers x few is (Assign (record { line = 0; column = 0 }) y (term e.now) Done)
-stepped_stays M laws mode answers x few is (step.Forget y) = after_stays M laws (record { delay = 0; narrow = 0; mode = mode }) answers x few is (Input (record { line = 0; column = 0 }) y Done)
+stepped_stays M laws mode answers x few is (step.Assign y e) = after_stays M laws (without_rounds mode) answers x few is (Assign (record { line = 0; column = 0 }) y (term e.now) Done)
+stepped_stays M laws mode answers x few is (step.Forget y) = after_stays M laws (without_rounds mode) answers x few is (Input (record { line = 0; column = 0 }) y Done)
 stepped_stays M laws mode answers x few is (step.Assume e want) = answers.assumed_of_nothing (term e.now) want x is
 stepped_stays M laws mode answers x few is (step.Bound b) =
     let e : x ≡ nothing_of x.variables = nothing_value x x.variables is refl in ap (bounded_by M b.now) e ∙ (bounded_stays M laws x.variables b.now ∙ sym e)
@@ -172,7 +177,7 @@ module _ {L : Type 0} (value : L → LeafValue) (family : FamilyContext) where
   pub selected_made : {E : Type 0} (M : LeafMeaning) → LeafLaws M → (made : Result (Tree L) E) (truth : Plain Bool) (a b c d : List (Plain L)) (t u p q : Numbered L)
       → IsState value family a t → IsState value family a u
       → IsLifted value family a b (λ v. kept_by true (leaf_of truth v)) (erase t) p → IsLifted value family b c (λ v. kept_by false (leaf_of truth v)) (erase u) q
-      → IfOk made (λ r. IsJoint value family c d (λ v. combined_by M Join) (erase p) (erase q) (numbered r))
+      → IfOk made (λ r. IsJoint value family c d (λ v. combined_by M family.options.now.thresholds Join) (erase p) (erase q) (numbered r))
       → IfOk made (λ r. IsJoint value family a d (λ v x y. if leaf_of truth v then x else y) (erase t) (erase u) (numbered r))
   selected_made M laws (Ok r) truth a b c d t u p q s z h k j = record {
     state = j.state;
@@ -186,7 +191,7 @@ module _ {L : Type 0} (value : L → LeafValue) (family : FamilyContext) where
   -- the join with Nothing everywhere is the other tree
   pub joint_first : {E : Type 0} (M : LeafMeaning) → LeafLaws M → (made : Result (Tree L) E) (forest : List (Plain L)) (t u : Numbered L)
       → IsState value family forest t → IsState value family forest u → ((v : List Bool) → is_nothing_of (value (leaf_of (erase u) v)) ≡ true)
-      → IfOk made (λ r. numbered r ≡ t) → IfOk made (λ r. IsJoint value family forest forest (λ v. combined_by M Join) (erase t) (erase u) (numbered r))
+      → IfOk made (λ r. numbered r ≡ t) → IfOk made (λ r. IsJoint value family forest forest (λ v. combined_by M family.options.now.thresholds Join) (erase t) (erase u) (numbered r))
   joint_first M laws (Ok r) forest t u s z n e = record {
     state = state_as forest t (numbered r) e s;
     keeps = keeps_same forest forest refl;
@@ -199,7 +204,7 @@ module _ {L : Type 0} (value : L → LeafValue) (family : FamilyContext) where
 
   pub joint_second : {E : Type 0} (M : LeafMeaning) → LeafLaws M → (made : Result (Tree L) E) (forest : List (Plain L)) (t u : Numbered L)
       → IsState value family forest t → IsState value family forest u → ((v : List Bool) → is_nothing_of (value (leaf_of (erase t) v)) ≡ true)
-      → IfOk made (λ r. numbered r ≡ u) → IfOk made (λ r. IsJoint value family forest forest (λ v. combined_by M Join) (erase t) (erase u) (numbered r))
+      → IfOk made (λ r. numbered r ≡ u) → IfOk made (λ r. IsJoint value family forest forest (λ v. combined_by M family.options.now.thresholds Join) (erase t) (erase u) (numbered r))
   joint_second M laws (Ok r) forest t u s z n e = record {
     state = state_as forest u (numbered r) e z;
     keeps = keeps_same forest forest refl;

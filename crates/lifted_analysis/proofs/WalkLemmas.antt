@@ -43,25 +43,25 @@ module _ (M : LeafMeaning) (family : FamilyContext) (H : List Bool → Heads) wh
       → passed_with M family H (code (take (i + 1) list)) v x ≡ passed_with M family H (front s Done) v (passed_with M family H (code (take i list)) v x)
   passed_with-more list i s v x h e =
       let ts = truths_in family.choices.now v in
-      ap (λ c. passed M family.options.mode (H v) c x) (projected-take_more ts list i s h e)
-      ∙ passed-followed M family.options.mode (H v) (projected ts (code (take i list))) (projected ts (front s Done)) x
+      ap (λ c. passed M family.options.now.mode (H v) c x) (projected-take_more ts list i s h e)
+      ∙ passed-followed M family.options.now.mode (H v) (projected ts (code (take i list))) (projected ts (front s Done)) x
 
   pub passed_with-If : (s : Stmt) (place : Place) (e : Expr) (p q : Vec Stmt Global) (v : List Bool) (x : LeafValue) → s ≡ variant.If place e p q
       → sides_with M family H (term e) (code p.items) (code q.items) v x ≡ passed_with M family H (front s Done) v x
   passed_with-If s place e p q v x h =
-      ap (λ c. passed M family.options.mode (H v) (projected (truths_in family.choices.now v) c) x) (sym (ap (λ s. front s Done) h ∙ front-If place e p q))
+      ap (λ c. passed M family.options.now.mode (H v) (projected (truths_in family.choices.now v) c) x) (sym (ap (λ s. front s Done) h ∙ front-If place e p q))
 
   pub passed_with-While : (s : Stmt) (place : Place) (e : Expr) (body : Vec Stmt Global) (v : List Bool) (x : LeafValue) → s ≡ variant.While place e body
-      → assumed M family.options.mode (term e) false (head_with M family H place (term e) (code body.items) v x) ≡ passed_with M family H (front s Done) v x
+      → assumed M family.options.now.mode (term e) false (head_with M family H place (term e) (code body.items) v x) ≡ passed_with M family H (front s Done) v x
   passed_with-While s place e body v x h =
-      ap (λ c. passed M family.options.mode (H v) (projected (truths_in family.choices.now v) c) x) (sym (ap (λ s. front s Done) h ∙ front-While place e body))
+      ap (λ c. passed M family.options.now.mode (H v) (projected (truths_in family.choices.now v) c) x) (sym (ap (λ s. front s Done) h ∙ front-While place e body))
 
   pub passed_with-Block : (s : Stmt) (place : Place) (body : Vec Stmt Global) (v : List Bool) (x : LeafValue) → s ≡ variant.Block place body
       → passed_with M family H (code body.items) v x ≡ passed_with M family H (front s Done) v x
   passed_with-Block s place body v x h =
-      ap (λ c. passed M family.options.mode (H v) (projected (truths_in family.choices.now v) c) x) (sym (ap (λ s. front s Done) h ∙ front-Block place body))
+      ap (λ c. passed M family.options.now.mode (H v) (projected (truths_in family.choices.now v) c) x) (sym (ap (λ s. front s Done) h ∙ front-Block place body))
 
-  chosen : (b : Bool) (v : List Bool) (p q : Code) (x : LeafValue) → (if b then passed M family.options.mode (H v) p x else passed M family.options.mode (H v) q x) ≡ passed M family.options.mode (H v) (cond b p q) x
+  chosen : (b : Bool) (v : List Bool) (p q : Code) (x : LeafValue) → (if b then passed M family.options.now.mode (H v) p x else passed M family.options.now.mode (H v) q x) ≡ passed M family.options.now.mode (H v) (cond b p q) x
   chosen true v p q x = refl
   chosen false v p q x = refl
 
@@ -72,21 +72,21 @@ module _ (M : LeafMeaning) (family : FamilyContext) (H : List Bool → Heads) wh
   passed_with-Cond s number p q b v x h e =
       let ts = truths_in family.choices.now v in
       chosen b v (projected ts (code p.items)) (projected ts (code q.items)) x
-      ∙ ap (λ c. passed M family.options.mode (H v) c x) (sym (ap (λ s. projected ts (front s Done)) h ∙ projected-Cond ts number p q b e))
+      ∙ ap (λ c. passed M family.options.now.mode (H v) c x) (sym (ap (λ s. projected ts (front s Done)) h ∙ projected-Cond ts number p q b e))
 
 -- where two sides are entered with Nothing where they are not kept, their join is what the kept one gives
-pub sides_join : (M : LeafMeaning) → LeafLaws M → (family : FamilyContext) → TransferAnswers M family.options.mode → family.variables ≤ 16 → (H : Heads) (ts : List Bool) (p q : Code) (b : Bool) (x : LeafValue) → x.variables ≡ family.variables
-    → (passed M family.options.mode (heads_where b H) (projected ts p) (kept_by true b x)).variables ≡ family.variables → (passed M family.options.mode (heads_where (not b) H) (projected ts q) (kept_by false b x)).variables ≡ family.variables
-    → M.join (passed M family.options.mode (heads_where b H) (projected ts p) (kept_by true b x)) (passed M family.options.mode (heads_where (not b) H) (projected ts q) (kept_by false b x))
-    ≡ (if b then passed M family.options.mode H (projected ts p) x else passed M family.options.mode H (projected ts q) x)
+pub sides_join : (M : LeafMeaning) → LeafLaws M → (family : FamilyContext) → TransferAnswers M family.options.now.mode → family.variables ≤ 16 → (H : Heads) (ts : List Bool) (p q : Code) (b : Bool) (x : LeafValue) → x.variables ≡ family.variables
+    → (passed M family.options.now.mode (heads_where b H) (projected ts p) (kept_by true b x)).variables ≡ family.variables → (passed M family.options.now.mode (heads_where (not b) H) (projected ts q) (kept_by false b x)).variables ≡ family.variables
+    → M.join (passed M family.options.now.mode (heads_where b H) (projected ts p) (kept_by true b x)) (passed M family.options.now.mode (heads_where (not b) H) (projected ts q) (kept_by false b x))
+    ≡ (if b then passed M family.options.now.mode H (projected ts p) x else passed M family.options.now.mode H (projected ts q) x)
 sides_join M laws family answers few H ts p q true x e f g =
-    let mode = family.options.mode in
+    let mode = family.options.now.mode in
     let y = passed M mode H (projected ts p) x in
     ap (λ n. M.join y (passed M mode no_heads (projected ts q) (nothing_of n))) e
     ∙ (ap (M.join y) (passed_nothing M laws mode answers family.variables few (projected ts q) ∙ ap (λ n. nothing_of n) (sym f))
     ∙ laws.nothing_join y)
 sides_join M laws family answers few H ts p q false x e f g =
-    let mode = family.options.mode in
+    let mode = family.options.now.mode in
     let y = passed M mode H (projected ts q) x in
     ap (λ n. M.join (passed M mode no_heads (projected ts p) (nothing_of n)) y) e
     ∙ (ap (λ z. M.join z y) (passed_nothing M laws mode answers family.variables few (projected ts p) ∙ ap (λ n. nothing_of n) (sym g))
@@ -103,7 +103,7 @@ heads_within false false c H e = ap (λ d. heads_where d H) e
 pub lifted_by : {L : Type 0} (value : L → LeafValue) (M : LeafMeaning) (family : FamilyContext) (a b : List (Plain L)) (H K : List Bool → Heads) (c : Code) (t : Plain L) (r : Numbered L)
     → ((v : List Bool) → K v ≡ H v) → IsLifted value family a b (passed_with M family K c) t r → IsLifted value family a b (passed_with M family H c) t r
 lifted_by value M family a b H K c t r e h =
-    lifted_as value family a b (passed_with M family K c) (passed_with M family H c) t r (λ v. ap (λ G. passed M family.options.mode G (projected (truths_in family.choices.now v) c) (value (leaf_of t v))) (e v)) h
+    lifted_as value family a b (passed_with M family K c) (passed_with M family H c) t r (λ v. ap (λ G. passed M family.options.now.mode G (projected (truths_in family.choices.now v) c) (value (leaf_of t v))) (e v)) h
 
 -- a step in a forest that has more since
 pub lifted_longer : {L : Type 0} (value : L → LeafValue) (family : FamilyContext) (a b z : List (Plain L)) (f : List Bool → LeafValue → LeafValue) (t : Plain L) (r : Numbered L) → Keeps b z → IsLifted value family a b f t r → IsLifted value family a z f t r
@@ -117,13 +117,13 @@ module _ {L : Type 0} (value : L → LeafValue) (M : LeafMeaning) (family : Fami
   ruled_stays a b (rule.Lines start) k h = record { state = state_stays value family a b (numbered start) k h.state; valid = h.valid }
 
   -- heads are leaves of the kind
-  pub ruled_fit : LeafLaws M → TransferAnswers M family.options.mode → (forest : List (Plain L)) (r : Rule L) (v : List Bool) → IsRuled value M family forest r
-      → All (λ (l : LoopLine). AreVariableBounds family.variables l.bounds) family.lines.now → AreFit M family.options.mode family.variables (ruled_heads value M family r v)
-  ruled_fit laws A forest rule.Rounds v h i = final_fit M laws family.options A family.variables
+  pub ruled_fit : LeafLaws M → TransferAnswers M family.options.now.mode → (forest : List (Plain L)) (r : Rule L) (v : List Bool) → IsRuled value M family forest r
+      → All (λ (l : LoopLine). AreVariableBounds family.variables l.bounds) family.lines.now → AreFit M family.options.now.mode family.variables (ruled_heads value M family r v)
+  ruled_fit laws A forest rule.Rounds v h i = final_fit M laws family.options.now A family.variables
   ruled_fit laws A forest (rule.Lines start) v h i =
       let d = value (leaf_of (plain start) v) in
       let n : d.variables ≡ family.variables = counted value family forest (numbered start) v h.state in
-      subst (λ m. AreFit M family.options.mode m (given_heads M family.lines.now v d)) n (given_fit M laws family.options.mode family.lines.now v d (h.valid v) (subst (λ m. All (λ (l : LoopLine). AreVariableBounds m l.bounds) family.lines.now) (sym n) i))
+      subst (λ m. AreFit M family.options.now.mode m (given_heads M family.lines.now v d)) n (given_fit M laws family.options.now.mode family.lines.now v d (h.valid v) (subst (λ m. All (λ (l : LoopLine). AreVariableBounds m l.bounds) family.lines.now) (sym n) i))
 
   pub known_stays : (r : Rule L) (a b : List (Plain L)) (f : Finals L) → Keeps a b → Knows value M family r a f → Knows value M family r b f
   known_stays r a b f h k = record { memory = memory_stays value M family a b f h k.memory; ruled = ruled_stays a b r h k.ruled }
@@ -162,6 +162,6 @@ module _ {L : Type 0} (value : L → LeafValue) (M : LeafMeaning) (family : Fami
 
   -- a head where its loop is kept, and Nothing elsewhere
   pub head_kept : (b : Bool) (R : List Bool → Heads) (place : Place) (test : Term) (body : Code) (v : List Bool) (x : LeafValue) → (head_with M family R place test body v x).variables ≡ x.variables
-      → kept_by true b (head_with M family R place test body v x) ≡ heads_where b (R v) place test (passed M family.options.mode (heads_where b (R v)) (projected (truths_in family.choices.now v) body)) x
+      → kept_by true b (head_with M family R place test body v x) ≡ heads_where b (R v) place test (passed M family.options.now.mode (heads_where b (R v)) (projected (truths_in family.choices.now v) body)) x
   head_kept true R place test body v x e = refl
   head_kept false R place test body v x e = ap (λ n. nothing_of n) e

@@ -128,30 +128,30 @@ AreReducedStops family stops = All (λ (a : AlarmTree). IsReducedTree family (nu
 
 -- the statements of a list that is entered with a tree, at each vector
 abbrev pub entered_with : {L : Type 0} → (L → LeafValue) → LeafMeaning → FamilyContext → (List Bool → Heads) → Code → Plain L → List Bool → List Visit
-entered_with value M family H c t v = visits_at M family.options.mode (truths_in family.choices.now v) (H v) c (value (leaf_of t v))
+entered_with value M family H c t v = visits_at M family.options.now.mode (truths_in family.choices.now v) (H v) c (value (leaf_of t v))
 
 -- those of the two sides of a test, and of the two lists of a section of groups
 abbrev pub entered_sides : {L : Type 0} → (L → LeafValue) → LeafMeaning → FamilyContext → (List Bool → Heads) → Term → Code → Code → Plain L → List Bool → List Visit
 entered_sides value M family H test p q t v =
-    visits_at M family.options.mode (truths_in family.choices.now v) (H v) p (assumed M family.options.mode test true (value (leaf_of t v)))
-    ++ visits_at M family.options.mode (truths_in family.choices.now v) (H v) q (assumed M family.options.mode test false (value (leaf_of t v)))
+    visits_at M family.options.now.mode (truths_in family.choices.now v) (H v) p (assumed M family.options.now.mode test true (value (leaf_of t v)))
+    ++ visits_at M family.options.now.mode (truths_in family.choices.now v) (H v) q (assumed M family.options.now.mode test false (value (leaf_of t v)))
 
 abbrev pub entered_group : {L : Type 0} → (L → LeafValue) → LeafMeaning → FamilyContext → (List Bool → Heads) → Plain Bool → Code → Code → Plain L → List Bool → List Visit
 entered_group value M family H choice p q t v =
-    visits_at M family.options.mode (truths_in family.choices.now v) (heads_where (leaf_of choice v) (H v)) p (kept_by true (leaf_of choice v) (value (leaf_of t v)))
-    ++ visits_at M family.options.mode (truths_in family.choices.now v) (heads_where (not (leaf_of choice v)) (H v)) q (kept_by false (leaf_of choice v) (value (leaf_of t v)))
+    visits_at M family.options.now.mode (truths_in family.choices.now v) (heads_where (leaf_of choice v) (H v)) p (kept_by true (leaf_of choice v) (value (leaf_of t v)))
+    ++ visits_at M family.options.now.mode (truths_in family.choices.now v) (heads_where (not (leaf_of choice v)) (H v)) q (kept_by false (leaf_of choice v) (value (leaf_of t v)))
 
 -- a loop and the statements in its body
 abbrev pub entered_loop : {L : Type 0} → (L → LeafValue) → LeafMeaning → FamilyContext → (List Bool → Heads) → Code → Place → Term → Code → Plain L → List Bool → List Visit
 entered_loop value M family H s place test body t v =
-    loop_visit M family.options.mode (truths_in family.choices.now v) (H v) place s test body (value (leaf_of t v))
-    ∷ visits_at M family.options.mode (truths_in family.choices.now v) (H v) body
-    (assumed M family.options.mode test true (head_with M family H place test body v (value (leaf_of t v))))
+    loop_visit M family.options.now.mode (truths_in family.choices.now v) (H v) place s test body (value (leaf_of t v))
+    ∷ visits_at M family.options.now.mode (truths_in family.choices.now v) (H v) body
+    (assumed M family.options.now.mode test true (head_with M family H place test body v (value (leaf_of t v))))
 
 -- these statements, each with its tree and its alarm trees, the loops among them, and nothing else
 pub record HasEntered {L : Type 0} (value : L → LeafValue) (M : LeafMeaning) (family : FamilyContext) (before now : Noted L) (entries : List Bool → List Visit) : Type 0 where
   pub leaves : (v : List Bool) → map (leaf_there value v) now.places.items ≡ map (leaf_there value v) before.places.items ++ leaves_in (entries v)
-  pub stops : (v : List Bool) → map (stop_there v) now.alarms.items ≡ map (stop_there v) before.alarms.items ++ stops_in M family.options.mode (entries v)
+  pub stops : (v : List Bool) → map (stop_there v) now.alarms.items ≡ map (stop_there v) before.alarms.items ++ stops_in M family.options.now.mode (entries v)
   pub turns : (v : List Bool) → map (turn_there value v) now.turns.items ≡ map (turn_there value v) before.turns.items ++ turns_in (entries v)
   pub trees : AreReduced family before.places.items → AreReduced family now.places.items
   pub alarm_trees : AreReducedStops family before.alarms.items → AreReducedStops family now.alarms.items

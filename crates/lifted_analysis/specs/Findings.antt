@@ -40,11 +40,11 @@ pub record HasEnded {L : Type 0} (value : L → LeafValue) (family : FamilyConte
 -- at every vector the leaves, the alarms and the loops of the pass over its program with these heads, in reduced trees
 pub record HasNoted {L : Type 0} (value : L → LeafValue) (M : LeafMeaning) (family : FamilyContext) (p : Whole) (H : List Bool → Heads) (f : Noted L) : Type 0 where
   pub leaves : (v : List Bool) → map (leaf_there value v) f.places.items
-      ≡ map (λ (q : Place). (q, at_by M family.options.mode (H v) (projected_program (truths_in family.choices.now v) p) (start_at M family p.start p.declared v) q)) (program_places p)
+      ≡ map (λ (q : Place). (q, at_by M family.options.now.mode (H v) (projected_program (truths_in family.choices.now v) p) (start_at M family p.start p.declared v) q)) (program_places p)
   pub stops : (v : List Bool) → map (stop_there v) f.alarms.items
-      ≡ map (λ (q : Place × Kind). (q, alarm_by M family.options.mode (H v) (projected_program (truths_in family.choices.now v) p) (start_at M family p.start p.declared v) q.0 q.1)) (by_kind (program_places p))
+      ≡ map (λ (q : Place × Kind). (q, alarm_by M family.options.now.mode (H v) (projected_program (truths_in family.choices.now v) p) (start_at M family p.start p.declared v) q.0 q.1)) (by_kind (program_places p))
   pub turns : (v : List Bool) → map {B = Place × Bool} (λ (t : TurnTree L). (t.place, is_inductive M (turn_there value v t))) f.turns.items
-      ≡ map (λ (q : Place). (q, inductive_in M (turns_by M family.options.mode (H v) (projected (truths_in family.choices.now v) p.body) (start_at M family p.start p.declared v)) q)) (loop_places p.body)
+      ≡ map (λ (q : Place). (q, inductive_in M (turns_by M family.options.now.mode (H v) (projected (truths_in family.choices.now v) p.body) (start_at M family p.start p.declared v)) q)) (loop_places p.body)
   pub trees : AreReduced family f.places.items
   pub alarm_trees : AreReducedStops family f.alarms.items
   pub sized : AreSized value family f.turns.items

@@ -32,7 +32,7 @@ as_wanted want b = if want then b else not b
 
 -- the heads at a vector: final leaves, or what lines give
 abbrev pub ruled_heads : {L : Type 0} → (L → LeafValue) → LeafMeaning → FamilyContext → Rule L → List Bool → Heads
-ruled_heads value M family rule.Rounds v = final_heads M family.options
+ruled_heads value M family rule.Rounds v = final_heads M family.options.now
 ruled_heads value M family (rule.Lines start) v = given_heads M family.lines.now v (value (leaf_of (plain start) v))
 
 -- the rule by lines over this tree of start values, or that by rounds
@@ -45,7 +45,7 @@ IsRuleOf false start rule.Rounds = Unit {0}
 -- the heads by such a rule, where the start values have this leaf at a vector
 abbrev pub chosen_heads : LeafMeaning → FamilyContext → Bool → List Bool → LeafValue → Heads
 chosen_heads M family true v d = given_heads M family.lines.now v d
-chosen_heads M family false v d = final_heads M family.options
+chosen_heads M family false v d = final_heads M family.options.now
 
 -- the same of statements that are kept where `here` is true
 abbrev pub heads_in : {L : Type 0} → (L → LeafValue) → LeafMeaning → FamilyContext → Rule L → Plain Bool → List Bool → Heads
@@ -53,12 +53,12 @@ heads_in value M family r here v = heads_where (leaf_of here v) (ruled_heads val
 
 -- what statements of a family do to a leaf at a vector
 abbrev pub passed_with : LeafMeaning → FamilyContext → (List Bool → Heads) → Code → List Bool → LeafValue → LeafValue
-passed_with M family H c v x = passed M family.options.mode (H v) (projected (truths_in family.choices.now v) c) x
+passed_with M family H c v x = passed M family.options.now.mode (H v) (projected (truths_in family.choices.now v) c) x
 
 -- what two lists do to a leaf, of which the first is entered where the test is not 0, and the second where it is
 abbrev pub sides_with : LeafMeaning → FamilyContext → (List Bool → Heads) → Term → Code → Code → List Bool → LeafValue → LeafValue
 sides_with M family H test p q v x =
-    M.join (passed_with M family H p v (assumed M family.options.mode test true x)) (passed_with M family H q v (assumed M family.options.mode test false x))
+    M.join (passed_with M family H p v (assumed M family.options.now.mode test true x)) (passed_with M family H q v (assumed M family.options.now.mode test false x))
 
 -- what the kept one of two lists does to a leaf
 abbrev pub group_with : LeafMeaning → FamilyContext → (List Bool → Heads) → Plain Bool → Code → Code → List Bool → LeafValue → LeafValue

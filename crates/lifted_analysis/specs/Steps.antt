@@ -1,5 +1,5 @@
 -- What the steps of an analysis do to leaves.
-use Rattle.std.specs.Prelude.{ℕ, ◌<◌, Bool, true, false, if◌then◌else◌, List}
+use Rattle.std.specs.Prelude.{ℕ, ℤ, ◌<◌, Bool, true, false, if◌then◌else◌, List}
 use Rattle.c_tree.specs.declared.tree.Mode.{Mode}
 use Rattle.c_tree.specs.Tree.{Term, Code}
 use Rattle.c_tree.specs.View.{term}
@@ -31,10 +31,10 @@ stepped_by M mode (step.Forget x) v = forgotten M x v
 stepped_by M mode (step.Assume e want) v = assumed M mode (term e.now) want v
 stepped_by M mode (step.Bound bounds) v = bounded_by M bounds.now v
 
-abbrev pub combined_by : LeafMeaning → Combination → LeafValue → LeafValue → LeafValue
-combined_by M combination.Join v w = M.join v w
-combined_by M (combination.Round is_early) v w = round_by M is_early v w
-combined_by M combination.Narrow v w = M.narrow v w
+abbrev pub combined_by : LeafMeaning → List ℤ → Combination → LeafValue → LeafValue → LeafValue
+combined_by M ts combination.Join v w = M.join v w
+combined_by M ts (combination.Round is_early) v w = round_by M ts is_early v w
+combined_by M ts combination.Narrow v w = M.narrow ts v w
 
 -- the leaf where the truth is as wanted, and Nothing elsewhere
 abbrev pub kept_by : Bool → Bool → LeafValue → LeafValue
@@ -43,12 +43,12 @@ kept_by false b v = if b then nothing_of v.variables else v
 
 -- what statements of a family do to a leaf at a vector
 abbrev pub after_at : LeafMeaning → FamilyContext → Code → List Bool → LeafValue → LeafValue
-after_at M family c v x = after_of M family.options (projected (truths_in family.choices.now v) c) x
+after_at M family c v x = after_of M family.options.now (projected (truths_in family.choices.now v) c) x
 
 -- what two lists do to a leaf, of which the first is entered where the test is not 0, and the second where it is
 abbrev pub if_at : LeafMeaning → FamilyContext → Term → Code → Code → List Bool → LeafValue → LeafValue
 if_at M family test p q v x =
-    M.join (after_at M family p v (assumed M family.options.mode test true x)) (after_at M family q v (assumed M family.options.mode test false x))
+    M.join (after_at M family p v (assumed M family.options.now.mode test true x)) (after_at M family q v (assumed M family.options.now.mode test false x))
 
 -- what the kept one of two lists does to a leaf
 abbrev pub group_at : LeafMeaning → FamilyContext → Plain Bool → Code → Code → List Bool → LeafValue → LeafValue
@@ -56,8 +56,8 @@ group_at M family choice p q v x = if leaf_of choice v then after_at M family p 
 
 -- what comes in at the head of a loop of a family at a vector, where it is entered with d and the head has x
 abbrev pub turn_at : LeafMeaning → FamilyContext → Term → Code → List Bool → LeafValue → LeafValue → LeafValue
-turn_at M family test body v d x = loop_turn M family.options test (projected (truths_in family.choices.now v) body) d x
+turn_at M family test body v d x = loop_turn M family.options.now test (projected (truths_in family.choices.now v) body) d x
 
 -- the final leaf of a loop of a family at a vector
 abbrev pub final_at : LeafMeaning → FamilyContext → Term → Code → List Bool → LeafValue → LeafValue
-final_at M family test body v d = final_leaf M family.options test (after_at M family body v) d
+final_at M family test body v d = final_leaf M family.options.now test (after_at M family body v) d

@@ -26,7 +26,7 @@ use c_tree::{Expr, Stmt};
 use decision_tree::Tree;
 use fam_outer::NoMemory;
 use leaf_domain::{Leaf, transfer_is_sound};
-use plain_analysis::Loop;
+use plain_analysis::{Loop, round_count};
 use std::sync::ledger::Ledger;
 
 /// The tree after a list of statements that is entered with `t`. Nothing stays Nothing.
@@ -212,7 +212,7 @@ fn widened<L: Leaf, K: Ledger>(
     requires memory { Remembers L.value L.meaning family.now tables.old.leaves finals.old }
     ensures at_each { IfOk result (λ head. (v : List Bool)
         → L.value (leaf_of (plain head.at) v)
-        ≡ widened_leaf L.meaning family.now.options.delay
+        ≡ widened_leaf L.meaning family.now.options.now.thresholds family.now.options.now.delay
         (turns_over L.value L.meaning family.now the_loop.now (plain t.now) v)
         (L.value (leaf_of (plain t.now) v))) }
     ensures head { IfOk result (λ head. IsHeadOf L.value family.now tables.new.leaves
@@ -221,7 +221,7 @@ fn widened<L: Leaf, K: Ledger>(
     ensures memory { OnOk result (Remembers L.value L.meaning family.now tables.new.leaves finals.new) }
 {
     let delay = u64::from(family.options.delay);
-    let rounds = delay + u64::from(L::bound_count(family.variables)) + 1;
+    let rounds = round_count::<L>(family.options, family.variables);
     let start = t.share()?;
     let mut head = head_at(tables, finals, family, the_loop, t, start)?;
     for k in 0..rounds {
@@ -255,7 +255,7 @@ fn narrowed<L: Leaf, K: Ledger>(
     requires memory { Remembers L.value L.meaning family.now tables.old.leaves finals.old }
     ensures at_each { IfOk result (λ made. (v : List Bool)
         → L.value (leaf_of (plain made.at) v)
-        ≡ narrowing_of L.meaning (turns_over L.value L.meaning family.now the_loop.now (plain t.now) v) (L.value (leaf_of (plain head.at) v))) }
+        ≡ narrowing_of L.meaning family.now.options.now.thresholds (turns_over L.value L.meaning family.now the_loop.now (plain t.now) v) (L.value (leaf_of (plain head.at) v))) }
     ensures head { IfOk result (λ made. IsHeadOf L.value family.now tables.new.leaves
         (turns_over L.value L.meaning family.now the_loop.now (plain t.now)) made) }
     ensures keeps { IfOk result (λ made. Keeps tables.old.leaves tables.new.leaves) }

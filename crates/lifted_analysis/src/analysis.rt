@@ -9,7 +9,7 @@ ghost use Rattle.c_tree.specs.Project.{IsConditioned};
 ghost use Rattle.decision_tree.specs.Listed.{IsNumberedTree};
 ghost use Rattle.decision_tree.specs.Plain.{HasTest, IsReduced, TestsBelow};
 ghost use Rattle.decision_tree.specs.View.{numbered, plain};
-ghost use Rattle.plain_analysis.specs.Promises.{LoopsSettle, RunsForeseen};
+ghost use Rattle.plain_analysis.specs.Promises.{LoopsSettle, FinalsAreInductive, RunsForeseen};
 ghost use Rattle.lifted_analysis.specs.declared.findings.AlarmTree.{AlarmTree};
 ghost use Rattle.lifted_analysis.specs.Canon.{IsTreeOf};
 ghost use Rattle.lifted_analysis.specs.Entries.{stop_there, IsReducedTree, AreReducedStops};
@@ -125,11 +125,11 @@ fn findings_in<L: Leaf, K: Ledger>(
     code: &Program,
     conditions: &[Formula],
     plausible: &Formula,
-    options: Options,
+    options: &Options,
 ) -> Result<FamilyFindings<L>, NoMemory>
     requires program { IsProgram (whole code.now) }
     requires below { AreBelow 64 conditions.now plausible.now }
-    ensures { IfOk result (λ f. AreFindings L.value L.meaning options
+    ensures { IfOk result (λ f. AreFindings L.value L.meaning options.now
         (whole code.now) conditions.now plausible.now f) }
 {
     equality_is_exact::<L>();
@@ -156,7 +156,7 @@ fn analyse_counted<L: Leaf, K: Ledger>(
     code: &Program,
     conditions: &[Formula],
     plausible: &Formula,
-    options: Options,
+    options: &Options,
     blank: Blank,
 ) -> Result<FamilyFindings<L>, NoMemory>
     requires name { blank.name ≡ K.name }
@@ -164,7 +164,7 @@ fn analyse_counted<L: Leaf, K: Ledger>(
     requires some { 0 < K.parts }
     requires program { IsProgram (whole code.now) }
     requires below { AreBelow 64 conditions.now plausible.now }
-    ensures { IfOk result (λ f. AreFindings L.value L.meaning options
+    ensures { IfOk result (λ f. AreFindings L.value L.meaning options.now
         (whole code.now) conditions.now plausible.now f) }
 {
     let mut tables = Tables::<L, K>::new(alloc, blank);
@@ -182,8 +182,8 @@ fn analyse_counted<L: Leaf, K: Ledger>(
 /// these options, has at the place, and Nothing where that program lacks the place. For each place there are three alarm
 /// trees, in the order of the kinds, which are true at exactly the vectors at which that analysis has an alarm of the kind
 /// there. Each test of a tree is a number of the formulas, and its subtrees have numbers that tell them apart. In the mode of the options and from each store that the first leaf
-/// of a vector holds, a run of its program is where the leaf holds its store, and the rounds of a loop settle, as for
-/// `analyse_one`. The only refusal is want of memory.
+/// of a vector holds, a run of its program is where the leaf holds its store, the rounds of a loop settle, and its final leaf
+/// is inductive, as for `analyse_one`. The only refusal is want of memory.
 pub fn analyse_family<L: Leaf>(
     alloc: Global,
     code: &Program,
@@ -220,7 +220,8 @@ pub fn analyse_family<L: Leaf>(
         (variant_at (whole code.now) conditions.now v)
         (begin_at L.meaning (whole code.now) conditions.now plausible.now v) }
     ensures settled { LoopsSettle L.meaning options.now }
+    ensures inductive { FinalsAreInductive L.meaning options.now }
 {
     transfer_is_sound::<L>();
-    analyse_counted::<L, Brand>(alloc, code, conditions, plausible, *options, Blank::new(1))
+    analyse_counted::<L, Brand>(alloc, code, conditions, plausible, options, Blank::new(1))
 }

@@ -21,7 +21,7 @@ pub(crate) struct FamilyContext<'a> {
     pub(crate) never: &'a Tree<bool>,
     pub(crate) lines: &'a [LoopLine],
     pub(crate) variables: u32,
-    pub(crate) options: Options,
+    pub(crate) options: &'a Options,
 }
 
 impl FamilyContext<'_> {

@@ -51,7 +51,7 @@ fn may_stop<L: Leaf, K: Ledger>(
     requires state { IsState L.value family.now tables.old.leaves (numbered t.now) }
     ensures reduced { IfOk result (λ r. IsReducedTree family.now (numbered r)) }
     ensures at_each { IfOk result (λ r. (v : List Bool)
-        → leaf_of (plain r) v ≡ may_at L.meaning family.now.options.mode kind (front s.now Done)
+        → leaf_of (plain r) v ≡ may_at L.meaning family.now.options.now.mode kind (front s.now Done)
         (L.value (leaf_of (plain t.now) v))) }
     ensures same { tables.new.leaves ≡ tables.old.leaves }
 {
@@ -105,7 +105,7 @@ fn add_alarm<L: Leaf, K: Ledger>(
         ≡ map (stop_there v) noted.old.alarms.items
         ++ (
           (place, kind),
-          may_at L.meaning family.now.options.mode kind (front s.now Done)
+          may_at L.meaning family.now.options.now.mode kind (front s.now Done)
               (L.value (leaf_of (plain t.now) v)),
         ) ∷ []) }
     ensures trees { OnOk result (AreReducedStops family.now noted.old.alarms.items

@@ -9,7 +9,7 @@ ghost use Rattle.lifted_analysis.specs.Steps.{IsStepOf, stepped_by};
 use crate::lines::Ranges;
 use c_tree::{Expr, Mode};
 use fam_outer::NoMemory;
-use leaf_domain::{Leaf, Range, assign, assume, forget, leaf_is_valid, transfer_is_sound};
+use leaf_domain::{Leaf, Thresholds, Range, assign, assume, forget, leaf_is_valid, transfer_is_sound};
 use plain_analysis::{joined, narrowed_by, round};
 use std::alloc::Global;
 use tree_unify::Operation;
@@ -87,24 +87,25 @@ pub(crate) enum Combination {
 
 /// The combination of two leaves.
 #[derive(Drop)]
-pub(crate) struct Combine {
+pub(crate) struct Combine<'a> {
     pub(crate) alloc: Global,
     pub(crate) how: Combination,
+    pub(crate) thresholds: &'a Thresholds,
 }
 
-impl<L: Leaf> Operation<L, L, L> for Combine {
+impl<L: Leaf> Operation<L, L, L> for Combine<'_> {
     ghost use Rattle.std.specs.Prelude.{◌≡◌};
     ghost use Rattle.lifted_analysis.specs.Steps.{combined_by};
 
     ghost takes = { λ _ a b. (L.value a).variables ≡ (L.value b).variables };
 
-    ghost gives = { λ op a b c. (L.value c ≡ combined_by L.meaning op.how (L.value a) (L.value b)) × ((L.value c).variables ≡ (L.value a).variables) };
+    ghost gives = { λ op a b c. (L.value c ≡ combined_by L.meaning op.thresholds.now op.how (L.value a) (L.value b)) × ((L.value c).variables ≡ (L.value a).variables) };
 
     fn apply(&self, first: &L, second: &L) -> Result<L, NoMemory> {
         match self.how {
             Combination::Join => joined(self.alloc, first, second),
-            Combination::Round(is_early) => round(self.alloc, first, second, is_early),
-            Combination::Narrow => narrowed_by(self.alloc, first, second),
+            Combination::Round(is_early) => round(self.alloc, first, second, is_early, self.thresholds),
+            Combination::Narrow => narrowed_by(self.alloc, first, second, self.thresholds),
         }
     }
 }

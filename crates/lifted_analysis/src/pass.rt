@@ -31,7 +31,7 @@ use crate::tables::Tables;
 use c_tree::{Mode, Program};
 use cpp_conditions::Formula;
 use fam_outer::NoMemory;
-use leaf_domain::{Leaf, equality_is_exact, transfer_is_sound};
+use leaf_domain::{Leaf, Thresholds, equality_is_exact, transfer_is_sound};
 use plain_analysis::Options;
 use std::alloc::Global;
 use std::marker::Brand;
@@ -81,6 +81,12 @@ fn pass_in<L: Leaf, K: Ledger>(
 {
     equality_is_exact::<L>();
     let trees = family_trees(tables, conditions, plausible)?;
+    let options = Options {
+        delay: 0,
+        narrow: 0,
+        thresholds: Thresholds::none(tables.alloc),
+        mode,
+    };
     let family = FamilyContext {
         program: code,
         choices: &trees.choices,
@@ -88,11 +94,7 @@ fn pass_in<L: Leaf, K: Ledger>(
         never: &trees.never,
         lines,
         variables: code.names.items().len() as u32,
-        options: Options {
-            delay: 0,
-            narrow: 0,
-            mode,
-        },
+        options: &options,
     };
     let noted = noted_in(tables, &family, true)?;
     let loops = loop_trees(tables, &family, &noted.turns)?;

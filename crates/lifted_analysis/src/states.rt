@@ -29,7 +29,7 @@ pub(crate) fn stepped<L: Leaf, K: Ledger>(
     requires state { IsState L.value family.now tables.old.leaves (numbered t.now) }
     requires step { IsStepOf family.now.variables step.now }
     ensures { IfOk result (λ r. IsLifted L.value family.now tables.old.leaves tables.new.leaves
-        (λ v. stepped_by L.meaning family.now.options.mode step.now) (plain t.now) (numbered r)) }
+        (λ v. stepped_by L.meaning family.now.options.now.mode step.now) (plain t.now) (numbered r)) }
 {
     let alloc = tables.alloc;
     let mode = family.options.mode;
@@ -53,10 +53,14 @@ pub(crate) fn combined<L: Leaf, K: Ledger>(
     requires t { IsState L.value family.now tables.old.leaves (numbered t.now) }
     requires u { IsState L.value family.now tables.old.leaves (numbered u.now) }
     ensures { IfOk result (λ r. IsJoint L.value family.now tables.old.leaves tables.new.leaves
-        (λ v. combined_by L.meaning how) (plain t.now) (plain u.now) (numbered r)) }
+        (λ v. combined_by L.meaning family.now.options.now.thresholds how) (plain t.now) (plain u.now) (numbered r)) }
 {
     let alloc = tables.alloc;
-    let op = Combine { alloc, how };
+    let op = Combine {
+        alloc,
+        how,
+        thresholds: &family.options.thresholds,
+    };
     unify_in(alloc, &mut tables.leaves, &op, t, u, &mut tables.steps)
 }
 
@@ -70,7 +74,7 @@ pub(crate) fn joined<L: Leaf, K: Ledger>(
     requires t { IsState L.value family.now tables.old.leaves (numbered t.now) }
     requires u { IsState L.value family.now tables.old.leaves (numbered u.now) }
     ensures { IfOk result (λ r. IsJoint L.value family.now tables.old.leaves tables.new.leaves
-        (λ v. combined_by L.meaning Join) (plain t.now) (plain u.now) (numbered r)) }
+        (λ v. combined_by L.meaning family.now.options.now.thresholds Join) (plain t.now) (plain u.now) (numbered r)) }
 {
     if is_nothing_everywhere(u) {
         return t.share();

@@ -10,7 +10,7 @@ use Rattle.leaf_domain.specs.Leaves.{LeafValue, LeafMeaning, LeafLaws, Alike, no
 use Rattle.leaf_domain.specs.Soundness.{TransferAnswers}
 use Rattle.leaf_domain.specs.Transfer.{assumed, assigned, form_set, form_where, fits_term, range_of_term}
 use Rattle.plain_analysis.specs.declared.options.Options.{Options}
-use Rattle.plain_analysis.specs.Loops.{turn_of, widened_leaf, narrowing_of, narrowings_of, final_leaf}
+use Rattle.plain_analysis.specs.Loops.{turn_of, round_count, widened_leaf, narrowing_of, narrowings_of, final_leaf}
 use Rattle.plain_analysis.specs.Statements.{after_of}
 use Rattle.plain_analysis.proofs.Rounds.{rounds_stay, narrowings_stay}
 
@@ -42,10 +42,10 @@ module _ (M : LeafMeaning) (laws : LeafLaws M) (o : Options) (answers : Transfer
   joined_nothing : (a b : LeafValue) → a ≡ nothing_of n → b ≡ nothing_of n → M.join a b ≡ nothing_of n
   joined_nothing a b e f = ap (λ v. M.join v b) e ∙ (ap (M.join (nothing_of n)) f ∙ laws.join_nothing (nothing_of n))
 
-  narrowed_nothing : (g : LeafValue) → g ≡ nothing_of n → M.narrow (nothing_of n) g ≡ nothing_of n
+  narrowed_nothing : (g : LeafValue) → g ≡ nothing_of n → M.narrow o.thresholds (nothing_of n) g ≡ nothing_of n
   narrowed_nothing g e =
-      ap (M.narrow (nothing_of n)) e
-      ∙ nothing_value (M.narrow (nothing_of n) (nothing_of n)) n (laws.narrow_nothing n (nothing_of n)) (laws.narrow_answers (nothing_of n) (nothing_of n) alike).same
+      ap (M.narrow o.thresholds (nothing_of n)) e
+      ∙ nothing_value (M.narrow o.thresholds (nothing_of n) (nothing_of n)) n (laws.narrow_nothing o.thresholds n (nothing_of n)) (laws.narrow_answers o.thresholds (nothing_of n) (nothing_of n) alike).same
 
   either_way : (b : Bool) (c : LeafValue) → c ≡ nothing_of n → (if b then c else nothing_of n) ≡ nothing_of n
   either_way true c e = e
@@ -56,9 +56,9 @@ module _ (M : LeafMeaning) (laws : LeafLaws M) (o : Options) (answers : Transfer
       let G : LeafValue → LeafValue = turn_of M o.mode test body (nothing_of n) in
       let turned : G (nothing_of n) ≡ nothing_of n = joined_nothing (nothing_of n) (body (assumed M o.mode test true (nothing_of n))) refl (ap body (assumed_nothing test true) ∙ same) in
       let below : M.leq (G (nothing_of n)) (nothing_of n) ≡ true = ap (λ v. M.leq v (nothing_of n)) turned ∙ laws.nothing_leq n (nothing_of n) in
-      let wide : widened_leaf M o.delay G (nothing_of n) ≡ nothing_of n = rounds_stay M o.delay G (o.delay + M.bound_count n + 1) 0 (nothing_of n) below in
-      let stays : narrowing_of M G (nothing_of n) ≡ nothing_of n = either_way (M.leq (G (M.narrow (nothing_of n) (G (nothing_of n)))) (M.narrow (nothing_of n) (G (nothing_of n)))) (M.narrow (nothing_of n) (G (nothing_of n))) (narrowed_nothing (G (nothing_of n)) turned) in
-      ap (narrowings_of M G o.narrow) wide ∙ narrowings_stay M G o.narrow (nothing_of n) stays
+      let wide : widened_leaf M o.thresholds o.delay G (nothing_of n) ≡ nothing_of n = rounds_stay M o.thresholds o.delay G (round_count M o.thresholds o.delay n) 0 (nothing_of n) below in
+      let stays : narrowing_of M o.thresholds G (nothing_of n) ≡ nothing_of n = either_way (M.leq (G (M.narrow o.thresholds (nothing_of n) (G (nothing_of n)))) (M.narrow o.thresholds (nothing_of n) (G (nothing_of n)))) (M.narrow o.thresholds (nothing_of n) (G (nothing_of n))) (narrowed_nothing (G (nothing_of n)) turned) in
+      ap (narrowings_of M o.thresholds G o.narrow) wide ∙ narrowings_stay M o.thresholds G o.narrow (nothing_of n) stays
 
   pub after_nothing : (c : Code) → after_of M o c (nothing_of n) ≡ nothing_of n
   after_nothing Done = refl

@@ -6,9 +6,9 @@ use Rattle.leaf_domain.specs.Leaves.{LeafValue, LeafMeaning, LeafLaws, Alike, Is
 use Rattle.leaf_domain.specs.Transfer.{assumed, assigned, forgotten}
 use Rattle.leaf_domain.specs.Soundness.{Suits, TransferAnswers}
 use Rattle.plain_analysis.specs.declared.options.Options.{Options}
-use Rattle.plain_analysis.specs.Loops.{turn_of, round_of, rounds_of, narrowing_of, narrowings_of, widened_leaf, final_leaf}
+use Rattle.plain_analysis.specs.Loops.{turn_of, round_of, rounds_of, round_count, narrowing_of, narrowings_of, widened_leaf, final_leaf}
 use Rattle.plain_analysis.specs.Statements.{after_of}
-use Rattle.plain_analysis.specs.Promises.{LoopsSettle}
+use Rattle.plain_analysis.specs.Promises.{LoopsSettle, FinalsAreInductive}
 use Rattle.leaf_domain.proofs.Answered.{answers_self, answers_then}
 use Rattle.leaf_domain.proofs.AtNothing.{nothing_is}
 use Rattle.plain_analysis.proofs.JoinLemmas.{join_answer}
@@ -25,14 +25,14 @@ module _ (M : LeafMeaning) (laws : LeafLaws M) (o : Options) (A : TransferAnswer
   join_nothings : (a b : LeafValue) → a.variables ≡ b.variables → is_nothing_of a ≡ true → is_nothing_of b ≡ true → is_nothing_of (M.join a b) ≡ true
   join_nothings a b c e f = ap (λ v. is_nothing_of (M.join v b)) (nothing_is a.variables a.content e ∙ ap nothing_of c) ∙ ap is_nothing_of (laws.join_nothing b) ∙ f
 
-  narrow_nothings : (a b : LeafValue) → is_nothing_of a ≡ true → is_nothing_of (M.narrow a b) ≡ true
-  narrow_nothings a b e = ap (λ v. is_nothing_of (M.narrow v b)) (nothing_is a.variables a.content e) ∙ laws.narrow_nothing a.variables b
+  narrow_nothings : (a b : LeafValue) → is_nothing_of a ≡ true → is_nothing_of (M.narrow o.thresholds a b) ≡ true
+  narrow_nothings a b e = ap (λ v. is_nothing_of (M.narrow o.thresholds v b)) (nothing_is a.variables a.content e) ∙ laws.narrow_nothing o.thresholds a.variables b
 
-  narrowings_nothing : (G : LeafValue → LeafValue) (m : ℕ) (x : LeafValue) → is_nothing_of x ≡ true → is_nothing_of (narrowings_of M G m x) ≡ true
+  narrowings_nothing : (G : LeafValue → LeafValue) (m : ℕ) (x : LeafValue) → is_nothing_of x ≡ true → is_nothing_of (narrowings_of M o.thresholds G m x) ≡ true
   narrowings_nothing G zero x e = e
-  narrowings_nothing G (suc m) x e = narrowings_nothing G m (narrowing_of M G x) (by_test (M.leq (G (M.narrow x (G x))) (M.narrow x (G x))))
+  narrowings_nothing G (suc m) x e = narrowings_nothing G m (narrowing_of M o.thresholds G x) (by_test (M.leq (G (M.narrow o.thresholds x (G x))) (M.narrow o.thresholds x (G x))))
     where
-      by_test : (t : Bool) → is_nothing_of (if t then M.narrow x (G x) else x) ≡ true
+      by_test : (t : Bool) → is_nothing_of (if t then M.narrow o.thresholds x (G x) else x) ≡ true
       by_test true = narrow_nothings x (G x) e
       by_test false = e
 
@@ -40,38 +40,38 @@ module _ (M : LeafMeaning) (laws : LeafLaws M) (o : Options) (A : TransferAnswer
   pub Keeps : ℕ → (LeafValue → LeafValue) → Type 0
   Keeps n f = (x : LeafValue) → M.valid x → x.variables ≡ n → IsLeafLike M x (f x)
 
-  module _ (n delay : ℕ) (G : LeafValue → LeafValue) (keeps : Keeps n G) where
+  module _ (ts : List ℤ) (n delay : ℕ) (G : LeafValue → LeafValue) (keeps : Keeps n G) where
     alike : (x : LeafValue) → M.valid x → x.variables ≡ n → Alike M x (G x)
     unfolding Keeps
     alike x h c = let a = keeps x h c in record { first = h; second = a.valid; same = sym a.same }
 
-    round_answers : (k : ℕ) → Keeps n (round_of M delay G k)
+    round_answers : (k : ℕ) → Keeps n (round_of M ts delay G k)
     unfolding Keeps
     round_answers k x h c = by_tests (M.leq (G x) x) (nat_lt k delay)
       where
-        by_tests : (t u : Bool) → IsLeafLike M x (if t then x else (if u then M.join x (G x) else M.widen x (G x)))
+        by_tests : (t u : Bool) → IsLeafLike M x (if t then x else (if u then M.join x (G x) else M.widen ts x (G x)))
         by_tests true u = answers_self x h
         by_tests false true = laws.join_answers x (G x) (alike x h c)
-        by_tests false false = laws.widen_answers x (G x) (alike x h c)
+        by_tests false false = laws.widen_answers ts x (G x) (alike x h c)
 
-    rounds_answer : (m k : ℕ) → Keeps n (rounds_of M delay G m k)
+    rounds_answer : (m k : ℕ) → Keeps n (rounds_of M ts delay G m k)
     unfolding Keeps
     rounds_answer zero k x h c = answers_self x h
     rounds_answer (suc m) k x h c =
-        let a = round_answers k x h c in answers_then x _ _ a (rounds_answer m (k + 1) (round_of M delay G k x) a.valid (a.same ∙ c))
+        let a = round_answers k x h c in answers_then x _ _ a (rounds_answer m (k + 1) (round_of M ts delay G k x) a.valid (a.same ∙ c))
 
-    narrowing_answers : Keeps n (narrowing_of M G)
+    narrowing_answers : Keeps n (narrowing_of M ts G)
     unfolding Keeps
-    narrowing_answers x h c = by_test (M.leq (G (M.narrow x (G x))) (M.narrow x (G x)))
+    narrowing_answers x h c = by_test (M.leq (G (M.narrow ts x (G x))) (M.narrow ts x (G x)))
       where
-        by_test : (t : Bool) → IsLeafLike M x (if t then M.narrow x (G x) else x)
-        by_test true = laws.narrow_answers x (G x) (alike x h c)
+        by_test : (t : Bool) → IsLeafLike M x (if t then M.narrow ts x (G x) else x)
+        by_test true = laws.narrow_answers ts x (G x) (alike x h c)
         by_test false = answers_self x h
 
-    narrowings_answer : (m : ℕ) → Keeps n (narrowings_of M G m)
+    narrowings_answer : (m : ℕ) → Keeps n (narrowings_of M ts G m)
     unfolding Keeps
     narrowings_answer zero x h c = answers_self x h
-    narrowings_answer (suc m) x h c = let a = narrowing_answers x h c in answers_then x _ _ a (narrowings_answer m (narrowing_of M G x) a.valid (a.same ∙ c))
+    narrowings_answer (suc m) x h c = let a = narrowing_answers x h c in answers_then x _ _ a (narrowings_answer m (narrowing_of M ts G x) a.valid (a.same ∙ c))
 
   turn_keeps : (test : Term) (f : LeafValue → LeafValue) (d : LeafValue) → M.valid d → IsTermOf d.variables test → Keeps d.variables f → Keeps d.variables (turn_of M o.mode test f d)
   unfolding Keeps
@@ -87,8 +87,8 @@ module _ (M : LeafMeaning) (laws : LeafLaws M) (o : Options) (A : TransferAnswer
   final_answers test f x h t k =
       let G = turn_of M o.mode test f x in
       let g = turn_keeps test f x h t k in
-      let w = rounds_answer x.variables o.delay G g (o.delay + M.bound_count x.variables + 1) 0 x h refl in
-      answers_then x _ _ w (narrowings_answer x.variables o.delay G g o.narrow (widened_leaf M o.delay G x) w.valid w.same)
+      let w = rounds_answer o.thresholds x.variables o.delay G g (round_count M o.thresholds o.delay x.variables) 0 x h refl in
+      answers_then x _ _ w (narrowings_answer o.thresholds x.variables o.delay G g o.narrow (widened_leaf M o.thresholds o.delay G x) w.valid w.same)
 
   -- the leaf after a loop
   loop_answers : (test : Term) (f : LeafValue → LeafValue) (x : LeafValue) → M.valid x → IsTermOf x.variables test → Keeps x.variables f → IsLeafLike M x (assumed M o.mode test false (final_leaf M o test f x))
@@ -135,9 +135,9 @@ module _ (M : LeafMeaning) (laws : LeafLaws M) (o : Options) (A : TransferAnswer
   loop_nothing test f x h k e fe =
       let G = turn_of M o.mode test f x in
       let g = turn_nothing test f x e (sym (k x h refl).same) fe in
-      let s = rounds_stay M o.delay G (o.delay + M.bound_count x.variables + 1) 0 x (leq_content M laws _ _ x g) in
-      let w : is_nothing_of (widened_leaf M o.delay G x) ≡ true = ap is_nothing_of s ∙ e in
-      let i = narrowings_nothing G o.narrow (widened_leaf M o.delay G x) w in
+      let s = rounds_stay M o.thresholds o.delay G (round_count M o.thresholds o.delay x.variables) 0 x (leq_content M laws _ _ x g) in
+      let w : is_nothing_of (widened_leaf M o.thresholds o.delay G x) ≡ true = ap is_nothing_of s ∙ e in
+      let i = narrowings_nothing G o.narrow (widened_leaf M o.thresholds o.delay G x) w in
       ap is_nothing_of (A.assumed_of_nothing test false (final_leaf M o test f x) i) ∙ i
 
   assumed_nothing : (e : Term) (want : Bool) (x : LeafValue) → is_nothing_of x ≡ true → is_nothing_of (assumed M o.mode e want x) ≡ true
@@ -181,17 +181,20 @@ module _ (M : LeafMeaning) (laws : LeafLaws M) (o : Options) (A : TransferAnswer
   loops_settle test body d h ot ob =
       let k : Keeps d.variables (after_of M o body) = after_keeps body d.variables ob in
       let G = turn_of M o.mode test (after_of M o body) d in
-      first_phase_settles M laws d.variables o.delay G (record { answers = turn_keeps test (after_of M o body) d h ot k }) d h refl
+      first_phase_settles M laws o.thresholds d.variables o.delay G (record { answers = turn_keeps test (after_of M o body) d h ot k }) d h refl
       (λ e. turn_nothing test (after_of M o body) d e (sym (k d h refl).same) (after_nothing body d.variables ob d h refl e))
 
   -- narrowing keeps a stable leaf stable
-  narrowings_settle : (G : LeafValue → LeafValue) (m : ℕ) (x : LeafValue) → M.leq (G x) x ≡ true → M.leq (G (narrowings_of M G m x)) (narrowings_of M G m x) ≡ true
+  narrowings_settle : (G : LeafValue → LeafValue) (m : ℕ) (x : LeafValue) → M.leq (G x) x ≡ true → M.leq (G (narrowings_of M o.thresholds G m x)) (narrowings_of M o.thresholds G m x) ≡ true
   narrowings_settle G zero x e = e
-  narrowings_settle G (suc m) x e = narrowings_settle G m (narrowing_of M G x) (by_test (M.leq (G (M.narrow x (G x))) (M.narrow x (G x))) refl)
+  narrowings_settle G (suc m) x e = narrowings_settle G m (narrowing_of M o.thresholds G x) (by_test (M.leq (G (M.narrow o.thresholds x (G x))) (M.narrow o.thresholds x (G x))) refl)
     where
-      by_test : (t : Bool) → M.leq (G (M.narrow x (G x))) (M.narrow x (G x)) ≡ t → M.leq (G (if t then M.narrow x (G x) else x)) (if t then M.narrow x (G x) else x) ≡ true
+      by_test : (t : Bool) → M.leq (G (M.narrow o.thresholds x (G x))) (M.narrow o.thresholds x (G x)) ≡ t → M.leq (G (if t then M.narrow o.thresholds x (G x) else x)) (if t then M.narrow o.thresholds x (G x) else x) ≡ true
       by_test true f = f
       by_test false f = e
+
+  pub finals_are_inductive : FinalsAreInductive M o
+  finals_are_inductive test body d h ot ob = narrowings_settle (turn_of M o.mode test (after_of M o body) d) o.narrow _ (loops_settle test body d h ot ob)
 
   -- a loop's final leaf holds each store with which the loop is entered, and each that comes from its body
   pub record Holds (test : Term) (body : Code) (d : LeafValue) : Type 0 where
@@ -211,7 +214,7 @@ module _ (M : LeafMeaning) (laws : LeafLaws M) (o : Options) (A : TransferAnswer
       let j = turn_keeps test f d h ot k x i.valid i.same in
       let joined : Alike M d (f (assumed M o.mode test true x)) = record { first = h; second = b.valid; same = sym (b.same ∙ a.same ∙ i.same) } in
       let compared : Alike M (G x) x = record { first = j.valid; second = i.valid; same = j.same } in
-      let settled : M.leq (G x) x ≡ true = narrowings_settle G o.narrow (widened_leaf M o.delay G d) (loops_settle test body d h ot ob) in
+      let settled : M.leq (G x) x ≡ true = narrowings_settle G o.narrow (widened_leaf M o.thresholds o.delay G d) (loops_settle test body d h ot ob) in
       record {
         entered = λ s p. laws.leq_holds _ _ s compared settled (laws.join_holds _ _ s joined (inl p));
         again = λ s p. laws.leq_holds _ _ s compared settled (laws.join_holds _ _ s joined (inr p));

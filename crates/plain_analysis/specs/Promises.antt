@@ -11,7 +11,7 @@ use Rattle.leaf_domain.specs.Leaves.{LeafValue, LeafMeaning, IsLeafLike}
 use Rattle.leaf_domain.specs.Transfer.{assumed, assigned, forgotten}
 use Rattle.plain_analysis.specs.declared.alarm.Alarm.{Alarm}
 use Rattle.plain_analysis.specs.declared.options.Options.{Options}
-use Rattle.plain_analysis.specs.Loops.{turn_of, widened_leaf}
+use Rattle.plain_analysis.specs.Loops.{turn_of, widened_leaf, final_leaf}
 use Rattle.plain_analysis.specs.Statements.{Heads, passed, final_heads, after_of}
 use Rattle.plain_analysis.specs.Places.{at_by, alarms_by}
 
@@ -19,7 +19,14 @@ use Rattle.plain_analysis.specs.Places.{at_by, alarms_by}
 abbrev pub LoopsSettle : LeafMeaning → Options → Type 0
 LoopsSettle M o =
     (test : Term) (body : Code) (d : LeafValue) → M.valid d → IsTermOf d.variables test → IsCodeOf d.variables body
-    → let G = turn_of M o.mode test (after_of M o body) d in M.leq (G (widened_leaf M o.delay G d)) (widened_leaf M o.delay G d) ≡ true
+    → let G = turn_of M o.mode test (after_of M o body) d in
+    M.leq (G (widened_leaf M o.thresholds o.delay G d)) (widened_leaf M o.thresholds o.delay G d) ≡ true
+
+-- of each loop: what comes in at its head is below its final leaf too, so that this leaf is inductive
+abbrev pub FinalsAreInductive : LeafMeaning → Options → Type 0
+FinalsAreInductive M o =
+    (test : Term) (body : Code) (d : LeafValue) → M.valid d → IsTermOf d.variables test → IsCodeOf d.variables body
+    → M.leq (turn_of M o.mode test (after_of M o body) d (final_leaf M o test (after_of M o body) d)) (final_leaf M o test (after_of M o body) d) ≡ true
 
 -- the store that a run has reached lies in the leaf at its place, and the stop that it has met is among the alarms
 abbrev pub IsForeseen : LeafMeaning → (Place → LeafValue) → Place → List Alarm → End → Type 0

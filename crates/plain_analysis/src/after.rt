@@ -14,7 +14,7 @@ ghost use Rattle.plain_analysis.specs.Statements.{after_of};
 
 use crate::finals::{Entered, Finals, find, remember};
 use crate::loops::Loop;
-use crate::steps::{joined, moved, narrowed_by};
+use crate::steps::{joined, moved, narrowed_by, round_count};
 use crate::task::Task;
 use c_tree::{Expr, Stmt};
 use fam_outer::NoMemory;
@@ -34,7 +34,7 @@ pub(crate) fn after_list<L: Leaf>(
     requires part { IsPartOf (L.value leaf.now).variables (whole task.now.program.now) (code list.now) }
     requires memory { Remembers L.value L.meaning task.now finals.old }
     ensures value { IfOk result (λ made. L.value made
-        ≡ after_of L.meaning task.now.options (code list.now) (L.value leaf.now)) }
+        ≡ after_of L.meaning task.now.options.now (code list.now) (L.value leaf.now)) }
     ensures same { IfOk result (λ made. (L.value made).variables ≡ (L.value leaf.now).variables) }
     ensures memory { OnOk result (Remembers L.value L.meaning task.now finals.new) }
 {
@@ -61,7 +61,7 @@ fn after_stmt<L: Leaf>(
     requires part { IsPartOf (L.value leaf.now).variables (whole task.now.program.now) (front s.now Done) }
     requires memory { Remembers L.value L.meaning task.now finals.old }
     ensures value { IfOk result (λ made. L.value made
-        ≡ after_of L.meaning task.now.options (front s.now Done) (L.value leaf.now)) }
+        ≡ after_of L.meaning task.now.options.now (front s.now Done) (L.value leaf.now)) }
     ensures same { IfOk result (λ made. (L.value made).variables ≡ (L.value leaf.now).variables) }
     ensures memory { OnOk result (Remembers L.value L.meaning task.now finals.new) }
 {
@@ -110,8 +110,8 @@ fn after_choice<L: Leaf>(
     requires no { IsPartOf (L.value leaf.now).variables (whole task.now.program.now) (code no.now) }
     requires memory { Remembers L.value L.meaning task.now finals.old }
     ensures value { IfOk result (λ made. L.value made ≡ L.meaning.join
-        (after_of L.meaning task.now.options (code yes.now) (assumed L.meaning task.now.options.mode (term test.now) true (L.value leaf.now)))
-        (after_of L.meaning task.now.options (code no.now) (assumed L.meaning task.now.options.mode (term test.now) false (L.value leaf.now)))) }
+        (after_of L.meaning task.now.options.now (code yes.now) (assumed L.meaning task.now.options.now.mode (term test.now) true (L.value leaf.now)))
+        (after_of L.meaning task.now.options.now (code no.now) (assumed L.meaning task.now.options.now.mode (term test.now) false (L.value leaf.now)))) }
     ensures same { IfOk result (λ made. (L.value made).variables ≡ (L.value leaf.now).variables) }
     ensures memory { OnOk result (Remembers L.value L.meaning task.now finals.new) }
 {
@@ -135,8 +135,8 @@ fn after_side<L: Leaf>(
     requires part { IsPartOf (L.value leaf.now).variables (whole task.now.program.now) (code list.now) }
     requires memory { Remembers L.value L.meaning task.now finals.old }
     ensures value { IfOk result (λ made. L.value made
-        ≡ after_of L.meaning task.now.options (code list.now)
-        (assumed L.meaning task.now.options.mode (term test.now) want (L.value leaf.now))) }
+        ≡ after_of L.meaning task.now.options.now (code list.now)
+        (assumed L.meaning task.now.options.now.mode (term test.now) want (L.value leaf.now))) }
     ensures same { IfOk result (λ made. (L.value made).variables ≡ (L.value leaf.now).variables) }
     ensures memory { OnOk result (Remembers L.value L.meaning task.now finals.new) }
 {
@@ -164,7 +164,7 @@ fn turn<L: Leaf>(
     requires own { IsLoopOf (L.value leaf.now).variables (whole task.now.program.now) the_loop.now }
     requires memory { Remembers L.value L.meaning task.now finals.old }
     ensures value { IfOk result (λ made. L.value made
-        ≡ turns_of L.meaning task.now.options the_loop.now (L.value leaf.now) (L.value at.now)) }
+        ≡ turns_of L.meaning task.now.options.now the_loop.now (L.value leaf.now) (L.value at.now)) }
     ensures same { IfOk result (λ made. (L.value made).variables ≡ (L.value leaf.now).variables) }
     ensures memory { OnOk result (Remembers L.value L.meaning task.now finals.new) }
 {
@@ -186,7 +186,7 @@ fn head_at<L: Leaf>(
     requires memory { Remembers L.value L.meaning task.now finals.old }
     ensures at { IfOk result (λ head. L.value head.at ≡ L.value at) }
     ensures head { IfOk result (λ head. IsHead L.value
-        (turns_of L.meaning task.now.options the_loop.now (L.value leaf.now)) (L.value leaf.now).variables head) }
+        (turns_of L.meaning task.now.options.now the_loop.now (L.value leaf.now)) (L.value leaf.now).variables head) }
     ensures memory { OnOk result (Remembers L.value L.meaning task.now finals.new) }
 {
     let next = turn(finals, task, the_loop, leaf, &at)?;
@@ -204,18 +204,24 @@ fn widened<L: Leaf>(
 ) -> Result<Head<L>, NoMemory>
     requires own { IsLoopOf (L.value leaf.now).variables (whole task.now.program.now) the_loop.now }
     requires memory { Remembers L.value L.meaning task.now finals.old }
-    ensures value { IfOk result (λ head. L.value head.at ≡ widened_leaf L.meaning task.now.options.delay
-        (turns_of L.meaning task.now.options the_loop.now (L.value leaf.now)) (L.value leaf.now)) }
+    ensures value { IfOk result (λ head. L.value head.at ≡ widened_leaf L.meaning task.now.options.now.thresholds task.now.options.now.delay
+        (turns_of L.meaning task.now.options.now the_loop.now (L.value leaf.now)) (L.value leaf.now)) }
     ensures head { IfOk result (λ head. IsHead L.value
-        (turns_of L.meaning task.now.options the_loop.now (L.value leaf.now)) (L.value leaf.now).variables head) }
+        (turns_of L.meaning task.now.options.now the_loop.now (L.value leaf.now)) (L.value leaf.now).variables head) }
     ensures memory { OnOk result (Remembers L.value L.meaning task.now finals.new) }
 {
     let delay = u64::from(task.options.delay);
-    let rounds = delay + u64::from(L::bound_count(leaf.variables())) + 1;
+    let rounds = round_count::<L>(task.options, leaf.variables());
     let start = leaf.copy(task.alloc)?;
     let mut head = head_at(finals, task, the_loop, leaf, start)?;
     for k in 0..rounds {
-        match moved(task.alloc, &head.at, &head.next, k < delay)? {
+        match moved(
+            task.alloc,
+            &head.at,
+            &head.next,
+            k < delay,
+            &task.options.thresholds,
+        )? {
             None => return Ok(head),
             Some(made) => head = head_at(finals, task, the_loop, leaf, made)?,
         }
@@ -233,19 +239,19 @@ fn narrowed<L: Leaf>(
     head: &Head<L>,
 ) -> Result<Option<Head<L>>, NoMemory>
     requires head { IsHead L.value
-        (turns_of L.meaning task.now.options the_loop.now (L.value leaf.now)) (L.value leaf.now).variables head.now }
+        (turns_of L.meaning task.now.options.now the_loop.now (L.value leaf.now)) (L.value leaf.now).variables head.now }
     requires own { IsLoopOf (L.value leaf.now).variables (whole task.now.program.now) the_loop.now }
     requires memory { Remembers L.value L.meaning task.now finals.old }
-    ensures kept { IfOk result (λ made. IfNone made (narrowing_of L.meaning
-        (turns_of L.meaning task.now.options the_loop.now (L.value leaf.now)) (L.value head.now.at) ≡ L.value head.now.at)) }
-    ensures taken { IfOk result (λ made. IfSome made (λ next. narrowing_of L.meaning
-        (turns_of L.meaning task.now.options the_loop.now (L.value leaf.now)) (L.value head.now.at) ≡ L.value next.at)) }
+    ensures kept { IfOk result (λ made. IfNone made (narrowing_of L.meaning task.now.options.now.thresholds
+        (turns_of L.meaning task.now.options.now the_loop.now (L.value leaf.now)) (L.value head.now.at) ≡ L.value head.now.at)) }
+    ensures taken { IfOk result (λ made. IfSome made (λ next. narrowing_of L.meaning task.now.options.now.thresholds
+        (turns_of L.meaning task.now.options.now the_loop.now (L.value leaf.now)) (L.value head.now.at) ≡ L.value next.at)) }
     ensures head { IfOk result (λ made. IfSome made (λ next. IsHead L.value
-        (turns_of L.meaning task.now.options the_loop.now (L.value leaf.now)) (L.value leaf.now).variables next)) }
+        (turns_of L.meaning task.now.options.now the_loop.now (L.value leaf.now)) (L.value leaf.now).variables next)) }
     ensures memory { OnOk result (Remembers L.value L.meaning task.now finals.new) }
 {
     equality_is_exact::<L>();
-    let candidate = narrowed_by(task.alloc, &head.at, &head.next)?;
+    let candidate = narrowed_by(task.alloc, &head.at, &head.next, &task.options.thresholds)?;
     if candidate == head.at {
         return Ok(None);
     }
@@ -269,7 +275,7 @@ fn final_by_rounds<L: Leaf>(
     requires own { IsLoopOf (L.value leaf.now).variables (whole task.now.program.now) the_loop.now }
     requires memory { Remembers L.value L.meaning task.now finals.old }
     ensures value { IfOk result (λ made. L.value made
-        ≡ final_of L.meaning task.now.options the_loop.now (L.value leaf.now)) }
+        ≡ final_of L.meaning task.now.options.now the_loop.now (L.value leaf.now)) }
     ensures same { IfOk result (λ made. (L.value made).variables ≡ (L.value leaf.now).variables) }
     ensures memory { OnOk result (Remembers L.value L.meaning task.now finals.new) }
 {
@@ -295,7 +301,7 @@ pub(crate) fn final_leaf<L: Leaf>(
     requires own { IsLoopOf (L.value leaf.now).variables (whole task.now.program.now) the_loop.now }
     requires memory { Remembers L.value L.meaning task.now finals.old }
     ensures value { IfOk result (λ made. L.value made
-        ≡ final_of L.meaning task.now.options the_loop.now (L.value leaf.now)) }
+        ≡ final_of L.meaning task.now.options.now the_loop.now (L.value leaf.now)) }
     ensures same { IfOk result (λ made. (L.value made).variables ≡ (L.value leaf.now).variables) }
     ensures memory { OnOk result (Remembers L.value L.meaning task.now finals.new) }
 {

@@ -6,7 +6,7 @@ ghost use Rattle.c_tree.specs.View.{whole};
 ghost use Rattle.c_tree.specs.Whole.{IsProgram, IsPlainProgram};
 ghost use Rattle.c_tree.specs.Places.{program_places};
 ghost use Rattle.plain_analysis.specs.Places.{at_of, alarms_of};
-ghost use Rattle.plain_analysis.specs.Promises.{LoopsSettle, RunsForeseen};
+ghost use Rattle.plain_analysis.specs.Promises.{LoopsSettle, FinalsAreInductive, RunsForeseen};
 
 use crate::alarm::Alarms;
 use crate::entries::{Noted, enter_list};
@@ -25,8 +25,9 @@ use std::alloc::Global;
 /// The places are those of the program in the order of the text, that of the closing brace of
 /// `main` last, each with the leaf with which the statement there is entered. At the place of a loop
 /// it is the loop's final leaf: the one after `delay` rounds of joining, so many rounds of widening
-/// that what comes in at the head is then below it, and `narrow` rounds of narrowing, where a
-/// candidate is taken only if what comes in with it is below it. In the body it is the leaf of one
+/// to the thresholds that what comes in at the head is then below it, and `narrow` rounds of
+/// narrowing, where a candidate is taken only if what comes in with it is below it. So what comes in
+/// at the head is below the final leaf too. In the body it is the leaf of one
 /// more pass from there, and at the end the leaf after the whole body.
 ///
 /// An alarm stands at a place and with a kind exactly where the statement there may stop with the
@@ -51,6 +52,7 @@ pub fn analyse_one<L: Leaf>(
         ≡ alarms_of L.meaning options.now (whole program.now) (L.value start.now)) }
     ensures runs { RunsForeseen L.meaning options.now (whole program.now) (L.value start.now) }
     ensures settled { LoopsSettle L.meaning options.now }
+    ensures inductive { FinalsAreInductive L.meaning options.now }
 {
     runs_are_foreseen(program, start, options);
     let mut noted = Noted {
@@ -63,7 +65,7 @@ pub fn analyse_one<L: Leaf>(
     let task = Task {
         alloc,
         program,
-        options: *options,
+        options,
     };
     let leaf = enter_list(&mut finals, &mut noted, &task, &program.body, start)?;
     let place = program.end;
@@ -74,14 +76,15 @@ pub fn analyse_one<L: Leaf>(
     })
 }
 
-/// The laws of the analysis: runs are foreseen, and the rounds of widening end where nothing comes in
-/// any more.
+/// The laws of the analysis: runs are foreseen, the rounds of widening end where nothing comes in
+/// any more, and final leaves are inductive.
 fn runs_are_foreseen<L: Leaf>(program: &Program, start: &L, options: &Options)
     requires program { IsProgram (whole program.now) }
     requires plain { IsPlainProgram (whole program.now) }
     requires variables { (L.value start.now).variables ≡ length program.now.names }
     ensures runs { RunsForeseen L.meaning options.now (whole program.now) (L.value start.now) }
     ensures settled { LoopsSettle L.meaning options.now }
+    ensures inductive { FinalsAreInductive L.meaning options.now }
 {
     transfer_is_sound::<L>();
     leaf_is_valid(start);

@@ -60,7 +60,7 @@ fn add_alarm<L: Leaf>(
     ensures leaves { OnOk result (noted.new.places.items ≡ noted.old.places.items) }
     ensures alarms { OnOk result (noted.new.alarms.items
         ≡ noted.old.alarms.items ++ alarm_where
-        (may_at L.meaning task.now.options.mode kind (front s.now Done) (L.value leaf.now)) place kind) }
+        (may_at L.meaning task.now.options.now.mode kind (front s.now Done) (L.value leaf.now)) place kind) }
 {
     if may(task.alloc, leaf, kind, s, task.options.mode)? {
         noted.alarms.push(Alarm { place, kind })?;
@@ -77,7 +77,7 @@ fn enter<L: Leaf>(
     leaf: &L,
 ) -> Result<(), NoMemory>
     requires { IsCodeOf (L.value leaf.now).variables (front s.now Done) }
-    ensures { OnOk result (HasEntered L.value L.meaning task.now.options noted.old noted.new
+    ensures { OnOk result (HasEntered L.value L.meaning task.now.options.now noted.old noted.new
         (record { place = place; statement = front s.now Done; leaf = L.value leaf.now } ∷ [])) }
 {
     add_leaf(noted, task, place, leaf)?;
@@ -98,10 +98,10 @@ pub(crate) fn enter_list<L: Leaf>(
     requires part { IsPartOf (L.value leaf.now).variables (whole task.now.program.now) (code list.now) }
     requires memory { Remembers L.value L.meaning task.now finals.old }
     ensures value { IfOk result (λ made. L.value made
-        ≡ after_of L.meaning task.now.options (code list.now) (L.value leaf.now)) }
+        ≡ after_of L.meaning task.now.options.now (code list.now) (L.value leaf.now)) }
     ensures same { IfOk result (λ made. (L.value made).variables ≡ (L.value leaf.now).variables) }
-    ensures entered { OnOk result (HasEntered L.value L.meaning task.now.options noted.old noted.new
-        (entries_of L.meaning task.now.options (code list.now) (L.value leaf.now))) }
+    ensures entered { OnOk result (HasEntered L.value L.meaning task.now.options.now noted.old noted.new
+        (entries_of L.meaning task.now.options.now (code list.now) (L.value leaf.now))) }
     ensures memory { OnOk result (Remembers L.value L.meaning task.now finals.new) }
 {
     let mut made = leaf.copy(task.alloc)?;
@@ -124,10 +124,10 @@ fn enter_stmt<L: Leaf>(
     requires part { IsPartOf (L.value leaf.now).variables (whole task.now.program.now) (front s.now Done) }
     requires memory { Remembers L.value L.meaning task.now finals.old }
     ensures value { IfOk result (λ made. L.value made
-        ≡ after_of L.meaning task.now.options (front s.now Done) (L.value leaf.now)) }
+        ≡ after_of L.meaning task.now.options.now (front s.now Done) (L.value leaf.now)) }
     ensures same { IfOk result (λ made. (L.value made).variables ≡ (L.value leaf.now).variables) }
-    ensures entered { OnOk result (HasEntered L.value L.meaning task.now.options noted.old noted.new
-        (entries_of L.meaning task.now.options (front s.now Done) (L.value leaf.now))) }
+    ensures entered { OnOk result (HasEntered L.value L.meaning task.now.options.now noted.old noted.new
+        (entries_of L.meaning task.now.options.now (front s.now Done) (L.value leaf.now))) }
     ensures memory { OnOk result (Remembers L.value L.meaning task.now finals.new) }
 {
     match s {
@@ -196,12 +196,12 @@ fn enter_side<L: Leaf>(
     requires part { IsPartOf (L.value leaf.now).variables (whole task.now.program.now) (code list.now) }
     requires memory { Remembers L.value L.meaning task.now finals.old }
     ensures value { IfOk result (λ made. L.value made
-        ≡ after_of L.meaning task.now.options (code list.now)
-        (assumed L.meaning task.now.options.mode (term test.now) want (L.value leaf.now))) }
+        ≡ after_of L.meaning task.now.options.now (code list.now)
+        (assumed L.meaning task.now.options.now.mode (term test.now) want (L.value leaf.now))) }
     ensures same { IfOk result (λ made. (L.value made).variables ≡ (L.value leaf.now).variables) }
-    ensures entered { OnOk result (HasEntered L.value L.meaning task.now.options noted.old noted.new
-        (entries_of L.meaning task.now.options (code list.now)
-        (assumed L.meaning task.now.options.mode (term test.now) want (L.value leaf.now)))) }
+    ensures entered { OnOk result (HasEntered L.value L.meaning task.now.options.now noted.old noted.new
+        (entries_of L.meaning task.now.options.now (code list.now)
+        (assumed L.meaning task.now.options.now.mode (term test.now) want (L.value leaf.now)))) }
     ensures memory { OnOk result (Remembers L.value L.meaning task.now finals.new) }
 {
     let inside = assume(task.alloc, leaf, test, want, task.options.mode)?;

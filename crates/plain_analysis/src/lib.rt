@@ -20,4 +20,4 @@ pub use findings::{Findings, PlaceLeaf, PlaceLeaves};
 pub use laws::passes_foresee_runs;
 pub use loops::Loop;
 pub use options::Options;
-pub use steps::{joined, moved, narrowed_by, round};
+pub use steps::{joined, moved, narrowed_by, round, round_count};

@@ -1,12 +1,23 @@
 //! The steps of a loop on two leaves: the leaf at its head, and what comes in there with it.
 #![tactic(auto)]
 
-ghost use Rattle.std.specs.Prelude.{◌≡◌, IfOk, IfSome, IfNone, true, false};
-ghost use Rattle.plain_analysis.specs.Loops.{moved_by, round_by};
+ghost use Rattle.std.specs.Prelude.{◌≡◌, ◌≤◌, IfOk, IfSome, IfNone, true, false};
+ghost use Rattle.plain_analysis.specs.Loops.{moved_by, round_by, round_count};
 
+use crate::options::Options;
 use fam_outer::NoMemory;
-use leaf_domain::{Leaf, leaf_is_valid};
+use leaf_domain::{Leaf, Thresholds, leaf_is_valid};
 use std::alloc::Global;
+
+/// How many rounds of joining and widening a loop has over so many variables: those of joining, so many of widening as the
+/// bounds of a leaf can step through the thresholds and to the type's, and one.
+pub fn round_count<L: Leaf>(options: &Options, variables: u32) -> u64
+    requires { variables ≤ 16 }
+    ensures { result ≡ round_count L.meaning options.now.thresholds options.now.delay variables }
+{
+    let steps = u64::from(options.thresholds.count()) + 1;
+    u64::from(options.delay) + u64::from(L::bound_count(variables)) * steps + 1
+}
 
 /// The join of two leaves.
 pub fn joined<L: Leaf>(alloc: Global, a: &L, b: &L) -> Result<L, NoMemory>
@@ -19,26 +30,32 @@ pub fn joined<L: Leaf>(alloc: Global, a: &L, b: &L) -> Result<L, NoMemory>
     a.join(alloc, b)
 }
 
-/// The candidate of a round of narrowing: the leaf at the head, with each bound that is the type's put as that of what
-/// comes in.
-pub fn narrowed_by<L: Leaf>(alloc: Global, at: &L, next: &L) -> Result<L, NoMemory>
+/// The candidate of a round of narrowing: the leaf at the head, with each bound that is the type's or that of a threshold put
+/// as that of what comes in.
+pub fn narrowed_by<L: Leaf>(
+    alloc: Global,
+    at: &L,
+    next: &L,
+    thresholds: &Thresholds,
+) -> Result<L, NoMemory>
     requires { (L.value at.now).variables ≡ (L.value next.now).variables }
     ensures value { IfOk result (λ made. L.value made
-        ≡ L.meaning.narrow (L.value at.now) (L.value next.now)) }
+        ≡ L.meaning.narrow thresholds.now (L.value at.now) (L.value next.now)) }
     ensures same { IfOk result (λ made. (L.value made).variables ≡ (L.value at.now).variables) }
 {
     leaf_is_valid(at);
     leaf_is_valid(next);
-    at.narrow(alloc, next)
+    at.narrow(alloc, next, thresholds)
 }
 
 /// The leaf at the head of a loop after one round, or None where what comes in is below it. The two are joined in an early
-/// round, and widened in a later one.
+/// round, and widened to the thresholds in a later one.
 pub fn moved<L: Leaf>(
     alloc: Global,
     at: &L,
     next: &L,
     is_early: bool,
+    thresholds: &Thresholds,
 ) -> Result<Option<L>, NoMemory>
     requires { (L.value at.now).variables ≡ (L.value next.now).variables }
     ensures stable { IfOk result (λ made. IfNone made
@@ -46,7 +63,7 @@ pub fn moved<L: Leaf>(
     ensures moved { IfOk result (λ made. IfSome made
         (λ leaf. L.meaning.leq (L.value next.now) (L.value at.now) ≡ false)) }
     ensures value { IfOk result (λ made. IfSome made
-        (λ leaf. L.value leaf ≡ moved_by L.meaning is_early (L.value at.now) (L.value next.now))) }
+        (λ leaf. L.value leaf ≡ moved_by L.meaning thresholds.now is_early (L.value at.now) (L.value next.now))) }
     ensures same { IfOk result (λ made. IfSome made
         (λ leaf. (L.value leaf).variables ≡ (L.value at.now).variables)) }
 {
@@ -58,18 +75,24 @@ pub fn moved<L: Leaf>(
     if is_early {
         Ok(Some(at.join(alloc, next)?))
     } else {
-        Ok(Some(at.widen(alloc, next)?))
+        Ok(Some(at.widen(alloc, next, thresholds)?))
     }
 }
 
 /// The leaf at the head of a loop after one round, where it may stay.
-pub fn round<L: Leaf>(alloc: Global, at: &L, next: &L, is_early: bool) -> Result<L, NoMemory>
+pub fn round<L: Leaf>(
+    alloc: Global,
+    at: &L,
+    next: &L,
+    is_early: bool,
+    thresholds: &Thresholds,
+) -> Result<L, NoMemory>
     requires { (L.value at.now).variables ≡ (L.value next.now).variables }
     ensures value { IfOk result (λ made. L.value made
-        ≡ round_by L.meaning is_early (L.value at.now) (L.value next.now)) }
+        ≡ round_by L.meaning thresholds.now is_early (L.value at.now) (L.value next.now)) }
     ensures same { IfOk result (λ made. (L.value made).variables ≡ (L.value at.now).variables) }
 {
-    match moved(alloc, at, next, is_early)? {
+    match moved(alloc, at, next, is_early, thresholds)? {
         Some(made) => Ok(made),
         None => at.copy(alloc),
     }

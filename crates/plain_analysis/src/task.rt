@@ -10,5 +10,5 @@ use std::alloc::Global;
 pub(crate) struct Task<'a> {
     pub(crate) alloc: Global,
     pub(crate) program: &'a Program,
-    pub(crate) options: Options,
+    pub(crate) options: &'a Options,
 }

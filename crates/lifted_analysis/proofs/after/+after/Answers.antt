@@ -7,7 +7,7 @@ use Rattle.decision_tree.specs.Plain.{leaf_of}
 use Rattle.decision_tree.specs.View.{numbered, plain}
 use Rattle.decision_tree.proofs.Numbers.{keeps_same, keeps_both, numbers_tell}
 use Rattle.leaf_domain.specs.Transfer.{assumed}
-use Rattle.plain_analysis.specs.Loops.{round_by, rounds_of, narrowings_of}
+use Rattle.plain_analysis.specs.Loops.{round_by, rounds_of, round_count, narrowings_of}
 use Rattle.plain_analysis.proofs.Listed.{IsCodeOf-at}
 use Rattle.plain_analysis.proofs.Rounds.{rounds_stay, narrowings_stay, narrowings_move}
 use Rattle.plain_analysis.proofs.Sizes.{size-at}
@@ -35,7 +35,7 @@ after_group-returns-clause-lifted g t c =
     (λ v. kept_by true (leaf_of choice v)) _ (after_at M family p) (after_at M family q) (group_at M family choice p q)
     (plain c.args.t.now) (numbered c.in_ok-in_yes.in_yes) (numbered c.in_ok-in_no.in_no) (numbered c.in_ok-after_yes.after_yes) (numbered c.in_ok-after_no.after_no)
     c.in_ok-in_yes.ensures c.in_ok-in_no.ensures c.in_ok-after_yes.ensures.lifted c.in_ok-after_no.ensures.lifted
-    (λ v e f. kept_joins M family g.met.L.Leaf.laws (c.transfer_is_sound.ensures.answers family.options.mode) c.requires.family.few p q v (leaf_of choice v) (value (leaf_of (plain c.args.t.now) v)) (counted value family c.args.tables.now.leaves (numbered c.args.t.now) v c.requires.state) e f)
+    (λ v e f. kept_joins M family g.met.L.Leaf.laws (c.transfer_is_sound.ensures.answers family.options.now.mode) c.requires.family.few p q v (leaf_of choice v) (value (leaf_of (plain c.args.t.now) v)) (counted value family c.args.tables.now.leaves (numbered c.args.t.now) v c.requires.state) e f)
     c.joined.ensures
 
 pub after_if-returns-clause-lifted : goal.after_if-returns-clause-lifted
@@ -58,7 +58,7 @@ after_list-returns-then-is_nothing_everywhere-clause-lifted g t c =
     let family = c.args.family.now in
     let forest = c.args.tables.now.leaves in
     shared_made value family c.share.result forest (after_at M family (code c.args.list.now)) (numbered c.args.t.now) c.requires.state
-    (nothing_stays value family M g.met.L.Leaf.laws (c.transfer_is_sound.ensures.answers family.options.mode) c.requires.family forest (numbered c.args.t.now) (code c.args.list.now) c.requires.state (c.is_nothing_everywhere.ensures c.if-is_nothing_everywhere.true))
+    (nothing_stays value family M g.met.L.Leaf.laws (c.transfer_is_sound.ensures.answers family.options.now.mode) c.requires.family forest (numbered c.args.t.now) (code c.args.list.now) c.requires.state (c.is_nothing_everywhere.ensures c.if-is_nothing_everywhere.true))
     c.share.ensures
 
 pub after_list-after_stmt-requires : goal.after_list-after_stmt-requires
@@ -102,7 +102,7 @@ after_stmt-returns-in_ok-last-in-While-clause-lifted g t c =
     then_made value family c.stepped-in-While.result c.args.tables.now.leaves c.final_tree.new.tables.leaves c.stepped-in-While.new.tables.leaves
     (final_at M family (term w.test) (code c.deref-in-While.result.now)) _ (after_at M family (front c.args.s.now Done)) t (numbered c.in_ok-last-in-While.last) c.in_ok-last-in-While.ensures.lifted
     (λ v. let x = value (leaf_of t v) in
-    ap (λ l. assumed M family.options.mode (term w.test) false (final_at M family (term w.test) (code l) v x)) c.deref-in-While.ensures.value
+    ap (λ l. assumed M family.options.now.mode (term w.test) false (final_at M family (term w.test) (code l) v x)) c.deref-in-While.ensures.value
     ∙ after_at-While M family c.args.s.now w.place w.test w.body v x w.is)
     c.stepped-in-While.ensures
 
@@ -137,7 +137,7 @@ final_tree-returns-then-is_nothing_everywhere-clause-lifted g t c =
     let family = c.args.family.now in
     let forest = c.args.tables.now.leaves in
     shared_made value family c.share.result forest (final_at M family (term c.args.the_loop.now.test.now) (code c.args.the_loop.now.body.now)) (numbered c.args.t.now) c.requires.state
-    (nothing_ends value family M g.met.L.Leaf.laws (c.transfer_is_sound.ensures.answers family.options.mode) c.requires.family forest (numbered c.args.t.now) (term c.args.the_loop.now.test.now) (code c.args.the_loop.now.body.now) c.requires.state (c.is_nothing_everywhere.ensures c.if-is_nothing_everywhere.true))
+    (nothing_ends value family M g.met.L.Leaf.laws (c.transfer_is_sound.ensures.answers family.options.now.mode) c.requires.family forest (numbered c.args.t.now) (term c.args.the_loop.now.test.now) (code c.args.the_loop.now.body.now) c.requires.state (c.is_nothing_everywhere.ensures c.if-is_nothing_everywhere.true))
     c.share.ensures
 
 pub final_by_rounds-loop-k-init : goal.final_by_rounds-loop-k-init
@@ -146,10 +146,10 @@ final_by_rounds-loop-k-init g t c =
     let M = g.L.Leaf.meaning in
     let family = c.args.family.now in
     let G = turns_over value M family c.args.the_loop.now (plain c.args.t.now) in
-    let n = family.options.narrow in
+    let n = family.options.now.narrow in
     let zero_less : n - 0 ≡ n = omega arith in
     record {
-      rest = λ v. ap (λ m. narrowings_of M (G v) m (value (leaf_of (plain c.in_ok-head.head.at) v))) zero_less ∙ ap (narrowings_of M (G v) n) (c.in_ok-head.ensures.at_each v);
+      rest = λ v. ap (λ m. narrowings_of M family.options.now.thresholds (G v) m (value (leaf_of (plain c.in_ok-head.head.at) v))) zero_less ∙ ap (narrowings_of M family.options.now.thresholds (G v) n) (c.in_ok-head.ensures.at_each v);
       head = c.in_ok-head.ensures.head;
       keeps = c.in_ok-head.ensures.keeps;
       memory = c.in_ok-head.ensures.memory;
@@ -171,7 +171,7 @@ final_by_rounds-returns-then-number-before-clause-lifted g t c =
       keeps = keeps_both c.args.tables.now.leaves c.loop-k.tables.leaves c.narrowed.new.tables.leaves c.loop-k.invariant.keeps made.keeps;
       at_each = λ v.
           let e : value (leaf_of (erase new) v) ≡ value (leaf_of (erase old) v) = ap (λ u. value (leaf_of u v)) same in
-          e ∙ (sym (narrowings_stay M (G v) (family.options.narrow - c.loop-k._k) (value (leaf_of (erase old) v)) (sym (made.at_each v) ∙ e)) ∙ c.loop-k.invariant.rest v);
+          e ∙ (sym (narrowings_stay M family.options.now.thresholds (G v) (family.options.now.narrow - c.loop-k._k) (value (leaf_of (erase old) v)) (sym (made.at_each v) ∙ e)) ∙ c.loop-k.invariant.rest v);
     }
 
 pub final_by_rounds-loop-k-preserved : goal.final_by_rounds-loop-k-preserved
@@ -182,7 +182,7 @@ final_by_rounds-loop-k-preserved g t c =
     let G = turns_over value M family c.args.the_loop.now (plain c.args.t.now) in
     let made = c.in_ok-head-2.ensures in
     record {
-      rest = λ v. narrowings_move M (G v) family.options.narrow c.loop-k._k (value (leaf_of (plain c.loop-k.head.at) v)) (value (leaf_of (plain c.in_ok-head-2.head.at) v)) _ c.loop-k-test.true (sym (made.at_each v)) (c.loop-k.invariant.rest v);
+      rest = λ v. narrowings_move M family.options.now.thresholds (G v) family.options.now.narrow c.loop-k._k (value (leaf_of (plain c.loop-k.head.at) v)) (value (leaf_of (plain c.in_ok-head-2.head.at) v)) _ c.loop-k-test.true (sym (made.at_each v)) (c.loop-k.invariant.rest v);
       head = made.head;
       keeps = keeps_both c.args.tables.now.leaves c.loop-k.tables.leaves c.narrowed.new.tables.leaves c.loop-k.invariant.keeps made.keeps;
       memory = made.memory;
@@ -194,11 +194,11 @@ final_by_rounds-returns-clause-lifted g t c =
     let M = g.L.Leaf.meaning in
     let family = c.args.family.now in
     let G = turns_over value M family c.args.the_loop.now (plain c.args.t.now) in
-    let none : family.options.narrow - c.loop-k._k ≡ 0 = omega (arith, c.loop-k-test.false) in
+    let none : family.options.now.narrow - c.loop-k._k ≡ 0 = omega (arith, c.loop-k-test.false) in
     record {
       state = c.loop-k.invariant.head.at_state;
       keeps = c.loop-k.invariant.keeps;
-      at_each = λ v. ap (λ m. narrowings_of M (G v) m (value (leaf_of (plain c.loop-k.head.at) v))) (sym none) ∙ c.loop-k.invariant.rest v;
+      at_each = λ v. ap (λ m. narrowings_of M family.options.now.thresholds (G v) m (value (leaf_of (plain c.loop-k.head.at) v))) (sym none) ∙ c.loop-k.invariant.rest v;
     }
 
 pub narrowed-returns-clause-keeps : goal.narrowed-returns-clause-keeps
@@ -220,10 +220,11 @@ widened-loop-k-init g t c =
     record {
       rest = λ v.
           let d = value (leaf_of (plain c.args.t.now) v) in
-          let n : M.bound_count d.variables ≡ M.bound_count family.variables = ap M.bound_count (counted value family c.args.tables.now.leaves (numbered c.args.t.now) v c.requires.state) in
-          let all : c.from-delay.result + c.from.result + 1 - 0 ≡ family.options.delay + M.bound_count d.variables + 1 = omega (arith, c.from-delay.ensures, c.from.ensures, c.bound_count.ensures.value, n) in
-          ap (λ m. rounds_of M family.options.delay (G v) m 0 (value (leaf_of (plain c.in_ok-head.head.at) v))) all
-          ∙ ap (λ u. rounds_of M family.options.delay (G v) (family.options.delay + M.bound_count d.variables + 1) 0 (value (leaf_of (erase u) v))) (c.in_ok-head.ensures.at ∙ c.in_ok-start.ensures);
+          let count : ℕ → ℕ = round_count M family.options.now.thresholds family.options.now.delay in
+          let same : d.variables ≡ family.variables = counted value family c.args.tables.now.leaves (numbered c.args.t.now) v c.requires.state in
+          let all : c.round_count.result - 0 ≡ count d.variables = omega (arith, c.round_count.ensures, ap count same) in
+          ap (λ m. rounds_of M family.options.now.thresholds family.options.now.delay (G v) m 0 (value (leaf_of (plain c.in_ok-head.head.at) v))) all
+          ∙ ap (λ u. rounds_of M family.options.now.thresholds family.options.now.delay (G v) (count d.variables) 0 (value (leaf_of (erase u) v))) (c.in_ok-head.ensures.at ∙ c.in_ok-start.ensures);
       head = c.in_ok-head.ensures.head;
       keeps = c.in_ok-head.ensures.keeps;
       memory = c.in_ok-head.ensures.memory;
@@ -240,7 +241,7 @@ widened-returns-then-is_everywhere-clause-at_each g t c =
     let below : M.leq (G v x) x ≡ true =
     ap (λ w. M.leq w x) (sym (c.loop-k.invariant.head.next v)) ∙ (sym (c.in_ok-stable.ensures.at_each v) ∙ c.is_everywhere.ensures c.if-is_everywhere.true v)
     in
-    sym (rounds_stay M family.options.delay (G v) (c.from-delay.result + c.from.result + 1 - c.loop-k.k) c.loop-k.k x below) ∙ c.loop-k.invariant.rest v
+    sym (rounds_stay M family.options.now.thresholds family.options.now.delay (G v) (c.round_count.result - c.loop-k.k) c.loop-k.k x below) ∙ c.loop-k.invariant.rest v
 
 pub widened-returns-then-is_everywhere-clause-keeps : goal.widened-returns-then-is_everywhere-clause-keeps
 widened-returns-then-is_everywhere-clause-keeps g t c =
@@ -263,10 +264,10 @@ widened-loop-k-preserved g t c =
           let x = value (leaf_of (plain c.loop-k.head.at) v) in
           let w = value (leaf_of (plain c.loop-k.head.next) v) in
           let y = value (leaf_of (plain c.in_ok-head-2.head.at) v) in
-          let moved : y ≡ round_by M (nat_lt c.loop-k.k family.options.delay) x w =
-          ap (λ u. value (leaf_of (erase u) v)) next.at ∙ subst (λ n. value (leaf_of (plain c.in_ok-made.made) v) ≡ round_by M (nat_lt c.loop-k.k n) x w) c.from-delay.ensures (made.at_each v)
+          let moved : y ≡ round_by M family.options.now.thresholds (nat_lt c.loop-k.k family.options.now.delay) x w =
+          ap (λ u. value (leaf_of (erase u) v)) next.at ∙ subst (λ n. value (leaf_of (plain c.in_ok-made.made) v) ≡ round_by M family.options.now.thresholds (nat_lt c.loop-k.k n) x w) c.from.ensures (made.at_each v)
           in
-          rounds_go M family.options.delay (G v) (c.from-delay.result + c.from.result + 1) c.loop-k.k x w y _ c.loop-k-test.true (c.loop-k.invariant.head.next v) moved (c.loop-k.invariant.rest v);
+          rounds_go M family.options.now.thresholds family.options.now.delay (G v) c.round_count.result c.loop-k.k x w y _ c.loop-k-test.true (c.loop-k.invariant.head.next v) moved (c.loop-k.invariant.rest v);
       head = next.head;
       keeps = keeps_both a e c.head_at-in-loop-k.new.tables.leaves (keeps_both a d e (keeps_both a b d c.loop-k.invariant.keeps (keeps_same b d c.in_ok-stable.ensures.same)) made.keeps) next.keeps;
       memory = next.memory;
@@ -282,7 +283,7 @@ after_stmt-returns-then-is_nothing_everywhere-clause-lifted g t c =
     let family = c.args.family.now in
     let forest = c.args.tables.now.leaves in
     shared_made value family c.share.result forest (after_at M family (front c.args.s.now Done)) (numbered c.args.t.now) c.requires.state
-    (nothing_stays value family M g.met.L.Leaf.laws (c.transfer_is_sound.ensures.answers family.options.mode) c.requires.family forest (numbered c.args.t.now) (front c.args.s.now Done) c.requires.state (c.is_nothing_everywhere.ensures c.if-is_nothing_everywhere.true))
+    (nothing_stays value family M g.met.L.Leaf.laws (c.transfer_is_sound.ensures.answers family.options.now.mode) c.requires.family forest (numbered c.args.t.now) (front c.args.s.now Done) c.requires.state (c.is_nothing_everywhere.ensures c.if-is_nothing_everywhere.true))
     c.share.ensures
 
 pub final_tree-returns-in-Some-clause-lifted : goal.final_tree-returns-in-Some-clause-lifted

@@ -28,7 +28,7 @@ invariant-widened-loop-k g l =
     let family = l.family in
     let G = turns_over value M family l.the_loop (plain l.t) in
     record {
-      rest : (v : List Bool) → rounds_of M family.options.delay (G v) (l.rounds - l.k) l.k (value (leaf_of (plain l.head.at) v)) ≡ widened_leaf M family.options.delay (G v) (value (leaf_of (plain l.t) v));
+      rest : (v : List Bool) → rounds_of M family.options.now.thresholds family.options.now.delay (G v) (l.rounds - l.k) l.k (value (leaf_of (plain l.head.at) v)) ≡ widened_leaf M family.options.now.thresholds family.options.now.delay (G v) (value (leaf_of (plain l.t) v));
       head : IsHeadOf value family l.tables.leaves G l.head;
       keeps : Keeps l.fn.tables.leaves l.tables.leaves;
       memory : Remembers value M family l.tables.leaves l.finals;
@@ -41,7 +41,7 @@ invariant-final_by_rounds-loop-k g l =
     let family = l.family in
     let G = turns_over value M family l.the_loop (plain l.t) in
     record {
-      rest : (v : List Bool) → narrowings_of M (G v) (family.options.narrow - l._k) (value (leaf_of (plain l.head.at) v)) ≡ final_over M family l.the_loop v (value (leaf_of (plain l.t) v));
+      rest : (v : List Bool) → narrowings_of M family.options.now.thresholds (G v) (family.options.now.narrow - l._k) (value (leaf_of (plain l.head.at) v)) ≡ final_over M family l.the_loop v (value (leaf_of (plain l.t) v));
       head : IsHeadOf value family l.tables.leaves G l.head;
       keeps : Keeps l.fn.tables.leaves l.tables.leaves;
       memory : Remembers value M family l.tables.leaves l.finals;

@@ -1,5 +1,5 @@
 use Rattle.c_tree.specs.View.{whole}
-use Rattle.plain_analysis.proofs.Recursion.{loops_settle}
+use Rattle.plain_analysis.proofs.Recursion.{loops_settle, finals_are_inductive}
 use Rattle.lifted_analysis.specs.Findings.{AreFindings}
 use Rattle.lifted_analysis.proofs.Answered.{variant_runs}
 use Rattle.lifted_analysis.proofs.StateLemmas.{if_ok_by}
@@ -15,6 +15,11 @@ pub returns-clause-settled : goal.returns-clause-settled
 returns-clause-settled g c =
     let o = c.args.options.now in
     loops_settle g.L.Leaf.meaning g.met.L.Leaf.laws o (c.transfer_is_sound.ensures.answers o.mode)
+
+pub returns-clause-inductive : goal.returns-clause-inductive
+returns-clause-inductive g c =
+    let o = c.args.options.now in
+    finals_are_inductive g.L.Leaf.meaning g.met.L.Leaf.laws o (c.transfer_is_sound.ensures.answers o.mode)
 
 pub returns-clause-places : goal.returns-clause-places
 returns-clause-places g c =

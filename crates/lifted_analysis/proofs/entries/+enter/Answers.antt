@@ -47,7 +47,7 @@ enter_group-returns-clause-lifted g t c =
     in_yes in_no
     (lifted_by value M family c.kept-2.new.tables.leaves c.enter_list.new.tables.leaves P (heads_in value M family c.args.rule.now (plain c.in_ok-yes_here.yes_here)) p (plain c.in_ok-in_yes.in_yes) (numbered c.in_ok-after_yes.after_yes) yes c.in_ok-after_yes.ensures.lifted)
     (lifted_by value M family c.enter_list.new.tables.leaves c.enter_list-2.new.tables.leaves Q (heads_in value M family c.args.rule.now (plain c.in_ok-no_here.no_here)) q (plain c.in_ok-in_no.in_no) (numbered c.in_ok-after_no.after_no) no c.in_ok-after_no.ensures.lifted)
-    (λ v e f. sides_join M g.met.L.Leaf.laws family (c.transfer_is_sound.ensures.answers family.options.mode) c.requires.family.few (H v) (truths_in family.choices.now v) p q (leaf_of choice v) (value (leaf_of (plain c.args.t.now) v)) (counted value family c.args.tables.now.leaves (numbered c.args.t.now) v c.requires.state) e f)
+    (λ v e f. sides_join M g.met.L.Leaf.laws family (c.transfer_is_sound.ensures.answers family.options.now.mode) c.requires.family.few (H v) (truths_in family.choices.now v) p q (leaf_of choice v) (value (leaf_of (plain c.args.t.now) v)) (counted value family c.args.tables.now.leaves (numbered c.args.t.now) v c.requires.state) e f)
     c.joined.ensures
 
 pub enter_group-returns-clause-entered : goal.enter_group-returns-clause-entered
@@ -55,7 +55,7 @@ enter_group-returns-clause-entered g t c =
     let value = g.L.Leaf.value in
     let M = g.L.Leaf.meaning in
     let family = c.args.family.now in
-    let mode = family.options.mode in
+    let mode = family.options.now.mode in
     let H = heads_in value M family c.args.rule.now (plain c.args.here.now) in
     let choice = plain c.args.choice.now in
     let P : List Bool → Heads = λ v. heads_where (leaf_of choice v) (H v) in
@@ -111,8 +111,8 @@ enter_if-returns-clause-entered g t c =
     on_ok c.joined.result (HasEntered value M family c.args.noted.now c.enter_list-2.new.noted all)
     (entered_then value M family c.args.noted.now c.enter_list.new.noted c.enter_list-2.new.noted ps qs all
     (λ v.
-    ap (λ x. visits_at M family.options.mode (truths_in family.choices.now v) (H v) p x ++ qs v) (c.in_ok-in_yes.ensures.at_each v)
-    ∙ ap (λ x. visits_at M family.options.mode (truths_in family.choices.now v) (H v) p (assumed M family.options.mode e true (value (leaf_of (plain c.args.t.now) v))) ++ visits_at M family.options.mode (truths_in family.choices.now v) (H v) q x) (c.in_ok-in_no.ensures.at_each v))
+    ap (λ x. visits_at M family.options.now.mode (truths_in family.choices.now v) (H v) p x ++ qs v) (c.in_ok-in_yes.ensures.at_each v)
+    ∙ ap (λ x. visits_at M family.options.now.mode (truths_in family.choices.now v) (H v) p (assumed M family.options.now.mode e true (value (leaf_of (plain c.args.t.now) v))) ++ visits_at M family.options.now.mode (truths_in family.choices.now v) (H v) q x) (c.in_ok-in_no.ensures.at_each v))
     c.in_ok-after_yes.ensures.entered c.in_ok-after_no.ensures.entered)
 
 pub enter_list-enter_stmt-requires : goal.enter_list-enter_stmt-requires
@@ -149,8 +149,8 @@ enter_list-loop-s-preserved g t c =
           (λ v.
           let ts = truths_in family.choices.now v in
           let x = value (leaf_of t v) in
-          ap (λ y. visits_at M family.options.mode ts (H v) (code (take i list)) x ++ visits_at M family.options.mode ts (H v) (front s Done) y) (c.loop-s.invariant.made.at_each v)
-          ∙ visits_at-more M family.options.mode ts (H v) list i s x c.loop-s-test.true c.s-item.is)
+          ap (λ y. visits_at M family.options.now.mode ts (H v) (code (take i list)) x ++ visits_at M family.options.now.mode ts (H v) (front s Done) y) (c.loop-s.invariant.made.at_each v)
+          ∙ visits_at-more M family.options.now.mode ts (H v) list i s x c.loop-s-test.true c.s-item.is)
           c.loop-s.invariant.entered new.entered;
       memory = new.memory;
     }
@@ -174,9 +174,9 @@ enter_stmt-returns-in_ok-enter-in-If-clause-entered g t c =
     (λ v.
     let ts = truths_in family.choices.now v in
     let x = value (leaf_of t v) in
-    ap (λ l. (record { place = i.place; statement = front c.args.s.now Done; leaf = x; turn = None } ∷ []) ++ (visits_at M family.options.mode ts (H v) (code l) (assumed M family.options.mode e true x) ++ visits_at M family.options.mode ts (H v) (code c.deref-in-If.result.now) (assumed M family.options.mode e false x))) c.deref.ensures.value
-    ∙ (ap (λ l. (record { place = i.place; statement = front c.args.s.now Done; leaf = x; turn = None } ∷ []) ++ (visits_at M family.options.mode ts (H v) (code i.yes.items) (assumed M family.options.mode e true x) ++ visits_at M family.options.mode ts (H v) (code l) (assumed M family.options.mode e false x))) c.deref-in-If.ensures.value
-    ∙ visits_at-If M family.options.mode ts (H v) c.args.s.now i.place i.test i.yes i.no x i.is))
+    ap (λ l. (record { place = i.place; statement = front c.args.s.now Done; leaf = x; turn = None } ∷ []) ++ (visits_at M family.options.now.mode ts (H v) (code l) (assumed M family.options.now.mode e true x) ++ visits_at M family.options.now.mode ts (H v) (code c.deref-in-If.result.now) (assumed M family.options.now.mode e false x))) c.deref.ensures.value
+    ∙ (ap (λ l. (record { place = i.place; statement = front c.args.s.now Done; leaf = x; turn = None } ∷ []) ++ (visits_at M family.options.now.mode ts (H v) (code i.yes.items) (assumed M family.options.now.mode e true x) ++ visits_at M family.options.now.mode ts (H v) (code l) (assumed M family.options.now.mode e false x))) c.deref-in-If.ensures.value
+    ∙ visits_at-If M family.options.now.mode ts (H v) c.args.s.now i.place i.test i.yes i.no x i.is))
     c.in_ok-enter-in-If.ensures.entered)
     c.enter_if.ensures.entered
 
@@ -196,7 +196,7 @@ enter_stmt-returns-in_ok-enter-in-Block-clause-entered g t c =
     on_ok_by c.enter_list.result (HasEntered value M family b z body) (HasEntered value M family a z all)
     (entered_then value M family a b z _ body all
     (λ v.
-    let o = family.options in
+    let o = family.options.now in
     let ts = truths_in family.choices.now v in
     let x = value (leaf_of t v) in
     ap (λ l. (record { place = w.place; statement = front c.args.s.now Done; leaf = x; turn = None } ∷ []) ++ visits_at M o.mode ts (H v) (code l) x) c.deref-in-Block.ensures.value
@@ -314,9 +314,9 @@ enter_stmt-returns-in_ok-head-in-While-clause-lifted g t c =
     let w = c.in-While in
     let t = plain c.args.t.now in
     then_made value family c.stepped-in-While.result c.args.tables.now.leaves c.enter_loop.new.tables.leaves c.stepped-in-While.new.tables.leaves
-    (head_with M family H w.place (term w.test) (code c.deref-in-While.result.now)) (λ v. assumed M family.options.mode (term w.test) false) (passed_with M family H (front c.args.s.now Done)) t (numbered c.in_ok-head-in-While.head) c.in_ok-head-in-While.ensures.lifted
+    (head_with M family H w.place (term w.test) (code c.deref-in-While.result.now)) (λ v. assumed M family.options.now.mode (term w.test) false) (passed_with M family H (front c.args.s.now Done)) t (numbered c.in_ok-head-in-While.head) c.in_ok-head-in-While.ensures.lifted
     (λ v. let x = value (leaf_of t v) in
-    ap (λ l. assumed M family.options.mode (term w.test) false (head_with M family H w.place (term w.test) (code l) v x)) c.deref-in-While.ensures.value
+    ap (λ l. assumed M family.options.now.mode (term w.test) false (head_with M family H w.place (term w.test) (code l) v x)) c.deref-in-While.ensures.value
     ∙ passed_with-While M family H c.args.s.now w.place w.test w.body v x w.is)
     c.stepped-in-While.ensures
 
@@ -335,7 +335,7 @@ enter_stmt-returns-in_ok-head-in-While-clause-entered g t c =
     (λ v.
     let x = value (leaf_of t v) in
     ap (λ l. entered_loop value M family H s w.place (term w.test) (code l) t v) c.deref-in-While.ensures.value
-    ∙ visits_at-While M family.options.mode (truths_in family.choices.now v) (H v) c.args.s.now w.place w.test w.body x w.is)
+    ∙ visits_at-While M family.options.now.mode (truths_in family.choices.now v) (H v) c.args.s.now w.place w.test w.body x w.is)
     c.in_ok-head-in-While.ensures.entered)
 
 pub enter_stmt-returns-in_ok-head-in-While-clause-memory : goal.enter_stmt-returns-in_ok-head-in-While-clause-memory
@@ -361,7 +361,7 @@ enter_loop-returns-clause-entered g t c =
     let value = g.L.Leaf.value in
     let M = g.L.Leaf.meaning in
     let family = c.args.family.now in
-    let mode = family.options.mode in
+    let mode = family.options.now.mode in
     let H = heads_in value M family c.args.rule.now (plain c.args.here.now) in
     let t = plain c.args.t.now in
     let place = c.args.the_loop.now.place in

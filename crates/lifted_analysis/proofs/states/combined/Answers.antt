@@ -15,6 +15,6 @@ unify_in-requires-clause-u g c = state_numbered g.L.Leaf.value c.args.family.now
 
 pub returns : goal.returns
 returns g c =
-    joint_made g.L.Leaf.value c.args.family.now c.unify_in.result _ (combined_by g.L.Leaf.meaning c.args.how) c.args.tables.now.leaves c.unify_in.new.forest (numbered c.args.t.now) (numbered c.args.u.now)
+    joint_made g.L.Leaf.value c.args.family.now c.unify_in.result _ (combined_by g.L.Leaf.meaning c.args.family.now.options.now.thresholds c.args.how) c.args.tables.now.leaves c.unify_in.new.forest (numbered c.args.t.now) (numbered c.args.u.now)
     (λ x y z h. h)
     c.requires.t c.requires.u c.unify_in.ensures.unified c.unify_in.ensures.leaves c.unify_in.ensures.tests c.unify_in.ensures.tree c.unify_in.ensures.keeps

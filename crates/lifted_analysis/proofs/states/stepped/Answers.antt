@@ -13,6 +13,6 @@ map_in-requires-clause-t g c = state_numbered g.L.Leaf.value c.args.family.now c
 
 pub returns : goal.returns
 returns g c =
-    lifted_made g.L.Leaf.value c.args.family.now c.map_in.result _ (stepped_by g.L.Leaf.meaning c.args.family.now.options.mode c.args.step.now) c.args.tables.now.leaves c.map_in.new.forest (numbered c.args.t.now)
+    lifted_made g.L.Leaf.value c.args.family.now c.map_in.result _ (stepped_by g.L.Leaf.meaning c.args.family.now.options.now.mode c.args.step.now) c.args.tables.now.leaves c.map_in.new.forest (numbered c.args.t.now)
     (λ a b h. let k = h.says in let e = h.shows in search rules)
     c.requires.state c.map_in.ensures.mapped c.map_in.ensures.leaves c.map_in.ensures.tests c.map_in.ensures.tree c.map_in.ensures.keeps

@@ -64,14 +64,14 @@ pub after_stmt-returns-then-is_nothing-clause-value : goal.after_stmt-returns-th
 after_stmt-returns-then-is_nothing-clause-value g t c =
     let value = g.L.Leaf.value in
     let v = value c.args.leaf.now in
-    let o = c.args.task.now.options in
+    let o = c.args.task.now.options.now in
     let stays = after_stays g.L.Leaf.meaning g.met.L.Leaf.laws o (c.transfer_is_sound.ensures.answers o.mode) v c.leaf_is_valid.ensures.few (sym c.is_nothing.ensures ∙ c.if-is_nothing.true) (front c.args.s.now Done) in
     subst (λ u. IfOk c.copy.result (λ made. value made ≡ u)) (sym stays) c.copy.ensures
 
 pub after_stmt-returns-in_ok-last-in-While-clause-value : goal.after_stmt-returns-in_ok-last-in-While-clause-value
 after_stmt-returns-in_ok-last-in-While-clause-value g t c =
     let M = g.L.Leaf.meaning in
-    let o = c.args.task.now.options in
+    let o = c.args.task.now.options.now in
     let v = g.L.Leaf.value c.args.leaf.now in
     let w = c.in-While in
     let last = c.in_ok-last-in-While.ensures.value ∙ ap (λ l. final_leaf M o (term w.test) (after_of M o (code l)) v) c.deref-in-While.ensures.value in
@@ -81,17 +81,17 @@ after_stmt-returns-in_ok-last-in-While-clause-value g t c =
 pub final_by_rounds-returns-in-None-clause-value : goal.final_by_rounds-returns-in-None-clause-value
 final_by_rounds-returns-in-None-clause-value g t c =
     let M = g.L.Leaf.meaning in
-    let o = c.args.task.now.options in
+    let o = c.args.task.now.options.now in
     let G = loop_turn M o (term c.args.the_loop.now.test.now) (code c.args.the_loop.now.body.now) (g.L.Leaf.value c.args.leaf.now) in
-    sym (narrowings_stay M G (o.narrow - c.loop-k._k) (g.L.Leaf.value c.loop-k.head.at) (rw c.in-None.is at c.in_ok-narrowed.ensures.kept)) ∙ c.loop-k.invariant.rest
+    sym (narrowings_stay M o.thresholds G (o.narrow - c.loop-k._k) (g.L.Leaf.value c.loop-k.head.at) (rw c.in-None.is at c.in_ok-narrowed.ensures.kept)) ∙ c.loop-k.invariant.rest
 
 pub final_by_rounds-loop-k-preserved : goal.final_by_rounds-loop-k-preserved
 final_by_rounds-loop-k-preserved g t c =
     let M = g.L.Leaf.meaning in
-    let o = c.args.task.now.options in
+    let o = c.args.task.now.options.now in
     let G = loop_turn M o (term c.args.the_loop.now.test.now) (code c.args.the_loop.now.body.now) (g.L.Leaf.value c.args.leaf.now) in
     record {
-      rest = narrowings_move M G o.narrow c.loop-k._k (g.L.Leaf.value c.loop-k.head.at) (g.L.Leaf.value c.in-Some.next.at) _ c.loop-k-test.true (rw c.in-Some.is at c.in_ok-narrowed.ensures.taken) c.loop-k.invariant.rest;
+      rest = narrowings_move M o.thresholds G o.narrow c.loop-k._k (g.L.Leaf.value c.loop-k.head.at) (g.L.Leaf.value c.in-Some.next.at) _ c.loop-k-test.true (rw c.in-Some.is at c.in_ok-narrowed.ensures.taken) c.loop-k.invariant.rest;
       head = rw c.in-Some.is at c.in_ok-narrowed.ensures.head;
       memory = c.in_ok-narrowed.ensures.memory;
     }
@@ -99,24 +99,24 @@ final_by_rounds-loop-k-preserved g t c =
 pub widened-returns-in-None-clause-value : goal.widened-returns-in-None-clause-value
 widened-returns-in-None-clause-value g t c =
     let M = g.L.Leaf.meaning in
-    let o = c.args.task.now.options in
+    let o = c.args.task.now.options.now in
     let G = loop_turn M o (term c.args.the_loop.now.test.now) (code c.args.the_loop.now.body.now) (g.L.Leaf.value c.args.leaf.now) in
     let at = g.L.Leaf.value c.loop-k.head.at in
     let stable = ap (λ v. M.leq v at) (sym c.loop-k.invariant.head.next) ∙ (rw c.in-None.is at c.in_ok-moved.ensures.stable) in
-    sym (rounds_stay M o.delay G (c.from-delay.result + c.from.result + 1 - c.loop-k.k) c.loop-k.k at stable) ∙ c.loop-k.invariant.rest
+    sym (rounds_stay M o.thresholds o.delay G (c.round_count.result - c.loop-k.k) c.loop-k.k at stable) ∙ c.loop-k.invariant.rest
 
 pub widened-loop-k-preserved : goal.widened-loop-k-preserved
 widened-loop-k-preserved g t c =
     let M = g.L.Leaf.meaning in
-    let o = c.args.task.now.options in
+    let o = c.args.task.now.options.now in
     let value = g.L.Leaf.value in
     let G = loop_turn M o (term c.args.the_loop.now.test.now) (code c.args.the_loop.now.body.now) (value c.args.leaf.now) in
     let x = value c.loop-k.head.at in
     let w = value c.loop-k.head.next in
     let next = c.in_ok-head-in-Some.ensures in
-    let moved = subst (λ d. value c.in-Some.made ≡ (if nat_lt c.loop-k.k d then M.join x w else M.widen x w)) c.from-delay.ensures (rw c.in-Some.is at c.in_ok-moved.ensures.value) in
+    let moved = subst (λ d. value c.in-Some.made ≡ (if nat_lt c.loop-k.k d then M.join x w else M.widen o.thresholds x w)) c.from.ensures (rw c.in-Some.is at c.in_ok-moved.ensures.value) in
     record {
-      rest = rounds_move M o.delay G (c.from-delay.result + c.from.result + 1) c.loop-k.k x w (value c.in_ok-head-in-Some.head.at) _ c.loop-k-test.true c.loop-k.invariant.head.next (rw c.in-Some.is at c.in_ok-moved.ensures.moved) (next.at ∙ moved) c.loop-k.invariant.rest;
+      rest = rounds_move M o.thresholds o.delay G c.round_count.result c.loop-k.k x w (value c.in_ok-head-in-Some.head.at) _ c.loop-k-test.true c.loop-k.invariant.head.next (rw c.in-Some.is at c.in_ok-moved.ensures.moved) (next.at ∙ moved) c.loop-k.invariant.rest;
       head = next.head;
       memory = next.memory;
     }
@@ -126,7 +126,7 @@ after_list-returns-then-is_nothing-clause-value g t c =
     let value = g.L.Leaf.value in
     let v = value c.args.leaf.now in
     let few : v.variables ≤ 16 = c.leaf_is_valid.ensures.few in
-    let stays = after_stays g.L.Leaf.meaning g.met.L.Leaf.laws c.args.task.now.options (c.transfer_is_sound.ensures.answers c.args.task.now.options.mode) v few (sym c.is_nothing.ensures ∙ c.if-is_nothing.true) (code c.args.list.now) in
+    let stays = after_stays g.L.Leaf.meaning g.met.L.Leaf.laws c.args.task.now.options.now (c.transfer_is_sound.ensures.answers c.args.task.now.options.now.mode) v few (sym c.is_nothing.ensures ∙ c.if-is_nothing.true) (code c.args.list.now) in
     subst (λ u. IfOk c.copy.result (λ made. value made ≡ u)) (sym stays) c.copy.ensures
 
 pub head_at-turn-requires : goal.head_at-turn-requires
@@ -142,7 +142,7 @@ pub final_leaf-returns-then-is_nothing-clause-value : goal.final_leaf-returns-th
 final_leaf-returns-then-is_nothing-clause-value g t c =
     let value = g.L.Leaf.value in
     let v = value c.args.leaf.now in
-    let o = c.args.task.now.options in
+    let o = c.args.task.now.options.now in
     let stays = loop_stays g.L.Leaf.meaning g.met.L.Leaf.laws o (c.transfer_is_sound.ensures.answers o.mode) v c.leaf_is_valid.ensures.few (sym c.is_nothing.ensures ∙ c.if-is_nothing.true) (term c.args.the_loop.now.test.now) (code c.args.the_loop.now.body.now) in
     subst (λ u. IfOk c.copy.result (λ made. value made ≡ u)) (sym stays) c.copy.ensures
 
@@ -150,7 +150,7 @@ pub final_leaf-returns-in-Some-clause-value : goal.final_leaf-returns-in-Some-cl
 final_leaf-returns-in-Some-clause-value g t c =
     let value = g.L.Leaf.value in
     let M = g.L.Leaf.meaning in
-    let o = c.args.task.now.options in
+    let o = c.args.task.now.options.now in
     let test = term c.args.the_loop.now.test.now in
     let body = code c.args.the_loop.now.body.now in
     let known = recalled g.L.PartialEq.eq g.met.L.Leaf.exact value M c.args.task.now c.args.finals.now c.args.the_loop.now.place c.in_ok-entered.entered c.in-Some.last.now c.requires.memory (search rules) in
@@ -167,7 +167,7 @@ pub final_leaf-returns-clause-memory : goal.final_leaf-returns-clause-memory
 final_leaf-returns-clause-memory g t c =
     let value = g.L.Leaf.value in
     let M = g.L.Leaf.meaning in
-    let o = c.args.task.now.options in
+    let o = c.args.task.now.options.now in
     let test = term c.args.the_loop.now.test.now in
     let body = code c.args.the_loop.now.body.now in
     let last = c.in_ok-last.ensures in

@@ -13,7 +13,7 @@ abbrev pub invariant-after_list-loop-s : goal.invariant-after_list-loop-s
 invariant-after_list-loop-s g l =
     let value = g.L.Leaf.value in
     record {
-      made : value l.made ≡ after_of g.L.Leaf.meaning l.task.options (code (take l.s-index l.list)) (value l.leaf);
+      made : value l.made ≡ after_of g.L.Leaf.meaning l.task.options.now (code (take l.s-index l.list)) (value l.leaf);
       same : (value l.made).variables ≡ (value l.leaf).variables;
       memory : Remembers value g.L.Leaf.meaning l.task l.finals;
     }
@@ -23,10 +23,10 @@ abbrev pub invariant-widened-loop-k : goal.invariant-widened-loop-k
 invariant-widened-loop-k g l =
     let value = g.L.Leaf.value in
     let M = g.L.Leaf.meaning in
-    let o = l.task.options in
+    let o = l.task.options.now in
     let G = loop_turn M o (term l.the_loop.test.now) (code l.the_loop.body.now) (value l.leaf) in
     record {
-      rest : rounds_of M o.delay G (l.rounds - l.k) l.k (value l.head.at) ≡ widened_leaf M o.delay G (value l.leaf);
+      rest : rounds_of M o.thresholds o.delay G (l.rounds - l.k) l.k (value l.head.at) ≡ widened_leaf M o.thresholds o.delay G (value l.leaf);
       head : IsHead value G (value l.leaf).variables l.head;
       memory : Remembers value M l.task l.finals;
     }
@@ -35,10 +35,10 @@ abbrev pub invariant-final_by_rounds-loop-k : goal.invariant-final_by_rounds-loo
 invariant-final_by_rounds-loop-k g l =
     let value = g.L.Leaf.value in
     let M = g.L.Leaf.meaning in
-    let o = l.task.options in
+    let o = l.task.options.now in
     let G = loop_turn M o (term l.the_loop.test.now) (code l.the_loop.body.now) (value l.leaf) in
     record {
-      rest : narrowings_of M G (o.narrow - l._k) (value l.head.at) ≡ final_leaf M o (term l.the_loop.test.now) (after_of M o (code l.the_loop.body.now)) (value l.leaf);
+      rest : narrowings_of M o.thresholds G (o.narrow - l._k) (value l.head.at) ≡ final_leaf M o (term l.the_loop.test.now) (after_of M o (code l.the_loop.body.now)) (value l.leaf);
       head : IsHead value G (value l.leaf).variables l.head;
       memory : Remembers value M l.task l.finals;
     }

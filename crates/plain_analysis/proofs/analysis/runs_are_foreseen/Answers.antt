@@ -1,6 +1,6 @@
 use Rattle.c_tree.specs.View.{whole}
 use Rattle.plain_analysis.proofs.Held.{analysis_foresees}
-use Rattle.plain_analysis.proofs.Recursion.{loops_settle}
+use Rattle.plain_analysis.proofs.Recursion.{loops_settle, finals_are_inductive}
 use Rattle.plain_analysis.proofs.analysis.runs_are_foreseen.Goals as goal
 
 pub returns-clause-runs : goal.returns-clause-runs
@@ -14,3 +14,8 @@ pub returns-clause-settled : goal.returns-clause-settled
 returns-clause-settled g c =
     let o = c.args.options.now in
     loops_settle g.L.Leaf.meaning g.met.L.Leaf.laws o (c.transfer_is_sound.ensures.answers o.mode)
+
+pub returns-clause-inductive : goal.returns-clause-inductive
+returns-clause-inductive g c =
+    let o = c.args.options.now in
+    finals_are_inductive g.L.Leaf.meaning g.met.L.Leaf.laws o (c.transfer_is_sound.ensures.answers o.mode)

@@ -28,7 +28,7 @@ pub enter_list-loop-s-preserved : goal.enter_list-loop-s-preserved
 enter_list-loop-s-preserved g t c =
     let value = g.L.Leaf.value in
     let M = g.L.Leaf.meaning in
-    let o = c.args.task.now.options in
+    let o = c.args.task.now.options.now in
     let v = value c.args.leaf.now in
     let list = c.args.list.now in
     let i = c.loop-s.s-index in
@@ -49,7 +49,7 @@ pub enter_stmt-returns-in_ok-after_no-in-If-clause-entered : goal.enter_stmt-ret
 enter_stmt-returns-in_ok-after_no-in-If-clause-entered g t c =
     let value = g.L.Leaf.value in
     let M = g.L.Leaf.meaning in
-    let o = c.args.task.now.options in
+    let o = c.args.task.now.options.now in
     let v = value c.args.leaf.now in
     let i = c.in-If in
     let a = c.args.noted.now in
@@ -67,7 +67,7 @@ enter_stmt-returns-in_ok-after_no-in-If-clause-entered g t c =
 pub enter_stmt-returns-in_ok-enter_side-in-While-clause-value : goal.enter_stmt-returns-in_ok-enter_side-in-While-clause-value
 enter_stmt-returns-in_ok-enter_side-in-While-clause-value g t c =
     let M = g.L.Leaf.meaning in
-    let o = c.args.task.now.options in
+    let o = c.args.task.now.options.now in
     let v = g.L.Leaf.value c.args.leaf.now in
     let w = c.in-While in
     let last = c.in_ok-last-in-While.ensures.value ∙ ap (λ l. final_leaf M o (term w.test) (after_of M o (code l)) v) c.deref-in-While.ensures.value in
@@ -78,7 +78,7 @@ pub enter_stmt-returns-in_ok-enter_side-in-While-clause-entered : goal.enter_stm
 enter_stmt-returns-in_ok-enter_side-in-While-clause-entered g t c =
     let value = g.L.Leaf.value in
     let M = g.L.Leaf.meaning in
-    let o = c.args.task.now.options in
+    let o = c.args.task.now.options.now in
     let v = value c.args.leaf.now in
     let w = c.in-While in
     let a = c.args.noted.now in
@@ -98,7 +98,7 @@ pub enter_stmt-returns-in_ok-enter-in-Block-clause-entered : goal.enter_stmt-ret
 enter_stmt-returns-in_ok-enter-in-Block-clause-entered g t c =
     let value = g.L.Leaf.value in
     let M = g.L.Leaf.meaning in
-    let o = c.args.task.now.options in
+    let o = c.args.task.now.options.now in
     let v = value c.args.leaf.now in
     let w = c.in-Block in
     let a = c.args.noted.now in

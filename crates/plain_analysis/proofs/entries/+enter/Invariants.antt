@@ -12,7 +12,7 @@ abbrev pub invariant-enter_list-loop-s : goal.invariant-enter_list-loop-s
 invariant-enter_list-loop-s g l =
     let value = g.L.Leaf.value in
     let M = g.L.Leaf.meaning in
-    let o = l.task.options in
+    let o = l.task.options.now in
     record {
       made : value l.made ≡ after_of M o (code (take l.s-index l.list)) (value l.leaf);
       same : (value l.made).variables ≡ (value l.leaf).variables;
