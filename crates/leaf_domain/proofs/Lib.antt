@@ -17,3 +17,6 @@ mod SoundLemmas
 mod SoundStops
 mod FitLemmas
 pub mod ThresholdLemmas
+pub mod EndLemmas
+pub mod Zipped
+pub mod StepSums

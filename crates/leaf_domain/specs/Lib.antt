@@ -10,3 +10,4 @@ pub mod Soundness
 pub mod Variables
 pub mod Thresholds
 pub mod Exactness
+pub mod Ends

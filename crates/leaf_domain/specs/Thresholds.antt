@@ -1,5 +1,5 @@
 -- Numbers to which the bounds of a loop's leaf may step, and how a bound steps to the nearest of them.
-use Rattle.std.specs.Prelude.{◌≡◌, ◌≤◌, ◌+◌, ℕ, ℤ, pos, neg_ℤ, ◌*ℤ◌, int_le, int_lt, Bool, ◌&&◌, ◌||◌, if◌then◌else◌, List, [], ◌∷◌, length, map, All}
+use Rattle.std.specs.Prelude.{◌≤◌, ◌+◌, ℕ, ℤ, pos, neg_ℤ, ◌*ℤ◌, int_le, int_lt, Bool, ◌&&◌, ◌||◌, if◌then◌else◌, List, [], ◌∷◌, length, map, All}
 use Rattle.std.specs.Int.{int_min}
 use Rattle.std.specs.Ordering.{int_eq}
 use Rattle.c_tree.specs.Value.{IsInt}

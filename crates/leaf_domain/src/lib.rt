@@ -3,6 +3,7 @@
 
 pub mod compare;
 mod differences;
+mod ends;
 mod evaluation;
 pub mod form;
 pub mod laws;
