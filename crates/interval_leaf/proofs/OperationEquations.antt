@@ -1,5 +1,5 @@
 -- What the operations make of the ranges of leaves that are not Nothing is what the definitions say of the leaves.
-use Rattle.std.proofs.Common.{◌≡◌, ℕ, zero, suc, ◌<◌, ◌≤◌, Bool, true, false, ◌&&◌, List, [], ◌∷◌, length, map, slice_set, slice_index_or, refl, ap, sym, ◌∙◌, arith}
+use Rattle.std.proofs.Common.{◌≡◌, ℤ, ℕ, zero, suc, ◌<◌, ◌≤◌, Bool, true, false, ◌&&◌, List, [], ◌∷◌, length, map, slice_set, slice_index_or, refl, ap, sym, ◌∙◌, arith}
 use Rattle.std.specs.List.{zip}
 use Rattle.std.specs.Ordering.{int_eq}
 use lib.Pointwise.{pointwise}
@@ -21,11 +21,11 @@ few_zipped f a b us bs rs h s e g k =
 pub join_some : (a b r : LeafValue) (us bs rs : List Range) → a ≡ interval_of us → b ≡ interval_of bs → rs ≡ covers us bs → r ≡ interval_of rs → r ≡ interval_join a b
 join_some a b r us bs rs e f g h = rw (e, f, h, g, pairs_numbers us, pairs_numbers bs)
 
-pub widen_some : (a b r : LeafValue) (us bs rs : List Range) → a ≡ interval_of us → b ≡ interval_of bs → rs ≡ widened_all us bs → r ≡ interval_of rs → r ≡ interval_widen a b
-widen_some a b r us bs rs e f g h = rw (e, f, h, g, pairs_numbers us, pairs_numbers bs)
+pub widen_some : (ts : List ℤ) (a b r : LeafValue) (us bs rs : List Range) → a ≡ interval_of us → b ≡ interval_of bs → rs ≡ widened_all ts us bs → r ≡ interval_of rs → r ≡ interval_widen ts a b
+widen_some ts a b r us bs rs e f g h = rw (e, f, h, g, pairs_numbers us, pairs_numbers bs)
 
-pub narrow_some : (a b r : LeafValue) (us bs rs : List Range) → a ≡ interval_of us → b ≡ interval_of bs → rs ≡ narrowed_all us bs → r ≡ settled rs → r ≡ interval_narrow a b
-narrow_some a b r us bs rs e f g h = rw (e, f, h, g, pairs_numbers us, pairs_numbers bs)
+pub narrow_some : (ts : List ℤ) (a b r : LeafValue) (us bs rs : List Range) → a ≡ interval_of us → b ≡ interval_of bs → rs ≡ narrowed_all ts us bs → r ≡ settled rs → r ≡ interval_narrow ts a b
+narrow_some ts a b r us bs rs e f g h = rw (e, f, h, g, pairs_numbers us, pairs_numbers bs)
 
 pub leq_some : (a b : LeafValue) (us bs : List Range) (r : Bool) → a ≡ interval_of us → b ≡ interval_of bs → r ≡ all_lie_in us bs → r ≡ interval_leq a b
 leq_some a b us bs r e f g = rw (e, f, g, pairs_numbers us, pairs_numbers bs)

@@ -1,12 +1,12 @@
 -- A leaf with one range per variable.
-use Rattle.std.specs.Prelude.{◌≡◌, ℕ, ◌≤◌, ◌+◌, ◌*◌, ℤ, ◌≤ℤ◌, int_lt, int_le, Bool, true, false, ◌&&◌, if◌then◌else◌, List, [], ◌∷◌, Option, Some, None, length, slice_index_or, slice_set, map, zip, ⊤}
+use Rattle.std.specs.Prelude.{◌≡◌, ℕ, ◌≤◌, ◌*◌, ℤ, ◌≤ℤ◌, int_le, Bool, true, false, ◌&&◌, if◌then◌else◌, List, [], ◌∷◌, Option, Some, None, length, slice_index_or, slice_set, map, zip, ⊤}
 use Rattle.std.specs.List.{AllByRecursion, list_all, list_any}
-use Rattle.std.specs.Ordering.{int_eq}
 use Rattle.c_tree.specs.Value.{least, greatest}
 use Rattle.leaf_domain.specs.declared.range.Range.{Range}
 use Rattle.leaf_domain.specs.Ranges.{Within, is_empty_range, empty_range, range_at, cover_of, meet_of}
+use Rattle.leaf_domain.specs.Ends.{widened_range, narrowed_range, ends_left}
 use Rattle.leaf_domain.specs.Leaves.{LeafValue, LeafMeaning, nothing_of, is_nothing_of}
-use Rattle.leaf_domain.specs.Variables.{EachHolds}
+use Rattle.leaf_domain.specs.Variables.{EachHolds, total_of}
 
 -- a low and a high for each variable, as one list of numbers
 abbrev pub numbers_of : List Range → List ℤ
@@ -78,28 +78,11 @@ lies_in a b = int_le b.low a.low && int_le a.high b.high
 abbrev pub all_lie_in : List Range → List Range → Bool
 all_lie_in us bs = list_all (λ (a, b). lies_in a b) (zip us bs)
 
--- an end that moves becomes the type's
-abbrev pub widened : Range → Range → Range
-widened x g = record {
-  low = if int_lt g.low x.low then least else x.low;
-  high = if int_lt x.high g.high then greatest else x.high;
-}
+abbrev pub widened_all : List ℤ → List Range → List Range → List Range
+widened_all ts xs gs = map (λ (x, g). widened_range ts x g) (zip xs gs)
 
--- an end that is the type's becomes that of g
-abbrev pub narrowed : Range → Range → Range
-narrowed x g = record {
-  low = if int_eq x.low least then g.low else x.low;
-  high = if int_eq x.high greatest then g.high else x.high;
-}
-
-abbrev pub own_ends : Range → ℕ
-own_ends r = (if int_eq r.low least then 0 else 1) + (if int_eq r.high greatest then 0 else 1)
-
-abbrev pub widened_all : List Range → List Range → List Range
-widened_all xs gs = map (λ (x, g). widened x g) (zip xs gs)
-
-abbrev pub narrowed_all : List Range → List Range → List Range
-narrowed_all xs gs = map (λ (x, g). narrowed x g) (zip xs gs)
+abbrev pub narrowed_all : List ℤ → List Range → List Range → List Range
+narrowed_all ts xs gs = map (λ (x, g). narrowed_range ts x g) (zip xs gs)
 
 -- the leaf of these ranges, where none is empty
 abbrev pub settled : List Range → LeafValue
@@ -114,11 +97,11 @@ interval_leq a b = if is_nothing_of a then true else (if is_nothing_of b then fa
 abbrev pub interval_join : LeafValue → LeafValue → LeafValue
 interval_join a b = if is_nothing_of a then b else (if is_nothing_of b then a else interval_of (covers (ranges_of a) (ranges_of b)))
 
-abbrev pub interval_widen : LeafValue → LeafValue → LeafValue
-interval_widen x g = if is_nothing_of x then g else (if is_nothing_of g then x else interval_of (widened_all (ranges_of x) (ranges_of g)))
+abbrev pub interval_widen : List ℤ → LeafValue → LeafValue → LeafValue
+interval_widen ts x g = if is_nothing_of x then g else (if is_nothing_of g then x else interval_of (widened_all ts (ranges_of x) (ranges_of g)))
 
-abbrev pub interval_narrow : LeafValue → LeafValue → LeafValue
-interval_narrow x g = if is_nothing_of x then x else (if is_nothing_of g then g else settled (narrowed_all (ranges_of x) (ranges_of g)))
+abbrev pub interval_narrow : List ℤ → LeafValue → LeafValue → LeafValue
+interval_narrow ts x g = if is_nothing_of x then x else (if is_nothing_of g then g else settled (narrowed_all ts (ranges_of x) (ranges_of g)))
 
 abbrev pub interval_bounds : LeafValue → ℕ → Range
 interval_bounds v x = slice_index_or (ranges_of v) x empty_range
@@ -130,12 +113,11 @@ interval_with v x r = if is_nothing_of v then v else (if is_empty_range r then n
 abbrev pub interval_meet : LeafValue → ℕ → Range → LeafValue
 interval_meet v x r = interval_with v x (meet_of (interval_bounds v x) r)
 
-abbrev pub own_bounds_in : List Range → ℕ
-own_bounds_in [] = 0
-own_bounds_in (r ∷ rs) = own_ends r + own_bounds_in rs
+abbrev pub steps_left_in : List ℤ → List Range → ℕ
+steps_left_in ts rs = total_of (ends_left ts) rs
 
-abbrev pub interval_own_bounds : LeafValue → ℕ
-interval_own_bounds v = own_bounds_in (ranges_of v)
+abbrev pub interval_steps_left : List ℤ → LeafValue → ℕ
+interval_steps_left ts v = steps_left_in ts (ranges_of v)
 
 abbrev pub twice : ℕ → ℕ
 twice n = 2 * n
@@ -146,7 +128,7 @@ intervals = record {
   holds = interval_holds;
   start = interval_start;
   bound_count = twice;
-  own_bounds = interval_own_bounds;
+  steps_left = interval_steps_left;
   best = λ v. v;
   leq = interval_leq;
   join = interval_join;

@@ -14,7 +14,7 @@ use crate::ranges::{
     are_inside, are_same, covered, has_empty, narrowed_ranges, points, replaced, widened_ranges,
 };
 use fam_outer::NoMemory;
-use leaf_domain::{Compare, Form, Leaf, Range};
+use leaf_domain::{Compare, Form, Leaf, Range, Thresholds};
 use std::alloc::Global;
 use std::hash::{Hash, Hasher};
 use std::marker::Model;
@@ -221,23 +221,39 @@ impl Leaf for IntervalLeaf {
         }
     }
 
-    fn widen(&self, alloc: Global, other: &IntervalLeaf) -> Result<IntervalLeaf, NoMemory> {
+    fn widen(
+        &self,
+        alloc: Global,
+        other: &IntervalLeaf,
+        thresholds: &Thresholds,
+    ) -> Result<IntervalLeaf, NoMemory> {
         let Some(ranges) = self.items() else {
             return other.copy(alloc);
         };
         match other.items() {
             None => self.copy(alloc),
-            Some(others) => Ok(IntervalLeaf::of(widened_ranges(alloc, ranges, others)?)),
+            Some(others) => {
+                let widened = widened_ranges(alloc, ranges, others, thresholds)?;
+                Ok(IntervalLeaf::of(widened))
+            }
         }
     }
 
-    fn narrow(&self, alloc: Global, other: &IntervalLeaf) -> Result<IntervalLeaf, NoMemory> {
+    fn narrow(
+        &self,
+        alloc: Global,
+        other: &IntervalLeaf,
+        thresholds: &Thresholds,
+    ) -> Result<IntervalLeaf, NoMemory> {
         let Some(ranges) = self.items() else {
             return self.copy(alloc);
         };
         match other.items() {
             None => other.copy(alloc),
-            Some(others) => Ok(IntervalLeaf::settled(narrowed_ranges(alloc, ranges, others)?)),
+            Some(others) => {
+                let narrowed = narrowed_ranges(alloc, ranges, others, thresholds)?;
+                Ok(IntervalLeaf::settled(narrowed))
+            }
         }
     }
 

@@ -5,14 +5,10 @@ ghost use Rattle.std.specs.Prelude.{◌≡◌, ◌<◌, IfOk, length, map, zip, 
 ghost use Rattle.std.specs.List.{list_any};
 ghost use Rattle.leaf_domain.specs.Ranges.{is_empty_range};
 ghost use Rattle.leaf_domain.specs.Leaves.{same_numbers};
-ghost use Rattle.interval_leaf.specs.Intervals.{numbers_of, widened, narrowed, covers, all_lie_in, widened_all, narrowed_all, lies_in, point_of};
+ghost use Rattle.interval_leaf.specs.Intervals.{numbers_of, AllOwn, covers, all_lie_in, widened_all, narrowed_all, lies_in, point_of};
 
-use leaf_domain::Range;
+use leaf_domain::{Range, Thresholds};
 use std::alloc::{AllocError, Global};
-
-const LOW: i64 = -2147483648;
-
-const HIGH: i64 = 2147483647;
 
 /// The ranges of single numbers.
 pub(crate) fn points(alloc: Global, values: &[i64]) -> Result<Vec<Range>, AllocError>
@@ -45,52 +41,40 @@ pub(crate) fn are_inside(a: &[Range], b: &[Range]) -> bool
     a.iter().zip(b).all(|(p, q)| is_inside(*p, *q))
 }
 
-/// A range with each bound that the other moves put as that of `int`.
-fn widened_range(x: Range, g: Range) -> Range
-    ensures { result ≡ widened x g }
-{
-    Range {
-        low: if g.low < x.low { LOW } else { x.low },
-        high: if x.high < g.high { HIGH } else { x.high },
-    }
-}
-
-/// A range with each bound that is that of `int` put as the other's.
-fn narrowed_range(x: Range, g: Range) -> Range
-    ensures { result ≡ narrowed x g }
-{
-    Range {
-        low: if x.low == LOW { g.low } else { x.low },
-        high: if x.high == HIGH { g.high } else { x.high },
-    }
-}
-
 /// The ranges widened one by one.
 pub(crate) fn widened_ranges(
     alloc: Global,
-    a: &[Range],
-    b: &[Range],
+    x: &[Range],
+    g: &[Range],
+    thresholds: &Thresholds,
 ) -> Result<Vec<Range>, AllocError>
-    ensures { IfOk result (λ v. v.items ≡ widened_all a.now b.now) }
+    requires same { length x.now ≡ length g.now }
+    requires own { AllOwn g.now }
+    ensures { IfOk result (λ v. v.items ≡ widened_all thresholds.now x.now g.now) }
 {
-    a.iter()
-        .zip(b)
-        .map(|(x, g)| widened_range(*x, *g))
-        .collect(alloc)
+    let mut made = Vec::new(alloc);
+    for i in 0..x.len() {
+        made.push(x[i].widened(g[i], thresholds))?;
+    }
+    Ok(made)
 }
 
 /// The ranges narrowed one by one.
 pub(crate) fn narrowed_ranges(
     alloc: Global,
-    a: &[Range],
-    b: &[Range],
+    x: &[Range],
+    g: &[Range],
+    thresholds: &Thresholds,
 ) -> Result<Vec<Range>, AllocError>
-    ensures { IfOk result (λ v. v.items ≡ narrowed_all a.now b.now) }
+    requires same { length x.now ≡ length g.now }
+    requires own { AllOwn x.now }
+    ensures { IfOk result (λ v. v.items ≡ narrowed_all thresholds.now x.now g.now) }
 {
-    a.iter()
-        .zip(b)
-        .map(|(x, g)| narrowed_range(*x, *g))
-        .collect(alloc)
+    let mut made = Vec::new(alloc);
+    for i in 0..x.len() {
+        made.push(x[i].narrowed(g[i], thresholds))?;
+    }
+    Ok(made)
 }
 
 /// Whether one of the ranges is empty.

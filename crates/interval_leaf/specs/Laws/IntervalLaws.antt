@@ -1,15 +1,16 @@
 -- The laws of intervals.
-use Rattle.std.proofs.Common.{◌≡◌, ◌⊎◌, inl, inr, ◌↔◌, ℕ, ◌≤◌, ◌<◌, ◌*◌, ℤ, pos, Bool, true, false, List, Option, Some, None, length, slice_index_or, slice_set, map, refl, sym, ◌∙◌, arith, if◌then◌else◌}
+use Rattle.std.proofs.Common.{◌≡◌, ◌⊎◌, inl, inr, ◌↔◌, ℕ, ◌≤◌, ◌<◌, ◌+◌, ◌*◌, ℤ, pos, Bool, true, false, List, Option, Some, None, length, slice_index_or, slice_set, map, refl, sym, ◌∙◌, arith, if◌then◌else◌}
 use Rattle.std.specs.List.{list_any}
 use Rattle.std.proofs.lemmas.Int.{ints, clamps}
 use Rattle.std.proofs.lemmas.List.{length-map}
 use Rattle.leaf_domain.specs.declared.range.Range.{Range}
 use Rattle.leaf_domain.specs.Ranges.{Within, IsInInt, is_empty_range, empty_range, cover_of, meet_of}
+use Rattle.leaf_domain.specs.Ends.{widened_range, narrowed_range}
 use Rattle.leaf_domain.specs.Forms.{form_at}
 use Rattle.leaf_domain.specs.Leaves.{LeafValue, LeafLaws, IsLeafLike, nothing_of, is_nothing_of}
-use Rattle.interval_leaf.specs.Intervals.{intervals, pairs_of, interval_of, IsInterval, AllWithinRanges, ContentHolds, interval_holds, interval_start, interval_leq, interval_join, interval_widen, interval_narrow, interval_bounds, interval_meet, interval_with, interval_own_bounds, covers, widened, widened_all, narrowed, narrowed_all, settled, point_of, AllOwn, IsOwn, HasEnds}
+use Rattle.interval_leaf.specs.Intervals.{intervals, pairs_of, interval_of, IsInterval, AllWithinRanges, ContentHolds, interval_holds, interval_start, interval_leq, interval_join, interval_widen, interval_narrow, interval_bounds, interval_meet, interval_with, interval_steps_left, covers, widened_all, narrowed_all, settled, point_of, AllOwn, IsOwn, HasEnds}
 use Rattle.leaf_domain.proofs.Variables.{length_zipped, length_replaced}
-use Rattle.interval_leaf.specs.Laws.RangeLists.{pairs_numbers, is_interval, covers_own, widened_all_own, narrowed_all_ends, own_from_all_ends, own_from_ends, own_set, own_points, covers_first, covers_second, inside_holds, widened_all_first, widened_all_second, narrowed_all_hold, none_empty, points_hold, points_alone, lows, lows_hold, held_length, widened_all_fewer, own_bounds_le, read_within, read_own, set_within, kept_within}
+use Rattle.interval_leaf.specs.Laws.RangeLists.{pairs_numbers, is_interval, covers_own, widened_all_own, narrowed_all_ends, own_from_all_ends, own_from_ends, own_set, own_points, covers_first, covers_second, inside_holds, widened_all_first, widened_all_second, narrowed_all_hold, none_empty, points_hold, points_alone, lows, lows_hold, held_length, widened_all_fewer, steps_few_in, read_within, read_own, set_within, kept_within}
 
 abbrev at : ℕ → Option (List ℤ) → LeafValue
 at n c = record { variables = n; content = c }
@@ -52,48 +53,48 @@ nothing_join n None = refl
 nothing_join n (Some us) = refl
 
 -- ---- widen
-widen_answers : (n m : ℕ) (c d : Option (List ℤ)) → IsInterval (at n c) → IsInterval (at m d) → n ≡ m → IsLeafLike intervals (at n c) (interval_widen (at n c) (at m d))
-widen_answers n m None d p q e = record { valid = q; same = sym e }
-widen_answers n m (Some us) None p q e = record { valid = p; same = refl }
-widen_answers n m (Some us) (Some bs) p q e =
-    made_answers n (Some us) (widened_all (pairs_of us) (pairs_of bs)) p.0 (p.1.1 ∙ sym (length_zipped widened (pairs_of us) (pairs_of bs) (sym p.1.1 ∙ e ∙ q.1.1))) (widened_all_own (pairs_of us) (pairs_of bs) p.1.2 q.1.2)
+widen_answers : (ts : List ℤ) (n m : ℕ) (c d : Option (List ℤ)) → IsInterval (at n c) → IsInterval (at m d) → n ≡ m → IsLeafLike intervals (at n c) (interval_widen ts (at n c) (at m d))
+widen_answers ts n m None d p q e = record { valid = q; same = sym e }
+widen_answers ts n m (Some us) None p q e = record { valid = p; same = refl }
+widen_answers ts n m (Some us) (Some bs) p q e =
+    made_answers n (Some us) (widened_all ts (pairs_of us) (pairs_of bs)) p.0 (p.1.1 ∙ sym (length_zipped (widened_range ts) (pairs_of us) (pairs_of bs) (sym p.1.1 ∙ e ∙ q.1.1))) (widened_all_own ts (pairs_of us) (pairs_of bs) p.1.2 q.1.2)
 
-widen_holds : (n m : ℕ) (c d : Option (List ℤ)) (s : List ℤ) → IsInterval (at n c) → IsInterval (at m d) → n ≡ m → ContentHolds c s ⊎ ContentHolds d s → interval_holds (interval_widen (at n c) (at m d)) s
-widen_holds n m None d s p q e (inl h) = absurd h
-widen_holds n m None d s p q e (inr h) = h
-widen_holds n m (Some us) None s p q e (inl h) = h
-widen_holds n m (Some us) None s p q e (inr h) = absurd h
-widen_holds n m (Some us) (Some bs) s p q e (inl h) = made_holds _ s (widened_all_first (pairs_of us) (pairs_of bs) s (sym p.1.1 ∙ e ∙ q.1.1) p.1.2 q.1.2 h)
-widen_holds n m (Some us) (Some bs) s p q e (inr h) = made_holds _ s (widened_all_second (pairs_of us) (pairs_of bs) s (sym p.1.1 ∙ e ∙ q.1.1) p.1.2 q.1.2 h)
+widen_holds : (ts : List ℤ) (n m : ℕ) (c d : Option (List ℤ)) (s : List ℤ) → IsInterval (at n c) → IsInterval (at m d) → n ≡ m → ContentHolds c s ⊎ ContentHolds d s → interval_holds (interval_widen ts (at n c) (at m d)) s
+widen_holds ts n m None d s p q e (inl h) = absurd h
+widen_holds ts n m None d s p q e (inr h) = h
+widen_holds ts n m (Some us) None s p q e (inl h) = h
+widen_holds ts n m (Some us) None s p q e (inr h) = absurd h
+widen_holds ts n m (Some us) (Some bs) s p q e (inl h) = made_holds _ s (widened_all_first ts (pairs_of us) (pairs_of bs) s (sym p.1.1 ∙ e ∙ q.1.1) p.1.2 q.1.2 h)
+widen_holds ts n m (Some us) (Some bs) s p q e (inr h) = made_holds _ s (widened_all_second ts (pairs_of us) (pairs_of bs) s (sym p.1.1 ∙ e ∙ q.1.1) p.1.2 q.1.2 h)
 
-widen_grows : (n m : ℕ) (c d : Option (List ℤ)) → IsInterval (at n c) → IsInterval (at m d) → n ≡ m → is_nothing_of (at n c) ≡ false → is_nothing_of (at m d) ≡ false → interval_leq (at m d) (at n c) ≡ false → interval_own_bounds (interval_widen (at n c) (at m d)) < interval_own_bounds (at n c)
-widen_grows n m None d p q e f g h = cc
-widen_grows n m (Some us) None p q e f g h = cc
-widen_grows n m (Some us) (Some bs) p q e f g h = rw (pairs_numbers (widened_all (pairs_of us) (pairs_of bs))) (widened_all_fewer (pairs_of us) (pairs_of bs) (sym p.1.1 ∙ e ∙ q.1.1) q.1.2 h)
+widen_grows : (ts : List ℤ) (n m : ℕ) (c d : Option (List ℤ)) → IsInterval (at n c) → IsInterval (at m d) → n ≡ m → is_nothing_of (at n c) ≡ false → is_nothing_of (at m d) ≡ false → interval_leq (at m d) (at n c) ≡ false → interval_steps_left ts (interval_widen ts (at n c) (at m d)) < interval_steps_left ts (at n c)
+widen_grows ts n m None d p q e f g h = cc
+widen_grows ts n m (Some us) None p q e f g h = cc
+widen_grows ts n m (Some us) (Some bs) p q e f g h = rw (pairs_numbers (widened_all ts (pairs_of us) (pairs_of bs))) (widened_all_fewer ts (pairs_of us) (pairs_of bs) (sym p.1.1 ∙ e ∙ q.1.1) p.1.2 q.1.2 h)
 
-own_le : (n : ℕ) (c : Option (List ℤ)) → IsInterval (at n c) → interval_own_bounds (at n c) ≤ 2 * n
-own_le n None p = omega arith
-own_le n (Some us) p = omega (arith, own_bounds_le (pairs_of us), p.1.1)
+steps_few : (ts : List ℤ) (n : ℕ) (c : Option (List ℤ)) → IsInterval (at n c) → interval_steps_left ts (at n c) ≤ 2 * n * (length ts + 1)
+steps_few ts n None p = omega arith
+steps_few ts n (Some us) p = rw p.1.1 (steps_few_in ts (pairs_of us) p.1.2)
 
 -- ---- narrow
 settled_answers : (n : ℕ) (c : Option (List ℤ)) (rs : List Range) (t : Bool) → list_any is_empty_range rs ≡ t → n ≤ 16 → n ≡ length rs → (list_any is_empty_range rs ≡ false → AllOwn rs) → IsLeafLike intervals (at n c) (if t then nothing_of (length rs) else interval_of rs)
 settled_answers n c rs true f h e k = record { valid = (omega arith, tt); same = sym e }
 settled_answers n c rs false f h e k = made_answers n c rs h e (k f)
 
-narrow_answers : (n m : ℕ) (c d : Option (List ℤ)) → IsInterval (at n c) → IsInterval (at m d) → n ≡ m → IsLeafLike intervals (at n c) (interval_narrow (at n c) (at m d))
-narrow_answers n m None d p q e = record { valid = p; same = refl }
-narrow_answers n m (Some us) None p q e = record { valid = q; same = sym e }
-narrow_answers n m (Some us) (Some bs) p q e =
-    settled_answers n (Some us) (narrowed_all (pairs_of us) (pairs_of bs)) _ refl p.0 (p.1.1 ∙ sym (length_zipped narrowed (pairs_of us) (pairs_of bs) (sym p.1.1 ∙ e ∙ q.1.1)))
-    (own_from_all_ends _ (narrowed_all_ends (pairs_of us) (pairs_of bs) p.1.2 q.1.2))
+narrow_answers : (ts : List ℤ) (n m : ℕ) (c d : Option (List ℤ)) → IsInterval (at n c) → IsInterval (at m d) → n ≡ m → IsLeafLike intervals (at n c) (interval_narrow ts (at n c) (at m d))
+narrow_answers ts n m None d p q e = record { valid = p; same = refl }
+narrow_answers ts n m (Some us) None p q e = record { valid = q; same = sym e }
+narrow_answers ts n m (Some us) (Some bs) p q e =
+    settled_answers n (Some us) (narrowed_all ts (pairs_of us) (pairs_of bs)) _ refl p.0 (p.1.1 ∙ sym (length_zipped (narrowed_range ts) (pairs_of us) (pairs_of bs) (sym p.1.1 ∙ e ∙ q.1.1)))
+    (own_from_all_ends _ (narrowed_all_ends ts (pairs_of us) (pairs_of bs) p.1.2 q.1.2))
 
 settled_holds : (rs : List Range) (s : List ℤ) → AllWithinRanges rs s → interval_holds (settled rs) s
 settled_holds rs s h = rw (none_empty rs s h) (made_holds rs s h)
 
-narrow_holds : (n m : ℕ) (c d : Option (List ℤ)) (s : List ℤ) → IsInterval (at n c) → IsInterval (at m d) → n ≡ m → interval_leq (at m d) (at n c) ≡ true → ContentHolds d s → interval_holds (interval_narrow (at n c) (at m d)) s
-narrow_holds n m c None s p q e f h = absurd h
-narrow_holds n m None (Some bs) s p q e f h = cc
-narrow_holds n m (Some us) (Some bs) s p q e f h = settled_holds _ s (narrowed_all_hold (pairs_of us) (pairs_of bs) s (sym p.1.1 ∙ e ∙ q.1.1) f h)
+narrow_holds : (ts : List ℤ) (n m : ℕ) (c d : Option (List ℤ)) (s : List ℤ) → IsInterval (at n c) → IsInterval (at m d) → n ≡ m → interval_leq (at m d) (at n c) ≡ true → ContentHolds d s → interval_holds (interval_narrow ts (at n c) (at m d)) s
+narrow_holds ts n m c None s p q e f h = absurd h
+narrow_holds ts n m None (Some bs) s p q e f h = cc
+narrow_holds ts n m (Some us) (Some bs) s p q e f h = settled_holds _ s (narrowed_all_hold ts (pairs_of us) (pairs_of bs) s (sym p.1.1 ∙ e ∙ q.1.1) f h)
 
 -- ---- one variable
 with_answers : (n : ℕ) (c : Option (List ℤ)) (x : ℕ) (r : Range) (t : Bool) → is_empty_range r ≡ t → IsInterval (at n c) → HasEnds r → IsLeafLike intervals (at n c) (interval_with (at n c) x r)
@@ -174,13 +175,13 @@ interval_laws = record {
   join_holds = λ a b s k. join_holds a.variables b.variables a.content b.content s k.first k.second k.same;
   join_nothing = λ a. refl;
   nothing_join = λ a. nothing_join a.variables a.content;
-  widen_answers = λ a b k. widen_answers a.variables b.variables a.content b.content k.first k.second k.same;
-  widen_holds = λ a b s k. widen_holds a.variables b.variables a.content b.content s k.first k.second k.same;
-  widen_grows = λ a b k. widen_grows a.variables b.variables a.content b.content k.first k.second k.same;
-  own_bounds_le = λ a p. own_le a.variables a.content p;
-  narrow_answers = λ a b k. narrow_answers a.variables b.variables a.content b.content k.first k.second k.same;
-  narrow_holds = λ a b s k. narrow_holds a.variables b.variables a.content b.content s k.first k.second k.same;
-  narrow_nothing = λ n a. refl;
+  widen_answers = λ ts a b k. widen_answers ts a.variables b.variables a.content b.content k.first k.second k.same;
+  widen_holds = λ ts a b s k. widen_holds ts a.variables b.variables a.content b.content s k.first k.second k.same;
+  widen_grows = λ ts a b k. widen_grows ts a.variables b.variables a.content b.content k.first k.second k.same;
+  steps_few = λ ts a p. steps_few ts a.variables a.content p;
+  narrow_answers = λ ts a b k. narrow_answers ts a.variables b.variables a.content b.content k.first k.second k.same;
+  narrow_holds = λ ts a b s k. narrow_holds ts a.variables b.variables a.content b.content s k.first k.second k.same;
+  narrow_nothing = λ ts n a. refl;
   bounds_in_int = λ a x. bounds_in_int a.variables a.content x;
   bounds_hold = λ a x s. bounds_hold a.variables a.content x s;
   bounds_nothing = λ n x. refl;

@@ -1,15 +1,18 @@
 -- Facts on lists of ranges.
-use Rattle.std.proofs.Common.{◌≡◌, ℕ, ◌+◌, ◌*◌, ◌<◌, ◌≤◌, ℤ, pos, Bool, true, false, ◌&&◌, ◌||◌, List, [], ◌∷◌, length, map, slice_set, slice_index_or, refl, ap, sym, ◌∙◌, arith, All}
+use Rattle.std.proofs.Common.{◌≡◌, ℕ, int_le, ◌≤ℤ◌, ◌+◌, ◌*◌, ◌<◌, ◌≤◌, ℤ, pos, Bool, true, false, ◌&&◌, ◌||◌, List, [], ◌∷◌, length, map, slice_set, slice_index_or, refl, ap, sym, ◌∙◌, arith, All}
 use Rattle.std.specs.List.{list_any}
 use Rattle.std.specs.Prelude.{⊤}
 use Rattle.std.proofs.lemmas.Int.{ints, clamps}
 use Rattle.std.proofs.lemmas.List.Elements.{All-head, All-tail}
 use Rattle.leaf_domain.specs.declared.range.Range.{Range}
 use Rattle.leaf_domain.specs.Ranges.{Within, is_empty_range, cover_of, empty_range}
-use Rattle.c_tree.specs.Value.{IsInt}
+use Rattle.leaf_domain.specs.Ends.{widened_range, narrowed_range, ends_left}
+use Rattle.leaf_domain.proofs.EndLemmas.{widened_low_first, widened_low_second, widened_high_first, widened_high_second, widened_low_inside, widened_high_inside, ends_fall, ends_fewer_low, ends_fewer_high, ends_few, narrowed_low, narrowed_high}
+use Rattle.leaf_domain.proofs.StepSums.{zipped_fewer, few_each}
+use Rattle.c_tree.specs.Value.{IsInt, least, greatest}
 use Rattle.leaf_domain.proofs.Variables as variables
 use Rattle.leaf_domain.proofs.Variables.{of_any, each_zipped, each_set, each_read, holds_first, holds_second, holds_tested, holds_made, held_read, held_set, held_part}
-use Rattle.interval_leaf.specs.Intervals.{numbers_of, pairs_of, interval_of, IsOwn, AllOwn, HasEnds, AllEnds, point_of, covers, lies_in, all_lie_in, widened, narrowed, widened_all, narrowed_all, IsInterval, AllWithinRanges, own_ends, own_bounds_in}
+use Rattle.interval_leaf.specs.Intervals.{numbers_of, pairs_of, interval_of, IsOwn, AllOwn, HasEnds, AllEnds, point_of, covers, lies_in, all_lie_in, widened_all, narrowed_all, IsInterval, AllWithinRanges, steps_left_in}
 
 pub pairs_numbers : (rs : List Range) → pairs_of (numbers_of rs) ≡ rs
 pairs_numbers [] = refl
@@ -22,17 +25,24 @@ cover_own a b h k = record { low = omega (arith, ints, clamps); order = omega (a
 pub covers_own : (us bs : List Range) → AllOwn us → AllOwn bs → AllOwn (covers us bs)
 covers_own us bs h k = each_zipped IsOwn IsOwn cover_of cover_own us bs h k
 
-widened_own : (a b : Range) → IsOwn a → IsOwn b → IsOwn (widened a b)
-widened_own a b h k = grind (arith, ints)
+in_order : (l m h : ℤ) → l ≤ℤ m → m ≤ℤ h → l ≤ℤ h
+in_order l m h p q = omega (arith, ints)
 
-pub widened_all_own : (us bs : List Range) → AllOwn us → AllOwn bs → AllOwn (widened_all us bs)
-widened_all_own us bs h k = each_zipped IsOwn IsOwn widened widened_own us bs h k
+widened_own : (ts : List ℤ) (a b : Range) → IsOwn a → IsOwn b → IsOwn (widened_range ts a b)
+widened_own ts a b h k = record {
+  low = widened_low_inside ts a b h.low;
+  order = in_order _ _ _ (widened_low_first ts a b a.high k.low h.order) (widened_high_first ts a b a.high k.high (omega (arith, ints)));
+  high = widened_high_inside ts a b h.high;
+}
 
-narrowed_ends : (a b : Range) → IsOwn a → IsOwn b → HasEnds (narrowed a b)
-narrowed_ends a b h k = grind (arith, ints)
+pub widened_all_own : (ts : List ℤ) (us bs : List Range) → AllOwn us → AllOwn bs → AllOwn (widened_all ts us bs)
+widened_all_own ts us bs h k = each_zipped IsOwn IsOwn (widened_range ts) (widened_own ts) us bs h k
 
-pub narrowed_all_ends : (us bs : List Range) → AllOwn us → AllOwn bs → AllEnds (narrowed_all us bs)
-narrowed_all_ends us bs h k = each_zipped IsOwn HasEnds narrowed narrowed_ends us bs h k
+narrowed_ends : (ts : List ℤ) (a b : Range) → IsOwn a → IsOwn b → HasEnds (narrowed_range ts a b)
+narrowed_ends ts a b h k = (narrowed_low (λ n. least ≤ℤ n) ts a b h.low k.low, narrowed_high (λ n. n ≤ℤ greatest) ts a b h.high k.high)
+
+pub narrowed_all_ends : (ts : List ℤ) (us bs : List Range) → AllOwn us → AllOwn bs → AllEnds (narrowed_all ts us bs)
+narrowed_all_ends ts us bs h k = each_zipped IsOwn HasEnds (narrowed_range ts) (narrowed_ends ts) us bs h k
 
 pub own_from_ends : (r : Range) → HasEnds r → is_empty_range r ≡ false → IsOwn r
 own_from_ends r h e = grind (arith, ints)
@@ -74,23 +84,25 @@ within_wider n a b e h = grind (arith, ints)
 pub inside_holds : (us bs : List Range) (s : List ℤ) → length us ≡ length bs → all_lie_in us bs ≡ true → AllWithinRanges us s → AllWithinRanges bs s
 inside_holds us bs s e f h = holds_tested (λ r n. Within n r) lies_in (λ a b n i k. within_wider n a b i k) us bs s e f h
 
-widened_first : (n : ℤ) (x g : Range) → IsOwn x → IsOwn g → Within n x → Within n (widened x g)
-widened_first n x g p q h = grind (arith, ints)
+widened_first : (ts : List ℤ) (x g : Range) (n : ℤ) → IsOwn x → IsOwn g → Within n x → Within n (widened_range ts x g)
+widened_first ts x g n p q h = record { low = widened_low_first ts x g n q.low h.low; high = widened_high_first ts x g n q.high h.high }
 
-widened_second : (n : ℤ) (x g : Range) → IsOwn x → IsOwn g → Within n g → Within n (widened x g)
-widened_second n x g p q h = grind (arith, ints)
+widened_second : (ts : List ℤ) (x g : Range) (n : ℤ) → IsOwn x → IsOwn g → Within n g → Within n (widened_range ts x g)
+widened_second ts x g n p q h = record { low = widened_low_second ts x g n q.low h.low; high = widened_high_second ts x g n q.high h.high }
 
-pub widened_all_first : (us bs : List Range) (s : List ℤ) → length us ≡ length bs → AllOwn us → AllOwn bs → AllWithinRanges us s → AllWithinRanges (widened_all us bs) s
-widened_all_first us bs s e p q h = holds_first (λ r n. Within n r) IsOwn widened (λ a b n i j k. widened_first n a b i j k) us bs s e p q h
+pub widened_all_first : (ts : List ℤ) (us bs : List Range) (s : List ℤ) → length us ≡ length bs → AllOwn us → AllOwn bs → AllWithinRanges us s → AllWithinRanges (widened_all ts us bs) s
+widened_all_first ts us bs s e p q h = holds_first (λ r n. Within n r) IsOwn (widened_range ts) (widened_first ts) us bs s e p q h
 
-pub widened_all_second : (us bs : List Range) (s : List ℤ) → length us ≡ length bs → AllOwn us → AllOwn bs → AllWithinRanges bs s → AllWithinRanges (widened_all us bs) s
-widened_all_second us bs s e p q h = holds_second (λ r n. Within n r) IsOwn widened (λ a b n i j k. widened_second n a b i j k) us bs s e p q h
+pub widened_all_second : (ts : List ℤ) (us bs : List Range) (s : List ℤ) → length us ≡ length bs → AllOwn us → AllOwn bs → AllWithinRanges bs s → AllWithinRanges (widened_all ts us bs) s
+widened_all_second ts us bs s e p q h = holds_second (λ r n. Within n r) IsOwn (widened_range ts) (widened_second ts) us bs s e p q h
 
-narrowed_holds : (n : ℤ) (x g : Range) → lies_in g x ≡ true → Within n g → Within n (narrowed x g)
-narrowed_holds n x g e h = grind (arith, ints)
+narrowed_holds : (ts : List ℤ) (x g : Range) (n : ℤ) → lies_in g x ≡ true → Within n g → Within n (narrowed_range ts x g)
+narrowed_holds ts x g n e h =
+    let k : Within n x = within_wider n g x e h in
+    record { low = narrowed_low (λ l. l ≤ℤ n) ts x g k.low h.low; high = narrowed_high (λ m. n ≤ℤ m) ts x g k.high h.high }
 
-pub narrowed_all_hold : (xs gs : List Range) (s : List ℤ) → length xs ≡ length gs → all_lie_in gs xs ≡ true → AllWithinRanges gs s → AllWithinRanges (narrowed_all xs gs) s
-narrowed_all_hold xs gs s e f h = holds_made (λ r n. Within n r) lies_in narrowed (λ a b n i k. narrowed_holds n a b i k) xs gs s e f h
+pub narrowed_all_hold : (ts : List ℤ) (xs gs : List Range) (s : List ℤ) → length xs ≡ length gs → all_lie_in gs xs ≡ true → AllWithinRanges gs s → AllWithinRanges (narrowed_all ts xs gs) s
+narrowed_all_hold ts xs gs s e f h = holds_made (λ r n. Within n r) lies_in (narrowed_range ts) (narrowed_holds ts) xs gs s e f h
 
 not_empty_within : (n : ℤ) (r : Range) → Within n r → is_empty_range r ≡ false
 not_empty_within n r h = grind (arith, ints)
@@ -125,34 +137,20 @@ lows_hold (r ∷ rs) h = (record { low = omega (arith, ints); high = h.0.order }
 pub held_length : (rs : List Range) (s : List ℤ) → AllWithinRanges rs s → length s ≡ length rs
 held_length rs s h = variables.held_length (λ r n. Within n r) rs s h
 
--- ---- how many bounds are not the type's
-widened_ends : (x g : Range) → own_ends (widened x g) ≤ own_ends x
-widened_ends x g = grind (arith, ints)
-
-widened_fewer : (x g : Range) → IsOwn g → lies_in g x ≡ false → own_ends (widened x g) < own_ends x
-widened_fewer x g h e = grind (arith, ints)
-
-widened_all_ends : (us bs : List Range) → own_bounds_in (widened_all us bs) ≤ own_bounds_in us
-widened_all_ends [] bs = omega arith
-widened_all_ends (a ∷ us) [] = omega arith
-widened_all_ends (a ∷ us) (b ∷ bs) = omega (arith, widened_ends a b, widened_all_ends us bs)
-
-pub widened_all_fewer : (us bs : List Range) → length us ≡ length bs → AllOwn bs → all_lie_in bs us ≡ false → own_bounds_in (widened_all us bs) < own_bounds_in us
-widened_all_fewer [] [] e h f = cc
-widened_all_fewer [] (b ∷ bs) e h f = absurd (omega arith)
-widened_all_fewer (a ∷ us) [] e h f = absurd (omega arith)
-widened_all_fewer (a ∷ us) (b ∷ bs) e h f = by_test (lies_in b a) refl (λ g. widened_all_fewer us bs (omega arith) h.1 g)
+-- ---- how many steps are left
+widened_fewer : (ts : List ℤ) (x g : Range) → IsOwn g → lies_in g x ≡ false → ends_left ts (widened_range ts x g) < ends_left ts x
+widened_fewer ts x g h e = by_low (int_le x.low g.low) refl
   where
-    by_test : (t : Bool) → lies_in b a ≡ t → (all_lie_in bs us ≡ false → own_bounds_in (widened_all us bs) < own_bounds_in us) → own_ends (widened a b) + own_bounds_in (widened_all us bs) < own_ends a + own_bounds_in us
-    by_test true g k = omega (arith, widened_ends a b, k (sym (ap (λ t. t && all_lie_in bs us) g) ∙ f))
-    by_test false g k = omega (arith, widened_fewer a b h.0 g, widened_all_ends us bs)
+    by_low : (b : Bool) → int_le x.low g.low ≡ b → ends_left ts (widened_range ts x g) < ends_left ts x
+    by_low true f = ends_fewer_high ts x g h.low h.high (sym (ap (λ b. b && int_le g.high x.high) f) ∙ e)
+    by_low false f = ends_fewer_low ts x g h.low h.high f
 
-own_ends_le : (r : Range) → own_ends r ≤ 2
-own_ends_le r = grind arith
+pub widened_all_fewer : (ts : List ℤ) (us bs : List Range) → length us ≡ length bs → AllOwn us → AllOwn bs → all_lie_in bs us ≡ false → steps_left_in ts (widened_all ts us bs) < steps_left_in ts us
+widened_all_fewer ts us bs e h k f =
+    zipped_fewer (ends_left ts) IsOwn (widened_range ts) (λ x g p q. ends_fall ts x g q.low q.high) lies_in (λ x g p q t. widened_fewer ts x g q t) us bs e h k f
 
-pub own_bounds_le : (rs : List Range) → own_bounds_in rs ≤ 2 * length rs
-own_bounds_le [] = omega arith
-own_bounds_le (r ∷ rs) = omega (arith, own_ends_le r, own_bounds_le rs)
+pub steps_few_in : (ts : List ℤ) (rs : List Range) → AllOwn rs → steps_left_in ts rs ≤ 2 * length rs * (length ts + 1)
+steps_few_in ts rs h = few_each (ends_left ts) IsOwn 2 (length ts + 1) (λ r p. ends_few ts r) rs h
 
 -- ---- one variable
 pub read_within : (rs : List Range) (s : List ℤ) (x : ℕ) → x < length rs → AllWithinRanges rs s → Within (slice_index_or s x (pos 0)) (slice_index_or rs x empty_range)

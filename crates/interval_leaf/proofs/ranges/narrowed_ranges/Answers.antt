@@ -1,0 +1,17 @@
+use Rattle.std.proofs.Common.{◌<◌, length, arith}
+use Rattle.leaf_domain.specs.Ends.{narrowed_range}
+use Rattle.leaf_domain.proofs.Variables.{each_read}
+use Rattle.leaf_domain.proofs.Zipped.{zipped_next}
+use Rattle.interval_leaf.specs.Intervals.{IsOwn}
+use Rattle.interval_leaf.proofs.ranges.narrowed_ranges.Goals as goal
+
+pub narrowed-requires : goal.narrowed-requires
+narrowed-requires c =
+    let l : c.loop-i.i < length c.args.x.now = omega (arith, c.requires.same) in
+    (each_read IsOwn _ c.args.x.now c.loop-i.i l c.requires.own).low
+
+pub loop-i-preserved : goal.loop-i-preserved
+loop-i-preserved c =
+    let l : c.loop-i.i < length c.args.x.now = omega arith in
+    let k : c.loop-i.i < length c.args.g.now = omega (arith, c.requires.same) in
+    zipped_next (narrowed_range c.args.thresholds.now) _ c.args.x.now c.args.g.now c.loop-i.made.items _ c.loop-i.i c.narrowed.result c.loop-i.invariant c.in_ok-push.ensures.items c.narrowed.ensures l k
