@@ -1,8 +1,11 @@
 -- The numbers from a low to a high that have a stride.
-use Rattle.std.specs.Prelude.{◌≡◌, ℕ, ◌+◌, ◌≤◌, nat_eq, ℤ, ◌≤ℤ◌, int_lt, int_le, Bool, false, ◌&&◌, if◌then◌else◌, Option, Some, None}
+use Rattle.std.specs.Prelude.{◌≡◌, ℕ, ◌+◌, ◌≤◌, nat_eq, ℤ, ◌≤ℤ◌, int_lt, int_le, Bool, false, ◌&&◌, if◌then◌else◌, List, Option, Some, None}
 use Rattle.std.specs.Int.{int_min, int_max}
 use Rattle.std.specs.Ordering.{int_eq}
 pub use Rattle.c_tree.specs.Value.{least, greatest}
+use Rattle.leaf_domain.specs.declared.range.Range.{Range}
+use Rattle.leaf_domain.specs.Ranges.{range_at}
+use Rattle.leaf_domain.specs.Ends.{widened_range, narrowed_range, ends_left}
 use Rattle.strides.specs.declared.stride.Stride.{Stride}
 use Rattle.strides.specs.declared.strided.Strided.{Strided}
 use Rattle.strides.specs.Strides.{HasStride, IsReduced, stride_at, first_from, last_to, joined_stride, lies_in_stride, stride_count}
@@ -52,22 +55,22 @@ joined a b = strided_at (int_min a.low b.low) (int_max a.high b.high) (joined_st
 abbrev pub lies_in : Strided → Strided → Bool
 lies_in a b = int_le b.low a.low && (int_le a.high b.high && lies_in_stride a.stride b.stride)
 
--- an end that g moves becomes the type's, and the stride has both
-abbrev pub widened : Strided → Strided → Strided
-widened x g = record {
-  low = if int_lt g.low x.low then least else x.low;
-  high = if int_lt x.high g.high then greatest else x.high;
-  stride = joined_stride x.stride g.stride;
-}
+-- the range from the low to the high
+abbrev pub range_of : Strided → Range
+range_of b = range_at b.low b.high
 
--- an end that is the type's and a stride that has all numbers become those of g
-abbrev pub narrowed : Strided → Strided → Strided
-narrowed x g = record {
-  low = if int_eq x.low least then g.low else x.low;
-  high = if int_eq x.high greatest then g.high else x.high;
-  stride = if nat_eq x.stride.modulus 1 then g.stride else x.stride;
-}
+-- the numbers of a range that have a stride
+abbrev pub strided_in : Range → Stride → Strided
+strided_in r s = strided_at r.low r.high s
 
--- how many bounds are not the type's, the stride counted by its modulus
-abbrev pub own_count : Strided → ℕ
-own_count b = (if int_eq b.low least then 0 else 1) + ((if int_eq b.high greatest then 0 else 1) + stride_count b.stride.modulus)
+-- an end that g moves steps to a threshold, and the stride has both
+abbrev pub widened : List ℤ → Strided → Strided → Strided
+widened ts x g = strided_in (widened_range ts (range_of x) (range_of g)) (joined_stride x.stride g.stride)
+
+-- an end that may come of a step and a stride that has all numbers become those of g
+abbrev pub narrowed : List ℤ → Strided → Strided → Strided
+narrowed ts x g = strided_in (narrowed_range ts (range_of x) (range_of g)) (if nat_eq x.stride.modulus 1 then g.stride else x.stride)
+
+-- how many steps the bounds have left, the stride counted by its modulus
+abbrev pub steps_left : List ℤ → Strided → ℕ
+steps_left ts b = ends_left ts (range_of b) + stride_count b.stride.modulus

@@ -1,15 +1,12 @@
 //! The numbers from a low to a high that have a stride.
 #![tactic(auto)]
 
-ghost use Rattle.std.specs.Prelude.{◌≡◌, ◌≤ℤ◌, int_lt, if◌then◌else◌};
+ghost use Rattle.std.specs.Prelude.{◌≡◌, ◌≤ℤ◌};
 ghost use Rattle.strides.specs.Strides.{stride_at, IsReduced, IsWide};
-ghost use Rattle.strides.specs.Strided.{least, greatest, strided_at, is_bare, reduced, best_part, point_at, IsOwn, joined, lies_in, widened, narrowed};
+ghost use Rattle.strides.specs.Strided.{least, greatest, strided_at, is_bare, reduced, best_part, point_at, IsOwn, joined, lies_in, range_of, widened, narrowed};
 
 use crate::stride::{Stride, WideStride};
-
-const LOW: i64 = -2147483648;
-
-const HIGH: i64 = 2147483647;
+use leaf_domain::{Range, Thresholds};
 
 /// The numbers from a low to a high that have a stride.
 #[derive(Clone, Copy, Debug, PartialEq, Eq, Hash)]
@@ -26,20 +23,6 @@ fn narrow(n: i128) -> i64
     ensures { result ≡ n }
 {
     n as i64
-}
-
-/// A low that is not less in the other, and else that of `int`.
-fn widened_low(own: i64, other: i64) -> i64
-    ensures { result ≡ if int_lt other own then least else own }
-{
-    if other < own { LOW } else { own }
-}
-
-/// A high that is not greater in the other, and else that of `int`.
-fn widened_high(own: i64, other: i64) -> i64
-    ensures { result ≡ if int_lt own other then greatest else own }
-{
-    if own < other { HIGH } else { own }
 }
 
 impl Strided {
@@ -130,30 +113,40 @@ impl Strided {
         }
     }
 
-    /// Each bound that the other moves put as that of `int`, and the stride that has the numbers of both.
-    pub fn widened(self, other: Strided) -> Strided
+    /// The range from the low to the high.
+    pub fn range(self) -> Range
+        ensures { result ≡ range_of self }
+    {
+        Range {
+            low: self.low,
+            high: self.high,
+        }
+    }
+
+    /// Each bound that the other moves put as the nearest threshold that covers the other's, or as that of `int`, and the
+    /// stride that has the numbers of both.
+    pub fn widened(self, other: Strided, thresholds: &Thresholds) -> Strided
         requires first { IsOwn self }
         requires second { IsOwn other }
-        ensures { result ≡ widened self other }
+        ensures { result ≡ widened thresholds.now self other }
     {
+        let ends = self.range().widened(other.range(), thresholds);
         Strided {
-            low: widened_low(self.low, other.low),
-            high: widened_high(self.high, other.high),
+            low: ends.low,
+            high: ends.high,
             stride: self.stride.joined(other.stride),
         }
     }
 
-    /// Each bound that is that of `int`, and a stride of all numbers, put as the other's.
-    pub fn narrowed(self, other: Strided) -> Strided
-        ensures { result ≡ narrowed self other }
+    /// Each bound that is that of `int` or of a threshold, and a stride of all numbers, put as the other's.
+    pub fn narrowed(self, other: Strided, thresholds: &Thresholds) -> Strided
+        requires { IsOwn self }
+        ensures { result ≡ narrowed thresholds.now self other }
     {
+        let ends = self.range().narrowed(other.range(), thresholds);
         Strided {
-            low: if self.low == LOW { other.low } else { self.low },
-            high: if self.high == HIGH {
-                other.high
-            } else {
-                self.high
-            },
+            low: ends.low,
+            high: ends.high,
             stride: if self.stride.modulus == 1 {
                 other.stride
             } else {
