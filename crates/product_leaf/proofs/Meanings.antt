@@ -6,8 +6,8 @@ use Rattle.c_tree.specs.Value.{least, greatest, IsInt}
 use Rattle.leaf_domain.specs.declared.range.Range.{Range}
 use Rattle.leaf_domain.specs.Leaves.{LeafValue, nothing_of}
 use Rattle.strides.specs.declared.strided.Strided.{Strided}
-use Rattle.strides.specs.Strided.{is_bare, reduced, best_part}
-use Rattle.product_leaf.specs.StrideLeaves.{leaf_of, best_parts, AllOwn, stride_best, settled, joined_all, all_lie_in, widened_all, narrowed_all, part_at, range_of_part, met_part, stride_leq, stride_join, stride_widen, stride_narrow, stride_bounds, stride_with, stride_meet}
+use Rattle.strides.specs.Strided.{is_bare, reduced, best_part, range_of}
+use Rattle.product_leaf.specs.StrideLeaves.{leaf_of, best_parts, AllOwn, stride_best, settled, joined_all, all_lie_in, widened_all, narrowed_all, part_at, met_part, stride_leq, stride_join, stride_widen, stride_narrow, stride_bounds, stride_with, stride_meet}
 use Rattle.product_leaf.specs.View.{IsOwnOf, IsBestOf}
 use Rattle.leaf_domain.proofs.Variables.{length_zipped, length_replaced}
 use Rattle.product_leaf.specs.Laws.Parts.{fours_numbers, length_best, own_some, own_best, read_range}
@@ -48,22 +48,22 @@ join_some a b us bs ps qs rs e f g h k = rw (k, g, h, e, f, fours_numbers us, fo
 pub join_is : (a b : LeafValue) (ps qs rs : List Strided) → IsBestOf a ps → IsBestOf b qs → rs ≡ joined_all ps qs → leaf_of rs ≡ stride_join a b
 join_is a b ps qs rs h k e = join_some a b h.parts k.parts ps qs rs h.same k.same h.best k.best e
 
-widen_some : (a b : LeafValue) (us bs qs rs : List Strided) → a ≡ leaf_of us → b ≡ leaf_of bs → qs ≡ map reduced bs → rs ≡ widened_all us qs → leaf_of rs ≡ stride_widen a b
-widen_some a b us bs qs rs e f h k = rw (k, h, e, f, fours_numbers us, fours_numbers bs) refl
+widen_some : (ts : List ℤ) (a b : LeafValue) (us bs qs rs : List Strided) → a ≡ leaf_of us → b ≡ leaf_of bs → qs ≡ map reduced bs → rs ≡ widened_all ts us qs → leaf_of rs ≡ stride_widen ts a b
+widen_some ts a b us bs qs rs e f h k = rw (k, h, e, f, fours_numbers us, fours_numbers bs) refl
 
-pub widen_is : (a b : LeafValue) (us qs rs : List Strided) → IsOwnOf a us → IsBestOf b qs → rs ≡ widened_all us qs → leaf_of rs ≡ stride_widen a b
-widen_is a b us qs rs h k e = widen_some a b us k.parts qs rs h.same k.same k.best e
+pub widen_is : (ts : List ℤ) (a b : LeafValue) (us qs rs : List Strided) → IsOwnOf a us → IsBestOf b qs → rs ≡ widened_all ts us qs → leaf_of rs ≡ stride_widen ts a b
+widen_is ts a b us qs rs h k e = widen_some ts a b us k.parts qs rs h.same k.same k.best e
 
-narrow_some : (a b : LeafValue) (us bs qs rs : List Strided) → a ≡ leaf_of us → b ≡ leaf_of bs → qs ≡ map reduced bs → rs ≡ narrowed_all us qs → settled rs ≡ stride_narrow a b
-narrow_some a b us bs qs rs e f h k = rw (k, h, e, f, fours_numbers us, fours_numbers bs) refl
+narrow_some : (ts : List ℤ) (a b : LeafValue) (us bs qs rs : List Strided) → a ≡ leaf_of us → b ≡ leaf_of bs → qs ≡ map reduced bs → rs ≡ narrowed_all ts us qs → settled rs ≡ stride_narrow ts a b
+narrow_some ts a b us bs qs rs e f h k = rw (k, h, e, f, fours_numbers us, fours_numbers bs) refl
 
-pub narrow_is : (a b : LeafValue) (us qs rs : List Strided) → IsOwnOf a us → IsBestOf b qs → rs ≡ narrowed_all us qs → settled rs ≡ stride_narrow a b
-narrow_is a b us qs rs h k e = narrow_some a b us k.parts qs rs h.same k.same k.best e
+pub narrow_is : (ts : List ℤ) (a b : LeafValue) (us qs rs : List Strided) → IsOwnOf a us → IsBestOf b qs → rs ≡ narrowed_all ts us qs → settled rs ≡ stride_narrow ts a b
+narrow_is ts a b us qs rs h k e = narrow_some ts a b us k.parts qs rs h.same k.same k.best e
 
-bounds_some : (v : LeafValue) (us bs : List Strided) (x : ℕ) → v ≡ leaf_of us → bs ≡ map reduced us → x < length bs → range_of_part (part_at bs x) ≡ stride_bounds v x
+bounds_some : (v : LeafValue) (us bs : List Strided) (x : ℕ) → v ≡ leaf_of us → bs ≡ map reduced us → x < length bs → range_of (part_at bs x) ≡ stride_bounds v x
 bounds_some v us bs x e g l = rw (e, fours_numbers us, ← g) (sym (read_range bs x l))
 
-pub bounds_is : (v : LeafValue) (bs : List Strided) (x : ℕ) → IsBestOf v bs → x < length bs → range_of_part (part_at bs x) ≡ stride_bounds v x
+pub bounds_is : (v : LeafValue) (bs : List Strided) (x : ℕ) → IsBestOf v bs → x < length bs → range_of (part_at bs x) ≡ stride_bounds v x
 bounds_is v bs x h l = bounds_some v h.parts bs x h.same h.best l
 
 -- ---- one part for another

@@ -1,6 +1,6 @@
--- Facts on lists of parts by their best bounds, and on lists made part by part.
-use Rattle.std.proofs.Common.{◌≡◌, ◌≢◌, ℕ, zero, suc, ◌+◌, ◌<◌, nat_eq, Bool, true, false, ◌&&◌, ◌||◌, List, [], ◌∷◌, ◌++◌, length, map, take, ℤ, pos, Option, Some, None, IfSome, if◌then◌else◌, slice_set, refl, ap, sym, subst, ◌∙◌, arith}
-use Rattle.std.specs.List.{zip, list_any}
+-- Facts on lists of parts by their best bounds.
+use Rattle.std.proofs.Common.{◌≡◌, ◌≢◌, ℕ, zero, suc, ◌<◌, nat_eq, Bool, true, false, ◌&&◌, ◌||◌, List, [], ◌∷◌, length, map, ℤ, pos, Option, Some, None, IfSome, if◌then◌else◌, slice_set, refl, ap, sym, subst, ◌∙◌, arith}
+use Rattle.std.specs.List.{list_any}
 use Rattle.std.specs.Ordering.{int_eq}
 use Rattle.std.proofs.lemmas.Bool.Decides.{nat_tests}
 use Rattle.std.proofs.lemmas.Int.{ints}
@@ -8,7 +8,7 @@ use Rattle.leaf_domain.specs.Leaves.{same_numbers}
 use Rattle.strides.specs.declared.strided.Strided.{Strided}
 use Rattle.strides.specs.Strided.{is_bare, reduced, best_part, point_at, IsOwn, joined}
 use Rattle.strides.proofs.StridedLaws.{reduced_best, best_reduced, joined_best, point_best, reduced_own}
-use Rattle.product_leaf.specs.StrideLeaves.{numbers_of, AllOwn, joined_all, part_at, all_same_parts}
+use Rattle.product_leaf.specs.StrideLeaves.{numbers_of, AllOwn, joined_all, all_same_parts}
 use Rattle.product_leaf.specs.Laws.Parts.{own_some, IsLimited}
 
 pub reduced_twice : (b : Strided) → is_bare b ≡ false → reduced (reduced b) ≡ reduced b
@@ -41,19 +41,6 @@ pub bare_set : (bs : List Strided) (x : ℕ) (b : Strided) → AllOwn bs → x <
 bare_set [] x b h l = absurd (omega arith)
 bare_set (a ∷ bs) zero b h l = ap (λ t. is_bare b || t) (own_some bs h.1) ∙ or_false (is_bare b)
 bare_set (a ∷ bs) (suc x) b h l = ap (λ t. t || list_any is_bare (slice_set bs x b)) h.0.some ∙ bare_set bs x b h.1 (omega arith)
-
--- ---- lists made part by part
-zipped_more : (f : Strided → Strided → Strided) (us bs : List Strided) (i : ℕ) → i < length us → i < length bs → map (λ (a, b). f a b) (zip (take (suc i) us) (take (suc i) bs)) ≡ map (λ (a, b). f a b) (zip (take i us) (take i bs)) ++ (f (part_at us i) (part_at bs i) ∷ [])
-zipped_more f [] bs i l k = absurd (omega arith)
-zipped_more f (u ∷ us) [] i l k = absurd (omega arith)
-zipped_more f (u ∷ us) (b ∷ bs) zero l k = refl
-zipped_more f (u ∷ us) (b ∷ bs) (suc i) l k = ap (λ xs. f u b ∷ xs) (zipped_more f us bs i (omega arith) (omega arith))
-
-pub zipped_next : (f : Strided → Strided → Strided) (us bs made new : List Strided) (i : ℕ) (r : Strided) → made ≡ map (λ (a, b). f a b) (zip (take i us) (take i bs)) → new ≡ made ++ (r ∷ []) → r ≡ f (part_at us i) (part_at bs i) → i < length us → i < length bs → new ≡ map (λ (a, b). f a b) (zip (take (i + 1) us) (take (i + 1) bs))
-zipped_next f us bs made new i r e g h l k =
-    let n : suc i ≡ i + 1 = omega arith in
-    g ∙ ap (λ xs. xs ++ (r ∷ [])) e ∙ ap (λ y. map (λ (a, b). f a b) (zip (take i us) (take i bs)) ++ (y ∷ [])) h ∙ sym (zipped_more f us bs i l k)
-    ∙ ap (λ j. map (λ (a, b). f a b) (zip (take j us) (take j bs))) n
 
 -- ---- best bounds of one part
 pub part_own : (b : Strided) (r : Option Strided) → r ≡ best_part b → IsLimited b → IfSome r IsOwn

@@ -1,19 +1,19 @@
 -- A leaf with a low, a high and a stride for each variable.
-use Rattle.std.specs.Prelude.{◌≡◌, ℕ, ◌≤◌, ◌+◌, ◌*◌, ℤ, pos, unsigned_abs, nat_eq, Bool, true, false, ◌&&◌, if◌then◌else◌, List, [], ◌∷◌, Option, Some, None, length, slice_index_or, slice_set, map, zip, ⊤}
+use Rattle.std.specs.Prelude.{◌≡◌, ℕ, ◌≤◌, ◌*◌, ℤ, pos, unsigned_abs, nat_eq, Bool, true, false, ◌&&◌, if◌then◌else◌, List, [], ◌∷◌, Option, Some, None, length, slice_index_or, slice_set, map, zip, ⊤}
 use Rattle.std.specs.List.{AllByRecursion, list_all, list_any}
 use Rattle.std.specs.Int.{int_min, int_max}
 use Rattle.std.specs.Ordering.{int_eq}
 use Rattle.leaf_domain.specs.declared.form.Form.{Form}
 use Rattle.leaf_domain.specs.declared.range.Range.{Range}
 use Rattle.leaf_domain.specs.Forms.{form_at}
-use Rattle.leaf_domain.specs.Ranges.{empty_range, range_at}
+use Rattle.leaf_domain.specs.Ranges.{empty_range}
 use Rattle.leaf_domain.specs.Leaves.{LeafValue, LeafMeaning, nothing_of, is_nothing_of}
-use Rattle.leaf_domain.specs.Variables.{EachHolds}
+use Rattle.leaf_domain.specs.Variables.{EachHolds, total_of}
 use Rattle.strides.specs.declared.stride.Stride.{Stride}
 use Rattle.strides.specs.declared.strided.Strided.{Strided}
 use Rattle.strides.specs.Divisors.{gcd}
 use Rattle.strides.specs.Strides.{stride_at, stride_of}
-use Rattle.strides.specs.Strided.{strided_at, Has, is_bare, point_at, reduced, IsOwn, joined, lies_in, widened, narrowed, own_count}
+use Rattle.strides.specs.Strided.{strided_at, Has, is_bare, point_at, reduced, IsOwn, joined, lies_in, range_of, widened, narrowed, steps_left}
 
 -- a low, a high, a modulus and a residue for each variable, as one list of numbers
 abbrev pub numbers_of : List Strided → List ℤ
@@ -83,11 +83,11 @@ joined_all us bs = map (λ (a, b). joined a b) (zip us bs)
 abbrev pub all_lie_in : List Strided → List Strided → Bool
 all_lie_in us bs = list_all (λ (a, b). lies_in a b) (zip us bs)
 
-abbrev pub widened_all : List Strided → List Strided → List Strided
-widened_all xs gs = map (λ (x, g). widened x g) (zip xs gs)
+abbrev pub widened_all : List ℤ → List Strided → List Strided → List Strided
+widened_all ts xs gs = map (λ (x, g). widened ts x g) (zip xs gs)
 
-abbrev pub narrowed_all : List Strided → List Strided → List Strided
-narrowed_all xs gs = map (λ (x, g). narrowed x g) (zip xs gs)
+abbrev pub narrowed_all : List ℤ → List Strided → List Strided → List Strided
+narrowed_all ts xs gs = map (λ (x, g). narrowed ts x g) (zip xs gs)
 
 -- the four numbers of both are the same
 abbrev pub same_part : Strided → Strided → Bool
@@ -96,9 +96,8 @@ same_part a b = int_eq a.low b.low && (int_eq a.high b.high && (nat_eq a.stride.
 abbrev pub all_same_parts : List Strided → List Strided → Bool
 all_same_parts us bs = list_all (λ (a, b). same_part a b) (zip us bs)
 
-abbrev pub own_count_in : List Strided → ℕ
-own_count_in [] = 0
-own_count_in (b ∷ bs) = own_count b + own_count_in bs
+abbrev pub steps_left_in : List ℤ → List Strided → ℕ
+steps_left_in ts bs = total_of (steps_left ts) bs
 
 -- ---- the stride of a form
 abbrev pub part_at : List Strided → ℕ → Strided
@@ -127,18 +126,15 @@ stride_leq g x = if is_nothing_of g then true else (if is_nothing_of x then fals
 abbrev pub stride_join : LeafValue → LeafValue → LeafValue
 stride_join a b = if is_nothing_of a then b else (if is_nothing_of b then a else leaf_of (joined_all (best_parts a) (best_parts b)))
 
-abbrev pub stride_widen : LeafValue → LeafValue → LeafValue
-stride_widen x g =
-    if is_nothing_of x then stride_best g else (if is_nothing_of g then x else leaf_of (widened_all (parts_of x) (best_parts g)))
+abbrev pub stride_widen : List ℤ → LeafValue → LeafValue → LeafValue
+stride_widen ts x g =
+    if is_nothing_of x then stride_best g else (if is_nothing_of g then x else leaf_of (widened_all ts (parts_of x) (best_parts g)))
 
-abbrev pub stride_narrow : LeafValue → LeafValue → LeafValue
-stride_narrow x g = if is_nothing_of x then x else (if is_nothing_of g then g else settled (narrowed_all (parts_of x) (best_parts g)))
-
-abbrev pub range_of_part : Strided → Range
-range_of_part b = range_at b.low b.high
+abbrev pub stride_narrow : List ℤ → LeafValue → LeafValue → LeafValue
+stride_narrow ts x g = if is_nothing_of x then x else (if is_nothing_of g then g else settled (narrowed_all ts (parts_of x) (best_parts g)))
 
 abbrev pub stride_bounds : LeafValue → ℕ → Range
-stride_bounds v x = slice_index_or (map range_of_part (best_parts v)) x empty_range
+stride_bounds v x = slice_index_or (map range_of (best_parts v)) x empty_range
 
 -- the leaf with this part for x, by its best bounds
 abbrev pub stride_with : LeafValue → ℕ → Strided → LeafValue
@@ -157,8 +153,8 @@ stride_set v x r = stride_with v x (strided_at r.low r.high (stride_at 1 (pos 0)
 abbrev pub stride_set_form : LeafValue → ℕ → Form → Range → LeafValue
 stride_set_form v x f r = stride_with v x (strided_at r.low r.high (form_stride (best_parts v) f))
 
-abbrev pub stride_own_bounds : LeafValue → ℕ
-stride_own_bounds v = own_count_in (parts_of v)
+abbrev pub stride_steps_left : List ℤ → LeafValue → ℕ
+stride_steps_left ts v = steps_left_in ts (parts_of v)
 
 abbrev pub stride_bound_count : ℕ → ℕ
 stride_bound_count n = 35 * n
@@ -169,7 +165,7 @@ strides = record {
   holds = stride_holds;
   start = stride_start;
   bound_count = stride_bound_count;
-  own_bounds = stride_own_bounds;
+  steps_left = stride_steps_left;
   best = stride_best;
   leq = stride_leq;
   join = stride_join;

@@ -13,11 +13,11 @@ ghost use Rattle.product_leaf.specs.Hashing.{fed_leaf};
 
 use crate::form_stride::form_stride;
 use crate::parts::{
-    are_inside, are_same, best_part, copied, has_bare, joined, met_part, narrowed, points,
-    range_of, reduced, replaced, widened,
+    are_inside, are_same, best_part, copied, has_bare, joined, met_part, narrowed, points, reduced,
+    replaced, widened,
 };
 use fam_outer::NoMemory;
-use leaf_domain::{Compare, Form, Leaf, Range};
+use leaf_domain::{Compare, Form, Leaf, Range, Thresholds};
 use std::alloc::Global;
 use std::hash::{Hash, Hasher};
 use std::marker::Model;
@@ -259,24 +259,37 @@ impl Leaf for StrideLeaf {
         }
     }
 
-    fn widen(&self, alloc: Global, other: &StrideLeaf) -> Result<StrideLeaf, NoMemory> {
+    fn widen(
+        &self,
+        alloc: Global,
+        other: &StrideLeaf,
+        thresholds: &Thresholds,
+    ) -> Result<StrideLeaf, NoMemory> {
         let Some(parts) = self.own_parts() else {
             return other.best(alloc);
         };
         match other.best_parts() {
             None => self.copy(alloc),
-            Some(others) => StrideLeaf::standing_as(alloc, widened(alloc, parts, others)?),
+            Some(others) => {
+                let widened = widened(alloc, parts, others, thresholds)?;
+                StrideLeaf::standing_as(alloc, widened)
+            }
         }
     }
 
-    fn narrow(&self, alloc: Global, other: &StrideLeaf) -> Result<StrideLeaf, NoMemory> {
+    fn narrow(
+        &self,
+        alloc: Global,
+        other: &StrideLeaf,
+        thresholds: &Thresholds,
+    ) -> Result<StrideLeaf, NoMemory> {
         let Some(parts) = self.own_parts() else {
             return self.copy(alloc);
         };
         let Some(others) = other.best_parts() else {
             return other.copy(alloc);
         };
-        let narrowed = narrowed(alloc, parts, others)?;
+        let narrowed = narrowed(alloc, parts, others, thresholds)?;
         if has_bare(&narrowed) {
             Ok(StrideLeaf::none(self.count()))
         } else {
@@ -287,7 +300,7 @@ impl Leaf for StrideLeaf {
     fn bounds_of(&self, x: u32) -> Range {
         match self.best_parts() {
             None => Range::EMPTY,
-            Some(parts) => range_of(parts[x as usize]),
+            Some(parts) => parts[x as usize].range(),
         }
     }
 

@@ -5,9 +5,9 @@ ghost use Rattle.std.specs.Prelude.{◌≡◌, ◌<◌, IfOk, length, map, slice
 ghost use Rattle.std.specs.List.{list_any};
 ghost use Rattle.leaf_domain.specs.Leaves.{same_numbers};
 ghost use Rattle.strides.specs.Strided.{is_bare, reduced, best_part, point_at};
-ghost use Rattle.product_leaf.specs.StrideLeaves.{numbers_of, AllOwn, joined_all, all_lie_in, widened_all, narrowed_all, met_part, range_of_part, same_part, all_same_parts};
+ghost use Rattle.product_leaf.specs.StrideLeaves.{numbers_of, AllOwn, joined_all, all_lie_in, widened_all, narrowed_all, met_part, same_part, all_same_parts};
 
-use leaf_domain::Range;
+use leaf_domain::{Range, Thresholds};
 use std::alloc::{AllocError, Global};
 use strides::Strided;
 
@@ -41,15 +41,16 @@ pub(crate) fn widened(
     alloc: Global,
     x: &[Strided],
     g: &[Strided],
+    thresholds: &Thresholds,
 ) -> Result<Vec<Strided>, AllocError>
     requires same { length x.now ≡ length g.now }
     requires first { AllOwn x.now }
     requires second { AllOwn g.now }
-    ensures { IfOk result (λ v. v.items ≡ widened_all x.now g.now) }
+    ensures { IfOk result (λ v. v.items ≡ widened_all thresholds.now x.now g.now) }
 {
     let mut made = Vec::new(alloc);
     for i in 0..x.len() {
-        made.push(x[i].widened(g[i]))?;
+        made.push(x[i].widened(g[i], thresholds))?;
     }
     Ok(made)
 }
@@ -59,10 +60,17 @@ pub(crate) fn narrowed(
     alloc: Global,
     x: &[Strided],
     g: &[Strided],
+    thresholds: &Thresholds,
 ) -> Result<Vec<Strided>, AllocError>
-    ensures { IfOk result (λ v. v.items ≡ narrowed_all x.now g.now) }
+    requires same { length x.now ≡ length g.now }
+    requires own { AllOwn x.now }
+    ensures { IfOk result (λ v. v.items ≡ narrowed_all thresholds.now x.now g.now) }
 {
-    x.iter().zip(g).map(|(x, g)| x.narrowed(*g)).collect(alloc)
+    let mut made = Vec::new(alloc);
+    for i in 0..x.len() {
+        made.push(x[i].narrowed(g[i], thresholds))?;
+    }
+    Ok(made)
 }
 
 /// Whether each lies in its own of the others.
@@ -102,16 +110,6 @@ pub(crate) fn copied(alloc: Global, parts: &[Strided]) -> Result<Vec<Strided>, A
     ensures { IfOk result (λ v. v.items ≡ parts.now) }
 {
     parts.to_vec(alloc)
-}
-
-/// The low and the high of a part.
-pub(crate) fn range_of(part: Strided) -> Range
-    ensures { result ≡ range_of_part part }
-{
-    Range {
-        low: part.low,
-        high: part.high,
-    }
 }
 
 /// The part with its bounds met by the range.

@@ -1,17 +1,18 @@
 -- Facts on lists of parts.
-use Rattle.std.proofs.Common.{◌≡◌, ℕ, zero, suc, ◌+◌, ◌*◌, ◌<◌, ◌≤◌, ℤ, pos, ◌≤ℤ◌, Bool, true, false, ◌&&◌, ◌||◌, List, [], ◌∷◌, length, map, slice_set, slice_index_or, refl, ap, sym, ◌∙◌, arith, All}
+use Rattle.std.proofs.Common.{◌≡◌, ℕ, zero, suc, ◌+◌, ◌*◌, ◌<◌, ◌≤◌, ℤ, pos, ◌≤ℤ◌, Bool, true, false, ◌||◌, List, [], ◌∷◌, length, map, slice_set, slice_index_or, refl, ap, sym, ◌∙◌, arith, All}
 use Rattle.std.specs.Prelude.{⊤}
 use Rattle.std.specs.List.{AllByRecursion, list_any}
 use Rattle.std.proofs.lemmas.List.Elements.{All-head, All-tail}
 use Rattle.leaf_domain.specs.Ranges.{empty_range}
 use Rattle.leaf_domain.proofs.Variables.{of_any, each_zipped, each_read, held_length, holds_first, holds_second, holds_tested, holds_made, held_read, held_set, held_part}
+use Rattle.leaf_domain.proofs.StepSums.{zipped_fewer, few_each}
 use Rattle.c_tree.specs.Value.{IsInt}
 use Rattle.strides.specs.declared.strided.Strided.{Strided}
 use Rattle.strides.specs.Strides.{IsReduced, first_from}
-use Rattle.strides.specs.Strided.{least, greatest, Has, is_bare, point_at, reduced, IsOwn, joined, lies_in, widened, narrowed, own_count}
+use Rattle.strides.specs.Strided.{least, greatest, Has, is_bare, point_at, reduced, IsOwn, joined, lies_in, range_of, widened, narrowed, steps_left}
 use Rattle.strides.proofs.StridedLaws.{first_in, has_not_bare, reduced_keeps, reduced_back, point_own, point_has, point_alone, reduced_own, joined_has_first, joined_has_second, joined_own}
-use Rattle.strides.proofs.WideningLaws.{has_wider, widened_has_first, widened_has_second, widened_own, widened_falls, widened_fewer, own_count_small, narrowed_own, narrowed_has}
-use Rattle.product_leaf.specs.StrideLeaves.{numbers_of, fours_of, leaf_of, AllOwn, AllHave, IsStrideLeaf, joined_all, all_lie_in, widened_all, narrowed_all, own_count_in, part_at, range_of_part}
+use Rattle.strides.proofs.WideningLaws.{has_wider, widened_has_first, widened_has_second, widened_own, widened_falls, widened_fewer, steps_few, narrowed_own, narrowed_has}
+use Rattle.product_leaf.specs.StrideLeaves.{numbers_of, fours_of, leaf_of, AllOwn, AllHave, IsStrideLeaf, joined_all, all_lie_in, widened_all, narrowed_all, steps_left_in, part_at}
 
 pub fours_numbers : (bs : List Strided) → fours_of (numbers_of bs) ≡ bs
 fours_numbers [] = refl
@@ -66,14 +67,14 @@ own_points (n ∷ s) h = let k = All-head IsInt n s h in (point_own n k.low k.hi
 pub joined_all_own : (us bs : List Strided) → AllOwn us → AllOwn bs → AllOwn (joined_all us bs)
 joined_all_own us bs h k = each_zipped IsOwn IsOwn joined joined_own us bs h k
 
-pub widened_all_own : (us bs : List Strided) → AllOwn us → AllOwn bs → AllOwn (widened_all us bs)
-widened_all_own us bs h k = each_zipped IsOwn IsOwn widened widened_own us bs h k
+pub widened_all_own : (ts : List ℤ) (us bs : List Strided) → AllOwn us → AllOwn bs → AllOwn (widened_all ts us bs)
+widened_all_own ts us bs h k = each_zipped IsOwn IsOwn (widened ts) (widened_own ts) us bs h k
 
-pub narrowed_all_own : (us bs : List Strided) → AllOwn us → AllOwn bs → list_any is_bare (narrowed_all us bs) ≡ false → AllOwn (narrowed_all us bs)
-narrowed_all_own [] bs h k e = tt
-narrowed_all_own (a ∷ us) [] h k e = tt
-narrowed_all_own (a ∷ us) (b ∷ bs) h k e =
-    let (p, q) = apart (is_bare (narrowed a b)) (list_any is_bare (narrowed_all us bs)) e in (narrowed_own a b h.0 k.0 p, narrowed_all_own us bs h.1 k.1 q)
+pub narrowed_all_own : (ts : List ℤ) (us bs : List Strided) → AllOwn us → AllOwn bs → list_any is_bare (narrowed_all ts us bs) ≡ false → AllOwn (narrowed_all ts us bs)
+narrowed_all_own ts [] bs h k e = tt
+narrowed_all_own ts (a ∷ us) [] h k e = tt
+narrowed_all_own ts (a ∷ us) (b ∷ bs) h k e =
+    let (p, q) = apart (is_bare (narrowed ts a b)) (list_any is_bare (narrowed_all ts us bs)) e in (narrowed_own ts a b h.0 k.0 p, narrowed_all_own ts us bs h.1 k.1 q)
 
 -- ---- stores
 pub none_bare : (bs : List Strided) (s : List ℤ) → AllHave bs s → list_any is_bare bs ≡ false
@@ -124,46 +125,21 @@ joined_second us bs s e h = holds_second Has (λ b. ⊤) joined (λ a b n p q k.
 pub inside_has : (us bs : List Strided) (s : List ℤ) → length us ≡ length bs → all_lie_in us bs ≡ true → AllHave us s → AllHave bs s
 inside_has us bs s e f h = holds_tested Has lies_in has_wider us bs s e f h
 
-pub widened_first : (us bs : List Strided) (s : List ℤ) → length us ≡ length bs → AllOwn us → AllOwn bs → AllHave us s → AllHave (widened_all us bs) s
-widened_first us bs s e p q h = holds_first Has IsOwn widened widened_has_first us bs s e p q h
+pub widened_first : (ts : List ℤ) (us bs : List Strided) (s : List ℤ) → length us ≡ length bs → AllOwn us → AllOwn bs → AllHave us s → AllHave (widened_all ts us bs) s
+widened_first ts us bs s e p q h = holds_first Has IsOwn (widened ts) (widened_has_first ts) us bs s e p q h
 
-pub widened_second : (us bs : List Strided) (s : List ℤ) → length us ≡ length bs → AllOwn us → AllOwn bs → AllHave bs s → AllHave (widened_all us bs) s
-widened_second us bs s e p q h = holds_second Has IsOwn widened widened_has_second us bs s e p q h
+pub widened_second : (ts : List ℤ) (us bs : List Strided) (s : List ℤ) → length us ≡ length bs → AllOwn us → AllOwn bs → AllHave bs s → AllHave (widened_all ts us bs) s
+widened_second ts us bs s e p q h = holds_second Has IsOwn (widened ts) (widened_has_second ts) us bs s e p q h
 
-pub narrowed_have : (xs gs : List Strided) (s : List ℤ) → length xs ≡ length gs → all_lie_in gs xs ≡ true → AllHave gs s → AllHave (narrowed_all xs gs) s
-narrowed_have xs gs s e f h = holds_made Has lies_in narrowed narrowed_has xs gs s e f h
+pub narrowed_have : (ts : List ℤ) (xs gs : List Strided) (s : List ℤ) → length xs ≡ length gs → all_lie_in gs xs ≡ true → AllHave gs s → AllHave (narrowed_all ts xs gs) s
+narrowed_have ts xs gs s e f h = holds_made Has lies_in (narrowed ts) (narrowed_has ts) xs gs s e f h
 
--- ---- how many bounds are not the type's
-widened_all_falls : (us bs : List Strided) → AllOwn us → AllOwn bs → own_count_in (widened_all us bs) ≤ own_count_in us
-widened_all_falls [] bs h k = omega arith
-widened_all_falls (a ∷ us) [] h k = omega arith
-widened_all_falls (a ∷ us) (b ∷ bs) h k = sum _ _ _ _ (widened_falls a b h.0 k.0) (widened_all_falls us bs h.1 k.1)
-  where
-    sum : (p q r s : ℕ) → p ≤ q → r ≤ s → p + r ≤ q + s
-    sum p q r s e f = omega arith
+-- ---- how many steps are left
+pub widened_all_fewer : (ts : List ℤ) (us bs : List Strided) → length us ≡ length bs → AllOwn us → AllOwn bs → all_lie_in bs us ≡ false → steps_left_in ts (widened_all ts us bs) < steps_left_in ts us
+widened_all_fewer ts us bs e h k f = zipped_fewer (steps_left ts) IsOwn (widened ts) (widened_falls ts) lies_in (widened_fewer ts) us bs e h k f
 
-pub widened_all_fewer : (us bs : List Strided) → length us ≡ length bs → AllOwn us → AllOwn bs → all_lie_in bs us ≡ false → own_count_in (widened_all us bs) < own_count_in us
-widened_all_fewer [] [] e h k f = cc
-widened_all_fewer [] (b ∷ bs) e h k f = absurd (omega arith)
-widened_all_fewer (a ∷ us) [] e h k f = absurd (omega arith)
-widened_all_fewer (a ∷ us) (b ∷ bs) e h k f = by_test (lies_in b a) refl (λ g. widened_all_fewer us bs (omega arith) h.1 k.1 g)
-  where
-    first : (p q r s : ℕ) → p < q → r ≤ s → p + r < q + s
-    first p q r s e f = omega arith
-
-    second : (p q r s : ℕ) → p ≤ q → r < s → p + r < q + s
-    second p q r s e f = omega arith
-
-    by_test : (t : Bool) → lies_in b a ≡ t → (all_lie_in bs us ≡ false → own_count_in (widened_all us bs) < own_count_in us) → own_count (widened a b) + own_count_in (widened_all us bs) < own_count a + own_count_in us
-    by_test true g i = second _ _ _ _ (widened_falls a b h.0 k.0) (i (sym (ap (λ t. t && all_lie_in bs us) g) ∙ f))
-    by_test false g i = first _ _ _ _ (widened_fewer a b h.0 k.0 g) (widened_all_falls us bs h.1 k.1)
-
-pub own_count_le : (bs : List Strided) → AllOwn bs → own_count_in bs ≤ 35 * length bs
-own_count_le [] h = omega arith
-own_count_le (b ∷ bs) h = sum _ _ _ (own_count_small b h.0) (own_count_le bs h.1)
-  where
-    sum : (p q n : ℕ) → p ≤ 35 → q ≤ 35 * n → p + q ≤ 35 * suc n
-    sum p q n e f = omega arith
+pub steps_few_in : (ts : List ℤ) (bs : List Strided) → AllOwn bs → steps_left_in ts bs ≤ 35 * length bs * (length ts + 1)
+steps_few_in ts bs h = few_each (steps_left ts) IsOwn 35 (length ts + 1) (steps_few ts) bs h
 
 -- ---- one variable
 pub read_has : (bs : List Strided) (s : List ℤ) (x : ℕ) → x < length bs → AllHave bs s → Has (part_at bs x) (slice_index_or s x (pos 0))
@@ -172,7 +148,7 @@ read_has bs s x p h = held_read Has (point_at (pos 0)) bs s x p h
 pub read_own : (bs : List Strided) (x : ℕ) → x < length bs → AllOwn bs → IsOwn (part_at bs x)
 read_own bs x p h = each_read IsOwn (point_at (pos 0)) bs x p h
 
-pub read_range : (bs : List Strided) (x : ℕ) → x < length bs → slice_index_or (map range_of_part bs) x empty_range ≡ range_of_part (part_at bs x)
+pub read_range : (bs : List Strided) (x : ℕ) → x < length bs → slice_index_or (map range_of bs) x empty_range ≡ range_of (part_at bs x)
 read_range [] x p = absurd (omega arith)
 read_range (b ∷ bs) zero p = refl
 read_range (b ∷ bs) (suc x) p = read_range bs x (omega arith)

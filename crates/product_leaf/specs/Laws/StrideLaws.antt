@@ -1,5 +1,5 @@
 -- The laws of intervals with strides.
-use Rattle.std.proofs.Common.{◌≡◌, ◌⊎◌, inl, inr, ◌↔◌, ℕ, ◌≤◌, ◌<◌, ◌*◌, ℤ, pos, ◌-ℤ◌, ◌*ℤ◌, ◌≤ℤ◌, Bool, true, false, List, Option, Some, None, length, slice_index_or, slice_set, map, refl, sym, subst, ◌∙◌, arith, if◌then◌else◌}
+use Rattle.std.proofs.Common.{◌≡◌, ◌⊎◌, inl, inr, ◌↔◌, ℕ, ◌≤◌, ◌<◌, ◌+◌, ◌*◌, ℤ, pos, ◌-ℤ◌, ◌*ℤ◌, ◌≤ℤ◌, Bool, true, false, List, Option, Some, None, length, slice_index_or, slice_set, map, refl, sym, subst, ◌∙◌, arith, if◌then◌else◌}
 use Rattle.std.specs.List.{list_any}
 use Rattle.std.proofs.lemmas.Int.{ints, clamps}
 use Rattle.std.proofs.lemmas.List.{length-map}
@@ -10,11 +10,11 @@ use Rattle.leaf_domain.specs.Forms.{form_at, IsForm}
 use Rattle.leaf_domain.specs.Leaves.{LeafValue, LeafLaws, IsLeafLike, nothing_of, is_nothing_of}
 use Rattle.strides.specs.declared.strided.Strided.{Strided}
 use Rattle.strides.specs.Strides.{stride_at, HasStride}
-use Rattle.strides.specs.Strided.{least, greatest, strided_at, Has, is_bare, point_at, reduced, IsOwn, joined, widened, narrowed}
+use Rattle.strides.specs.Strided.{least, greatest, strided_at, Has, is_bare, point_at, reduced, IsOwn, joined, range_of, widened, narrowed}
 use Rattle.strides.proofs.StridedLaws.{first_of, first_in}
-use Rattle.product_leaf.specs.StrideLeaves.{strides, fours_of, leaf_of, parts_in, AllOwn, AllHave, IsStrideLeaf, ContentHolds, stride_holds, best_of, stride_best, settled, joined_all, widened_all, narrowed_all, part_at, range_of_part, met_part, form_stride, stride_start, stride_leq, stride_join, stride_widen, stride_narrow, stride_bounds, stride_with, stride_meet, stride_set_form, stride_own_bounds}
+use Rattle.product_leaf.specs.StrideLeaves.{strides, fours_of, leaf_of, parts_in, AllOwn, AllHave, IsStrideLeaf, ContentHolds, stride_holds, best_of, stride_best, settled, joined_all, widened_all, narrowed_all, part_at, met_part, form_stride, stride_start, stride_leq, stride_join, stride_widen, stride_narrow, stride_bounds, stride_with, stride_meet, stride_set_form, stride_steps_left}
 use Rattle.leaf_domain.proofs.Variables.{length_zipped, length_replaced}
-use Rattle.product_leaf.specs.Laws.Parts.{fours_numbers, length_best, is_leaf, IsLimited, AllLimited, limited_own, best_own, own_best, limited_set, own_points, joined_all_own, widened_all_own, narrowed_all_own, none_bare, best_keeps, best_back, points_have, points_alone, firsts, firsts_have, have_length, joined_first, joined_second, inside_has, widened_first, widened_second, narrowed_have, widened_all_fewer, own_count_le, read_has, read_own, read_range, set_have, kept_have}
+use Rattle.product_leaf.specs.Laws.Parts.{fours_numbers, length_best, is_leaf, IsLimited, AllLimited, limited_own, best_own, own_best, limited_set, own_points, joined_all_own, widened_all_own, narrowed_all_own, none_bare, best_keeps, best_back, points_have, points_alone, firsts, firsts_have, have_length, joined_first, joined_second, inside_has, widened_first, widened_second, narrowed_have, widened_all_fewer, steps_few_in, read_has, read_own, read_range, set_have, kept_have}
 use Rattle.product_leaf.specs.Laws.FormStrides.{form_has, form_reduced}
 
 abbrev at : ℕ → Option (List ℤ) → LeafValue
@@ -101,59 +101,59 @@ nothing_join n (Some us) = refl
 same_length : (n m : ℕ) (us bs : List ℤ) → IsStrideLeaf (at n (Some us)) → IsStrideLeaf (at m (Some bs)) → n ≡ m → length (fours_of us) ≡ length (map reduced (fours_of bs))
 same_length n m us bs p q e = sym p.1.1 ∙ e ∙ q.1.1 ∙ sym (length_best (fours_of bs))
 
-widen_answers : (n m : ℕ) (c d : Option (List ℤ)) → IsStrideLeaf (at n c) → IsStrideLeaf (at m d) → n ≡ m → IsLeafLike strides (at n c) (stride_widen (at n c) (at m d))
-widen_answers n m None d p q e = let r : IsLeafLike strides (at m d) (stride_best (at m d)) = best_answers m d q in record { valid = r.valid; same = r.same ∙ sym e }
-widen_answers n m (Some us) None p q e = record { valid = p; same = refl }
-widen_answers n m (Some us) (Some bs) p q e =
-    made_answers n (Some us) (widened_all (fours_of us) (map reduced (fours_of bs))) p.0
-    (p.1.1 ∙ sym (length_zipped widened (fours_of us) (map reduced (fours_of bs)) (same_length n m us bs p q e)))
-    (widened_all_own (fours_of us) (map reduced (fours_of bs)) p.1.2 (own_best (fours_of bs) q.1.2))
+widen_answers : (ts : List ℤ) (n m : ℕ) (c d : Option (List ℤ)) → IsStrideLeaf (at n c) → IsStrideLeaf (at m d) → n ≡ m → IsLeafLike strides (at n c) (stride_widen ts (at n c) (at m d))
+widen_answers ts n m None d p q e = let r : IsLeafLike strides (at m d) (stride_best (at m d)) = best_answers m d q in record { valid = r.valid; same = r.same ∙ sym e }
+widen_answers ts n m (Some us) None p q e = record { valid = p; same = refl }
+widen_answers ts n m (Some us) (Some bs) p q e =
+    made_answers n (Some us) (widened_all ts (fours_of us) (map reduced (fours_of bs))) p.0
+    (p.1.1 ∙ sym (length_zipped (widened ts) (fours_of us) (map reduced (fours_of bs)) (same_length n m us bs p q e)))
+    (widened_all_own ts (fours_of us) (map reduced (fours_of bs)) p.1.2 (own_best (fours_of bs) q.1.2))
 
-widen_holds : (n m : ℕ) (c d : Option (List ℤ)) (s : List ℤ) → IsStrideLeaf (at n c) → IsStrideLeaf (at m d) → n ≡ m → ContentHolds c s ⊎ ContentHolds d s → stride_holds (stride_widen (at n c) (at m d)) s
-widen_holds n m None d s p q e (inl h) = absurd h
-widen_holds n m None d s p q e (inr h) = (best_holds m d s).1 h
-widen_holds n m (Some us) None s p q e (inl h) = h
-widen_holds n m (Some us) None s p q e (inr h) = absurd h
-widen_holds n m (Some us) (Some bs) s p q e (inl h) =
-    made_holds _ s (widened_first (fours_of us) (map reduced (fours_of bs)) s (same_length n m us bs p q e) p.1.2 (own_best (fours_of bs) q.1.2) h)
-widen_holds n m (Some us) (Some bs) s p q e (inr h) =
-    made_holds _ s (widened_second (fours_of us) (map reduced (fours_of bs)) s (same_length n m us bs p q e) p.1.2 (own_best (fours_of bs) q.1.2) (best_keeps (fours_of bs) s h))
+widen_holds : (ts : List ℤ) (n m : ℕ) (c d : Option (List ℤ)) (s : List ℤ) → IsStrideLeaf (at n c) → IsStrideLeaf (at m d) → n ≡ m → ContentHolds c s ⊎ ContentHolds d s → stride_holds (stride_widen ts (at n c) (at m d)) s
+widen_holds ts n m None d s p q e (inl h) = absurd h
+widen_holds ts n m None d s p q e (inr h) = (best_holds m d s).1 h
+widen_holds ts n m (Some us) None s p q e (inl h) = h
+widen_holds ts n m (Some us) None s p q e (inr h) = absurd h
+widen_holds ts n m (Some us) (Some bs) s p q e (inl h) =
+    made_holds _ s (widened_first ts (fours_of us) (map reduced (fours_of bs)) s (same_length n m us bs p q e) p.1.2 (own_best (fours_of bs) q.1.2) h)
+widen_holds ts n m (Some us) (Some bs) s p q e (inr h) =
+    made_holds _ s (widened_second ts (fours_of us) (map reduced (fours_of bs)) s (same_length n m us bs p q e) p.1.2 (own_best (fours_of bs) q.1.2) (best_keeps (fours_of bs) s h))
 
-widen_grows : (n m : ℕ) (c d : Option (List ℤ)) → IsStrideLeaf (at n c) → IsStrideLeaf (at m d) → n ≡ m → is_nothing_of (at n c) ≡ false → is_nothing_of (at m d) ≡ false → stride_leq (at m d) (at n c) ≡ false → stride_own_bounds (stride_widen (at n c) (at m d)) < stride_own_bounds (at n c)
-widen_grows n m None d p q e f g h = cc
-widen_grows n m (Some us) None p q e f g h = cc
-widen_grows n m (Some us) (Some bs) p q e f g h =
-    rw (fours_numbers (widened_all (fours_of us) (map reduced (fours_of bs))))
-    (widened_all_fewer (fours_of us) (map reduced (fours_of bs)) (same_length n m us bs p q e) p.1.2 (own_best (fours_of bs) q.1.2) h)
+widen_grows : (ts : List ℤ) (n m : ℕ) (c d : Option (List ℤ)) → IsStrideLeaf (at n c) → IsStrideLeaf (at m d) → n ≡ m → is_nothing_of (at n c) ≡ false → is_nothing_of (at m d) ≡ false → stride_leq (at m d) (at n c) ≡ false → stride_steps_left ts (stride_widen ts (at n c) (at m d)) < stride_steps_left ts (at n c)
+widen_grows ts n m None d p q e f g h = cc
+widen_grows ts n m (Some us) None p q e f g h = cc
+widen_grows ts n m (Some us) (Some bs) p q e f g h =
+    rw (fours_numbers (widened_all ts (fours_of us) (map reduced (fours_of bs))))
+    (widened_all_fewer ts (fours_of us) (map reduced (fours_of bs)) (same_length n m us bs p q e) p.1.2 (own_best (fours_of bs) q.1.2) h)
 
-own_le : (n : ℕ) (c : Option (List ℤ)) → IsStrideLeaf (at n c) → stride_own_bounds (at n c) ≤ 35 * n
-own_le n None p = omega arith
-own_le n (Some us) p = omega (arith, own_count_le (fours_of us) p.1.2, p.1.1)
+steps_few : (ts : List ℤ) (n : ℕ) (c : Option (List ℤ)) → IsStrideLeaf (at n c) → stride_steps_left ts (at n c) ≤ 35 * n * (length ts + 1)
+steps_few ts n None p = omega arith
+steps_few ts n (Some us) p = rw p.1.1 (steps_few_in ts (fours_of us) p.1.2)
 
 -- ---- narrow
-narrow_answers : (n m : ℕ) (c d : Option (List ℤ)) → IsStrideLeaf (at n c) → IsStrideLeaf (at m d) → n ≡ m → IsLeafLike strides (at n c) (stride_narrow (at n c) (at m d))
-narrow_answers n m None d p q e = record { valid = p; same = refl }
-narrow_answers n m (Some us) None p q e = record { valid = q; same = sym e }
-narrow_answers n m (Some us) (Some bs) p q e = by_test (list_any is_bare rs) refl
+narrow_answers : (ts : List ℤ) (n m : ℕ) (c d : Option (List ℤ)) → IsStrideLeaf (at n c) → IsStrideLeaf (at m d) → n ≡ m → IsLeafLike strides (at n c) (stride_narrow ts (at n c) (at m d))
+narrow_answers ts n m None d p q e = record { valid = p; same = refl }
+narrow_answers ts n m (Some us) None p q e = record { valid = q; same = sym e }
+narrow_answers ts n m (Some us) (Some bs) p q e = by_test (list_any is_bare rs) refl
   where
     rs : List Strided
-    rs = narrowed_all (fours_of us) (map reduced (fours_of bs))
+    rs = narrowed_all ts (fours_of us) (map reduced (fours_of bs))
 
-    l : n ≡ length (narrowed_all (fours_of us) (map reduced (fours_of bs)))
-    l = p.1.1 ∙ sym (length_zipped narrowed (fours_of us) (map reduced (fours_of bs)) (same_length n m us bs p q e))
+    l : n ≡ length (narrowed_all ts (fours_of us) (map reduced (fours_of bs)))
+    l = p.1.1 ∙ sym (length_zipped (narrowed ts) (fours_of us) (map reduced (fours_of bs)) (same_length n m us bs p q e))
 
-    by_test : (t : Bool) → list_any is_bare (narrowed_all (fours_of us) (map reduced (fours_of bs))) ≡ t → IsLeafLike strides (at n (Some us)) (if t then nothing_of (length (narrowed_all (fours_of us) (map reduced (fours_of bs)))) else leaf_of (narrowed_all (fours_of us) (map reduced (fours_of bs))))
+    by_test : (t : Bool) → list_any is_bare (narrowed_all ts (fours_of us) (map reduced (fours_of bs))) ≡ t → IsLeafLike strides (at n (Some us)) (if t then nothing_of (length (narrowed_all ts (fours_of us) (map reduced (fours_of bs)))) else leaf_of (narrowed_all ts (fours_of us) (map reduced (fours_of bs))))
     by_test true f = nothing_answers n _ (Some us) p.0 l
-    by_test false f = made_answers n (Some us) _ p.0 l (narrowed_all_own (fours_of us) (map reduced (fours_of bs)) p.1.2 (own_best (fours_of bs) q.1.2) f)
+    by_test false f = made_answers n (Some us) _ p.0 l (narrowed_all_own ts (fours_of us) (map reduced (fours_of bs)) p.1.2 (own_best (fours_of bs) q.1.2) f)
 
 settled_holds : (bs : List Strided) (s : List ℤ) → AllHave bs s → stride_holds (settled bs) s
 settled_holds bs s h = rw (none_bare bs s h) (made_holds bs s h)
 
-narrow_holds : (n m : ℕ) (c d : Option (List ℤ)) (s : List ℤ) → IsStrideLeaf (at n c) → IsStrideLeaf (at m d) → n ≡ m → stride_leq (at m d) (at n c) ≡ true → ContentHolds d s → stride_holds (stride_narrow (at n c) (at m d)) s
-narrow_holds n m c None s p q e f h = absurd h
-narrow_holds n m None (Some bs) s p q e f h = cc
-narrow_holds n m (Some us) (Some bs) s p q e f h =
-    settled_holds _ s (narrowed_have (fours_of us) (map reduced (fours_of bs)) s (same_length n m us bs p q e) f (best_keeps (fours_of bs) s h))
+narrow_holds : (ts : List ℤ) (n m : ℕ) (c d : Option (List ℤ)) (s : List ℤ) → IsStrideLeaf (at n c) → IsStrideLeaf (at m d) → n ≡ m → stride_leq (at m d) (at n c) ≡ true → ContentHolds d s → stride_holds (stride_narrow ts (at n c) (at m d)) s
+narrow_holds ts n m c None s p q e f h = absurd h
+narrow_holds ts n m None (Some bs) s p q e f h = cc
+narrow_holds ts n m (Some us) (Some bs) s p q e f h =
+    settled_holds _ s (narrowed_have ts (fours_of us) (map reduced (fours_of bs)) s (same_length n m us bs p q e) f (best_keeps (fours_of bs) s h))
 
 -- ---- one variable
 with_answers : (n : ℕ) (c : Option (List ℤ)) (x : ℕ) (b : Strided) → IsStrideLeaf (at n c) → (AllOwn (parts_in c) → IsLimited b) → IsLeafLike strides (at n c) (stride_with (at n c) x b)
@@ -212,7 +212,7 @@ set_form_holds n (Some us) x f r s p g h w =
     let k : HasStride (form_stride (map reduced (fours_of us)) f) (form_at f s) = form_has (map reduced (fours_of us)) f s (subst (λ m. IsForm m f) e g) (best_keeps (fours_of us) s h) in
     set_holds n (Some us) x (strided_at r.low r.high (form_stride (map reduced (fours_of us)) f)) s (form_at f s) h (record { low = w.low; high = w.high; stride = k })
 
-own_in_int : (b : Strided) → IsOwn b → b.low ≤ℤ b.high → IsInInt (range_of_part b)
+own_in_int : (b : Strided) → IsOwn b → b.low ≤ℤ b.high → IsInInt (range_of b)
 own_in_int b h o =
     let p : least ≤ℤ b.low = h.low in
     let q : b.high ≤ℤ greatest = h.high in
@@ -232,7 +232,7 @@ bounds_in_int n (Some us) x p l =
         let q : first_of b ≤ℤ b.high = h.high in
         omega (arith, ints)
 
-has_within : (b : Strided) (n : ℤ) → Has b n → Within n (range_of_part b)
+has_within : (b : Strided) (n : ℤ) → Has b n → Within n (range_of b)
 has_within b n h = record { low = h.low; high = h.high }
 
 bounds_hold : (n : ℕ) (c : Option (List ℤ)) (x : ℕ) (s : List ℤ) → IsStrideLeaf (at n c) → x < n → ContentHolds c s → Within (slice_index_or s x (pos 0)) (stride_bounds (at n c) x)
@@ -281,13 +281,13 @@ stride_laws = record {
   join_holds = λ a b s k. join_holds a.variables b.variables a.content b.content s k.first k.second k.same;
   join_nothing = λ a. refl;
   nothing_join = λ a. nothing_join a.variables a.content;
-  widen_answers = λ a b k. widen_answers a.variables b.variables a.content b.content k.first k.second k.same;
-  widen_holds = λ a b s k. widen_holds a.variables b.variables a.content b.content s k.first k.second k.same;
-  widen_grows = λ a b k. widen_grows a.variables b.variables a.content b.content k.first k.second k.same;
-  own_bounds_le = λ a p. own_le a.variables a.content p;
-  narrow_answers = λ a b k. narrow_answers a.variables b.variables a.content b.content k.first k.second k.same;
-  narrow_holds = λ a b s k. narrow_holds a.variables b.variables a.content b.content s k.first k.second k.same;
-  narrow_nothing = λ n a. refl;
+  widen_answers = λ ts a b k. widen_answers ts a.variables b.variables a.content b.content k.first k.second k.same;
+  widen_holds = λ ts a b s k. widen_holds ts a.variables b.variables a.content b.content s k.first k.second k.same;
+  widen_grows = λ ts a b k. widen_grows ts a.variables b.variables a.content b.content k.first k.second k.same;
+  steps_few = λ ts a p. steps_few ts a.variables a.content p;
+  narrow_answers = λ ts a b k. narrow_answers ts a.variables b.variables a.content b.content k.first k.second k.same;
+  narrow_holds = λ ts a b s k. narrow_holds ts a.variables b.variables a.content b.content s k.first k.second k.same;
+  narrow_nothing = λ ts n a. refl;
   bounds_in_int = λ a x. bounds_in_int a.variables a.content x;
   bounds_hold = λ a x s. bounds_hold a.variables a.content x s;
   bounds_nothing = λ n x. refl;

@@ -1,7 +1,7 @@
-use Rattle.std.proofs.Common.{◌<◌, length, arith}
-use Rattle.strides.specs.Strided.{joined}
+use Rattle.std.proofs.Common.{pos, ◌<◌, length, arith}
+use Rattle.strides.specs.Strided.{point_at, joined}
 use Rattle.product_leaf.specs.Laws.Parts.{read_own}
-use Rattle.product_leaf.proofs.PartLemmas.{zipped_next}
+use Rattle.leaf_domain.proofs.Zipped.{zipped_next}
 use Rattle.product_leaf.proofs.parts.joined.Goals as goal
 
 pub joined-requires-clause-first : goal.joined-requires-clause-first
@@ -16,4 +16,4 @@ pub loop-i-preserved : goal.loop-i-preserved
 loop-i-preserved c =
     let l : c.loop-i.i < length c.args.a.now = omega arith in
     let k : c.loop-i.i < length c.args.b.now = omega (arith, c.requires.same) in
-    zipped_next joined c.args.a.now c.args.b.now c.loop-i.made.items _ c.loop-i.i c.joined.result c.loop-i.invariant c.in_ok-push.ensures.items c.joined.ensures l k
+    zipped_next joined (point_at (pos 0)) c.args.a.now c.args.b.now c.loop-i.made.items _ c.loop-i.i c.joined.result c.loop-i.invariant c.in_ok-push.ensures.items c.joined.ensures l k

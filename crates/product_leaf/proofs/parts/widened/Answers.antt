@@ -1,7 +1,7 @@
-use Rattle.std.proofs.Common.{◌<◌, length, arith}
-use Rattle.strides.specs.Strided.{widened}
+use Rattle.std.proofs.Common.{pos, ◌<◌, length, arith}
+use Rattle.strides.specs.Strided.{point_at, widened}
 use Rattle.product_leaf.specs.Laws.Parts.{read_own}
-use Rattle.product_leaf.proofs.PartLemmas.{zipped_next}
+use Rattle.leaf_domain.proofs.Zipped.{zipped_next}
 use Rattle.product_leaf.proofs.parts.widened.Goals as goal
 
 pub widened-requires-clause-first : goal.widened-requires-clause-first
@@ -16,4 +16,4 @@ pub loop-i-preserved : goal.loop-i-preserved
 loop-i-preserved c =
     let l : c.loop-i.i < length c.args.x.now = omega arith in
     let k : c.loop-i.i < length c.args.g.now = omega (arith, c.requires.same) in
-    zipped_next widened c.args.x.now c.args.g.now c.loop-i.made.items _ c.loop-i.i c.widened.result c.loop-i.invariant c.in_ok-push.ensures.items c.widened.ensures l k
+    zipped_next (widened c.args.thresholds.now) (point_at (pos 0)) c.args.x.now c.args.g.now c.loop-i.made.items _ c.loop-i.i c.widened.result c.loop-i.invariant c.in_ok-push.ensures.items c.widened.ensures l k

@@ -3,4 +3,4 @@ use Rattle.product_leaf.specs.StrideLeaves.{widened_all}
 use Rattle.product_leaf.proofs.parts.widened.Given as goal
 
 abbrev pub invariant-loop-i : goal.invariant-loop-i
-invariant-loop-i l = l.made.items ≡ widened_all (take l.i l.x) (take l.i l.g)
+invariant-loop-i l = l.made.items ≡ widened_all l.thresholds (take l.i l.x) (take l.i l.g)

@@ -5,4 +5,4 @@ use Rattle.product_leaf.proofs.leaf.StrideLeafLeaf.bounds_of.Goals as goal
 pub returns-in-Some : goal.returns-in-Some
 returns-in-Some c =
     let l : c.args.x < length c.in-Some.parts.now = omega (arith, c.requires, best_count _ _ c.in-Some.ensures.best) in
-    c.range_of.ensures ∙ bounds_is c.args.self.now c.in-Some.parts.now c.args.x c.in-Some.ensures.best l
+    c.range.ensures ∙ bounds_is c.args.self.now c.in-Some.parts.now c.args.x c.in-Some.ensures.best l

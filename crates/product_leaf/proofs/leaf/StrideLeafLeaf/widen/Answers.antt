@@ -17,18 +17,18 @@ widened-requires-clause-second c = best_all_own _ _ c.in-Some-best_parts.ensures
 
 pub standing_as-requires-clause-few : goal.standing_as-requires-clause-few
 standing_as-requires-clause-few c =
-    few_zipped widened c.in-Some.parts.now c.in-Some-best_parts.others.now _ c.args.self.now.variables
+    few_zipped (widened c.args.thresholds.now) c.in-Some.parts.now c.in-Some-best_parts.others.now _ c.args.self.now.variables
     (own_count _ _ c.in-Some.ensures.standing) (best_count _ _ c.in-Some-best_parts.ensures.best ∙ sym c.requires)
     c.in-Some.ensures.few c.in_ok-widened-in-Some-best_parts.ensures
 
 pub standing_as-requires-clause-own : goal.standing_as-requires-clause-own
 standing_as-requires-clause-own c =
     subst AllOwn (sym c.in_ok-widened-in-Some-best_parts.ensures)
-    (widened_all_own _ _ c.in-Some.ensures.standing.own (best_all_own _ _ c.in-Some-best_parts.ensures.best))
+    (widened_all_own _ _ _ c.in-Some.ensures.standing.own (best_all_own _ _ c.in-Some-best_parts.ensures.best))
 
 pub returns-in_ok-widened-in-Some-best_parts : goal.returns-in_ok-widened-in-Some-best_parts
 returns-in_ok-widened-in-Some-best_parts c =
     let P : LeafValue → Type 0 = λ u. IfOk c.standing_as.result (λ leaf. leaf ≡ u) in
     subst P
-    (widen_is c.args.self.now c.args.other.now _ _ _ c.in-Some.ensures.standing c.in-Some-best_parts.ensures.best c.in_ok-widened-in-Some-best_parts.ensures)
+    (widen_is c.args.thresholds.now c.args.self.now c.args.other.now _ _ _ c.in-Some.ensures.standing c.in-Some-best_parts.ensures.best c.in_ok-widened-in-Some-best_parts.ensures)
     c.standing_as.ensures
