@@ -60,11 +60,11 @@ leq-is v w m k p q = rw (q.is, p.is, p.some) refl
 pub join-is : (v w : LeafValue) (m k : MatrixValue) → IsClosedOf v m → IsClosedOf w k → octagon_join v w ≡ best_of (matrix_of m.variables (greater m k))
 join-is v w m k p q = rw (p.is, q.is, p.some, q.some) (ap (λ i. best_of (matrix_of i (greater m k))) (sym p.variables))
 
-pub widen-is : (v w : LeafValue) (m k : MatrixValue) → IsStandingOf v m → IsClosedOf w k → octagon_widen v w ≡ leaf_of (matrix_of m.variables (widened m k))
-widen-is v w m k p q = rw (p.is, q.is, q.some) refl
+pub widen-is : (ts : List ℤ) (v w : LeafValue) (m k : MatrixValue) → IsStandingOf v m → IsClosedOf w k → octagon_widen ts v w ≡ leaf_of (matrix_of m.variables (widened ts m k))
+widen-is ts v w m k p q = rw (p.is, q.is, q.some) refl
 
-pub narrow-is : (v w : LeafValue) (m k : MatrixValue) → IsStandingOf v m → IsClosedOf w k → octagon_narrow v w ≡ standing (matrix_of m.variables (narrowed m k))
-narrow-is v w m k p q = rw (p.is, q.is, q.some) refl
+pub narrow-is : (ts : List ℤ) (v w : LeafValue) (m k : MatrixValue) → IsStandingOf v m → IsClosedOf w k → octagon_narrow ts v w ≡ standing (matrix_of m.variables (narrowed ts m k))
+narrow-is ts v w m k p q = rw (p.is, q.is, q.some) refl
 
 pub set-constant-is : (v : LeafValue) (m : MatrixValue) (x : ℕ) (f : Form) (c : ℤ) (r : Range) → IsClosedOf v m → is_empty_range r ≡ false → shape_of f ≡ Constant c → octagon_set_form v x f r ≡ best_of (met_all (dropped m x) (between x (range_at c c) ++ between x r))
 set-constant-is v m x f c r k h g =

@@ -1,7 +1,6 @@
 -- Leaves of octagons, after A. Miné, "The octagon abstract domain": what their operations mean.
-use Rattle.std.specs.Prelude.{ℕ, ◌+◌, ◌*◌, ◌/◌, ◌%◌, ◌≤◌, ◌^◌, ℤ, pos, negsuc, neg_ℤ, ◌+ℤ◌, ◌-ℤ◌, ◌*ℤ◌, int_le, Bool, true, false, not, ◌||◌, nat_eq, if◌then◌else◌, List, [], ◌∷◌, ◌++◌, Option, Some, None, length, ⊤}
+use Rattle.std.specs.Prelude.{ℕ, ◌+◌, ◌*◌, ◌/◌, ◌%◌, ◌≤◌, ◌^◌, ℤ, pos, negsuc, neg_ℤ, ◌+ℤ◌, ◌-ℤ◌, ◌*ℤ◌, int_le, Bool, true, false, ◌||◌, nat_eq, if◌then◌else◌, List, [], ◌∷◌, ◌++◌, Option, Some, None, length, ⊤}
 use Rattle.std.specs.Int.{int_min, int_max}
-use Rattle.std.specs.Ordering.{int_eq}
 use Rattle.octagon_matrix.specs.Terms.{opposite, type_bound}
 use Rattle.octagon_matrix.specs.Matrices.{MatrixValue, entry_of, IsMatrix, met_entry}
 use Rattle.octagon_matrix.specs.Stores.{Holds}
@@ -12,7 +11,10 @@ use Rattle.leaf_domain.specs.declared.compare.Compare.{Compare}
 use Rattle.leaf_domain.specs.Compares.{holds_between}
 use Rattle.leaf_domain.specs.Ranges.{is_empty_range, empty_range, range_at}
 use Rattle.leaf_domain.specs.Leaves.{LeafValue, LeafMeaning, nothing_of, is_nothing_of}
-use Rattle.octagon_leaf.specs.Pairs.{all_pairs, count_pairs}
+use Rattle.leaf_domain.specs.declared.thresholds.Multiple.{Multiple}
+use Rattle.leaf_domain.specs.declared.thresholds.Multiple.TheVariants.{One, Two, MinusTwo}
+use Rattle.leaf_domain.specs.Thresholds.{scaled, nearest, is_step, steps_from}
+use Rattle.octagon_leaf.specs.Pairs.{all_pairs, sum_pairs}
 use Rattle.octagon_leaf.specs.Greatest.{matrix_of, leaf_of, difference, best_of, standing}
 use Rattle.octagon_leaf.specs.declared.shape.Edge.{Edge}
 use Rattle.octagon_leaf.specs.declared.shape.Shape.{Shape}
@@ -94,23 +96,36 @@ greater m k a b = int_max (entry_of m a b) (entry_of k a b)
 abbrev pub octagon_join : LeafValue → LeafValue → LeafValue
 octagon_join v w = if is_nothing_of v then w else (if is_nothing_of w then v else best_of (matrix_of v.variables (greater (best_matrix v) (best_matrix w))))
 
--- an entry of x where that of g is not greater, and else the type's bound
-abbrev pub widened : MatrixValue → MatrixValue → ℕ → ℕ → ℤ
-widened x g a b = if int_le (entry_of g a b) (entry_of x a b) then entry_of x a b else type_bound a b
+-- what the entry of two terms bounds: a variable twice, its negation twice, or the sum or difference of two variables
+abbrev pub multiple_of : ℕ → ℕ → Multiple
+multiple_of a b = if nat_eq b (opposite a) then (if nat_eq (a % 2) 0 then Two else MinusTwo) else One
 
-abbrev pub octagon_widen : LeafValue → LeafValue → LeafValue
-octagon_widen x g = if is_nothing_of x then octagon_best g else (if is_nothing_of g then x else leaf_of (matrix_of x.variables (widened (matrix_in x) (best_matrix g))))
+-- the bounds that these thresholds are for the entry of two terms
+abbrev pub steps_of : List ℤ → ℕ → ℕ → List ℤ
+steps_of ts a b = scaled (multiple_of a b) ts
 
--- an entry of x that is not the type's bound, and else that of g
-abbrev pub narrowed : MatrixValue → MatrixValue → ℕ → ℕ → ℤ
-narrowed x g a b = if int_eq (entry_of x a b) (type_bound a b) then entry_of g a b else entry_of x a b
+-- an entry of x where that of g is not greater, and else the nearest threshold that covers that of g, and the type's bound where
+-- none does
+abbrev pub widened : List ℤ → MatrixValue → MatrixValue → ℕ → ℕ → ℤ
+widened ts x g a b =
+    if int_le (entry_of g a b) (entry_of x a b) then entry_of x a b else nearest (type_bound a b) (steps_of ts a b) (entry_of g a b)
 
-abbrev pub octagon_narrow : LeafValue → LeafValue → LeafValue
-octagon_narrow x g = if is_nothing_of x then x else (if is_nothing_of g then g else standing (matrix_of x.variables (narrowed (matrix_in x) (best_matrix g))))
+abbrev pub octagon_widen : List ℤ → LeafValue → LeafValue → LeafValue
+octagon_widen ts x g =
+    if is_nothing_of x then octagon_best g else (if is_nothing_of g then x else leaf_of (matrix_of x.variables (widened ts (matrix_in x) (best_matrix g))))
 
--- how many entries are not the type's bounds
-abbrev pub octagon_own_bounds : LeafValue → ℕ
-octagon_own_bounds v = if is_nothing_of v then 0 else count_pairs (2 * v.variables) (λ a b. not (int_eq (own_entry v a b) (type_bound a b)))
+-- an entry of x that is neither the type's bound nor that of a threshold, and else that of g
+abbrev pub narrowed : List ℤ → MatrixValue → MatrixValue → ℕ → ℕ → ℤ
+narrowed ts x g a b = if is_step (type_bound a b) (steps_of ts a b) (entry_of x a b) then entry_of g a b else entry_of x a b
+
+abbrev pub octagon_narrow : List ℤ → LeafValue → LeafValue → LeafValue
+octagon_narrow ts x g =
+    if is_nothing_of x then x else (if is_nothing_of g then g else standing (matrix_of x.variables (narrowed ts (matrix_in x) (best_matrix g))))
+
+-- how many steps the entries can still take in all
+abbrev pub octagon_steps_left : List ℤ → LeafValue → ℕ
+octagon_steps_left ts v =
+    if is_nothing_of v then 0 else sum_pairs (2 * v.variables) (λ a b. steps_from (type_bound a b) (steps_of ts a b) (own_entry v a b))
 
 abbrev pub octagon_bound_count : ℕ → ℕ
 octagon_bound_count n = 4 * (n * n)
@@ -196,7 +211,7 @@ octagons = record {
   holds = octagon_holds;
   start = octagon_start;
   bound_count = octagon_bound_count;
-  own_bounds = octagon_own_bounds;
+  steps_left = octagon_steps_left;
   best = octagon_best;
   leq = octagon_leq;
   join = octagon_join;

@@ -1,5 +1,5 @@
--- Tests and counts over all pairs of terms.
-use Rattle.std.specs.Prelude.{ℕ, zero, suc, ◌+◌, Bool, true, ◌&&◌, if◌then◌else◌}
+-- Tests and sums over all pairs of terms.
+use Rattle.std.specs.Prelude.{ℕ, zero, suc, ◌+◌, Bool, true, ◌&&◌}
 
 -- whether a test is true of each number below a bound
 unfoldable pub all_below : ℕ → (ℕ → Bool) → Bool
@@ -15,9 +15,6 @@ sum_below (suc k) f = sum_below k f + f k
 abbrev pub all_pairs : ℕ → (ℕ → ℕ → Bool) → Bool
 all_pairs n p = all_below n (λ a. all_below n (λ b. p a b))
 
-abbrev pub one_where : Bool → ℕ
-one_where t = if t then 1 else 0
-
--- of how many pairs of numbers below a bound a test is true
-abbrev pub count_pairs : ℕ → (ℕ → ℕ → Bool) → ℕ
-count_pairs n p = sum_below n (λ a. sum_below n (λ b. one_where (p a b)))
+-- the sum of a function over the pairs of numbers below a bound
+abbrev pub sum_pairs : ℕ → (ℕ → ℕ → ℕ) → ℕ
+sum_pairs n f = sum_below n (λ a. sum_below n (λ b. f a b))

@@ -10,13 +10,13 @@ ghost use Rattle.octagon_matrix.specs.Stores.{term_value};
 ghost use Rattle.octagon_closure.specs.Best.{IsBest};
 ghost use Rattle.octagon_leaf.specs.Greatest.{difference};
 ghost use Rattle.octagon_leaf.specs.Shapes.{between};
-ghost use Rattle.octagon_leaf.specs.Octagons.{has_variable, least_entry, met_all, dropped, renamed, sign_of, moved_entry, greater, widened, narrowed};
+ghost use Rattle.octagon_leaf.specs.Octagons.{has_variable, least_entry, met_all, dropped, renamed, sign_of, moved_entry, greater, multiple_of, widened, narrowed};
 ghost use Rattle.octagon_leaf.specs.Meeting.{IsSmall};
 ghost use Rattle.octagon_leaf.specs.Filling.{IsFull, AreLarge, greatest_set, set_entry};
 
 use crate::shape::half;
 use fam_outer::NoMemory;
-use leaf_domain::Range;
+use leaf_domain::{Multiple, Range, Thresholds};
 use octagon_matrix::{Matrix, opposite, type_bound};
 use std::alloc::Global;
 
@@ -82,33 +82,59 @@ pub(crate) fn joined(alloc: Global, first: &Matrix, second: &Matrix) -> Result<M
     })
 }
 
-/// An entry of `x` where that of `g` is not greater, and else the type's bound.
-pub(crate) fn widened(alloc: Global, x: &Matrix, g: &Matrix) -> Result<Matrix, NoMemory>
+/// What the entry of two terms bounds: a variable twice, its negation twice, or the sum or difference of two variables.
+fn multiple_of(a: u32, b: u32) -> Multiple
+    requires { a < 32 }
+    ensures { result ≡ multiple_of a b }
+{
+    if b != opposite(a) {
+        Multiple::One
+    } else if a % 2 == 0 {
+        Multiple::Two
+    } else {
+        Multiple::MinusTwo
+    }
+}
+
+/// An entry of `x` where that of `g` is not greater, and else the nearest threshold that covers that of `g`, and the type's bound
+/// where none does.
+pub(crate) fn widened(
+    alloc: Global,
+    x: &Matrix,
+    g: &Matrix,
+    thresholds: &Thresholds,
+) -> Result<Matrix, NoMemory>
     requires { x.now.variables ≡ g.now.variables }
-    ensures entries { IfOk result (λ m. HasEntries m x.now.variables (widened x.now g.now)) }
+    ensures entries { IfOk result (λ m. HasEntries m x.now.variables (widened thresholds.now x.now g.now)) }
     ensures kept { IfOk result (λ m. IsMatrix m) }
 {
     let _same = g.variables();
     filled(alloc, x.variables(), |a, b| {
         let own = x.entry(a, b);
-        if g.entry(a, b) <= own {
+        let bound = g.entry(a, b);
+        if bound <= own {
             own
         } else {
-            type_bound(a, b)
+            thresholds.nearest(multiple_of(a, b), type_bound(a, b), bound)
         }
     })
 }
 
-/// An entry of `x` that is not the type's bound, and else that of `g`.
-pub(crate) fn narrowed(alloc: Global, x: &Matrix, g: &Matrix) -> Result<Matrix, NoMemory>
+/// An entry of `x` that is neither the type's bound nor that of a threshold, and else that of `g`.
+pub(crate) fn narrowed(
+    alloc: Global,
+    x: &Matrix,
+    g: &Matrix,
+    thresholds: &Thresholds,
+) -> Result<Matrix, NoMemory>
     requires { x.now.variables ≡ g.now.variables }
-    ensures entries { IfOk result (λ m. HasEntries m x.now.variables (narrowed x.now g.now)) }
+    ensures entries { IfOk result (λ m. HasEntries m x.now.variables (narrowed thresholds.now x.now g.now)) }
     ensures kept { IfOk result (λ m. IsMatrix m) }
 {
     let _same = g.variables();
     filled(alloc, x.variables(), |a, b| {
         let own = x.entry(a, b);
-        if own == type_bound(a, b) {
+        if thresholds.is_step(multiple_of(a, b), type_bound(a, b), own) {
             g.entry(a, b)
         } else {
             own

@@ -19,7 +19,7 @@ use crate::filled::{differences, joined, moved, narrowed, widened, with_range};
 use crate::meets::{Meet, met};
 use crate::shape::{Shape, between, compared, edge_range, equal_to, half, shape_of, term_between};
 use fam_outer::NoMemory;
-use leaf_domain::{Compare, Form, Leaf, Range};
+use leaf_domain::{Compare, Form, Leaf, Range, Thresholds};
 use octagon_closure::{Closed, close};
 use octagon_matrix::Matrix;
 use std::alloc::Global;
@@ -347,23 +347,37 @@ impl Leaf for OctagonLeaf {
         }
     }
 
-    fn widen(&self, alloc: Global, other: &OctagonLeaf) -> Result<OctagonLeaf, NoMemory> {
+    fn widen(
+        &self,
+        alloc: Global,
+        other: &OctagonLeaf,
+        thresholds: &Thresholds,
+    ) -> Result<OctagonLeaf, NoMemory> {
         let Some(own) = self.own_matrix() else {
             return other.best(alloc);
         };
         match other.best_matrix() {
             None => self.copy(alloc),
-            Some(best) => OctagonLeaf::standing_as(alloc, widened(alloc, own, best)?),
+            Some(best) => {
+                OctagonLeaf::standing_as(alloc, widened(alloc, own, best, thresholds)?)
+            }
         }
     }
 
-    fn narrow(&self, alloc: Global, other: &OctagonLeaf) -> Result<OctagonLeaf, NoMemory> {
+    fn narrow(
+        &self,
+        alloc: Global,
+        other: &OctagonLeaf,
+        thresholds: &Thresholds,
+    ) -> Result<OctagonLeaf, NoMemory> {
         let Some(own) = self.own_matrix() else {
             return self.copy(alloc);
         };
         match other.best_matrix() {
             None => other.copy(alloc),
-            Some(best) => OctagonLeaf::standing_as(alloc, narrowed(alloc, own, best)?),
+            Some(best) => {
+                OctagonLeaf::standing_as(alloc, narrowed(alloc, own, best, thresholds)?)
+            }
         }
     }
 

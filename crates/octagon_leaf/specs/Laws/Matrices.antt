@@ -1,9 +1,12 @@
 -- Matrices that operations describe, and the stores that meet them.
-use Rattle.std.proofs.Common.{◌≡◌, ◌⊎◌, inl, inr, ℕ, suc, ◌+◌, ◌*◌, ◌<◌, ◌≤◌, ℤ, pos, neg_ℤ, ◌-ℤ◌, ◌≤ℤ◌, int_le, List, [], ◌∷◌, All, length, refl, sym, ◌∙◌, ap, arith, if◌then◌else◌}
+use Rattle.std.proofs.Common.{◌≡◌, ◌⊎◌, inl, inr, ℕ, suc, ◌+◌, ◌*◌, ◌<◌, ◌≤◌, ℤ, pos, neg_ℤ, ◌-ℤ◌, ◌≤ℤ◌, int_le, Bool, true, false, nat_eq, ◌%◌, List, [], ◌∷◌, All, length, refl, sym, ◌∙◌, ap, arith, if◌then◌else◌}
 use Rattle.std.specs.Int.{int_max}
-use Rattle.std.specs.Ordering.{int_eq}
 use Rattle.std.proofs.lemmas.Int.{ints, clamps}
+use Rattle.std.proofs.lemmas.Bool.Decides.{nat_tests}
 use Rattle.c_tree.specs.Value.{IsInt}
+use Rattle.leaf_domain.specs.declared.thresholds.Multiple.TheVariants.{One, Two, MinusTwo}
+use Rattle.leaf_domain.specs.Thresholds.{nearest, is_step}
+use Rattle.leaf_domain.proofs.ThresholdLemmas.{nearest_covers, nearest_below}
 use Rattle.octagon_matrix.specs.Terms.{opposite, type_bound}
 use Rattle.octagon_matrix.specs.Matrices.{MatrixValue, entry_of, IsMatrix}
 use Rattle.octagon_matrix.specs.Stores.{value_at, IsStore, Holds}
@@ -11,7 +14,7 @@ use Rattle.octagon_matrix.proofs.Cells.{table-size}
 use Rattle.octagon_matrix.proofs.Terms.{opposite-below, type_bound-twin}
 use Rattle.octagon_closure.specs.Best.{Reaches, IsBest}
 use Rattle.octagon_leaf.specs.Greatest.{matrix_of, difference}
-use Rattle.octagon_leaf.specs.Octagons.{least_entry, greater, widened, narrowed}
+use Rattle.octagon_leaf.specs.Octagons.{least_entry, greater, multiple_of, steps_of, widened, narrowed}
 use Rattle.octagon_leaf.specs.Filling.{IsFull}
 use Rattle.octagon_leaf.specs.Laws.Best.{of-entry, of-holds, of-bounds, IsBounded, store-below, best-kept, type_bound-same}
 use Rattle.octagon_leaf.specs.Laws.Terms.{plus-value, minus-value}
@@ -108,65 +111,102 @@ greater-best x y p q e = record {
 }
 
 -- ---- widening and narrowing
-pub widened-by : (k o t : ℤ) → k ≤ℤ t → o ≤ℤ t → (o ≤ℤ (if int_le k o then o else t)) × (k ≤ℤ (if int_le k o then o else t)) × ((if int_le k o then o else t) ≤ℤ t)
-widened-by k o t h i = (grind (arith, ints), grind (arith, ints), grind (arith, ints))
+multiple_by : (d e i j : Bool) → d ≡ e → (e ≡ true → i ≡ j) → (if d then (if i then Two else MinusTwo) else One) ≡ (if e then (if j then Two else MinusTwo) else One)
+multiple_by d true i j h k = rw (h, k refl) refl
+multiple_by d false i j h k = rw h refl
 
-same-choice : (k o t k' o' t' : ℤ) → k' ≡ k → o' ≡ o → t' ≡ t → (if int_le k' o' then o' else t') ≡ (if int_le k o then o else t)
-same-choice k o t k' o' t' e f g = rw (e, f, g) refl
+twin_test : (a b : ℕ) → nat_eq (opposite a) (opposite (opposite b)) ≡ nat_eq b (opposite a)
+unfolding opposite
+twin_test a b = grind (arith, nat_tests)
 
-choice-same : (k o t : ℤ) → o ≡ t → (if int_le k o then o else t) ≡ t
-choice-same k o t e = grind (arith, ints)
+twin_sign : (a b : ℕ) → nat_eq b (opposite a) ≡ true → nat_eq (opposite b % 2) 0 ≡ nat_eq (a % 2) 0
+unfolding opposite
+twin_sign a b e = grind (arith, nat_tests)
 
-pub widened-full : (x g : MatrixValue) → IsMatrix x → IsMatrix g → x.variables ≡ g.variables → IsFull x.variables (widened x g)
-widened-full x g p q e = record {
-  diagonal = λ a h. choice-same (entry_of g a a) (entry_of x a a) (type_bound a a) (p.zero_diagonal a h ∙ sym (type_bound-same a));
-  coherent = λ a b h k. same-choice (entry_of g a b) (entry_of x a b) (type_bound a b) (entry_of g (opposite b) (opposite a)) (entry_of x (opposite b) (opposite a)) (type_bound (opposite b) (opposite a)) (q.coherent a b (rw (← e) h) (rw (← e) k)) (p.coherent a b h k) (type_bound-twin a b);
-  most = λ a b h k. (widened-by (entry_of g a b) (entry_of x a b) (type_bound a b) (q.most a b (rw (← e) h) (rw (← e) k)) (p.most a b h k)).2;
+-- coherent entries bound the same
+pub multiple-twin : (a b : ℕ) → multiple_of (opposite b) (opposite a) ≡ multiple_of a b
+multiple-twin a b = multiple_by (nat_eq (opposite a) (opposite (opposite b))) (nat_eq b (opposite a)) (nat_eq (opposite b % 2) 0) (nat_eq (a % 2) 0) (twin_test a b) (twin_sign a b)
+
+-- an entry that steps: at least both, and at most the type's bound
+widened_by : (k o n t : ℤ) (b : Bool) → int_le k o ≡ b → k ≤ℤ n → n ≤ℤ t → o ≤ℤ t → (o ≤ℤ (if b then o else n)) × (k ≤ℤ (if b then o else n)) × ((if b then o else n) ≤ℤ t)
+widened_by k o n t true e h i j = (omega (arith, ints), omega (arith, ints, e), j)
+widened_by k o n t false e h i j = (omega (arith, ints, e, h), h, i)
+
+pub widened-ends : (ts : List ℤ) (x g : MatrixValue) (a b : ℕ) → IsMatrix x → IsMatrix g → x.variables ≡ g.variables → a < 2 * x.variables → b < 2 * x.variables
+    → (entry_of x a b ≤ℤ widened ts x g a b) × (entry_of g a b ≤ℤ widened ts x g a b) × (widened ts x g a b ≤ℤ type_bound a b)
+widened-ends ts x g a b p q e h k =
+    let m : entry_of g a b ≤ℤ type_bound a b = q.most a b (rw (← e) h) (rw (← e) k) in
+    widened_by (entry_of g a b) (entry_of x a b) (nearest (type_bound a b) (steps_of ts a b) (entry_of g a b)) (type_bound a b) (int_le (entry_of g a b) (entry_of x a b)) refl
+    (nearest_covers (type_bound a b) (steps_of ts a b) (entry_of g a b) m) (nearest_below (type_bound a b) (steps_of ts a b) (entry_of g a b)) (p.most a b h k)
+
+same-choice : (k o n k' o' n' : ℤ) → k' ≡ k → o' ≡ o → n' ≡ n → (if int_le k' o' then o' else n') ≡ (if int_le k o then o else n)
+same-choice k o n k' o' n' e f g = rw (e, f, g) refl
+
+same-step : (ts : List ℤ) (a b : ℕ) (k k' : ℤ) → k' ≡ k → nearest (type_bound (opposite b) (opposite a)) (steps_of ts (opposite b) (opposite a)) k' ≡ nearest (type_bound a b) (steps_of ts a b) k
+same-step ts a b k k' e = rw (type_bound-twin a b, multiple-twin a b, e) refl
+
+choice-same : (k o n t : ℤ) → k ≡ t → o ≡ t → (if int_le k o then o else n) ≡ t
+choice-same k o n t e f = grind (arith, ints)
+
+pub widened-full : (ts : List ℤ) (x g : MatrixValue) → IsMatrix x → IsMatrix g → x.variables ≡ g.variables → IsFull x.variables (widened ts x g)
+widened-full ts x g p q e = record {
+  diagonal = λ a h. choice-same (entry_of g a a) (entry_of x a a) (nearest (type_bound a a) (steps_of ts a a) (entry_of g a a)) (type_bound a a) (q.zero_diagonal a (rw (← e) h) ∙ sym (type_bound-same a)) (p.zero_diagonal a h ∙ sym (type_bound-same a));
+  coherent = λ a b h k.
+      let c : entry_of g (opposite b) (opposite a) ≡ entry_of g a b = q.coherent a b (rw (← e) h) (rw (← e) k) in
+      same-choice (entry_of g a b) (entry_of x a b) (nearest (type_bound a b) (steps_of ts a b) (entry_of g a b)) (entry_of g (opposite b) (opposite a)) (entry_of x (opposite b) (opposite a)) (nearest (type_bound (opposite b) (opposite a)) (steps_of ts (opposite b) (opposite a)) (entry_of g (opposite b) (opposite a)))
+      c (p.coherent a b h k) (same-step ts a b (entry_of g a b) (entry_of g (opposite b) (opposite a)) c);
+  most = λ a b h k. (widened-ends ts x g a b p q e h k).2;
 }
 
-pub widened-kept : (x g : MatrixValue) → IsMatrix x → IsMatrix g → x.variables ≡ g.variables → IsMatrix (matrix_of x.variables (widened x g))
-widened-kept x g p q e =
-    full-kept x.variables (widened x g) p.few (widened-full x g p q e)
-    (λ a b h k. omega (arith, ints, p.least a b h k, (widened-by (entry_of g a b) (entry_of x a b) (type_bound a b) (q.most a b (rw (← e) h) (rw (← e) k)) (p.most a b h k)).0))
+pub widened-large : (ts : List ℤ) (x g : MatrixValue) (a b : ℕ) → IsMatrix x → IsMatrix g → x.variables ≡ g.variables → a < 2 * x.variables → b < 2 * x.variables → least_entry ≤ℤ widened ts x g a b
+widened-large ts x g a b p q e h k = omega (arith, ints, p.least a b h k, (widened-ends ts x g a b p q e h k).0)
 
-pub widened-first : (x g : MatrixValue) (s : List ℤ) → IsMatrix x → IsMatrix g → x.variables ≡ g.variables → Holds x s → Holds (matrix_of x.variables (widened x g)) s
-widened-first x g s p q e o =
-    of-holds x.variables (widened x g) s o.size
-    (λ a b h k. omega (arith, ints, o.bounds a b h k, (widened-by (entry_of g a b) (entry_of x a b) (type_bound a b) (q.most a b (rw (← e) h) (rw (← e) k)) (p.most a b h k)).0))
+pub widened-kept : (ts : List ℤ) (x g : MatrixValue) → IsMatrix x → IsMatrix g → x.variables ≡ g.variables → IsMatrix (matrix_of x.variables (widened ts x g))
+widened-kept ts x g p q e = full-kept x.variables (widened ts x g) p.few (widened-full ts x g p q e) (λ a b h k. widened-large ts x g a b p q e h k)
 
-pub widened-second : (x g : MatrixValue) (s : List ℤ) → IsMatrix x → IsMatrix g → x.variables ≡ g.variables → Holds g s → Holds (matrix_of x.variables (widened x g)) s
-widened-second x g s p q e o =
-    of-holds x.variables (widened x g) s (o.size ∙ sym e)
-    (λ a b h k. omega (arith, ints, o.bounds a b (rw (← e) h) (rw (← e) k), (widened-by (entry_of g a b) (entry_of x a b) (type_bound a b) (q.most a b (rw (← e) h) (rw (← e) k)) (p.most a b h k)).1))
+pub widened-first : (ts : List ℤ) (x g : MatrixValue) (s : List ℤ) → IsMatrix x → IsMatrix g → x.variables ≡ g.variables → Holds x s → Holds (matrix_of x.variables (widened ts x g)) s
+widened-first ts x g s p q e o = of-holds x.variables (widened ts x g) s o.size (λ a b h k. omega (arith, ints, o.bounds a b h k, (widened-ends ts x g a b p q e h k).0))
 
-narrowed-by : (k o t : ℤ) → k ≤ℤ t → o ≤ℤ t → (if int_eq o t then k else o) ≤ℤ t
-narrowed-by k o t h i = grind (arith, ints)
+pub widened-second : (ts : List ℤ) (x g : MatrixValue) (s : List ℤ) → IsMatrix x → IsMatrix g → x.variables ≡ g.variables → Holds g s → Holds (matrix_of x.variables (widened ts x g)) s
+widened-second ts x g s p q e o =
+    of-holds x.variables (widened ts x g) s (o.size ∙ sym e) (λ a b h k. omega (arith, ints, o.bounds a b (rw (← e) h) (rw (← e) k), (widened-ends ts x g a b p q e h k).1))
 
-narrowed-least : (k o t l : ℤ) → l ≤ℤ k → l ≤ℤ o → l ≤ℤ (if int_eq o t then k else o)
-narrowed-least k o t l h i = grind (arith, ints)
+option_most : (k o t : ℤ) (b : Bool) → k ≤ℤ t → o ≤ℤ t → (if b then k else o) ≤ℤ t
+option_most k o t true h i = h
+option_most k o t false h i = i
 
-same-option : (k o t k' o' t' : ℤ) → k' ≡ k → o' ≡ o → t' ≡ t → (if int_eq o' t' then k' else o') ≡ (if int_eq o t then k else o)
-same-option k o t k' o' t' e f g = rw (e, f, g) refl
+option_least : (k o l : ℤ) (b : Bool) → l ≤ℤ k → l ≤ℤ o → l ≤ℤ (if b then k else o)
+option_least k o l true h i = h
+option_least k o l false h i = i
 
-option-same : (k o t : ℤ) → o ≡ t → k ≡ t → (if int_eq o t then k else o) ≡ t
-option-same k o t e f = grind (arith, ints)
+option_same : (k o t : ℤ) (b : Bool) → o ≡ t → k ≡ t → (if b then k else o) ≡ t
+option_same k o t true e f = f
+option_same k o t false e f = e
 
-pub narrowed-full : (x g : MatrixValue) → IsMatrix x → IsMatrix g → x.variables ≡ g.variables → IsFull x.variables (narrowed x g)
-narrowed-full x g p q e = record {
-  diagonal = λ a h. option-same (entry_of g a a) (entry_of x a a) (type_bound a a) (p.zero_diagonal a h ∙ sym (type_bound-same a)) (q.zero_diagonal a (rw (← e) h) ∙ sym (type_bound-same a));
-  coherent = λ a b h k. same-option (entry_of g a b) (entry_of x a b) (type_bound a b) (entry_of g (opposite b) (opposite a)) (entry_of x (opposite b) (opposite a)) (type_bound (opposite b) (opposite a)) (q.coherent a b (rw (← e) h) (rw (← e) k)) (p.coherent a b h k) (type_bound-twin a b);
-  most = λ a b h k. narrowed-by (entry_of g a b) (entry_of x a b) (type_bound a b) (q.most a b (rw (← e) h) (rw (← e) k)) (p.most a b h k);
+same-option : (k o k' o' : ℤ) (b b' : Bool) → k' ≡ k → o' ≡ o → b' ≡ b → (if b' then k' else o') ≡ (if b then k else o)
+same-option k o k' o' b b' e f g = rw (e, f, g) refl
+
+-- whether an entry may come of a step
+abbrev stepped : List ℤ → MatrixValue → ℕ → ℕ → Bool
+stepped ts x a b = is_step (type_bound a b) (steps_of ts a b) (entry_of x a b)
+
+same-stepped : (ts : List ℤ) (x : MatrixValue) (a b : ℕ) → entry_of x (opposite b) (opposite a) ≡ entry_of x a b → stepped ts x (opposite b) (opposite a) ≡ stepped ts x a b
+same-stepped ts x a b e = rw (type_bound-twin a b, multiple-twin a b, e) refl
+
+pub narrowed-full : (ts : List ℤ) (x g : MatrixValue) → IsMatrix x → IsMatrix g → x.variables ≡ g.variables → IsFull x.variables (narrowed ts x g)
+narrowed-full ts x g p q e = record {
+  diagonal = λ a h. option_same (entry_of g a a) (entry_of x a a) (type_bound a a) (stepped ts x a a) (p.zero_diagonal a h ∙ sym (type_bound-same a)) (q.zero_diagonal a (rw (← e) h) ∙ sym (type_bound-same a));
+  coherent = λ a b h k. same-option (entry_of g a b) (entry_of x a b) (entry_of g (opposite b) (opposite a)) (entry_of x (opposite b) (opposite a)) (stepped ts x a b) (stepped ts x (opposite b) (opposite a)) (q.coherent a b (rw (← e) h) (rw (← e) k)) (p.coherent a b h k) (same-stepped ts x a b (p.coherent a b h k));
+  most = λ a b h k. option_most (entry_of g a b) (entry_of x a b) (type_bound a b) (stepped ts x a b) (q.most a b (rw (← e) h) (rw (← e) k)) (p.most a b h k);
 }
 
-pub narrowed-large : (x g : MatrixValue) (a b : ℕ) → IsMatrix x → IsMatrix g → x.variables ≡ g.variables → a < 2 * x.variables → b < 2 * x.variables → least_entry ≤ℤ narrowed x g a b
-narrowed-large x g a b p q e h k = narrowed-least (entry_of g a b) (entry_of x a b) (type_bound a b) least_entry (q.least a b (rw (← e) h) (rw (← e) k)) (p.least a b h k)
+pub narrowed-large : (ts : List ℤ) (x g : MatrixValue) (a b : ℕ) → IsMatrix x → IsMatrix g → x.variables ≡ g.variables → a < 2 * x.variables → b < 2 * x.variables → least_entry ≤ℤ narrowed ts x g a b
+narrowed-large ts x g a b p q e h k = option_least (entry_of g a b) (entry_of x a b) least_entry (stepped ts x a b) (q.least a b (rw (← e) h) (rw (← e) k)) (p.least a b h k)
 
-pub narrowed-kept : (x g : MatrixValue) → IsMatrix x → IsMatrix g → x.variables ≡ g.variables → IsMatrix (matrix_of x.variables (narrowed x g))
-narrowed-kept x g p q e =
-    full-kept x.variables (narrowed x g) p.few (narrowed-full x g p q e)
-    (λ a b h k. narrowed-least (entry_of g a b) (entry_of x a b) (type_bound a b) least_entry (q.least a b (rw (← e) h) (rw (← e) k)) (p.least a b h k))
+pub narrowed-kept : (ts : List ℤ) (x g : MatrixValue) → IsMatrix x → IsMatrix g → x.variables ≡ g.variables → IsMatrix (matrix_of x.variables (narrowed ts x g))
+narrowed-kept ts x g p q e = full-kept x.variables (narrowed ts x g) p.few (narrowed-full ts x g p q e) (λ a b h k. narrowed-large ts x g a b p q e h k)
 
-pub narrowed-holds : (x g : MatrixValue) (s : List ℤ) → x.variables ≡ g.variables → Holds x s → Holds g s → Holds (matrix_of x.variables (narrowed x g)) s
-narrowed-holds x g s e o u =
-    of-holds x.variables (narrowed x g) s o.size
-    (λ a b h k. narrowed-least (entry_of g a b) (entry_of x a b) (type_bound a b) (difference s a b) (u.bounds a b (rw (← e) h) (rw (← e) k)) (o.bounds a b h k))
+pub narrowed-holds : (ts : List ℤ) (x g : MatrixValue) (s : List ℤ) → x.variables ≡ g.variables → Holds x s → Holds g s → Holds (matrix_of x.variables (narrowed ts x g)) s
+narrowed-holds ts x g s e o u =
+    of-holds x.variables (narrowed ts x g) s o.size
+    (λ a b h k. option_least (entry_of g a b) (entry_of x a b) (difference s a b) (stepped ts x a b) (u.bounds a b (rw (← e) h) (rw (← e) k)) (o.bounds a b h k))

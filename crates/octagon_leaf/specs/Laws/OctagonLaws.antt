@@ -1,6 +1,5 @@
 -- The laws of octagons.
-use Rattle.std.proofs.Common.{◌≡◌, ◌⊎◌, inl, inr, ◌↔◌, ℕ, ◌+◌, ◌*◌, ◌/◌, ◌≤◌, ◌<◌, ℤ, pos, neg_ℤ, ◌+ℤ◌, ◌-ℤ◌, ◌*ℤ◌, ◌≤ℤ◌, int_le, Bool, true, false, not, List, ◌++◌, Option, Some, None, All, length, slice_set, refl, sym, ◌∙◌, subst, arith, if◌then◌else◌}
-use Rattle.std.specs.Ordering.{int_eq}
+use Rattle.std.proofs.Common.{◌≡◌, ◌⊎◌, inl, inr, ◌↔◌, ℕ, ◌+◌, ◌*◌, ◌/◌, ◌≤◌, ◌<◌, ℤ, pos, neg_ℤ, ◌+ℤ◌, ◌-ℤ◌, ◌*ℤ◌, ◌≤ℤ◌, int_le, Bool, true, false, List, ◌++◌, Option, Some, None, All, length, slice_set, refl, sym, ◌∙◌, subst, arith, if◌then◌else◌}
 use Rattle.std.proofs.lemmas.Int.{ints}
 use Rattle.std.proofs.lemmas.Bool.Decides.{nat_tests}
 use Rattle.c_tree.specs.Value.{IsInt}
@@ -11,21 +10,23 @@ use Rattle.leaf_domain.specs.Compares.{holds_between}
 use Rattle.leaf_domain.specs.Ranges.{Within, IsInInt, is_empty_range, empty_range, range_at}
 use Rattle.leaf_domain.specs.Forms.{form_at, IsForm}
 use Rattle.leaf_domain.specs.Leaves.{LeafValue, LeafLaws, IsLeafLike, nothing_of, is_nothing_of, at_store}
+use Rattle.leaf_domain.specs.Thresholds.{nearest, steps_from}
+use Rattle.leaf_domain.proofs.ThresholdLemmas.{steps_fewer, steps_few, scaled_length}
 use Rattle.octagon_matrix.specs.Terms.{type_bound}
 use Rattle.octagon_matrix.specs.Matrices.{MatrixValue, entry_of, IsMatrix}
 use Rattle.octagon_matrix.specs.Stores.{value_at, term_value, IsStore, Holds}
 use Rattle.octagon_closure.specs.Best.{Reaches, IsBest}
 use Rattle.octagon_closure.specs.Sweeps.{half}
 use Rattle.octagon_closure.proofs.HalfNumbers.{half-below, half-above}
-use Rattle.octagon_leaf.specs.Pairs.{count_pairs}
+use Rattle.octagon_leaf.specs.Pairs.{sum_pairs}
 use Rattle.octagon_leaf.specs.Greatest.{matrix_of, leaf_of, difference, best_of, standing}
 use Rattle.octagon_leaf.specs.declared.shape.Shape.{Shape}
 use Rattle.octagon_leaf.specs.declared.shape.Shape.TheVariants.{Constant, Terms, Other}
 use Rattle.octagon_leaf.specs.declared.meets.Meet.{Meet}
 use Rattle.octagon_leaf.specs.Shapes.{shape_of, edge_range, compared, between, equal_to}
-use Rattle.octagon_leaf.specs.Octagons.{octagons, matrix_at, IsOctagon, ContentHolds, octagon_holds, octagon_best, best_matrix, met_all, octagon_start, is_below, octagon_leq, greater, octagon_join, widened, octagon_widen, narrowed, octagon_narrow, octagon_own_bounds, octagon_bounds, shape_range, octagon_form_range, octagon_meet_range, meet_shape, octagon_meet_form, dropped, has_variable, octagon_set_range, moved, set_term, set_shape, octagon_set_form}
+use Rattle.octagon_leaf.specs.Octagons.{octagons, matrix_at, IsOctagon, ContentHolds, octagon_holds, octagon_best, best_matrix, met_all, octagon_start, is_below, octagon_leq, greater, octagon_join, multiple_of, steps_of, widened, octagon_widen, narrowed, octagon_narrow, octagon_steps_left, octagon_bounds, shape_range, octagon_form_range, octagon_meet_range, meet_shape, octagon_meet_form, dropped, has_variable, octagon_set_range, moved, set_term, set_shape, octagon_set_form}
 use Rattle.octagon_leaf.specs.Meeting.{AreMeets}
-use Rattle.octagon_leaf.specs.Laws.OverPairs.{pairs-tell, pairs-fail, count-less, count-most}
+use Rattle.octagon_leaf.specs.Laws.OverPairs.{pairs-tell, pairs-fail, pairs-less, pairs-most}
 use Rattle.octagon_leaf.specs.Laws.Best.{of-entry, IsBounded, bounded-store, Answered, unmet, held, answered, best-stores, stores-best, standing-is}
 use Rattle.octagon_leaf.specs.Laws.Meets.{bounded-kept, bounded-all, variables-all, AllMet, all-holds}
 use Rattle.octagon_leaf.specs.Laws.Terms.{plus-value, minus-value, bounded-dropped, dropped-holds, bounded-moved, moved-holds, set-here, set-other}
@@ -169,80 +170,86 @@ nothing-join n None = refl
 nothing-join n (Some us) = refl
 
 -- ---- widen
-widen-answers : (n k : ℕ) (c d : Option (List ℤ)) → IsOctagon (at n c) → IsOctagon (at k d) → n ≡ k → IsLeafLike octagons (at n c) (octagon_widen (at n c) (at k d))
-widen-answers n k None d p q e = let a = best-answers k d q in record { valid = a.valid; same = a.same ∙ sym e }
-widen-answers n k (Some us) None p q e = record { valid = p; same = refl }
-widen-answers n k (Some us) (Some vs) p q e =
+widen-answers : (ts : List ℤ) (n k : ℕ) (c d : Option (List ℤ)) → IsOctagon (at n c) → IsOctagon (at k d) → n ≡ k → IsLeafLike octagons (at n c) (octagon_widen ts (at n c) (at k d))
+widen-answers ts n k None d p q e = let a = best-answers k d q in record { valid = a.valid; same = a.same ∙ sym e }
+widen-answers ts n k (Some us) None p q e = record { valid = p; same = refl }
+widen-answers ts n k (Some us) (Some vs) p q e =
     let w : IsClosed k vs = closed k vs q in
     let f : n ≡ w.matrix.variables = e ∙ sym w.best.variables in
     rw (w.is)
     (record {
-      valid = (p.0, (widened-kept (matrix_at n us) w.matrix p.1.0 w.kept f, (p.1.1.0, widened-first (matrix_at n us) w.matrix p.1.1.0 p.1.0 w.kept f p.1.1.1)));
+      valid = (p.0, (widened-kept ts (matrix_at n us) w.matrix p.1.0 w.kept f, (p.1.1.0, widened-first ts (matrix_at n us) w.matrix p.1.1.0 p.1.0 w.kept f p.1.1.1)));
       same = refl;
     })
 
-widen-holds : (n k : ℕ) (c d : Option (List ℤ)) (s : List ℤ) → IsOctagon (at n c) → IsOctagon (at k d) → n ≡ k → ContentHolds n c s ⊎ ContentHolds k d s → octagon_holds (octagon_widen (at n c) (at k d)) s
-widen-holds n k None d s p q e (inl h) = absurd h
-widen-holds n k None d s p q e (inr h) = (best-holds k d s q).1 h
-widen-holds n k (Some us) None s p q e (inl h) = h
-widen-holds n k (Some us) None s p q e (inr h) = absurd h
-widen-holds n k (Some us) (Some vs) s p q e (inl h) =
-    let w : IsClosed k vs = closed k vs q in rw (w.is) (widened-first (matrix_at n us) w.matrix s p.1.0 w.kept (e ∙ sym w.best.variables) h)
-widen-holds n k (Some us) (Some vs) s p q e (inr h) =
-    let w : IsClosed k vs = closed k vs q in rw (w.is) (widened-second (matrix_at n us) w.matrix s p.1.0 w.kept (e ∙ sym w.best.variables) (closed-holds k vs w s h))
+widen-holds : (ts : List ℤ) (n k : ℕ) (c d : Option (List ℤ)) (s : List ℤ) → IsOctagon (at n c) → IsOctagon (at k d) → n ≡ k → ContentHolds n c s ⊎ ContentHolds k d s → octagon_holds (octagon_widen ts (at n c) (at k d)) s
+widen-holds ts n k None d s p q e (inl h) = absurd h
+widen-holds ts n k None d s p q e (inr h) = (best-holds k d s q).1 h
+widen-holds ts n k (Some us) None s p q e (inl h) = h
+widen-holds ts n k (Some us) None s p q e (inr h) = absurd h
+widen-holds ts n k (Some us) (Some vs) s p q e (inl h) =
+    let w : IsClosed k vs = closed k vs q in rw (w.is) (widened-first ts (matrix_at n us) w.matrix s p.1.0 w.kept (e ∙ sym w.best.variables) h)
+widen-holds ts n k (Some us) (Some vs) s p q e (inr h) =
+    let w : IsClosed k vs = closed k vs q in rw (w.is) (widened-second ts (matrix_at n us) w.matrix s p.1.0 w.kept (e ∙ sym w.best.variables) (closed-holds k vs w s h))
 
--- an entry that is the type's bound stays so, and one that the other leaf passes becomes so
-own-before : (k o t : ℤ) → not (int_eq (if int_le k o then o else t) t) ≡ true → not (int_eq o t) ≡ true
-own-before k o t e = grind (arith, ints)
+-- an entry that stays has as many steps left, and one that the other leaf passes has fewer
+steps-stay : (limit : ℤ) (ts : List ℤ) (k o : ℤ) (b : Bool) → int_le k o ≡ b → k ≤ℤ limit → steps_from limit ts (if b then o else nearest limit ts k) ≤ steps_from limit ts o
+steps-stay limit ts k o true e l = omega arith
+steps-stay limit ts k o false e l = omega (arith, steps_fewer limit ts o k (omega (arith, ints, e)) l)
 
-passed-own : (k o t : ℤ) → int_le k o ≡ false → k ≤ℤ t → (not (int_eq (if int_le k o then o else t) t) ≡ false) × (not (int_eq o t) ≡ true)
-passed-own k o t e h = (grind (arith, ints), grind (arith, ints))
+steps-passed : (limit : ℤ) (ts : List ℤ) (k o : ℤ) → int_le k o ≡ false → k ≤ℤ limit → steps_from limit ts (if int_le k o then o else nearest limit ts k) < steps_from limit ts o
+steps-passed limit ts k o e l = rw (e) (steps_fewer limit ts o k (omega (arith, ints, e)) l)
 
-widened-fewer : (x g : MatrixValue) → IsMatrix x → IsMatrix g → x.variables ≡ g.variables → is_below g x ≡ false
-    → count_pairs (2 * x.variables) (λ a b. not (int_eq (entry_of (matrix_of x.variables (widened x g)) a b) (type_bound a b)))
-    < count_pairs (2 * x.variables) (λ a b. not (int_eq (entry_of x a b) (type_bound a b)))
-widened-fewer x g p q e f =
+-- how many steps an entry can still take
+abbrev entry_steps : List ℤ → MatrixValue → ℕ → ℕ → ℕ
+entry_steps ts m a b = steps_from (type_bound a b) (steps_of ts a b) (entry_of m a b)
+
+widened-fewer : (ts : List ℤ) (x g : MatrixValue) → IsMatrix x → IsMatrix g → x.variables ≡ g.variables → is_below g x ≡ false
+    → sum_pairs (2 * x.variables) (entry_steps ts (matrix_of x.variables (widened ts x g))) < sum_pairs (2 * x.variables) (entry_steps ts x)
+widened-fewer ts x g p q e f =
     let (a, b, h, k, i) = pairs-fail (2 * g.variables) (λ c d. int_le (entry_of g c d) (entry_of x c d)) f in
     let h' : a < 2 * x.variables = omega (arith, e) in
     let k' : b < 2 * x.variables = omega (arith, e) in
-    let u = passed-own (entry_of g a b) (entry_of x a b) (type_bound a b) i (q.most a b h k) in
-    count-less (2 * x.variables) (λ c d. not (int_eq (entry_of (matrix_of x.variables (widened x g)) c d) (type_bound c d))) (λ c d. not (int_eq (entry_of x c d) (type_bound c d)))
-    (λ c d l m v. own-before (entry_of g c d) (entry_of x c d) (type_bound c d) (rw (of-entry x.variables (widened x g) c d l m) at v))
-    a b h' k' (rw (of-entry x.variables (widened x g) a b h' k') (u.0)) (u.1)
+    pairs-less (2 * x.variables) (entry_steps ts (matrix_of x.variables (widened ts x g))) (entry_steps ts x)
+    (λ c d l m. rw (of-entry x.variables (widened ts x g) c d l m) (steps-stay (type_bound c d) (steps_of ts c d) (entry_of g c d) (entry_of x c d) (int_le (entry_of g c d) (entry_of x c d)) refl (q.most c d (rw (← e) l) (rw (← e) m))))
+    a b h' k' (rw (of-entry x.variables (widened ts x g) a b h' k') (steps-passed (type_bound a b) (steps_of ts a b) (entry_of g a b) (entry_of x a b) i (q.most a b h k)))
 
-widen-grows : (n k : ℕ) (c d : Option (List ℤ)) → IsOctagon (at n c) → IsOctagon (at k d) → n ≡ k → is_nothing_of (at n c) ≡ false → is_nothing_of (at k d) ≡ false → octagon_leq (at k d) (at n c) ≡ false → octagon_own_bounds (octagon_widen (at n c) (at k d)) < octagon_own_bounds (at n c)
-widen-grows n k None d p q e f g h = cc
-widen-grows n k (Some us) None p q e f g h = cc
-widen-grows n k (Some us) (Some vs) p q e f g h =
-    let w : IsClosed k vs = closed k vs q in rw (w.is) (widened-fewer (matrix_at n us) w.matrix p.1.0 w.kept (e ∙ sym w.best.variables) (rw (w.is) at h))
+widen-grows : (ts : List ℤ) (n k : ℕ) (c d : Option (List ℤ)) → IsOctagon (at n c) → IsOctagon (at k d) → n ≡ k → is_nothing_of (at n c) ≡ false → is_nothing_of (at k d) ≡ false → octagon_leq (at k d) (at n c) ≡ false → octagon_steps_left ts (octagon_widen ts (at n c) (at k d)) < octagon_steps_left ts (at n c)
+widen-grows ts n k None d p q e f g h = cc
+widen-grows ts n k (Some us) None p q e f g h = cc
+widen-grows ts n k (Some us) (Some vs) p q e f g h =
+    let w : IsClosed k vs = closed k vs q in rw (w.is) (widened-fewer ts (matrix_at n us) w.matrix p.1.0 w.kept (e ∙ sym w.best.variables) (rw (w.is) at h))
 
-own-le : (n : ℕ) (c : Option (List ℤ)) → octagon_own_bounds (at n c) ≤ 4 * (n * n)
-own-le n None = omega arith
-own-le n (Some us) =
-    let e : (2 * n) * (2 * n) ≡ 4 * (n * n) = grind arith in
-    rw (← e) (count-most (2 * n) (λ a b. not (int_eq (entry_of (matrix_at n us) a b) (type_bound a b))))
+steps-few : (ts : List ℤ) (n : ℕ) (c : Option (List ℤ)) → octagon_steps_left ts (at n c) ≤ 4 * (n * n) * (length ts + 1)
+steps-few ts n None = omega arith
+steps-few ts n (Some us) =
+    let e : (2 * n) * ((2 * n) * (length ts + 1)) ≡ 4 * (n * n) * (length ts + 1) = grind arith in
+    rw (← e) (pairs-most (2 * n) (length ts + 1) (entry_steps ts (matrix_at n us)) (λ a b i j. entry-few a b))
+  where
+    entry-few : (a b : ℕ) → entry_steps ts (matrix_at n us) a b ≤ length ts + 1
+    entry-few a b = rw (scaled_length (multiple_of a b) ts) at (steps_few (type_bound a b) (steps_of ts a b) (entry_of (matrix_at n us) a b))
 
 -- ---- narrow
-narrow-answers : (n k : ℕ) (c d : Option (List ℤ)) → IsOctagon (at n c) → IsOctagon (at k d) → n ≡ k → IsLeafLike octagons (at n c) (octagon_narrow (at n c) (at k d))
-narrow-answers n k None d p q e = record { valid = p; same = refl }
-narrow-answers n k (Some us) None p q e = record { valid = q; same = sym e }
-narrow-answers n k (Some us) (Some vs) p q e =
+narrow-answers : (ts : List ℤ) (n k : ℕ) (c d : Option (List ℤ)) → IsOctagon (at n c) → IsOctagon (at k d) → n ≡ k → IsLeafLike octagons (at n c) (octagon_narrow ts (at n c) (at k d))
+narrow-answers ts n k None d p q e = record { valid = p; same = refl }
+narrow-answers ts n k (Some us) None p q e = record { valid = q; same = sym e }
+narrow-answers ts n k (Some us) (Some vs) p q e =
     let w : IsClosed k vs = closed k vs q in
-    rw (w.is) (standing-answers (at n (Some us)) (matrix_of n (narrowed (matrix_at n us) w.matrix)) (narrowed-kept (matrix_at n us) w.matrix p.1.0 w.kept (e ∙ sym w.best.variables)) refl)
+    rw (w.is) (standing-answers (at n (Some us)) (matrix_of n (narrowed ts (matrix_at n us) w.matrix)) (narrowed-kept ts (matrix_at n us) w.matrix p.1.0 w.kept (e ∙ sym w.best.variables)) refl)
 
 standing-holds : (m : MatrixValue) (s : List ℤ) → IsMatrix m → Holds m s → octagon_holds (standing m) s
 standing-holds m s p h = rw (standing-is m s (bounded-kept m p) h) h
 
-narrow-holds : (n k : ℕ) (c d : Option (List ℤ)) (s : List ℤ) → IsOctagon (at n c) → IsOctagon (at k d) → n ≡ k → octagon_leq (at k d) (at n c) ≡ true → ContentHolds k d s → octagon_holds (octagon_narrow (at n c) (at k d)) s
-narrow-holds n k c None s p q e f h = absurd h
-narrow-holds n k None (Some vs) s p q e f h = cc
-narrow-holds n k (Some us) (Some vs) s p q e f h =
+narrow-holds : (ts : List ℤ) (n k : ℕ) (c d : Option (List ℤ)) (s : List ℤ) → IsOctagon (at n c) → IsOctagon (at k d) → n ≡ k → octagon_leq (at k d) (at n c) ≡ true → ContentHolds k d s → octagon_holds (octagon_narrow ts (at n c) (at k d)) s
+narrow-holds ts n k c None s p q e f h = absurd h
+narrow-holds ts n k None (Some vs) s p q e f h = cc
+narrow-holds ts n k (Some us) (Some vs) s p q e f h =
     let w : IsClosed k vs = closed k vs q in
     let g : n ≡ w.matrix.variables = e ∙ sym w.best.variables in
     let i : Holds w.matrix s = closed-holds k vs w s h in
     rw (w.is)
-    (standing-holds (matrix_of n (narrowed (matrix_at n us) w.matrix)) s (narrowed-kept (matrix_at n us) w.matrix p.1.0 w.kept g)
-    (narrowed-holds (matrix_at n us) w.matrix s g (leq-holds k n (Some vs) (Some us) s q p (sym e) f h) i))
+    (standing-holds (matrix_of n (narrowed ts (matrix_at n us) w.matrix)) s (narrowed-kept ts (matrix_at n us) w.matrix p.1.0 w.kept g)
+    (narrowed-holds ts (matrix_at n us) w.matrix s g (leq-holds k n (Some vs) (Some us) s q p (sym e) f h) i))
 
 -- ---- bounds and forms
 term-bound : (v d : ℤ) → (v -ℤ neg_ℤ v) ≤ℤ d → v ≤ℤ half d
@@ -531,13 +538,13 @@ octagon_laws = record {
   join_holds = λ a b s k. join-holds a.variables b.variables a.content b.content s k.first k.second k.same;
   join_nothing = λ a. refl;
   nothing_join = λ a. nothing-join a.variables a.content;
-  widen_answers = λ a b k. widen-answers a.variables b.variables a.content b.content k.first k.second k.same;
-  widen_holds = λ a b s k. widen-holds a.variables b.variables a.content b.content s k.first k.second k.same;
-  widen_grows = λ a b k. widen-grows a.variables b.variables a.content b.content k.first k.second k.same;
-  own_bounds_le = λ a p. own-le a.variables a.content;
-  narrow_answers = λ a b k. narrow-answers a.variables b.variables a.content b.content k.first k.second k.same;
-  narrow_holds = λ a b s k. narrow-holds a.variables b.variables a.content b.content s k.first k.second k.same;
-  narrow_nothing = λ n a. refl;
+  widen_answers = λ ts a b k. widen-answers ts a.variables b.variables a.content b.content k.first k.second k.same;
+  widen_holds = λ ts a b s k. widen-holds ts a.variables b.variables a.content b.content s k.first k.second k.same;
+  widen_grows = λ ts a b k. widen-grows ts a.variables b.variables a.content b.content k.first k.second k.same;
+  steps_few = λ ts a p. steps-few ts a.variables a.content;
+  narrow_answers = λ ts a b k. narrow-answers ts a.variables b.variables a.content b.content k.first k.second k.same;
+  narrow_holds = λ ts a b s k. narrow-holds ts a.variables b.variables a.content b.content s k.first k.second k.same;
+  narrow_nothing = λ ts n a. refl;
   bounds_in_int = λ a x. bounds-int a.variables a.content x;
   bounds_hold = λ a x s. bounds-hold a.variables a.content x s;
   bounds_nothing = λ n x. refl;

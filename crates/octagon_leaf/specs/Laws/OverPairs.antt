@@ -1,6 +1,6 @@
--- Tests and counts over pairs of numbers.
+-- Tests and sums over pairs of numbers.
 use Rattle.std.proofs.Common.{◌≡◌, ◌⊎◌, inl, inr, ℕ, zero, suc, ◌+◌, ◌*◌, ◌<◌, ◌≤◌, Bool, true, false, ◌&&◌, refl, sym, ◌∙◌, ap, subst, arith}
-use Rattle.octagon_leaf.specs.Pairs.{all_below, sum_below, all_pairs, one_where, count_pairs}
+use Rattle.octagon_leaf.specs.Pairs.{all_below, sum_below, all_pairs, sum_pairs}
 
 pub both : (a b : Bool) → (a && b) ≡ true → (a ≡ true) × (b ≡ true)
 both true b f = (refl, f)
@@ -66,23 +66,14 @@ sum-most zero k f h = omega arith
 sum-most (suc n) k f h =
     let e : suc n * k ≡ n * k + k = grind arith in omega (arith, sum-most n k f (λ x l. h x (omega arith)), h n (omega arith))
 
--- ---- counts
-one-rises : (p q : Bool) → (p ≡ true → q ≡ true) → one_where p ≤ one_where q
-one-rises true q h = rw (h refl) (omega arith)
-one-rises false q h = omega arith
-
-pub count-less : (n : ℕ) (p q : ℕ → ℕ → Bool) → ((a b : ℕ) → a < n → b < n → p a b ≡ true → q a b ≡ true) → (a b : ℕ) → a < n → b < n → p a b ≡ false → q a b ≡ true → count_pairs n p < count_pairs n q
-count-less n p q f a b h k e g =
-    sum-less n (λ c. sum_below n (λ d. one_where (p c d))) (λ c. sum_below n (λ d. one_where (q c d)))
-    (λ c i. sum-rises n (λ d. one_where (p c d)) (λ d. one_where (q c d)) (λ d j. one-rises (p c d) (q c d) (f c d i j)))
+-- ---- sums over pairs
+-- with one less and none more, the sum is less
+pub pairs-less : (n : ℕ) (f g : ℕ → ℕ → ℕ) → ((a b : ℕ) → a < n → b < n → f a b ≤ g a b) → (a b : ℕ) → a < n → b < n → f a b < g a b → sum_pairs n f < sum_pairs n g
+pairs-less n f g r a b h k l =
+    sum-less n (λ c. sum_below n (λ d. f c d)) (λ c. sum_below n (λ d. g c d))
+    (λ c i. sum-rises n (λ d. f c d) (λ d. g c d) (λ d j. r c d i j))
     a h
-    (sum-less n (λ d. one_where (p a d)) (λ d. one_where (q a d)) (λ d j. one-rises (p a d) (q a d) (f a d h j)) b k (rw (e, g) (omega arith)))
+    (sum-less n (λ d. f a d) (λ d. g a d) (λ d j. r a d h j) b k l)
 
-one-most : (p : Bool) → one_where p ≤ 1
-one-most true = omega arith
-one-most false = omega arith
-
-pub count-most : (n : ℕ) (p : ℕ → ℕ → Bool) → count_pairs n p ≤ n * n
-count-most n p =
-    let e : n * 1 ≡ n = omega arith in
-    sum-most n n (λ c. sum_below n (λ d. one_where (p c d))) (λ c i. rw e at (sum-most n 1 (λ d. one_where (p c d)) (λ d j. one-most (p c d))))
+pub pairs-most : (n k : ℕ) (f : ℕ → ℕ → ℕ) → ((a b : ℕ) → a < n → b < n → f a b ≤ k) → sum_pairs n f ≤ n * (n * k)
+pairs-most n k f r = sum-most n (n * k) (λ c. sum_below n (λ d. f c d)) (λ c i. sum-most n k (λ d. f c d) (λ d j. r c d i j))

@@ -5,11 +5,11 @@ use Rattle.octagon_leaf.proofs.filled.narrowed.Goals as goal
 
 pub filled-requires-clause-large : goal.filled-requires-clause-large
 filled-requires-clause-large c = λ a b r h k d p.
-    let e : r ≡ narrowed c.args.x.now c.args.g.now a b = search rules in
+    let e : r ≡ narrowed c.args.thresholds.now c.args.x.now c.args.g.now a b = search rules in
     let i : a < 2 * c.args.x.now.variables = omega (arith, c.variables.ensures.value) in
     let j : b < 2 * c.args.x.now.variables = omega (arith, c.variables.ensures.value) in
-    rw (e) (narrowed-large c.args.x.now c.args.g.now a b c.variables.ensures.kept c.variables-same.ensures.kept c.requires i j)
+    rw (e) (narrowed-large c.args.thresholds.now c.args.x.now c.args.g.now a b c.variables.ensures.kept c.variables-same.ensures.kept c.requires i j)
 
 pub returns-clause-entries : goal.returns-clause-entries
 returns-clause-entries c =
-    rw (c.variables.ensures.value) at c.filled.ensures.entries (narrowed c.args.x.now c.args.g.now) (narrowed-full c.args.x.now c.args.g.now c.variables.ensures.kept c.variables-same.ensures.kept c.requires) (λ a b r h k d p. search rules)
+    rw (c.variables.ensures.value) at c.filled.ensures.entries (narrowed c.args.thresholds.now c.args.x.now c.args.g.now) (narrowed-full c.args.thresholds.now c.args.x.now c.args.g.now c.variables.ensures.kept c.variables-same.ensures.kept c.requires) (λ a b r h k d p. search rules)

@@ -1,4 +1,4 @@
-use Rattle.std.proofs.Common.{◌≡◌, ◌∙◌, ap, sym, subst, IfOk}
+use Rattle.std.proofs.Common.{◌≡◌, ◌∙◌, ℤ, List, ap, sym, subst, IfOk}
 use Rattle.leaf_domain.specs.Leaves.{LeafValue}
 use Rattle.octagon_leaf.specs.Greatest.{standing}
 use Rattle.octagon_leaf.specs.Octagons.{narrowed}
@@ -11,7 +11,8 @@ returns-in_ok-narrowed-in-Some-best_matrix c =
     let m = c.in-Some.own.now in
     let k = c.in-Some-best_matrix.best.now in
     let g = c.in_ok-narrowed-in-Some-best_matrix in
+    let ts : List ℤ = c.args.thresholds.now in
     let P : LeafValue → Type 0 = λ u. IfOk c.standing_as.result (λ leaf. leaf ≡ u) in
     subst P
-    (ap standing (entries-are g.field-0 m.variables (narrowed m k) g.ensures.kept g.ensures.entries) ∙ sym (narrow-is c.args.self.now c.args.other.now m k c.in-Some.ensures.standing c.in-Some-best_matrix.ensures.best))
+    (ap standing (entries-are g.field-0 m.variables (narrowed ts m k) g.ensures.kept g.ensures.entries) ∙ sym (narrow-is ts c.args.self.now c.args.other.now m k c.in-Some.ensures.standing c.in-Some-best_matrix.ensures.best))
     c.standing_as.ensures
