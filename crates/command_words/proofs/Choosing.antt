@@ -12,53 +12,47 @@ use Rattle.command_words.specs.declared.named.OptionValues.{OptionValues}
 use Rattle.command_words.specs.declared.settings.Chosen.{Chosen}
 use Rattle.command_words.specs.declared.settings.Domain.{Domain}
 use Rattle.command_words.specs.declared.settings.Domain.TheVariants.{Interval}
+use Rattle.command_words.specs.declared.settings.Widening.{Widening}
+use Rattle.command_words.specs.declared.settings.Widening.TheVariants.{«Type»}
 use Rattle.c_tree.specs.declared.tree.Mode.{Mode}
 use Rattle.c_tree.specs.declared.tree.Mode.TheVariants.{Stop}
 use Rattle.linear_atoms.specs.declared.regions.Regions.{Regions}
 use Rattle.linear_atoms.specs.declared.regions.Regions.TheVariants.{Paths}
 use Rattle.fam_outer.specs.declared.refusal.Refusal.TheVariants as refusal
 use Rattle.command_words.specs.declared.refusal.Usage.{Usage}
-use Rattle.command_words.specs.Arguments.{AnswersWords, meant, domain_of, delay_of, narrow_of, overflow_of, regions_of, steps_of, chosen_by, chosen_of}
+use Rattle.command_words.specs.Arguments.{AnswersWords, meant, domain_of, delay_of, narrow_of, widening_of, overflow_of, regions_of, steps_of, chosen_by, chosen_of, ◌>>=◌}
 use Rattle.command_words.specs.Options.{HasTexts, IsNumberBelow, are_spelled, options_app, passes, words_of}
-use Rattle.command_words.specs.Spelling.{domain_by, is_number, number_up_to, overflow_by, regions_by}
-use Rattle.command_words.proofs.Faults.{fault_parts, fits, or_else_none, range_faults, refused_unless, words_fault}
+use Rattle.command_words.specs.Spelling.{domain_by, is_number, number_up_to, overflow_by, regions_by, widening_by}
+use Rattle.command_words.proofs.Faults.{end_none, fault_parts, or_else_none, range_faults, words_fault}
 use Rattle.command_words.proofs.Numbers.{accepted}
-use Rattle.command_words.proofs.Texts.{end_none, texts_read}
+use Rattle.command_words.proofs.Texts.{texts_read}
+use Rattle.command_words.proofs.Uses.{fits, refused_unless}
 
 -- ---- nothing is chosen where one option means nothing
 
-no_domain : (l n : Option ℕ) (o : Option Mode) (g : Option Regions) (s : Option ℕ) → chosen_by None l n o g s ≡ None
-no_domain l n o g s = refl
+-- nothing comes of a value where nothing comes of what follows it
+none_after : {A B : Type 0} (o : Option A) (next : A → Option B) → ((x : A) → next x ≡ None) → (o >>= next) ≡ None
+none_after None next h = refl
+none_after (Some x) next h = h x
 
-no_delay : (d : Option Domain) (n : Option ℕ) (o : Option Mode) (g : Option Regions) (s : Option ℕ) → chosen_by d None n o g s ≡ None
-no_delay None n o g s = refl
-no_delay (Some d) n o g s = refl
+no_delay : (d : Option Domain) (n : Option ℕ) (w : Option Widening) (o : Option Mode) (g : Option Regions) (s : Option ℕ) → chosen_by d None n w o g s ≡ None
+no_delay d n w o g s = none_after d _ (λ d. refl)
 
-no_narrow : (d : Option Domain) (l : Option ℕ) (o : Option Mode) (g : Option Regions) (s : Option ℕ) → chosen_by d l None o g s ≡ None
-no_narrow None l o g s = refl
-no_narrow (Some d) None o g s = refl
-no_narrow (Some d) (Some l) o g s = refl
+no_narrow : (d : Option Domain) (l : Option ℕ) (w : Option Widening) (o : Option Mode) (g : Option Regions) (s : Option ℕ) → chosen_by d l None w o g s ≡ None
+no_narrow d l w o g s = none_after d _ (λ d. none_after l _ (λ l. refl))
 
-no_overflow : (d : Option Domain) (l n : Option ℕ) (g : Option Regions) (s : Option ℕ) → chosen_by d l n None g s ≡ None
-no_overflow None l n g s = refl
-no_overflow (Some d) None n g s = refl
-no_overflow (Some d) (Some l) None g s = refl
-no_overflow (Some d) (Some l) (Some n) g s = refl
+no_widening : (d : Option Domain) (l n : Option ℕ) (o : Option Mode) (g : Option Regions) (s : Option ℕ) → chosen_by d l n None o g s ≡ None
+no_widening d l n o g s = none_after d _ (λ d. none_after l _ (λ l. none_after n _ (λ n. refl)))
 
-no_regions : (d : Option Domain) (l n : Option ℕ) (o : Option Mode) (s : Option ℕ) → chosen_by d l n o None s ≡ None
-no_regions None l n o s = refl
-no_regions (Some d) None n o s = refl
-no_regions (Some d) (Some l) None o s = refl
-no_regions (Some d) (Some l) (Some n) None s = refl
-no_regions (Some d) (Some l) (Some n) (Some o) s = refl
+no_overflow : (d : Option Domain) (l n : Option ℕ) (w : Option Widening) (g : Option Regions) (s : Option ℕ) → chosen_by d l n w None g s ≡ None
+no_overflow d l n w g s = none_after d _ (λ d. none_after l _ (λ l. none_after n _ (λ n. none_after w _ (λ w. refl))))
 
-no_steps : (d : Option Domain) (l n : Option ℕ) (o : Option Mode) (g : Option Regions) → chosen_by d l n o g None ≡ None
-no_steps None l n o g = refl
-no_steps (Some d) None n o g = refl
-no_steps (Some d) (Some l) None o g = refl
-no_steps (Some d) (Some l) (Some n) None g = refl
-no_steps (Some d) (Some l) (Some n) (Some o) None = refl
-no_steps (Some d) (Some l) (Some n) (Some o) (Some g) = refl
+no_regions : (d : Option Domain) (l n : Option ℕ) (w : Option Widening) (o : Option Mode) (s : Option ℕ) → chosen_by d l n w o None s ≡ None
+no_regions d l n w o s = none_after d _ (λ d. none_after l _ (λ l. none_after n _ (λ n. none_after w _ (λ w. none_after o _ (λ o. refl)))))
+
+no_steps : (d : Option Domain) (l n : Option ℕ) (w : Option Widening) (o : Option Mode) (g : Option Regions) → chosen_by d l n w o g None ≡ None
+no_steps d l n w o g =
+    none_after d _ (λ d. none_after l _ (λ l. none_after n _ (λ n. none_after w _ (λ w. none_after o _ (λ o. none_after g _ (λ g. refl))))))
 
 -- an option means nothing
 pub record IsNone {A : Type 0} (o : Option A) : Type 0 where
@@ -66,27 +60,37 @@ pub record IsNone {A : Type 0} (o : Option A) : Type 0 where
 
 delay_none : (v : OptionValues) → IsNone (delay_of v) → chosen_of v ≡ None
 unfolding chosen_of
-delay_none v h = ap (λ l. chosen_by (domain_of v) l (narrow_of v) (overflow_of v) (regions_of v) (steps_of v)) h.is ∙ no_delay (domain_of v) (narrow_of v) (overflow_of v) (regions_of v) (steps_of v)
+delay_none v h = ap (λ l. chosen_by (domain_of v) l (narrow_of v) (widening_of v) (overflow_of v) (regions_of v) (steps_of v)) h.is
+    ∙ no_delay (domain_of v) (narrow_of v) (widening_of v) (overflow_of v) (regions_of v) (steps_of v)
 
 narrow_none : (v : OptionValues) → IsNone (narrow_of v) → chosen_of v ≡ None
 unfolding chosen_of
-narrow_none v h = ap (λ n. chosen_by (domain_of v) (delay_of v) n (overflow_of v) (regions_of v) (steps_of v)) h.is ∙ no_narrow (domain_of v) (delay_of v) (overflow_of v) (regions_of v) (steps_of v)
+narrow_none v h = ap (λ n. chosen_by (domain_of v) (delay_of v) n (widening_of v) (overflow_of v) (regions_of v) (steps_of v)) h.is
+    ∙ no_narrow (domain_of v) (delay_of v) (widening_of v) (overflow_of v) (regions_of v) (steps_of v)
+
+widening_none : (v : OptionValues) → IsNone (widening_of v) → chosen_of v ≡ None
+unfolding chosen_of
+widening_none v h = ap (λ w. chosen_by (domain_of v) (delay_of v) (narrow_of v) w (overflow_of v) (regions_of v) (steps_of v)) h.is
+    ∙ no_widening (domain_of v) (delay_of v) (narrow_of v) (overflow_of v) (regions_of v) (steps_of v)
 
 steps_none : (v : OptionValues) → IsNone (steps_of v) → chosen_of v ≡ None
 unfolding chosen_of
-steps_none v h = ap (chosen_by (domain_of v) (delay_of v) (narrow_of v) (overflow_of v) (regions_of v)) h.is ∙ no_steps (domain_of v) (delay_of v) (narrow_of v) (overflow_of v) (regions_of v)
+steps_none v h = ap (chosen_by (domain_of v) (delay_of v) (narrow_of v) (widening_of v) (overflow_of v) (regions_of v)) h.is
+    ∙ no_steps (domain_of v) (delay_of v) (narrow_of v) (widening_of v) (overflow_of v) (regions_of v)
 
 domain_none : (v : OptionValues) → IsNone (domain_of v) → chosen_of v ≡ None
 unfolding chosen_of
-domain_none v h = ap (λ d. chosen_by d (delay_of v) (narrow_of v) (overflow_of v) (regions_of v) (steps_of v)) h.is
+domain_none v h = ap (λ d. chosen_by d (delay_of v) (narrow_of v) (widening_of v) (overflow_of v) (regions_of v) (steps_of v)) h.is
 
 overflow_none : (v : OptionValues) → IsNone (overflow_of v) → chosen_of v ≡ None
 unfolding chosen_of
-overflow_none v h = ap (λ o. chosen_by (domain_of v) (delay_of v) (narrow_of v) o (regions_of v) (steps_of v)) h.is ∙ no_overflow (domain_of v) (delay_of v) (narrow_of v) (regions_of v) (steps_of v)
+overflow_none v h = ap (λ o. chosen_by (domain_of v) (delay_of v) (narrow_of v) (widening_of v) o (regions_of v) (steps_of v)) h.is
+    ∙ no_overflow (domain_of v) (delay_of v) (narrow_of v) (widening_of v) (regions_of v) (steps_of v)
 
 regions_none : (v : OptionValues) → IsNone (regions_of v) → chosen_of v ≡ None
 unfolding chosen_of
-regions_none v h = ap (λ g. chosen_by (domain_of v) (delay_of v) (narrow_of v) (overflow_of v) g (steps_of v)) h.is ∙ no_regions (domain_of v) (delay_of v) (narrow_of v) (overflow_of v) (steps_of v)
+regions_none v h = ap (λ g. chosen_by (domain_of v) (delay_of v) (narrow_of v) (widening_of v) (overflow_of v) g (steps_of v)) h.is
+    ∙ no_regions (domain_of v) (delay_of v) (narrow_of v) (widening_of v) (overflow_of v) (steps_of v)
 
 -- ---- values that are not spelled right
 
@@ -111,10 +115,13 @@ chosen-unspelled v e =
         | inr e ↦ elim (and_cases _ _ e) [
           | inl n ↦ narrow_none v (unspelled_number 1 8 v.narrow n)
           | inr e ↦ elim (and_cases _ _ e) [
-            | inl o ↦ overflow_none v (unspelled_name Stop overflow_by v.overflow o)
+            | inl w ↦ widening_none v (unspelled_name «Type» widening_by v.widening w)
             | inr e ↦ elim (and_cases _ _ e) [
-              | inl g ↦ regions_none v (unspelled_name Paths regions_by v.regions g)
-              | inr s ↦ steps_none v (unspelled_number 1000 1000000 v.steps s)
+              | inl o ↦ overflow_none v (unspelled_name Stop overflow_by v.overflow o)
+              | inr e ↦ elim (and_cases _ _ e) [
+                | inl g ↦ regions_none v (unspelled_name Paths regions_by v.regions g)
+                | inr s ↦ steps_none v (unspelled_number 1000 1000000 v.steps s)
+              ]
             ]
           ]
         ]
@@ -133,9 +140,10 @@ numbers_spelled v e =
     let p = and_parts _ _ e in
     let q = and_parts _ _ p.1 in
     let r = and_parts _ _ q.1 in
-    let s = and_parts _ _ r.1 in
-    let t = and_parts _ _ s.1 in
-    record { delay = q.0; narrow = r.0; steps = t.1 }
+    let s = and_parts (passes (λ text. is_some (widening_by text)) v.widening) _ r.1 in
+    let t = and_parts (passes (λ text. is_some (overflow_by text)) v.overflow) _ s.1 in
+    let u = and_parts (passes (λ text. is_some (regions_by text)) v.regions) _ t.1 in
+    record { delay = q.0; narrow = r.0; steps = u.1 }
 
 -- a number that does not fit means nothing
 unfit_number : (default most : ℕ) (o : Option Text) → most < 2 ^ 64 → passes is_number o ≡ true → fits most o ≡ false → IsNone (meant default (number_up_to most) o)
@@ -159,6 +167,10 @@ meant_domain : (o : Option Text) → meant Interval domain_by o ≡ domain_by (u
 meant_domain None = refl
 meant_domain (Some text) = refl
 
+meant_widening : (o : Option Text) → meant «Type» widening_by o ≡ widening_by (unwrap_or o (codes "type"))
+meant_widening None = refl
+meant_widening (Some text) = refl
+
 meant_overflow : (o : Option Text) → meant Stop overflow_by o ≡ overflow_by (unwrap_or o (codes "stop"))
 meant_overflow None = refl
 meant_overflow (Some text) = refl
@@ -172,7 +184,8 @@ meant_regions (Some text) = refl
 pub words_refused : (v : OptionValues) → fault_of options_app (words_of v) ≡ range_faults v.delay v.narrow v.steps
 words_refused v =
     fault_parts (words_of v)
-    ∙ ap₂ or_else (words_fault v.domain v.delay v.narrow v.overflow v.regions v.steps) (end_none v.domain v.delay v.narrow v.overflow v.regions v.steps)
+    ∙ ap₂ or_else (words_fault v.domain v.delay v.narrow v.widening v.overflow v.regions v.steps)
+    (end_none v.domain v.delay v.narrow v.widening v.overflow v.regions v.steps)
     ∙ or_else_none (range_faults v.delay v.narrow v.steps)
 
 pub record AllFit (v : OptionValues) : Type 0 where
@@ -180,7 +193,7 @@ pub record AllFit (v : OptionValues) : Type 0 where
   pub narrow : fits 8 v.narrow ≡ true
   pub steps : fits 1000000 v.steps ≡ true
 
-no_kinds : (x y z : Bool) → or_else (refused_unless x) (or_else (refused_unless y) (refused_unless z)) ≡ [] → (x ≡ true) × (y ≡ true) × (z ≡ true)
+no_kinds : (x y z : Bool) → or_else (refused_unless x) (or_else (refused_unless y) (or_else (refused_unless z) [])) ≡ [] → (x ≡ true) × (y ≡ true) × (z ≡ true)
 no_kinds true true true e = (refl, refl, refl)
 no_kinds true true false e = absurd cc
 no_kinds true false z e = absurd cc
@@ -191,7 +204,7 @@ all_fit v e =
     let p = no_kinds (fits 16 v.delay) (fits 8 v.narrow) (fits 1000000 v.steps) (sym (words_refused v) ∙ e) in
     record { delay = p.0; narrow = p.1; steps = p.2 }
 
-some_kind : (x y z : Bool) (k : ErrorKind) → IsAmong k (or_else (refused_unless x) (or_else (refused_unless y) (refused_unless z))) → (x ≡ false) ⊎ ((y ≡ false) ⊎ (z ≡ false))
+some_kind : (x y z : Bool) (k : ErrorKind) → IsAmong k (or_else (refused_unless x) (or_else (refused_unless y) (or_else (refused_unless z) []))) → (x ≡ false) ⊎ ((y ≡ false) ⊎ (z ≡ false))
 some_kind true true true k h = absurd h
 some_kind true true false k h = inr (inr refl)
 some_kind true false z k h = inr (inl refl)
@@ -216,16 +229,16 @@ chosen-refused v error spelled fails other =
 
 -- ---- what the command reads
 
-same_chosen : (d d' : Option Domain) (l l' n n' : Option ℕ) (o o' : Option Mode) (g g' : Option Regions) (s s' : Option ℕ)
-    → d ≡ d' → l ≡ l' → n ≡ n' → o ≡ o' → g ≡ g' → s ≡ s' → chosen_by d l n o g s ≡ chosen_by d' l' n' o' g' s'
-same_chosen d d' l l' n n' o o' g g' s s' is_d is_l is_n is_o is_g is_s = rw (is_d, is_l, is_n, is_o, is_g, is_s) refl
+same_chosen : (d d' : Option Domain) (l l' n n' : Option ℕ) (w w' : Option Widening) (o o' : Option Mode) (g g' : Option Regions) (s s' : Option ℕ)
+    → d ≡ d' → l ≡ l' → n ≡ n' → w ≡ w' → o ≡ o' → g ≡ g' → s ≡ s' → chosen_by d l n w o g s ≡ chosen_by d' l' n' w' o' g' s'
+same_chosen d d' l l' n n' w w' o o' g g' s s' is_d is_l is_n is_w is_o is_g is_s = rw (is_d, is_l, is_n, is_w, is_o, is_g, is_s) refl
 
 -- what is read from the rows of the words is what is chosen
 pub chosen-read : (v : OptionValues) (rows : List Row) (words : List Text) (r : Option Chosen) → are_spelled v ≡ true → words ≡ words_of v
     → rows ≡ matches_of options_app words → fault_of options_app words ≡ []
-    → ((domain delay narrow overflow regions steps : Text) → HasTexts rows domain delay narrow overflow regions steps
+    → ((domain delay narrow widening overflow regions steps : Text) → HasTexts rows domain delay narrow widening overflow regions steps
     → IsNumberBelow 17 delay → IsNumberBelow 17 narrow → IsNumberBelow (2 ^ 64) steps
-    → r ≡ chosen_by (domain_by domain) (Some (digits_value 10 delay)) (Some (digits_value 10 narrow)) (overflow_by overflow) (regions_by regions) (Some (digits_value 10 steps)))
+    → r ≡ chosen_by (domain_by domain) (Some (digits_value 10 delay)) (Some (digits_value 10 narrow)) (widening_by widening) (overflow_by overflow) (regions_by regions) (Some (digits_value 10 steps)))
     → r ≡ chosen_of v
 unfolding chosen_of
 chosen-read v rows words r spelled e rows_are none reads =
@@ -234,18 +247,22 @@ chosen-read v rows words r spelled e rows_are none reads =
     let delay : Text = unwrap_or v.delay (codes "0") in
     let narrow : Text = unwrap_or v.narrow (codes "1") in
     let steps : Text = unwrap_or v.steps (codes "1000") in
+    let domain : Text = unwrap_or v.domain (codes "interval") in
+    let widening : Text = unwrap_or v.widening (codes "type") in
+    let overflow : Text = unwrap_or v.overflow (codes "stop") in
     let regions : Text = unwrap_or v.regions (codes "paths") in
-    let texts : HasTexts rows (unwrap_or v.domain (codes "interval")) delay narrow (unwrap_or v.overflow (codes "stop")) regions steps =
-    rw (rows_are, e) (texts_read v.domain v.delay v.narrow v.overflow v.regions v.steps) in
-    let got = reads (unwrap_or v.domain (codes "interval")) delay narrow (unwrap_or v.overflow (codes "stop")) regions steps texts
+    let texts : HasTexts rows domain delay narrow widening overflow regions steps =
+    rw (rows_are, e) (texts_read v.domain v.delay v.narrow v.widening v.overflow v.regions v.steps) in
+    let got = reads domain delay narrow widening overflow regions steps texts
     (number_below 16 17 v.delay (codes "0") (omega arith) (omega arith) (refl, omega arith) s.delay fit.delay)
     (number_below 8 17 v.narrow (codes "1") (omega arith) (omega arith) (refl, omega arith) s.narrow fit.narrow)
     (number_below 1000000 (2 ^ 64) v.steps (codes "1000") (omega arith) (omega arith) (refl, omega arith) s.steps fit.steps) in
-    got ∙ sym (same_chosen (domain_of v) (domain_by (unwrap_or v.domain (codes "interval"))) (delay_of v) (Some (digits_value 10 delay))
-    (narrow_of v) (Some (digits_value 10 narrow)) (overflow_of v) (overflow_by (unwrap_or v.overflow (codes "stop"))) (regions_of v) (regions_by regions) (steps_of v) (Some (digits_value 10 steps))
+    got ∙ sym (same_chosen (domain_of v) (domain_by domain) (delay_of v) (Some (digits_value 10 delay))
+    (narrow_of v) (Some (digits_value 10 narrow)) (widening_of v) (widening_by widening)
+    (overflow_of v) (overflow_by overflow) (regions_of v) (regions_by regions) (steps_of v) (Some (digits_value 10 steps))
     (meant_domain v.domain) (fit_number 16 v.delay (codes "0") (omega arith) s.delay fit.delay)
-    (fit_number 8 v.narrow (codes "1") (omega arith) s.narrow fit.narrow) (meant_overflow v.overflow)
-    (meant_regions v.regions)
+    (fit_number 8 v.narrow (codes "1") (omega arith) s.narrow fit.narrow) (meant_widening v.widening)
+    (meant_overflow v.overflow) (meant_regions v.regions)
     (fit_number 1000000 v.steps (codes "1000") (omega arith) s.steps fit.steps))
 
 -- a value, or else a refusal

@@ -3,5 +3,7 @@ pub mod Faults
 pub mod Numbers
 pub mod Positional
 pub mod Ranges
+pub mod Rows
 pub mod Spellings
 pub mod Texts
+pub mod Uses

@@ -5,7 +5,7 @@ use Rattle.std.specs.List.{list_all}
 use Rattle.std.specs.Str.{bytes_eq}
 use Rattle.std.proofs.lemmas.Bool.{and_parts, lt-ltb, not-true}
 use Rattle.command_words.specs.declared.named.OptionName.{OptionName}
-use Rattle.command_words.specs.declared.named.OptionName.TheVariants.{Domain, Delay, Narrow, Overflow, Regions, Steps, Inputs}
+use Rattle.command_words.specs.declared.named.OptionName.TheVariants.{Domain, Delay, Narrow, Widening, Overflow, Regions, Steps, Inputs}
 use Rattle.command_words.specs.declared.sorting.SortingState.{SortingState}
 use Rattle.command_words.specs.Arguments.{arguments_of, settings_of, given_of, ◌>>=◌}
 use Rattle.command_words.specs.Sorting.{begins_with_dash, give, keep, option_given, option_taken, option_step, option_parts, free_step, waited_step, is_given, name_by, sorted_from, start, step, text_of}
@@ -81,6 +81,7 @@ joined_parts : (name : OptionName) (value : List ℕ) → option_parts (joined n
 joined_parts Domain value = let e : nat_lt 6 (length (codes "domain" ++ codes "=" ++ value)) ≡ true = lt-ltb _ _ (omega arith) in rw e refl
 joined_parts Delay value = let e : nat_lt 5 (length (codes "delay" ++ codes "=" ++ value)) ≡ true = lt-ltb _ _ (omega arith) in rw e refl
 joined_parts Narrow value = let e : nat_lt 6 (length (codes "narrow" ++ codes "=" ++ value)) ≡ true = lt-ltb _ _ (omega arith) in rw e refl
+joined_parts Widening value = let e : nat_lt 8 (length (codes "widening" ++ codes "=" ++ value)) ≡ true = lt-ltb _ _ (omega arith) in rw e refl
 joined_parts Overflow value = let e : nat_lt 8 (length (codes "overflow" ++ codes "=" ++ value)) ≡ true = lt-ltb _ _ (omega arith) in rw e refl
 joined_parts Regions value = let e : nat_lt 7 (length (codes "regions" ++ codes "=" ++ value)) ≡ true = lt-ltb _ _ (omega arith) in rw e refl
 joined_parts Steps value = let e : nat_lt 5 (length (codes "steps" ++ codes "=" ++ value)) ≡ true = lt-ltb _ _ (omega arith) in rw e refl
@@ -90,6 +91,7 @@ free_joined : (s : SortingState) (name : OptionName) (value : List ℕ) → free
 free_joined s Domain value = refl
 free_joined s Delay value = refl
 free_joined s Narrow value = refl
+free_joined s Widening value = refl
 free_joined s Overflow value = refl
 free_joined s Regions value = refl
 free_joined s Steps value = refl
@@ -99,6 +101,7 @@ named : (s : SortingState) (name : OptionName) (value : List ℕ) → option_tak
 named s Domain value = refl
 named s Delay value = refl
 named s Narrow value = refl
+named s Widening value = refl
 named s Overflow value = refl
 named s Regions value = refl
 named s Steps value = refl
@@ -116,6 +119,7 @@ free_alone : (s : SortingState) (name : OptionName) → free_step s (alone name)
 free_alone s Domain = refl
 free_alone s Delay = refl
 free_alone s Narrow = refl
+free_alone s Widening = refl
 free_alone s Overflow = refl
 free_alone s Regions = refl
 free_alone s Steps = refl

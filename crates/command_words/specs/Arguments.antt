@@ -6,6 +6,8 @@ use Rattle.command_words.specs.declared.named.OptionValues.{OptionValues}
 use Rattle.command_words.specs.declared.settings.Chosen.{Chosen}
 use Rattle.command_words.specs.declared.settings.Domain.{Domain}
 use Rattle.command_words.specs.declared.settings.Domain.TheVariants.{Interval}
+use Rattle.command_words.specs.declared.settings.Widening.{Widening}
+use Rattle.command_words.specs.declared.settings.Widening.TheVariants.{«Type»}
 use Rattle.c_tree.specs.declared.tree.Mode.{Mode}
 use Rattle.c_tree.specs.declared.tree.Mode.TheVariants.{Stop}
 use Rattle.linear_atoms.specs.declared.regions.Regions.{Regions}
@@ -17,7 +19,7 @@ use Rattle.command_words.specs.declared.refusal.Usage.{Usage}
 use Rattle.fam_outer.specs.declared.refusal.Refusal.{Refusal}
 use Rattle.fam_outer.specs.declared.refusal.Refusal.TheVariants as refusal
 use Rattle.command_words.specs.Sorting.{sorted}
-use Rattle.command_words.specs.Spelling.{domain_by, overflow_by, regions_by, number_up_to, inputs_of}
+use Rattle.command_words.specs.Spelling.{domain_by, overflow_by, regions_by, widening_by, number_up_to, inputs_of}
 
 -- the words, each as its bytes
 abbrev pub texts_of : {Z : Type 0} → List (String Z) → List (List ℕ)
@@ -45,6 +47,10 @@ delay_of values = meant 0 (number_up_to 16) values.delay
 abbrev pub narrow_of : OptionValues → Option ℕ
 narrow_of values = meant 1 (number_up_to 8) values.narrow
 
+-- what `--widening` sets
+abbrev pub widening_of : OptionValues → Option Widening
+widening_of values = meant «Type» widening_by values.widening
+
 -- what `--overflow` sets
 abbrev pub overflow_of : OptionValues → Option Mode
 overflow_of values = meant Stop overflow_by values.overflow
@@ -62,19 +68,20 @@ unfoldable pub inputs_set : OptionValues → Option (List ℤ)
 inputs_set values = meant [] inputs_of values.inputs
 
 -- what these set together
-abbrev pub chosen_by : Option Domain → Option ℕ → Option ℕ → Option Mode → Option Regions → Option ℕ → Option Chosen
-chosen_by domain_meant delay_meant narrow_meant overflow_meant regions_meant steps_meant = do
+abbrev pub chosen_by : Option Domain → Option ℕ → Option ℕ → Option Widening → Option Mode → Option Regions → Option ℕ → Option Chosen
+chosen_by domain_meant delay_meant narrow_meant widening_meant overflow_meant regions_meant steps_meant = do
   domain ← domain_meant
   delay ← delay_meant
   narrow ← narrow_meant
+  widening ← widening_meant
   overflow ← overflow_meant
   regions ← regions_meant
   steps ← steps_meant
-  Some (record { domain = domain; delay = delay; narrow = narrow; overflow = overflow; regions = regions; steps = steps })
+  Some (record { domain = domain; delay = delay; narrow = narrow; widening = widening; overflow = overflow; regions = regions; steps = steps })
 
 -- what the options other than `--inputs` set, or nothing where the text of one means nothing
 unfoldable pub chosen_of : OptionValues → Option Chosen
-chosen_of values = chosen_by (domain_of values) (delay_of values) (narrow_of values) (overflow_of values) (regions_of values) (steps_of values)
+chosen_of values = chosen_by (domain_of values) (delay_of values) (narrow_of values) (widening_of values) (overflow_of values) (regions_of values) (steps_of values)
 
 abbrev pub settings_from : Option Chosen → Option (List ℤ) → Option OptionSettings
 settings_from chosen_meant inputs_meant = do
@@ -92,6 +99,7 @@ given_of values = record {
   domain = is_some values.domain;
   delay = is_some values.delay;
   narrow = is_some values.narrow;
+  widening = is_some values.widening;
   overflow = is_some values.overflow;
   regions = is_some values.regions;
   steps = is_some values.steps;
@@ -122,12 +130,12 @@ pub record AreInRange (settings : OptionSettings) : Type 0 where
 
 -- no option
 abbrev pub nothing_given : Given
-nothing_given = record { domain = false; delay = false; narrow = false; overflow = false; regions = false; steps = false; inputs = false }
+nothing_given = record { domain = false; delay = false; narrow = false; widening = false; overflow = false; regions = false; steps = false; inputs = false }
 
 -- what is set where no option is given
 abbrev pub defaults : OptionSettings
 defaults = record {
-  chosen = record { domain = Interval; delay = 0; narrow = 1; overflow = Stop; regions = Paths; steps = 1000 };
+  chosen = record { domain = Interval; delay = 0; narrow = 1; widening = «Type»; overflow = Stop; regions = Paths; steps = 1000 };
   inputs = [];
 }
 

@@ -5,7 +5,7 @@ use Rattle.std.specs.Str.{bytes_eq}
 use Rattle.std.specs.List.{before_first, after_first, position_or_len}
 use Rattle.std.specs.Borrow.{Bor}
 use Rattle.command_words.specs.declared.named.OptionName.{OptionName}
-use Rattle.command_words.specs.declared.named.OptionName.TheVariants.{Domain, Delay, Narrow, Overflow, Regions, Steps, Inputs}
+use Rattle.command_words.specs.declared.named.OptionName.TheVariants.{Domain, Delay, Narrow, Widening, Overflow, Regions, Steps, Inputs}
 use Rattle.command_words.specs.declared.named.OptionValues.{OptionValues}
 use Rattle.command_words.specs.declared.sorting.SortingState.{SortingState}
 use Rattle.command_words.specs.declared.refusal.Usage.{Usage}
@@ -20,16 +20,18 @@ name_by name =
     if bytes_eq name (codes "domain") then Some Domain
     else (if bytes_eq name (codes "delay") then Some Delay
     else (if bytes_eq name (codes "narrow") then Some Narrow
+    else (if bytes_eq name (codes "widening") then Some Widening
     else (if bytes_eq name (codes "overflow") then Some Overflow
     else (if bytes_eq name (codes "regions") then Some Regions
     else (if bytes_eq name (codes "steps") then Some Steps
-    else (if bytes_eq name (codes "inputs") then Some Inputs else None))))))
+    else (if bytes_eq name (codes "inputs") then Some Inputs else None)))))))
 
 -- the name of the option
 abbrev pub text_of : OptionName → List ℕ
 text_of Domain = codes "domain"
 text_of Delay = codes "delay"
 text_of Narrow = codes "narrow"
+text_of Widening = codes "widening"
 text_of Overflow = codes "overflow"
 text_of Regions = codes "regions"
 text_of Steps = codes "steps"
@@ -40,6 +42,7 @@ abbrev pub is_given : OptionValues → OptionName → Bool
 is_given values Domain = is_some values.domain
 is_given values Delay = is_some values.delay
 is_given values Narrow = is_some values.narrow
+is_given values Widening = is_some values.widening
 is_given values Overflow = is_some values.overflow
 is_given values Regions = is_some values.regions
 is_given values Steps = is_some values.steps
@@ -50,6 +53,7 @@ abbrev pub with_value : OptionValues → OptionName → List ℕ → OptionValue
 with_value values Domain value = record values { domain = Some value }
 with_value values Delay value = record values { delay = Some value }
 with_value values Narrow value = record values { narrow = Some value }
+with_value values Widening value = record values { widening = Some value }
 with_value values Overflow value = record values { overflow = Some value }
 with_value values Regions value = record values { regions = Some value }
 with_value values Steps value = record values { steps = Some value }
@@ -87,7 +91,7 @@ option_parts word = option_and_then (λ text. Some (parts text)) (after_dashes w
 abbrev pub start : SortingState
 start = record {
   positional = [];
-  values = record { domain = None; delay = None; narrow = None; overflow = None; regions = None; steps = None; inputs = None };
+  values = record { domain = None; delay = None; narrow = None; widening = None; overflow = None; regions = None; steps = None; inputs = None };
   waiting = None;
   is_trailing = false;
 }

@@ -6,6 +6,8 @@ use Rattle.std.specs.Str.{bytes_eq}
 use Rattle.std.specs.Str.Parse.{digits_value, signed_digits_value}
 use Rattle.command_words.specs.declared.settings.Domain.{Domain}
 use Rattle.command_words.specs.declared.settings.Domain.TheVariants.{Interval, Octagon, Stride}
+use Rattle.command_words.specs.declared.settings.Widening.{Widening}
+use Rattle.command_words.specs.declared.settings.Widening.TheVariants.{«Type», Thresholds}
 use Rattle.c_tree.specs.declared.tree.Mode.{Mode}
 use Rattle.c_tree.specs.declared.tree.Mode.TheVariants.{Stop, Wrap}
 use Rattle.linear_atoms.specs.declared.regions.Regions.{Regions}
@@ -17,6 +19,12 @@ domain_by name =
     if bytes_eq name (codes "interval") then Some Interval
     else (if bytes_eq name (codes "octagon") then Some Octagon
     else (if bytes_eq name (codes "stride") then Some Stride else None))
+
+-- the widening with the name
+abbrev pub widening_by : List ℕ → Option Widening
+widening_by name =
+    if bytes_eq name (codes "type") then Some «Type»
+    else (if bytes_eq name (codes "thresholds") then Some Thresholds else None)
 
 -- the overflow with the name
 abbrev pub overflow_by : List ℕ → Option Mode

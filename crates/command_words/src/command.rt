@@ -7,11 +7,11 @@ ghost use Rattle.clap.specs.Words.{FailsBy, fault_of, found_of, matches_of, rows
 ghost use Rattle.clap.specs.declared.builder.value_parser.ValueParser.TheVariants as vp;
 ghost use Rattle.command_words.specs.Arguments.{texts_of, AnswersWords, chosen_of, chosen_by};
 ghost use Rattle.command_words.specs.Options.{bare_app, options_app, option_rule, words_of, are_spelled, HasTexts, IsNumberBelow};
-ghost use Rattle.command_words.specs.Spelling.{domain_by, overflow_by, regions_by};
+ghost use Rattle.command_words.specs.Spelling.{domain_by, overflow_by, regions_by, widening_by};
 ghost use Rattle.command_words.specs.declared.named.OptionValues.{OptionValues};
 
 use crate::refusal::{Usage, WordsRefusal};
-use crate::settings::{Chosen, Domain, mode_of, regions_of};
+use crate::settings::{Chosen, Domain, Widening, mode_of, regions_of};
 use c_tree::Mode;
 use clap::builder::ValueParser;
 use clap::error::ErrorKind;
@@ -91,6 +91,7 @@ fn options_command<'a>(alloc: Global) -> Result<Command<'a>, AllocError>
     let command = with_option(alloc, command, "domain", "interval", any_text())?;
     let command = with_option(alloc, command, "delay", "0", up_to_16())?;
     let command = with_option(alloc, command, "narrow", "1", up_to_8())?;
+    let command = with_option(alloc, command, "widening", "type", any_text())?;
     let command = with_option(alloc, command, "overflow", "stop", any_text())?;
     let command = with_option(alloc, command, "regions", "paths", any_text())?;
     with_option(alloc, command, "steps", "1000", up_to_a_million())
@@ -139,6 +140,14 @@ fn domain_in(matches: &ArgMatches<'_>) -> Option<Domain>
     Domain::of(text_in(matches, "domain")?)
 }
 
+/// What a bound that grows becomes.
+fn widening_in(matches: &ArgMatches<'_>) -> Option<Widening>
+    ensures { (text : List ℕ) → first_of (codes "widening") (rows_of (found_of matches.now)) ≡ Some text
+        → result ≡ widening_by text }
+{
+    Widening::of(text_in(matches, "widening")?)
+}
+
 /// What comes of an overflow.
 fn overflow_in(matches: &ArgMatches<'_>) -> Option<Mode>
     ensures { (text : List ℕ) → first_of (codes "overflow") (rows_of (found_of matches.now)) ≡ Some text
@@ -157,15 +166,16 @@ fn regions_in(matches: &ArgMatches<'_>) -> Option<Regions>
 
 /// What the options set, whose texts are known.
 fn chosen_in(matches: &ArgMatches<'_>) -> Option<Chosen>
-    ensures { (domain delay narrow overflow regions steps : List ℕ)
-        → HasTexts (rows_of (found_of matches.now)) domain delay narrow overflow regions steps
+    ensures { (domain delay narrow widening overflow regions steps : List ℕ)
+        → HasTexts (rows_of (found_of matches.now)) domain delay narrow widening overflow regions steps
         → IsNumberBelow 17 delay → IsNumberBelow 17 narrow → IsNumberBelow (2 ^ 64) steps
-        → result ≡ chosen_by (domain_by domain) (Some (digits_value 10 delay)) (Some (digits_value 10 narrow)) (overflow_by overflow) (regions_by regions) (Some (digits_value 10 steps)) }
+        → result ≡ chosen_by (domain_by domain) (Some (digits_value 10 delay)) (Some (digits_value 10 narrow)) (widening_by widening) (overflow_by overflow) (regions_by regions) (Some (digits_value 10 steps)) }
 {
     Some(Chosen {
         domain: domain_in(matches)?,
         delay: small_number_in(matches, "delay")?,
         narrow: small_number_in(matches, "narrow")?,
+        widening: widening_in(matches)?,
         overflow: overflow_in(matches)?,
         regions: regions_in(matches)?,
         steps: number_in(matches, "steps")?,

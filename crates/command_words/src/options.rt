@@ -4,12 +4,12 @@
 ghost use Rattle.std.specs.Prelude.{◌≡◌, ◌++◌, IfOk, OnOk, codes, is_some, string_bytes};
 ghost use Rattle.command_words.specs.Arguments.{texts_of, AnswersWords, chosen_of};
 ghost use Rattle.command_words.specs.Options.{option_word, words_of, passes, are_spelled as spelled};
-ghost use Rattle.command_words.specs.Spelling.{is_number as number_spelled, domain_by, overflow_by, regions_by};
+ghost use Rattle.command_words.specs.Spelling.{is_number as number_spelled, domain_by, overflow_by, regions_by, widening_by};
 
 use crate::command::read_spelled;
 use crate::named::OptionValues;
 use crate::refusal::{Usage, WordsRefusal};
-use crate::settings::{Chosen, Domain, mode_of, regions_of};
+use crate::settings::{Chosen, Domain, Widening, mode_of, regions_of};
 use crate::spelling::is_number;
 use crate::word::Word;
 use fam_outer::NoMemory;
@@ -31,6 +31,16 @@ fn is_domain_or_none(value: &Option<Word>) -> bool
 {
     match value {
         Some(text) => Domain::of(text.as_str()).is_some(),
+        None => true,
+    }
+}
+
+/// The value, if there is one, is a widening's name.
+fn is_widening_or_none(value: &Option<Word>) -> bool
+    ensures { result ≡ passes (λ text. is_some (widening_by text)) value.now }
+{
+    match value {
+        Some(text) => Widening::of(text.as_str()).is_some(),
         None => true,
     }
 }
@@ -62,6 +72,7 @@ fn are_spelled(values: &OptionValues) -> bool
     is_domain_or_none(&values.domain)
         && is_number_or_none(&values.delay)
         && is_number_or_none(&values.narrow)
+        && is_widening_or_none(&values.widening)
         && is_overflow_or_none(&values.overflow)
         && is_regions_or_none(&values.regions)
         && is_number_or_none(&values.steps)
@@ -102,6 +113,7 @@ fn option_words(alloc: Global, values: &OptionValues) -> Result<Vec<String>, NoM
     add_word(alloc, &mut words, "domain", &values.domain)?;
     add_word(alloc, &mut words, "delay", &values.delay)?;
     add_word(alloc, &mut words, "narrow", &values.narrow)?;
+    add_word(alloc, &mut words, "widening", &values.widening)?;
     add_word(alloc, &mut words, "overflow", &values.overflow)?;
     add_word(alloc, &mut words, "regions", &values.regions)?;
     add_word(alloc, &mut words, "steps", &values.steps)?;

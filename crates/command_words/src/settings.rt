@@ -2,7 +2,7 @@
 #![tactic(auto)]
 
 ghost use Rattle.std.specs.Prelude.{◌≡◌};
-ghost use Rattle.command_words.specs.Spelling.{domain_by, overflow_by, regions_by};
+ghost use Rattle.command_words.specs.Spelling.{domain_by, overflow_by, regions_by, widening_by};
 
 use c_tree::Mode;
 use fam_outer::Values;
@@ -25,6 +25,28 @@ impl Domain {
             "interval" => Some(Domain::Interval),
             "octagon" => Some(Domain::Octagon),
             "stride" => Some(Domain::Stride),
+            _ => None,
+        }
+    }
+}
+
+/// What a loop's bound that grows becomes.
+#[derive(Clone, Copy, Debug, PartialEq, Eq)]
+pub enum Widening {
+    /// The bound of the type.
+    Type,
+    /// The nearest threshold that covers it, of those that the file's numbers make, and the bound of the type where none does.
+    Thresholds,
+}
+
+impl Widening {
+    /// The widening with the name.
+    pub fn of(name: &str) -> Option<Widening>
+        ensures { result ≡ widening_by name.now }
+    {
+        match name {
+            "type" => Some(Widening::Type),
+            "thresholds" => Some(Widening::Thresholds),
             _ => None,
         }
     }
@@ -58,6 +80,7 @@ pub struct Chosen {
     pub domain: Domain,
     pub delay: u32,
     pub narrow: u32,
+    pub widening: Widening,
     pub overflow: Mode,
     pub regions: Regions,
     pub steps: u64,
@@ -76,6 +99,7 @@ pub struct Given {
     pub domain: bool,
     pub delay: bool,
     pub narrow: bool,
+    pub widening: bool,
     pub overflow: bool,
     pub regions: bool,
     pub steps: bool,

@@ -51,6 +51,7 @@ impl SortingState {
                 domain: None,
                 delay: None,
                 narrow: None,
+                widening: None,
                 overflow: None,
                 regions: None,
                 steps: None,

@@ -27,6 +27,7 @@ fn write_given(text: &mut String, given: &Given) -> Result<(), NoMemory> {
     add_given(text, given.domain, "domain")?;
     add_given(text, given.delay, "delay")?;
     add_given(text, given.narrow, "narrow")?;
+    add_given(text, given.widening, "widening")?;
     add_given(text, given.overflow, "overflow")?;
     add_given(text, given.regions, "regions")?;
     add_given(text, given.steps, "steps")?;
@@ -44,13 +45,14 @@ fn line_of(alloc: Global, found: &Arguments) -> Result<String, NoMemory> {
         domain,
         delay,
         narrow,
+        widening,
         overflow,
         regions,
         steps,
     } = found.settings.chosen;
     write!(
         text,
-        "| {domain:?} {delay} {narrow} {overflow:?} {regions:?} {steps} |"
+        "| {domain:?} {delay} {narrow} {widening:?} {overflow:?} {regions:?} {steps} |"
     )?;
     for input in found.settings.inputs.items() {
         write!(text, " {input}")?;
@@ -73,65 +75,80 @@ fn told(alloc: Global, line: &str) -> Result<String, NoMemory> {
 #[test]
 fn words_are_read(rt: HostRuntime) -> Result<(), Fail> {
     let cases = [
-        ("", "| Interval 0 1 Stop Paths 1000 | |"),
-        ("plain F", "plain F | Interval 0 1 Stop Paths 1000 | |"),
+        ("", "| Interval 0 1 Type Stop Paths 1000 | |"),
+        ("plain F", "plain F | Interval 0 1 Type Stop Paths 1000 | |"),
         (
             "plain F --delay=16",
-            "plain F | Interval 16 1 Stop Paths 1000 | | delay",
+            "plain F | Interval 16 1 Type Stop Paths 1000 | | delay",
         ),
         (
             "--delay 0 plain F",
-            "plain F | Interval 0 1 Stop Paths 1000 | | delay",
+            "plain F | Interval 0 1 Type Stop Paths 1000 | | delay",
         ),
         (
             "plain --narrow 8 F --domain=octagon",
-            "plain F | Octagon 0 8 Stop Paths 1000 | | domain narrow",
+            "plain F | Octagon 0 8 Type Stop Paths 1000 | | domain narrow",
         ),
         (
             "--domain stride --overflow wrap x --steps 1000000 --inputs 2147483647,0",
-            "x | Stride 0 1 Wrap Paths 1000000 | 2147483647 0 | domain overflow steps inputs",
+            "x | Stride 0 1 Type Wrap Paths 1000000 | 2147483647 0 | domain overflow steps inputs",
         ),
         (
             "--domain=interval --overflow=stop --narrow=0 --steps=0",
-            "| Interval 0 0 Stop Paths 0 | | domain narrow overflow steps",
+            "| Interval 0 0 Type Stop Paths 0 | | domain narrow overflow steps",
         ),
         (
             "run --inputs=-5,3,-2147483648",
-            "run | Interval 0 1 Stop Paths 1000 | -5 3 -2147483648 | inputs",
+            "run | Interval 0 1 Type Stop Paths 1000 | -5 3 -2147483648 | inputs",
         ),
         (
             "analyse M F --regions merged",
-            "analyse M F | Interval 0 1 Stop Merged 1000 | | regions",
+            "analyse M F | Interval 0 1 Type Stop Merged 1000 | | regions",
         ),
         (
             "analyse --regions=merged M F",
-            "analyse M F | Interval 0 1 Stop Merged 1000 | | regions",
+            "analyse M F | Interval 0 1 Type Stop Merged 1000 | | regions",
         ),
         (
             "--regions=paths --steps 3 x",
-            "x | Interval 0 1 Stop Paths 3 | | regions steps",
+            "x | Interval 0 1 Type Stop Paths 3 | | regions steps",
         ),
         (
-            "--inputs 1 --steps 2 --regions merged --overflow wrap --narrow 3 --delay 4 --domain octagon",
-            "| Octagon 4 3 Wrap Merged 2 | 1 | domain delay narrow overflow regions steps inputs",
+            "plain F --widening thresholds",
+            "plain F | Interval 0 1 Thresholds Stop Paths 1000 | | widening",
+        ),
+        (
+            "--widening=type plain --narrow=2 F",
+            "plain F | Interval 0 2 Type Stop Paths 1000 | | narrow widening",
+        ),
+        (
+            "--inputs 1 --steps 2 --regions merged --overflow wrap --widening thresholds --narrow 3 --delay 4 --domain octagon",
+            "| Octagon 4 3 Thresholds Wrap Merged 2 | 1 | domain delay narrow widening overflow regions steps inputs",
+        ),
+        (
+            "-- --widening thresholds",
+            "--widening thresholds | Interval 0 1 Type Stop Paths 1000 | |",
         ),
         (
             "-- --regions merged",
-            "--regions merged | Interval 0 1 Stop Paths 1000 | |",
+            "--regions merged | Interval 0 1 Type Stop Paths 1000 | |",
         ),
-        ("plain -", "plain - | Interval 0 1 Stop Paths 1000 | |"),
+        ("plain -", "plain - | Interval 0 1 Type Stop Paths 1000 | |"),
         (
             "-- --delay -x",
-            "--delay -x | Interval 0 1 Stop Paths 1000 | |",
+            "--delay -x | Interval 0 1 Type Stop Paths 1000 | |",
         ),
-        ("a -- b -- c", "a b -- c | Interval 0 1 Stop Paths 1000 | |"),
+        (
+            "a -- b -- c",
+            "a b -- c | Interval 0 1 Type Stop Paths 1000 | |",
+        ),
         (
             "plain -- F --narrow 0",
-            "plain F --narrow 0 | Interval 0 1 Stop Paths 1000 | |",
+            "plain F --narrow 0 | Interval 0 1 Type Stop Paths 1000 | |",
         ),
         (
             "--narrow 0 -- plain F",
-            "plain F | Interval 0 0 Stop Paths 1000 | | narrow",
+            "plain F | Interval 0 0 Type Stop Paths 1000 | | narrow",
         ),
     ];
     for (line, want) in cases {
@@ -177,6 +194,15 @@ fn words_are_refused(rt: HostRuntime) -> Result<(), Fail> {
         "--domain=Octagon",
         "--domain=",
         "--overflow trap",
+        "--widening type --widening type",
+        "--widening=thresholds --widening=type",
+        "F --widening",
+        "--widening --narrow 1",
+        "--widening=",
+        "--widening threshold",
+        "--widening=Type",
+        "--widening=8",
+        "--widen thresholds",
         "--regions paths --regions paths",
         "--regions=merged --regions=paths",
         "--regions",
