@@ -28,19 +28,19 @@ use Rattle.famlint_requests.specs.declared.request.VariantTask.TheVariants as ta
 
 -- the options of an analysis
 abbrev pub analysis_options : Given
-analysis_options = record { domain = true; delay = true; narrow = true; overflow = true; regions = false; steps = false; inputs = false }
+analysis_options = record { domain = true; delay = true; narrow = true; widening = true; overflow = true; regions = false; steps = false; inputs = false }
 
 -- the options of an analysis whose report has regions
 abbrev pub family_options : Given
-family_options = record { domain = true; delay = true; narrow = true; overflow = true; regions = true; steps = false; inputs = false }
+family_options = record { domain = true; delay = true; narrow = true; widening = true; overflow = true; regions = true; steps = false; inputs = false }
 
 -- the same, by intervals
 abbrev pub interval_options : Given
-interval_options = record { domain = false; delay = true; narrow = true; overflow = true; regions = true; steps = false; inputs = false }
+interval_options = record { domain = false; delay = true; narrow = true; widening = true; overflow = true; regions = true; steps = false; inputs = false }
 
 -- the options of a run
 abbrev pub run_options : Given
-run_options = record { domain = false; delay = false; narrow = false; overflow = true; regions = false; steps = true; inputs = true }
+run_options = record { domain = false; delay = false; narrow = false; widening = false; overflow = true; regions = false; steps = true; inputs = true }
 
 -- the options that a command takes
 abbrev pub taken_by : Command → Given
@@ -60,8 +60,8 @@ taken_by command.Features = nothing_given
 abbrev pub are_taken : Given → Given → Bool
 are_taken given taken =
     (not given.domain || taken.domain) && (not given.delay || taken.delay) && (not given.narrow || taken.narrow)
-    && (not given.overflow || taken.overflow) && (not given.regions || taken.regions) && (not given.steps || taken.steps)
-    && (not given.inputs || taken.inputs)
+    && (not given.widening || taken.widening) && (not given.overflow || taken.overflow) && (not given.regions || taken.regions)
+    && (not given.steps || taken.steps) && (not given.inputs || taken.inputs)
 
 -- the options suit a command
 abbrev pub suits : Command → Arguments → Bool
@@ -71,12 +71,15 @@ suits command arguments = are_taken arguments.given (taken_by command)
 abbrev pub analysis_of : Chosen → Analysis
 analysis_of chosen = record {
   domain = chosen.domain;
-  options = record { delay = chosen.delay; narrow = chosen.narrow; mode = chosen.overflow };
+  delay = chosen.delay;
+  narrow = chosen.narrow;
+  widening = chosen.widening;
+  mode = chosen.overflow;
 }
 
 -- the same, by intervals
 abbrev pub interval_analysis : Chosen → Analysis
-interval_analysis chosen = record { domain = domains.Interval; options = (analysis_of chosen).options }
+interval_analysis chosen = record (analysis_of chosen) { domain = domains.Interval }
 
 -- ---- commands
 

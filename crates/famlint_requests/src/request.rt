@@ -9,10 +9,9 @@ ghost use Rattle.std.specs.Prelude.{◌≡◌, IfOk, map, string_bytes};
 ghost use Rattle.famlint_requests.specs.Requests.{role_of, role_beside, role_of_three, is_path};
 
 use c_tree::Mode;
-use command_words::{Domain, Word};
+use command_words::{Domain, Widening, Word};
 use fam_outer::{NoMemory, Text, Values};
 use linear_atoms::Regions;
-use plain_analysis::Options;
 pub use reading::read_request;
 use std::alloc::Global;
 use std::marker::Model;
@@ -69,7 +68,12 @@ pub enum Request {
 #[derive(Clone, Copy, Debug, PartialEq, Eq)]
 pub struct Analysis {
     pub domain: Domain,
-    pub options: Options,
+    /// The rounds of a loop that join before those that widen.
+    pub delay: u32,
+    /// The rounds of narrowing that follow.
+    pub narrow: u32,
+    pub widening: Widening,
+    pub mode: Mode,
 }
 
 /// What is asked of a variant, by the name of the command.

@@ -6,7 +6,6 @@ ghost use Rattle.famlint_requests.specs.Requests as specs;
 
 use crate::request::Analysis;
 use command_words::{Arguments, Chosen, Domain, Given};
-use plain_analysis::Options;
 
 /// The commands.
 #[derive(Clone, Copy, Debug, PartialEq, Eq)]
@@ -54,6 +53,7 @@ impl Command {
                 domain: true,
                 delay: true,
                 narrow: true,
+                widening: true,
                 overflow: true,
                 regions: false,
                 steps: false,
@@ -63,6 +63,7 @@ impl Command {
                 domain: true,
                 delay: true,
                 narrow: true,
+                widening: true,
                 overflow: true,
                 regions: true,
                 steps: false,
@@ -72,6 +73,7 @@ impl Command {
                 domain: false,
                 delay: true,
                 narrow: true,
+                widening: true,
                 overflow: true,
                 regions: true,
                 steps: false,
@@ -81,6 +83,7 @@ impl Command {
                 domain: false,
                 delay: false,
                 narrow: false,
+                widening: false,
                 overflow: false,
                 regions: false,
                 steps: false,
@@ -90,6 +93,7 @@ impl Command {
                 domain: false,
                 delay: false,
                 narrow: false,
+                widening: false,
                 overflow: true,
                 regions: false,
                 steps: true,
@@ -106,6 +110,7 @@ fn are_taken(given: Given, taken: Given) -> bool
     (!given.domain || taken.domain)
         && (!given.delay || taken.delay)
         && (!given.narrow || taken.narrow)
+        && (!given.widening || taken.widening)
         && (!given.overflow || taken.overflow)
         && (!given.regions || taken.regions)
         && (!given.steps || taken.steps)
@@ -125,11 +130,10 @@ pub fn analysis_of(chosen: Chosen) -> Analysis
 {
     Analysis {
         domain: chosen.domain,
-        options: Options {
-            delay: chosen.delay,
-            narrow: chosen.narrow,
-            mode: chosen.overflow,
-        },
+        delay: chosen.delay,
+        narrow: chosen.narrow,
+        widening: chosen.widening,
+        mode: chosen.overflow,
     }
 }
 
@@ -139,6 +143,9 @@ pub fn interval_analysis(chosen: Chosen) -> Analysis
 {
     Analysis {
         domain: Domain::Interval,
-        options: analysis_of(chosen).options,
+        delay: chosen.delay,
+        narrow: chosen.narrow,
+        widening: chosen.widening,
+        mode: chosen.overflow,
     }
 }
