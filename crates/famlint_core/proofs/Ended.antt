@@ -4,6 +4,7 @@ use Rattle.std.proofs.lemmas.Bool.{eqb-true, eqb-false}
 use Rattle.std.specs.Prelude.{Option, Some, None, Result, Ok, Err, IfOk, if◌then◌else◌, nat_lt}
 use Rattle.std.specs.Io.KnownBytes.{append_known}
 use Rattle.c_tree.specs.Tree.{Whole}
+use Rattle.c_tree.specs.View.{whole}
 use Rattle.leaf_domain.specs.Leaves.{LeafMeaning}
 use Rattle.plain_analysis.specs.declared.alarm.Alarm.{Alarm}
 use Rattle.linear_atoms.specs.declared.regions.Regions.{Regions}
@@ -30,7 +31,8 @@ use Rattle.famlint_requests.specs.declared.request.VariantTask.TheVariants as ta
 use Rattle.famlint_loads.specs.declared.selected.Selected.{Selected}
 use Rattle.famlint_loads.specs.Contents.{Contents}
 use Rattle.famlint_core.specs.Answers.{IsAccepted, IsTold, Answers}
-use Rattle.famlint_programs.specs.ProgramAnswers.{IsDone, plain_done, meaning_of}
+use Rattle.famlint_programs.specs.AnalysisOptions.{options_of}
+use Rattle.famlint_programs.specs.ProgramAnswers.{IsDone, program_done, file_of, meaning_of}
 use Rattle.famlint_checks.specs.Checked.{verdict_status}
 use Rattle.famlint_core.specs.Endings.{IsEnded, EndsWith, status_at}
 use Rattle.famlint_families.specs.FamilyReports.{IsFamilyDone, family_status}
@@ -76,12 +78,12 @@ same_request o r s h k = let e : (let x : Option Request = Some r in x) ≡ Some
 report_status_low : (alarms : List Alarm) → report_status alarms ≤ 1
 report_status_low alarms = elim (some_alarm alarms) as (λ b. (if b then 1 else 0) ≤ 1) [ true ↦ omega arith | false ↦ omega arith ]
 
-plain_low : (analysis : Analysis) (p : Whole) (done : Done) → done ≡ plain_done analysis p → done.status ≤ 1
-plain_low analysis p done e = rw e (report_status_low (start_alarms (meaning_of analysis.domain) analysis.options p))
+program_low : (analysis : Analysis) (file p : Whole) (done : Done) → done ≡ program_done analysis file p → done.status ≤ 1
+program_low analysis file p done e = rw e (report_status_low (start_alarms (meaning_of analysis.domain) (options_of analysis file) p))
 
 done_low : (t : VariantTask) (s : Selected) (done : Done) → IsDone t s done → done.status ≤ 1
 done_low task.Project s done h = omega (arith, h.1)
-done_low (task.Variant analysis) s done (p, is, e) = plain_low analysis p done e
+done_low (task.Variant analysis) s done (p, is, e) = program_low analysis (file_of s) p done e
 done_low (task.Run steps inputs mode) s done (p, is, e) = rw e (omega arith)
 
 family_status_low : (alarms : List FamilyAlarm) → family_status alarms ≤ 1
@@ -103,10 +105,10 @@ advice_low None done e = omega (arith, e)
 advice_low (Some advice) done e = omega (arith, e)
 
 answered_low : (r : Request) (told : Contents) (done : Done) → Answers r told (Ok done) → done.status ≤ 1
-answered_low (request.Plain file analysis) told done (p, reads, e) = plain_low analysis p done e
+answered_low (request.Plain file analysis) told done (p, reads, e) = program_low analysis p p done e
 answered_low (request.Variant model file settings t) told done (s, selected, is) = done_low t s done is
-answered_low (request.Family model file analysis regions t) told done (l, line, is) = family_low (meaning_of analysis.domain) analysis.options regions t l done is
-answered_low (request.Generate number analysis regions) told done (l, line, is) = family_low (meaning_of analysis.domain) analysis.options regions families.Generate l done is
+answered_low (request.Family model file analysis regions t) told done (l, line, is) = family_low (meaning_of analysis.domain) (options_of analysis (whole l.family.code)) regions t l done is
+answered_low (request.Generate number analysis regions) told done (l, line, is) = family_low (meaning_of analysis.domain) (options_of analysis (whole l.family.code)) regions families.Generate l done is
 answered_low (request.Check model file certificate) told done (l, line, is) = verdict_low is.verdict done is.status
 answered_low (request.Advice model file settings analysis) told done (s, selected, is) = advice_low is.found done is.status
 answered_low (request.Features model) told done (m, is, uses) = let e : done.status ≡ 0 = uses.status in omega (arith, e)

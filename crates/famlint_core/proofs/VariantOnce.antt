@@ -27,7 +27,7 @@ use Rattle.famlint_requests.specs.declared.request.VariantTask.{VariantTask}
 use Rattle.famlint_requests.specs.declared.request.VariantTask.TheVariants.{Project, Variant, Run}
 use Rattle.famlint_loads.specs.declared.product_line.ProductLine.{ProductLine}
 use Rattle.famlint_loads.specs.declared.selected.Selected.{Selected}
-use Rattle.famlint_programs.specs.ProgramAnswers.{AnswersVariant, IsDone, plain_done, run_done}
+use Rattle.famlint_programs.specs.ProgramAnswers.{AnswersVariant, IsDone, program_done, run_done}
 use Rattle.famlint_loads.specs.Contents.{Contents}
 use Rattle.famlint_loads.specs.Faults.{example_of, fault_of_settings}
 use Rattle.famlint_loads.specs.Loads.{IsFamily, IsModel}
@@ -170,6 +170,7 @@ same_refusal laws m f words x y (selected.no_settings l i h) (selected.no_settin
 -- two selections of the same files and settings
 record AreSame (s t : Selected) : Type 0 where
   model : plain s.line.model ≡ plain t.line.model
+  code : whole s.line.family.code ≡ whole t.line.family.code
   names : names_in s.line.family ≡ names_in t.line.family
   values : s.config.values ≡ t.config.values
   text : s.line.text ≡ t.line.text
@@ -180,6 +181,7 @@ same_selected laws m f words s t h k =
     let family : AreSameFamily s.line.family t.line.family = laws.families s.line.model t.line.model f s.line.family t.line.family e h.line.family k.line.family in
     record {
       model = e;
+      code = family.code;
       names = ap (λ (w : Whole). w.names) family.code;
       values = same_values s.config.values t.config.values (sym h.config ∙ same_config s.line.model t.line.model e words ∙ k.config);
       text = h.line.text ∙ sym k.line.text;
@@ -212,7 +214,7 @@ done text status = record { text = text; status = status }
 
 same_done : VariantLaws → (task : VariantTask) (s t : Selected) → AreSame s t → (x y : Done) → IsDone task s x → IsDone task t y → x ≡ y
 same_done laws Project s t e x y (h, i) (k, j) = ap (λ (b : List ℕ). done b x.status) (same_text laws s t e x.text y.text h k) ∙ ap (done y.text) (i ∙ sym j)
-same_done laws (Variant analysis) s t e x y (p, h, i) (q, k, j) = i ∙ ap (plain_done analysis) (same_program laws s t e p q h k) ∙ sym j
+same_done laws (Variant analysis) s t e x y (p, h, i) (q, k, j) = i ∙ ap₂ (program_done analysis) e.code (same_program laws s t e p q h k) ∙ sym j
 same_done laws (Run steps inputs mode) s t e x y (p, h, i) (q, k, j) = i ∙ ap (run_done inputs steps mode) (same_program laws s t e p q h k) ∙ sym j
 
 -- a variant is answered once

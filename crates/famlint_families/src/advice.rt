@@ -2,6 +2,7 @@
 #![tactic(auto)]
 
 ghost use Rattle.std.specs.Prelude.{◌≡◌, ◌≤◌, ◌<◌, ℕ, List, [], ◌∷◌, Bool, Some, IfOk, map};
+ghost use Rattle.c_tree.specs.View.{whole};
 ghost use Rattle.std.specs.List.{All};
 ghost use Rattle.cpp_conditions.specs.Validity.{IsConfig};
 ghost use Rattle.decision_tree.specs.Plain.{TestsBelow};
@@ -12,6 +13,7 @@ ghost use Rattle.configuration_advice.specs.declared.comparing.Advice.{Advice};
 ghost use Rattle.famlint_families.specs.Advised.{IsNearestWithoutAlarms, IsGood, IsAdviseDone, TellsGoodAdvice, advice_status as status_of, trees_of};
 ghost use Rattle.famlint_families.specs.FamilyAnswers.{AnswersAdvice, PromisedAdvice};
 ghost use Rattle.famlint_loads.specs.Contents.{Contents};
+ghost use Rattle.famlint_programs.specs.AnalysisOptions.{options_of};
 ghost use Rattle.famlint_programs.specs.ProgramAnswers.{meaning_of};
 ghost use Rattle.famlint_loads.specs.Loads.{Comes, IsReadFault, IsReadOf};
 ghost use Rattle.famlint_loads.specs.ProductLines.{IsLoadedFor, IsUsableLine};
@@ -23,6 +25,7 @@ use configuration_advice::{Advice, advice_text, nearest};
 use decision_tree::Tree;
 use fam_outer::{Files, NoMemory};
 use famlint_loads::{Done, Failure, ProductLine, Selected, select};
+use famlint_programs::options::options_of;
 use famlint_programs::over_domain;
 use famlint_requests::{Analysis, SettingWords};
 use leaf_domain::Leaf;
@@ -85,14 +88,12 @@ fn advice_by(
     requires line { IsUsableLine line.now }
     requires given { IsConfig line.now.model.features given.now.values }
     ensures answer { IfOk result (λ found. IsNearestWithoutAlarms
-        (meaning_of analysis.now.domain) analysis.now.options line.now given.now.values found) }
+        (meaning_of analysis.now.domain) (options_of analysis.now (whole line.now.family.code)) line.now given.now.values found) }
     ensures good { IfOk result (λ found. IsGood
-        (meaning_of analysis.now.domain) analysis.now.options line.now given.now.values found) }
+        (meaning_of analysis.now.domain) (options_of analysis.now (whole line.now.family.code)) line.now given.now.values found) }
 {
-    over_domain!(
-        analysis.domain,
-        advice_in(alloc, line, given, &analysis.options)
-    )
+    let options = options_of(alloc, analysis, &line.family.code)?;
+    over_domain!(analysis.domain, advice_in(alloc, line, given, &options))
 }
 
 /// The line of the advice, with its status.
@@ -100,9 +101,9 @@ fn advice_done(alloc: Global, selected: &Selected, analysis: &Analysis) -> Resul
     requires line { IsUsableLine selected.now.line }
     requires config { IsConfig selected.now.line.model.features selected.now.config.values }
     ensures answer { IfOk result (λ done. IsAdviseDone
-        (meaning_of analysis.now.domain) analysis.now.options selected.now.line selected.now.config.values done) }
+        (meaning_of analysis.now.domain) (options_of analysis.now (whole selected.now.line.family.code)) selected.now.line selected.now.config.values done) }
     ensures promise { IfOk result (λ done. TellsGoodAdvice
-        (meaning_of analysis.now.domain) analysis.now.options selected.now.line selected.now.config.values done.status done.text) }
+        (meaning_of analysis.now.domain) (options_of analysis.now (whole selected.now.line.family.code)) selected.now.line selected.now.config.values done.status done.text) }
     ensures status { IfOk result (λ done. done.status ≤ 1) }
 {
     let Selected { line, config } = selected;

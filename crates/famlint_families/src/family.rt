@@ -2,11 +2,13 @@
 #![tactic(auto)]
 
 ghost use Rattle.std.specs.Prelude.{◌≡◌, ◌≤◌, ◌++◌, ℕ, List, [], ◌∷◌, Some, IfOk, map};
+ghost use Rattle.c_tree.specs.View.{whole};
 ghost use Rattle.linear_atoms.specs.declared.regions.Regions.{Regions};
 ghost use Rattle.plain_analysis.specs.declared.options.Options.{Options};
 ghost use Rattle.alarm_report.specs.Invariants.{invariant};
 ghost use Rattle.famlint_families.specs.FamilyAnswers.{AnswersFamily, PromisedFamily};
 ghost use Rattle.famlint_loads.specs.Contents.{Contents};
+ghost use Rattle.famlint_programs.specs.AnalysisOptions.{options_of};
 ghost use Rattle.famlint_programs.specs.ProgramAnswers.{meaning_of};
 ghost use Rattle.famlint_families.specs.FamilyReports.{IsFamilyDone, sizes_text, family_status as status_of};
 ghost use Rattle.famlint_families.specs.Findings.{IsFound, AreTested, AreAlarmsWithLiterals, AreInvariantsWithLiterals, AreGoodAlarms, AreGoodInvariants, AreInvariantsBefore, IsGoodText};
@@ -24,6 +26,7 @@ use c_parser::variants::variants_are_projections;
 use command_words::Word;
 use fam_outer::{Files, NoMemory, Text};
 use famlint_loads::{Done, Failure, ProductLine, load_product_line};
+use famlint_programs::options::options_of;
 use famlint_programs::over_domain;
 use famlint_requests::{Analysis, FamilyTask};
 use leaf_domain::Leaf;
@@ -214,14 +217,15 @@ pub(crate) fn report_by(
 ) -> Result<Done, NoMemory>
     requires { IsUsableLine line.now }
     ensures answer { IfOk result (λ done. IsFamilyDone
-        (meaning_of analysis.now.domain) analysis.now.options regions task line.now done) }
+        (meaning_of analysis.now.domain) (options_of analysis.now (whole line.now.family.code)) regions task line.now done) }
     ensures promise { IfOk result (λ done. PromisedOfAll
-        (meaning_of analysis.now.domain) analysis.now.options regions task line.now done.status done.text) }
+        (meaning_of analysis.now.domain) (options_of analysis.now (whole line.now.family.code)) regions task line.now done.status done.text) }
     ensures status { IfOk result (λ done. done.status ≤ 1) }
 {
+    let options = options_of(alloc, analysis, &line.family.code)?;
     over_domain!(
         analysis.domain,
-        report_on(alloc, line, &analysis.options, regions, task)
+        report_on(alloc, line, &options, regions, task)
     )
 }
 

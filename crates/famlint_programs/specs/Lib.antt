@@ -1,3 +1,4 @@
 pub mod ProgramAnswers
 pub mod Report
 pub mod RunText
+pub mod AnalysisOptions

@@ -2,6 +2,7 @@
 use Rattle.std.specs.Prelude.{ℕ, ℤ, ◌≡◌, List, Option, Result, Ok, Err}
 use Rattle.c_tree.specs.Run.{run_of}
 use Rattle.c_tree.specs.Tree.{Whole}
+use Rattle.c_tree.specs.View.{whole}
 use Rattle.c_tree.specs.declared.tree.Mode.{Mode}
 use Rattle.cpp_conditions.specs.Validity.{plain}
 use Rattle.c_parser.specs.Reading.{IsPlainRead}
@@ -19,6 +20,7 @@ use Rattle.famlint_loads.specs.declared.fault.Fault.TheVariants as fault
 use Rattle.famlint_requests.specs.declared.request.VariantTask.{VariantTask}
 use Rattle.famlint_requests.specs.declared.request.VariantTask.TheVariants.{Project, Variant, Run}
 use Rattle.famlint_loads.specs.declared.selected.Selected.{Selected}
+use Rattle.famlint_programs.specs.AnalysisOptions.{options_of}
 use Rattle.famlint_programs.specs.Report.{report_done, IsReport}
 use Rattle.famlint_programs.specs.RunText.{run_text}
 use Rattle.famlint_loads.specs.Selected.{AreSelected, IsSelectionRefused, IsProgramOf}
@@ -30,9 +32,17 @@ meaning_of domains.Interval = intervals
 meaning_of domains.Octagon = octagons
 meaning_of domains.Stride = strides
 
--- the report on a program, over leaves of this domain
+-- the report on a program of a file, over leaves of this domain
+abbrev pub program_done : Analysis → Whole → Whole → Done
+program_done analysis file p = report_done (meaning_of analysis.domain) (options_of analysis file) p
+
+-- the report on a program that is the whole file
 abbrev pub plain_done : Analysis → Whole → Done
-plain_done analysis p = report_done (meaning_of analysis.domain) analysis.options p
+plain_done analysis p = program_done analysis p p
+
+-- the whole file of a variant
+abbrev pub file_of : Selected → Whole
+file_of s = whole s.line.family.code
 
 -- the report on the program that the bytes spell, or their refusal
 abbrev pub AnswersPlain : Analysis → List ℕ → Result Done Fault → Type 0
@@ -47,7 +57,7 @@ run_done inputs steps mode p = record { text = run_text p.names (run_of p inputs
 -- what is asked of a variant is this
 abbrev pub IsDone : VariantTask → Selected → Done → Type 0
 IsDone Project s done = IsVariant (plain s.line.model) s.config.values s.line.text done.text × (done.status ≡ 0)
-IsDone (Variant analysis) s done = (p : Whole) × IsProgramOf s p × (done ≡ plain_done analysis p)
+IsDone (Variant analysis) s done = (p : Whole) × IsProgramOf s p × (done ≡ program_done analysis (file_of s) p)
 IsDone (Run steps inputs mode) s done = (p : Whole) × IsProgramOf s p × (done ≡ run_done inputs steps mode p)
 
 -- what is asked of the variant that settings select, or the refusal of the model, the file or the settings
@@ -57,12 +67,13 @@ AnswersVariant task settings told (Err fault) = IsSelectionRefused told.model to
 
 -- the report is one on the program that the bytes spell
 abbrev pub PromisedPlain : Analysis → List ℕ → ℕ → List ℕ → Type 0
-PromisedPlain analysis bytes status text = (p : Whole) × IsPlainRead bytes (Ok p) × IsReport (meaning_of analysis.domain) analysis.options p status text
+PromisedPlain analysis bytes status text = (p : Whole) × IsPlainRead bytes (Ok p) × IsReport (meaning_of analysis.domain) (options_of analysis p) p status text
 
 -- a report is one on the program of the variant; a text or a run is exactly its answer, and no more is promised of it
 abbrev pub PromisedOf : VariantTask → Selected → ℕ → List ℕ → Type 0
 PromisedOf Project s status text = status ≡ 0
-PromisedOf (Variant analysis) s status text = (p : Whole) × IsProgramOf s p × IsReport (meaning_of analysis.domain) analysis.options p status text
+PromisedOf (Variant analysis) s status text =
+    (p : Whole) × IsProgramOf s p × IsReport (meaning_of analysis.domain) (options_of analysis (file_of s)) p status text
 PromisedOf (Run steps inputs mode) s status text = status ≡ 0
 
 abbrev pub PromisedVariant : VariantTask → List (List ℕ) → Contents → ℕ → List ℕ → Type 0

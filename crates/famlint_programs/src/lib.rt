@@ -2,6 +2,7 @@
 #![tactic(auto)]
 
 pub mod domain;
+pub mod options;
 pub mod plain;
 mod report;
 pub mod variant;

@@ -27,7 +27,7 @@ fn report_on_bytes(alloc: Global, bytes: &[u8], analysis: &Analysis) -> Result<D
             place,
             example: None,
         })),
-        Ok(program) => Ok(report_by(alloc, &program, analysis)?),
+        Ok(program) => Ok(report_by(alloc, &program, analysis, &program)?),
     }
 }
 

@@ -4,9 +4,11 @@
 ghost use Rattle.std.specs.Prelude.{◌≡◌, ◌≤◌, IfOk};
 ghost use Rattle.c_tree.specs.View.{whole};
 ghost use Rattle.c_tree.specs.Whole.{IsProgram, IsPlainProgram};
-ghost use Rattle.famlint_programs.specs.ProgramAnswers.{meaning_of, plain_done};
+ghost use Rattle.famlint_programs.specs.AnalysisOptions.{options_of};
+ghost use Rattle.famlint_programs.specs.ProgramAnswers.{meaning_of, program_done};
 ghost use Rattle.famlint_programs.specs.Report.{report_status as status_of, report_done, IsReport};
 
+use crate::options::options_of;
 use crate::over_domain;
 use alarm_report::{reports_tell_their_alarms, variant_report};
 use c_tree::Program;
@@ -43,17 +45,20 @@ fn report_on<L: Leaf>(alloc: Global, program: &Program, options: &Options) -> Re
     })
 }
 
-/// The report on a program, over the kind of leaf that is asked for.
-pub fn report_by(alloc: Global, program: &Program, analysis: &Analysis) -> Result<Done, NoMemory>
+/// The report on a program of a file, over the kind of leaf that is asked for.
+pub fn report_by(
+    alloc: Global,
+    program: &Program,
+    analysis: &Analysis,
+    file: &Program,
+) -> Result<Done, NoMemory>
     requires program { IsProgram (whole program.now) }
     requires plain { IsPlainProgram (whole program.now) }
-    ensures answer { IfOk result (λ done. done ≡ plain_done analysis.now (whole program.now)) }
-    ensures report { IfOk result (λ done. IsReport
-        (meaning_of analysis.now.domain) analysis.now.options (whole program.now) done.status done.text) }
+    ensures answer { IfOk result (λ done. done ≡ program_done analysis.now (whole file.now) (whole program.now)) }
+    ensures report { IfOk result (λ done. IsReport (meaning_of analysis.now.domain)
+        (options_of analysis.now (whole file.now)) (whole program.now) done.status done.text) }
     ensures status { IfOk result (λ done. done.status ≤ 1) }
 {
-    over_domain!(
-        analysis.domain,
-        report_on(alloc, program, &analysis.options)
-    )
+    let options = options_of(alloc, analysis, file)?;
+    over_domain!(analysis.domain, report_on(alloc, program, &options))
 }

@@ -139,7 +139,7 @@ fn done_for(alloc: Global, selected: &Selected, task: &VariantTask) -> Result<Do
         VariantTask::Project => text_of(alloc, selected),
         VariantTask::Variant(analysis) => {
             let program = program_of(alloc, selected)?;
-            report_by(alloc, &program, analysis)
+            report_by(alloc, &program, analysis, &selected.line.family.code)
         }
         VariantTask::Run {
             steps,
