@@ -10,7 +10,8 @@ use cpp_conditions::Formula;
 use decision_tree::Tree;
 use fam_outer::NoMemory;
 use interval_leaf::IntervalLeaf;
-use leaf_domain::Leaf;
+use leaf_domain::{Leaf, Thresholds};
+use loop_thresholds::thresholds_of;
 use lifted_analysis::{AlarmTree, FamilyFindings, PlaceTree, analyse_family};
 use plain_analysis::{Alarm, Findings, Options, PlaceLeaf, analyse_one};
 use std::alloc::Global;
@@ -134,18 +135,25 @@ fn is_right(
 #[test]
 fn trees_are_those_of_the_variants(rt: HostRuntime) -> Result<(), Fail> {
     let cases = [
-        (0, 0, Mode::Stop),
-        (0, 3, Mode::Stop),
-        (0, 3, Mode::Wrap),
-        (1, 2, Mode::Wrap),
-        (12, 1, Mode::Stop),
+        (0, 0, false, Mode::Stop),
+        (0, 3, false, Mode::Stop),
+        (0, 3, true, Mode::Wrap),
+        (1, 2, false, Mode::Wrap),
+        (0, 1, true, Mode::Stop),
+        (12, 1, false, Mode::Stop),
     ];
     let mixed = family(rt.alloc())?;
     let unsteady = unsteady_family(rt.alloc())?;
-    for (delay, narrow, mode) in cases {
+    for (delay, narrow, has_thresholds, mode) in cases {
+        let thresholds = if has_thresholds {
+            thresholds_of(rt.alloc(), &mixed)?
+        } else {
+            Thresholds::none(rt.alloc())
+        };
         let options = Options {
             delay,
             narrow,
+            thresholds,
             mode,
         };
         assert!(rt; is_right(rt.alloc(), &mixed, 11, &options)?);

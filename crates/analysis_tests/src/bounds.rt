@@ -10,7 +10,7 @@ use cpp_conditions::Formula;
 use decision_tree::Tree;
 use fam_outer::NoMemory;
 use interval_leaf::IntervalLeaf;
-use leaf_domain::Leaf;
+use leaf_domain::{Leaf, Thresholds};
 use lifted_analysis::{AlarmTree, PlaceTree, analyse_family};
 use plain_analysis::Options;
 use std::alloc::Global;
@@ -83,6 +83,7 @@ fn is_right(
     let options = Options {
         delay: 0,
         narrow: 2,
+        thresholds: Thresholds::none(alloc),
         mode,
     };
     let conditions = [Formula::Test(0)];
@@ -143,6 +144,7 @@ fn loops_in_loops_end(rt: HostRuntime) -> Result<(), Fail> {
     let options = Options {
         delay: 0,
         narrow: 2,
+        thresholds: Thresholds::none(rt.alloc()),
         mode: Mode::Stop,
     };
     let conditions = [Formula::Test(0)];

@@ -7,7 +7,7 @@ ghost use Rattle.c_tree.specs.Whole.{IsProgram, IsPlainProgram};
 
 use c_tree::{Expr, Kind, Mode, Names, Op, Program};
 use fam_outer::{NoMemory, Place, Text, Values};
-use leaf_domain::Leaf;
+use leaf_domain::{Leaf, Thresholds};
 use plain_analysis::{Alarms, Options, analyse_one};
 use std::alloc::Global;
 
@@ -59,6 +59,7 @@ pub(crate) fn alarms_of<L: Leaf>(
     let options = Options {
         delay: 0,
         narrow: 1,
+        thresholds: Thresholds::none(alloc),
         mode,
     };
     let findings = analyse_one(alloc, program, start, &options)?;

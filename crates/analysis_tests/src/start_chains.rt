@@ -18,7 +18,7 @@ use cpp_conditions::Formula;
 use decision_tree::Tree;
 use fam_outer::{NoMemory, Place, Text, Values};
 use interval_leaf::IntervalLeaf;
-use leaf_domain::Leaf;
+use leaf_domain::{Leaf, Thresholds};
 use lifted_analysis::analyse_family;
 use plain_analysis::Options;
 use std::alloc::Global;
@@ -178,6 +178,7 @@ fn is_right(alloc: Global, count: u32, plausible: usize, all: usize) -> Result<b
     let options = Options {
         delay: 0,
         narrow: 0,
+        thresholds: Thresholds::none(alloc),
         mode: Mode::Stop,
     };
     let found = analyse_family::<IntervalLeaf>(alloc, &code, &tests, &rule, &options)?;

@@ -5,7 +5,7 @@ ghost use Rattle.c_tree.specs.Value.{IsInt};
 
 use fam_outer::NoMemory;
 use interval_leaf::IntervalLeaf;
-use leaf_domain::{Leaf, Range};
+use leaf_domain::{Leaf, Range, Thresholds};
 use plain_analysis::{joined, moved, narrowed_by, round};
 use std::alloc::Global;
 use std::test::Fail;
@@ -33,6 +33,14 @@ fn bounds(leaf: &IntervalLeaf) -> Option<(i64, i64)> {
     Some((r.low, r.high))
 }
 
+/// The thresholds of the rows that have some.
+fn some_thresholds(alloc: Global) -> Result<Thresholds, NoMemory> {
+    Ok(Thresholds::from_vec(Vec::from_slice(
+        alloc,
+        &[-4, 6, 10],
+    )?))
+}
+
 /// Bounds at the head, those of what comes in, whether the round is an early one, and the bounds that they are joined to,
 /// narrowed to and moved to.
 type Row = (
@@ -44,8 +52,8 @@ type Row = (
     Option<(i64, i64)>,
 );
 
-/// Whether all steps give the bounds of a row.
-fn is_right(alloc: Global, row: Row) -> Result<bool, NoMemory>
+/// Whether all steps to these thresholds give the bounds of a row.
+fn is_right(alloc: Global, row: Row, thresholds: &Thresholds) -> Result<bool, NoMemory>
     requires at_low { IsInt row.0.0 }
     requires at_high { IsInt row.0.1 }
     requires next_low { IsInt row.1.0 }
@@ -54,16 +62,16 @@ fn is_right(alloc: Global, row: Row) -> Result<bool, NoMemory>
     let (head, next, is_early, join, narrow, moves) = row;
     let at = leaf(alloc, head.0, head.1)?;
     let next = leaf(alloc, next.0, next.1)?;
-    let after = match moved(alloc, &at, &next, is_early)? {
+    let after = match moved(alloc, &at, &next, is_early, thresholds)? {
         Some(made) => bounds(&made),
         None => None,
     };
     let stays = if moves.is_some() { moves } else { Some(head) };
     Ok(
         bounds(&joined(alloc, &at, &next)?) == Some(join)
-            && bounds(&narrowed_by(alloc, &at, &next)?) == Some(narrow)
+            && bounds(&narrowed_by(alloc, &at, &next, thresholds)?) == Some(narrow)
             && after == moves
-            && bounds(&round(alloc, &at, &next, is_early)?) == stays,
+            && bounds(&round(alloc, &at, &next, is_early, thresholds)?) == stays,
     )
 }
 
@@ -91,8 +99,30 @@ fn steps_are_those_found_by_hand(rt: HostRuntime) -> Result<(), Fail> {
         ),
         ((3, 5), (4, 5), true, (3, 5), (3, 5), None),
     ];
+    let none = Thresholds::none(rt.alloc());
     for row in rows {
-        assert!(rt; is_right(rt.alloc(), row)?);
+        assert!(rt; is_right(rt.alloc(), row, &none)?);
+    }
+    Ok(())
+}
+
+/// Each bound that what comes in moves steps to the nearest threshold that covers that of what comes in; one that stands at a
+/// threshold or at that of the type narrows.
+#[test]
+fn steps_to_thresholds_are_those_found_by_hand(rt: HostRuntime) -> Result<(), Fail> {
+    let rows = [
+        ((0, 5), (0, 6), false, (0, 6), (0, 5), Some((0, 6))),
+        ((0, 6), (0, 7), false, (0, 7), (0, 7), Some((0, 10))),
+        ((0, 10), (0, 11), false, (0, 11), (0, 11), Some((0, GREATEST))),
+        ((0, 5), (-1, 9), false, (-1, 9), (0, 5), Some((-4, 10))),
+        ((-4, 5), (-5, 5), false, (-5, 5), (-5, 5), Some((LEAST, 5))),
+        ((-4, 10), (1, 8), false, (-4, 10), (1, 8), None),
+        ((0, 5), (0, 7), true, (0, 7), (0, 5), Some((0, 7))),
+        ((0, GREATEST), (0, 7), false, (0, GREATEST), (0, 7), None),
+    ];
+    let some = some_thresholds(rt.alloc())?;
+    for row in rows {
+        assert!(rt; is_right(rt.alloc(), row, &some)?);
     }
     Ok(())
 }

@@ -10,7 +10,7 @@ ghost use Rattle.c_tree.specs.Whole.{IsProgram, IsPlainProgram, operators};
 use c_tree::{Declarations, Expr, Kind, Mode, Names, Op, Program, Stmt};
 use fam_outer::{NoMemory, Place, Text, Values};
 use interval_leaf::IntervalLeaf;
-use leaf_domain::Leaf;
+use leaf_domain::{Leaf, Thresholds};
 use plain_analysis::{Alarms, Options, analyse_one};
 use std::alloc::Global;
 use std::test::Fail;
@@ -158,6 +158,7 @@ fn alarms_of(alloc: Global, program: &Program, narrow: u32, mode: Mode) -> Resul
     let options = Options {
         delay: 0,
         narrow,
+        thresholds: Thresholds::none(alloc),
         mode,
     };
     let findings = analyse_one(alloc, program, &start, &options)?;

@@ -14,7 +14,7 @@ use c_tree::{Declarations, Expr, Kind, Mode, Names, Op, Program, Stmt};
 use decision_tree::Kept;
 use fam_outer::{NoMemory, Place, Text, Values};
 use interval_leaf::IntervalLeaf;
-use leaf_domain::Leaf;
+use leaf_domain::{Leaf, Thresholds};
 use linear_atoms::{Atom, Config, Feature, Literal, Regions, Terms};
 use octagon_leaf::OctagonLeaf;
 use plain_analysis::{Alarm, Findings, Options, analyse_one};
@@ -188,6 +188,7 @@ fn found<L: Leaf>(alloc: Global, program: &Program, start: &L) -> Result<Finding
     let options = Options {
         delay: 0,
         narrow: 1,
+        thresholds: Thresholds::none(alloc),
         mode: Mode::Stop,
     };
     analyse_one(alloc, program, start, &options)
