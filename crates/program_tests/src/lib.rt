@@ -31,3 +31,5 @@ mod plain_tests;
 mod running;
 #[cfg(test)]
 mod variant_tests;
+#[cfg(test)]
+mod widening_tests;
