@@ -5,7 +5,7 @@ ghost use Rattle.c_tree.specs.Value.{IsInt};
 
 use fam_outer::NoMemory;
 use interval_leaf::IntervalLeaf;
-use leaf_domain::{Leaf, Range};
+use leaf_domain::{Leaf, Range, Thresholds};
 use std::alloc::Global;
 use std::test::Fail;
 
@@ -36,15 +36,80 @@ fn bounds(leaf: &IntervalLeaf) -> Option<(i64, i64)> {
 fn leaves_join_widen_and_narrow(rt: HostRuntime) -> Result<(), Fail> {
     let small = leaf(rt.alloc(), 0, 3)?;
     let great = leaf(rt.alloc(), -1, 2)?;
+    let none = Thresholds::none(rt.alloc());
     assert_eq!(rt; bounds(&small.join(rt.alloc(), &great)?), Some((-1, 3)));
-    assert_eq!(rt; bounds(&small.widen(rt.alloc(), &great)?), Some((LEAST, 3)));
-    let wide = small.widen(rt.alloc(), &leaf(rt.alloc(), 0, 4)?)?;
+    assert_eq!(rt;
+        bounds(&small.widen(rt.alloc(), &great, &none)?),
+        Some((LEAST, 3))
+    );
+    let wide = small.widen(rt.alloc(), &leaf(rt.alloc(), 0, 4)?, &none)?;
     assert_eq!(rt; bounds(&wide), Some((0, GREATEST)));
     let less = leaf(rt.alloc(), 1, 9)?;
     assert_eq!(rt; wide.variables(), less.variables());
-    assert_eq!(rt; bounds(&wide.narrow(rt.alloc(), &less)?), Some((0, 9)));
+    assert_eq!(rt; bounds(&wide.narrow(rt.alloc(), &less, &none)?), Some((0, 9)));
     assert!(rt; leaf(rt.alloc(), 1, 2)?.leq(&small));
     assert!(rt; !great.leq(&small));
+    Ok(())
+}
+
+/// The numbers -100, 10 and 50.
+pub(crate) fn thresholds(alloc: Global) -> Result<Thresholds, NoMemory> {
+    Ok(Thresholds::from_vec(vec![in alloc; -100i64, 10i64, 50i64]?))
+}
+
+/// The bounds of a variable, those that come in at a loop's head, and what widening makes of both.
+const WIDENED: [((i64, i64), (i64, i64), (i64, i64)); 10] = [
+    // neither bound is moved
+    ((0, 3), (1, 3), (0, 3)),
+    // the high steps through two thresholds, and then past the last
+    ((0, 3), (0, 7), (0, 10)),
+    ((0, 10), (0, 11), (0, 50)),
+    ((0, 50), (0, 51), (0, GREATEST)),
+    // a high that is a threshold already
+    ((0, 3), (0, 10), (0, 10)),
+    // the low steps to the greatest threshold that is not above it
+    ((0, 3), (-5, 3), (-100, 3)),
+    ((-100, 3), (-101, 3), (LEAST, 3)),
+    ((60, 70), (55, 70), (50, 70)),
+    // a high below 0
+    ((-300, -200), (-300, -150), (-300, -100)),
+    // both
+    ((0, 3), (-1, 4), (-100, 10)),
+];
+
+#[test]
+fn bounds_step_to_thresholds(rt: HostRuntime) -> Result<(), Fail> {
+    let thresholds = thresholds(rt.alloc())?;
+    for ((low, high), (other_low, other_high), want) in WIDENED {
+        let own = leaf(rt.alloc(), low, high)?;
+        let other = leaf(rt.alloc(), other_low, other_high)?;
+        let wide = own.widen(rt.alloc(), &other, &thresholds)?;
+        assert_eq!(rt; bounds(&wide), Some(want), "{low} {high}");
+    }
+    Ok(())
+}
+
+/// The bounds of a variable, those that come in at a loop's head, and what narrowing makes of both.
+const NARROWED: [((i64, i64), (i64, i64), (i64, i64)); 5] = [
+    // bounds that are thresholds, whichever of the two they are
+    ((-100, 10), (-1, 4), (-1, 4)),
+    ((10, 50), (11, 12), (11, 12)),
+    // bounds of the type
+    ((LEAST, GREATEST), (0, 9), (0, 9)),
+    // bounds that no step gives
+    ((0, 11), (1, 4), (0, 11)),
+    ((-99, 49), (0, 0), (-99, 49)),
+];
+
+#[test]
+fn steps_are_taken_back(rt: HostRuntime) -> Result<(), Fail> {
+    let thresholds = thresholds(rt.alloc())?;
+    for ((low, high), (other_low, other_high), want) in NARROWED {
+        let own = leaf(rt.alloc(), low, high)?;
+        let other = leaf(rt.alloc(), other_low, other_high)?;
+        let narrow = own.narrow(rt.alloc(), &other, &thresholds)?;
+        assert_eq!(rt; bounds(&narrow), Some(want), "{low} {high}");
+    }
     Ok(())
 }
 

@@ -21,4 +21,6 @@ mod small_leaves;
 #[cfg(test)]
 mod stores;
 #[cfg(test)]
+mod strides;
+#[cfg(test)]
 mod transfer;

@@ -3,7 +3,7 @@
 use crate::operations::Small;
 use crate::stores::{are_among, common, holds_all};
 use fam_outer::NoMemory;
-use leaf_domain::Leaf;
+use leaf_domain::{Leaf, Thresholds};
 use std::alloc::Global;
 
 /// The join holds the stores of both, and the widening too.
@@ -11,12 +11,13 @@ pub(crate) fn both_are_held<L: Leaf>(
     alloc: Global,
     a: &Small<L>,
     b: &Small<L>,
+    thresholds: &Thresholds,
 ) -> Result<bool, NoMemory> {
     if a.leaf.variables() != b.leaf.variables() {
         return Ok(false);
     }
     let joined = a.leaf.join(alloc, b.leaf)?;
-    let widened = a.leaf.widen(alloc, b.leaf)?;
+    let widened = a.leaf.widen(alloc, b.leaf, thresholds)?;
     Ok(
         holds_all(alloc, &joined, a.held)?
             && holds_all(alloc, &joined, b.held)?
@@ -30,11 +31,12 @@ pub(crate) fn common_are_kept<L: Leaf>(
     alloc: Global,
     a: &Small<L>,
     b: &Small<L>,
+    thresholds: &Thresholds,
 ) -> Result<bool, NoMemory> {
     if a.leaf.variables() != b.leaf.variables() {
         return Ok(false);
     }
-    let narrowed = a.leaf.narrow(alloc, b.leaf)?;
+    let narrowed = a.leaf.narrow(alloc, b.leaf, thresholds)?;
     holds_all(alloc, &narrowed, &common(alloc, a.held, b.held)?)
 }
 

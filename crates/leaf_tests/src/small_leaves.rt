@@ -9,7 +9,7 @@ use crate::small::{Sum, small_leaves};
 use crate::stores::held_by;
 use fam_outer::NoMemory;
 use interval_leaf::IntervalLeaf;
-use leaf_domain::{Compare, Leaf};
+use leaf_domain::{Compare, Leaf, Thresholds};
 use octagon_leaf::OctagonLeaf;
 use product_leaf::StrideLeaf;
 use std::alloc::Global;
@@ -85,7 +85,7 @@ fn single_passes<L: Leaf>(alloc: Global, leaf: &L, is_octagon: bool) -> Result<b
     )
 }
 
-/// The operations on two leaves.
+/// The operations on two leaves, without thresholds and with some.
 fn pair_passes<L: Leaf>(alloc: Global, a: &L, b: &L) -> Result<bool, NoMemory> {
     let held = held_by(alloc, a)?;
     let other = held_by(alloc, b)?;
@@ -97,7 +97,15 @@ fn pair_passes<L: Leaf>(alloc: Global, a: &L, b: &L) -> Result<bool, NoMemory> {
         leaf: b,
         held: &other,
     };
-    Ok(order_is_seen(&a, &b) && both_are_held(alloc, &a, &b)? && common_are_kept(alloc, &a, &b)?)
+    let none = Thresholds::none(alloc);
+    let some = Thresholds::from_vec(vec![in alloc; -3i64, 2i64]?);
+    Ok(
+        order_is_seen(&a, &b)
+            && both_are_held(alloc, &a, &b, &none)?
+            && both_are_held(alloc, &a, &b, &some)?
+            && common_are_kept(alloc, &a, &b, &none)?
+            && common_are_kept(alloc, &a, &b, &some)?,
+    )
 }
 
 /// Everything, over all small leaves of a kind.
