@@ -92,7 +92,7 @@ pub widened-inside : (s : Inside) (v : LeafValue) (c d : MatrixValue) → view_o
 widened-inside s v c d e h f g = let P : LeafValue → Type 0 = λ x. IsStandingOf x d in subst P e (by-widened s.variables s.closed s.widened c d f g h.1)
 
 -- ---- lists of meets
-both-meets : (n : ℕ) (es fs : List Meet) → AreMeets n es → AreMeets n fs → AreMeets n (es ++ fs)
+pub both-meets : (n : ℕ) (es fs : List Meet) → AreMeets n es → AreMeets n fs → AreMeets n (es ++ fs)
 both-meets n [] fs p q = q
 both-meets n (e ∷ es) fs p q = (p.0, both-meets n es fs p.1 q)
 
@@ -100,7 +100,7 @@ both-met : (es fs : List Meet) (s : List ℤ) → AllMet es s → AllMet fs s �
 both-met [] fs s p q = q
 both-met (e ∷ es) fs s p q = (p.0, both-met es fs s p.1 q)
 
-met-both : (es fs : List Meet) (s : List ℤ) → AllMet (es ++ fs) s → AllMet es s × AllMet fs s
+pub met-both : (es fs : List Meet) (s : List ℤ) → AllMet (es ++ fs) s → AllMet es s × AllMet fs s
 met-both [] fs s p = (tt, p)
 met-both (e ∷ es) fs s p = let q : AllMet es s × AllMet fs s = met-both es fs s p.1 in ((p.0, q.0), q.1)
 

@@ -7,3 +7,6 @@ pub mod Meanings
 pub mod Full
 pub mod Assigning
 pub mod Moving
+pub mod Extending
+pub mod Exactness
+pub mod ExactForms

@@ -26,23 +26,23 @@ use Rattle.octagon_leaf.proofs.Full.{best-full, best-large, best-made}
 use Rattle.octagon_leaf.proofs.Assigning.{met-within}
 
 -- ---- back to the store before
-set-back : (s : List ℤ) (x : ℕ) (v : ℤ) → slice_set (slice_set s x v) x (slice_index_or s x (pos 0)) ≡ s
+pub set-back : (s : List ℤ) (x : ℕ) (v : ℤ) → slice_set (slice_set s x v) x (slice_index_or s x (pos 0)) ≡ s
 set-back [] x v = refl
 set-back (n ∷ s) zero v = refl
 set-back (n ∷ s) (suc x) v = ap (λ u. n ∷ u) (set-back s x v)
 
 -- the store that moves to the given one
-record Unmoved (s : List ℤ) (x t : ℕ) (c : ℤ) : Type 0 where
-  store : List ℤ
-  size : length store ≡ length s
-  term : term_value store t +ℤ c ≡ value_at s x
-  back : slice_set store x (term_value store t +ℤ c) ≡ s
+pub record Unmoved (s : List ℤ) (x t : ℕ) (c : ℤ) : Type 0 where
+  pub store : List ℤ
+  pub size : length store ≡ length s
+  pub term : term_value store t +ℤ c ≡ value_at s x
+  pub back : slice_set store x (term_value store t +ℤ c) ≡ s
 
 signed-by : (w c : ℤ) (q : Bool) → (if q then (if q then w -ℤ c else c -ℤ w) else neg_ℤ (if q then w -ℤ c else c -ℤ w)) +ℤ c ≡ w
 signed-by w c true = omega (arith, ints)
 signed-by w c false = omega (arith, ints)
 
-unmoved : (n : ℕ) (s : List ℤ) (x t : ℕ) (c : ℤ) → length s ≡ n → x < n → has_variable x t ≡ true → Unmoved s x t c
+pub unmoved : (n : ℕ) (s : List ℤ) (x t : ℕ) (c : ℤ) → length s ≡ n → x < n → has_variable x t ≡ true → Unmoved s x t c
 unmoved n s x t c e l f =
     let w : ℤ = value_at s x in
     let v : ℤ = if nat_eq (t % 2) 0 then w -ℤ c else c -ℤ w in
@@ -50,7 +50,7 @@ unmoved n s x t c e l f =
     let g : term_value u t +ℤ c ≡ w = ap (λ d. d +ℤ c) (set-own n s x t v e l f) ∙ signed-by w c (nat_eq (t % 2) 0) in
     record { store = u; size = set-length s x v; term = g; back = ap (λ d. slice_set u x d) g ∙ set-back s x v }
 
-same-variable : (x a : ℕ) → has_variable x a ≡ true → a / 2 ≡ x
+pub same-variable : (x a : ℕ) → has_variable x a ≡ true → a / 2 ≡ x
 same-variable x a e = grind (arith, nat_tests)
 
 -- renaming by an own term undoes itself
@@ -95,7 +95,7 @@ kept-below : (t n d : ℤ) → neg_ℤ (pos (2 ^ 33)) ≤ℤ d → d ≤ℤ kept
 kept-below t n d h k = omega (arith, ints, clamps)
 
 -- what meets the moved matrix moved from a store of the matrix
-unmoved-holds : (m : MatrixValue) (s : List ℤ) (x t : ℕ) (c : ℤ) (u : Unmoved s x t c) → IsMatrix m → x < m.variables → t < 2 * m.variables → t / 2 ≡ x → Holds (moved m x t c) s → Holds m u.store
+pub unmoved-holds : (m : MatrixValue) (s : List ℤ) (x t : ℕ) (c : ℤ) (u : Unmoved s x t c) → IsMatrix m → x < m.variables → t < 2 * m.variables → t / 2 ≡ x → Holds (moved m x t c) s → Holds m u.store
 unmoved-holds m s x t c u k l j f h =
     let n : ℕ = m.variables in
     let z : length u.store ≡ n = u.size ∙ h.size in

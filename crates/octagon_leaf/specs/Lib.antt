@@ -6,4 +6,5 @@ pub mod Meeting
 pub mod Filling
 pub mod View
 pub mod Hashing
+pub mod Exact
 pub mod Laws

@@ -3,8 +3,10 @@
 #![tactic(auto)]
 
 mod filled;
+mod laws;
 mod leaf;
 mod meets;
 mod shape;
 
+pub use laws::octagons_are_exact;
 pub use leaf::OctagonLeaf;

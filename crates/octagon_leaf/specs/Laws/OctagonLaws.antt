@@ -51,7 +51,7 @@ best-of-holds m s p h = by_answer (answered m p)
     by_answer (unmet u f g) = absurd (u s h)
     by_answer (held x q k f g) = rw f (stores-best m x s q h)
 
-holds-best-of : (m : MatrixValue) (s : List ℤ) → IsBounded m → octagon_holds (best_of m) s → Holds m s
+pub holds-best-of : (m : MatrixValue) (s : List ℤ) → IsBounded m → octagon_holds (best_of m) s → Holds m s
 holds-best-of m s p h = by_answer (answered m p)
   where
     by_answer : Answered m → Holds m s
@@ -66,20 +66,20 @@ standing-answers a m p e = by_answer (answered m (bounded-kept m p))
     by_answer (held x q k f g) = rw g (record { valid = (p.few, (p, q.met)); same = e })
 
 -- ---- the best matrix of a leaf
-record IsClosed (n : ℕ) (ns : List ℤ) : Type 0 where
-  matrix : MatrixValue
-  best : IsBest (matrix_at n ns) matrix
-  kept : IsMatrix matrix
-  is : octagon_best (at n (Some ns)) ≡ leaf_of matrix
+pub record IsClosed (n : ℕ) (ns : List ℤ) : Type 0 where
+  pub matrix : MatrixValue
+  pub best : IsBest (matrix_at n ns) matrix
+  pub kept : IsMatrix matrix
+  pub is : octagon_best (at n (Some ns)) ≡ leaf_of matrix
 
-closed : (n : ℕ) (ns : List ℤ) → IsOctagon (at n (Some ns)) → IsClosed n ns
+pub closed : (n : ℕ) (ns : List ℤ) → IsOctagon (at n (Some ns)) → IsClosed n ns
 closed n ns p = by_answer (answered (matrix_at n ns) (bounded-kept (matrix_at n ns) p.1.0))
   where
     by_answer : Answered (matrix_at n ns) → IsClosed n ns
     by_answer (unmet u f g) = absurd (u p.1.1.0 p.1.1.1)
     by_answer (held x q k f g) = record { matrix = x; best = q; kept = k; is = f }
 
-closed-holds : (n : ℕ) (ns : List ℤ) (c : IsClosed n ns) (s : List ℤ) → Holds (matrix_at n ns) s → Holds c.matrix s
+pub closed-holds : (n : ℕ) (ns : List ℤ) (c : IsClosed n ns) (s : List ℤ) → Holds (matrix_at n ns) s → Holds c.matrix s
 closed-holds n ns c s h = stores-best (matrix_at n ns) c.matrix s c.best h
 
 -- ---- start
@@ -464,7 +464,7 @@ differs t x e = grind (arith, nat_tests)
 apart-from : (t x : ℕ) → has_variable x t ≡ false → (2 * x ≡ t → ⊥)
 apart-from t x e g = differs t x e (omega arith)
 
-equal-meets : (n x t : ℕ) (c : ℤ) (r : Range) → x < n → t < 2 * n → has_variable x t ≡ false → AreMeets n (equal_to x t c ++ between x r)
+pub equal-meets : (n x t : ℕ) (c : ℤ) (r : Range) → x < n → t < 2 * n → has_variable x t ≡ false → AreMeets n (equal_to x t c ++ between x r)
 equal-meets n x t c r l h e = (
   record { first = omega arith; second = h; apart = apart-from t x e },
   (record { first = h; second = omega arith; apart = λ g. apart-from t x e (sym g) }, between-meets n x r l),

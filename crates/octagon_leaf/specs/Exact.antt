@@ -1,0 +1,56 @@
+-- How exact octagons are, beyond what every kind of leaf keeps.
+use Rattle.std.specs.Prelude.{◌≡◌, ◌≢◌, ◌↔◌, ℕ, ◌<◌, ℤ, pos, Bool, true, false, ◌&&◌, List, [], ◌∷◌, slice_set}
+use Rattle.leaf_domain.specs.declared.form.Form.{Form}
+use Rattle.leaf_domain.specs.declared.range.Range.{Range}
+use Rattle.leaf_domain.specs.declared.compare.Compare.{Compare}
+use Rattle.leaf_domain.specs.declared.compare.Compare.TheVariants.{Ne}
+use Rattle.leaf_domain.specs.Compares.{holds_between}
+use Rattle.leaf_domain.specs.Forms.{form_at, IsForm}
+use Rattle.leaf_domain.specs.Ranges.{Within, IsInInt}
+use Rattle.leaf_domain.specs.Leaves.{LeafValue, Alike}
+use Rattle.octagon_leaf.specs.Shapes.{is_unit}
+use Rattle.octagon_leaf.specs.Octagons.{octagons, IsOctagon, octagon_holds, octagon_leq, octagon_join, octagon_meet_form, octagon_set_form}
+
+-- ---- forms
+-- a constant, or one variable or its negation, with a constant
+abbrev pub has_one_unit : List (ℕ × ℤ) → Bool
+has_one_unit [] = true
+has_one_unit (t ∷ []) = is_unit t.1
+has_one_unit (t ∷ u ∷ ts) = false
+
+-- that, or the sum or difference of two variables or its negation, with a constant
+abbrev pub has_two_units : List (ℕ × ℤ) → Bool
+has_two_units [] = true
+has_two_units (t ∷ []) = is_unit t.1
+has_two_units (t ∷ u ∷ []) = is_unit t.1 && is_unit u.1
+has_two_units (t ∷ u ∷ v ∷ ts) = false
+
+-- ---- the laws
+-- `leq` is inclusion of the stores
+abbrev pub LeqIsInclusion : Type 0
+LeqIsInclusion = (a b : LeafValue) → Alike octagons a b → (octagon_leq a b ≡ true) ↔ ((s : List ℤ) → octagon_holds a s → octagon_holds b s)
+
+-- each octagon that holds the stores of both holds those of `join`
+abbrev pub JoinIsLeast : Type 0
+JoinIsLeast = (a b c : LeafValue) → Alike octagons a b → IsOctagon c → c.variables ≡ a.variables
+    → ((s : List ℤ) → octagon_holds a s → octagon_holds c s) → ((s : List ℤ) → octagon_holds b s → octagon_holds c s)
+    → (s : List ℤ) → octagon_holds (octagon_join a b) s → octagon_holds c s
+
+-- of an octagonal form, `meet_form` holds just the stores at which the comparison holds, unless that is `!=`
+abbrev pub MeetFormIsExact : Type 0
+MeetFormIsExact = (a : LeafValue) (f : Form) (op : Compare) (s : List ℤ) → IsOctagon a → IsForm a.variables f → has_two_units f.terms ≡ true
+    → op ≢ Ne
+    → octagon_holds (octagon_meet_form a f op) s ↔ (octagon_holds a s × (holds_between op (form_at f s) (pos 0) ≡ true))
+
+-- the store is one of the leaf's with a variable put as the value of a form there, which lies in the range
+pub record IsFormPut (a : LeafValue) (x : ℕ) (f : Form) (r : Range) (s : List ℤ) : Type 0 where
+  pub store : List ℤ
+  pub held : octagon_holds a store
+  pub within : Within (form_at f store) r
+  pub put : s ≡ slice_set store x (form_at f store)
+
+-- of a variable or its negation and a constant, or a constant, `set_form` holds just the stores put so
+abbrev pub SetFormIsExact : Type 0
+SetFormIsExact = (a : LeafValue) (x : ℕ) (f : Form) (r : Range) (s : List ℤ) → IsOctagon a → x < a.variables → IsForm a.variables f → IsInInt r
+    → has_one_unit f.terms ≡ true
+    → octagon_holds (octagon_set_form a x f r) s ↔ IsFormPut a x f r s
