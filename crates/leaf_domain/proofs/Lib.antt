@@ -20,3 +20,4 @@ pub mod ThresholdLemmas
 pub mod EndLemmas
 pub mod Zipped
 pub mod StepSums
+pub mod OnlyHeld

@@ -5,7 +5,7 @@ use Rattle.std.specs.List.{AllByRecursion, list_all, zip}
 use Rattle.leaf_domain.specs.Variables.{EachHolds}
 
 -- a test of each pair, at the first pair and at the rest
-both : (a b : Bool) → (a && b) ≡ true → (a ≡ true) × (b ≡ true)
+pub both : (a b : Bool) → (a && b) ≡ true → (a ≡ true) × (b ≡ true)
 both true b f = (refl, f)
 both false b f = cc
 
