@@ -63,12 +63,12 @@ module _ {L : Type 0} (eq : L → L → Bool) (exact : (a b : L) → eq a b ≡ 
 module _ {L : Type 0} (value : L → LeafValue) (M : LeafMeaning) (t : Task) where
   -- the final leaf of the loop that stands at the place
   pub is_final : (place : Place) (leaf last : L) (test : Term) (body : Code) → IsLoopAt (whole t.program.now) place test body → (value last).variables ≡ (value leaf).variables
-      → value last ≡ final_leaf M t.options test (after_of M t.options body) (value leaf) → IsFinal value M t (record { place = place; leaf = leaf }) last
+      → value last ≡ final_leaf M t.options.now test (after_of M t.options.now body) (value leaf) → IsFinal value M t (record { place = place; leaf = leaf }) last
   is_final place leaf last test body here same e = record {
     same = same;
     final = λ f b h.
         let one = one_loop (whole t.program.now) place test f body b here h in
-        e ∙ (ap (λ u. final_leaf M t.options u (after_of M t.options body) (value leaf)) one.0 ∙ ap (λ c. final_leaf M t.options f (after_of M t.options c) (value leaf)) one.1);
+        e ∙ (ap (λ u. final_leaf M t.options.now u (after_of M t.options.now body) (value leaf)) one.0 ∙ ap (λ c. final_leaf M t.options.now f (after_of M t.options.now c) (value leaf)) one.1);
   }
 
 -- a copy is over as many variables

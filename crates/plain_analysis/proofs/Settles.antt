@@ -84,11 +84,11 @@ module _ (M : LeafMeaning) (laws : LeafLaws M) (ts : List ℤ) (n : ℕ) (delay 
   unfolding Settled
   first_phase_settles d h c strict = by_test (is_nothing_of d) refl
     where
+      few : (y : LeafValue) → Iterate y → M.steps_left ts y < M.bound_count d.variables * (length ts + 1) + 1
+      few y i = omega (arith, laws.steps_few ts y i.valid, ap (λ m. M.bound_count m * (length ts + 1)) (i.count ∙ sym c))
+
       by_test : (t : Bool) → is_nothing_of d ≡ t → M.leq (G (widened_leaf M ts delay G d)) (widened_leaf M ts delay G d) ≡ true
       by_test true e = settled_at (round_count M ts delay d.variables) 0 d (leq_content M laws _ _ d (strict e))
       by_test false e =
           rw (add_assoc delay (M.bound_count d.variables * (length ts + 1)) 1)
           (rounds_settle delay (M.bound_count d.variables * (length ts + 1) + 1) 0 d (zero-add delay) (record { valid = h; count = c; some = e }) few)
-
-      few : (y : LeafValue) → Iterate y → M.steps_left ts y < M.bound_count d.variables * (length ts + 1) + 1
-      few y i = omega (arith, laws.steps_few ts y i.valid, ap (λ m. M.bound_count m * (length ts + 1)) (i.count ∙ sym c))

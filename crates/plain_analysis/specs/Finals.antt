@@ -19,7 +19,7 @@ same_entered eq a b = (a.place.line == b.place.line && a.place.column == b.place
 pub record IsFinal {L : Type 0} (value : L → LeafValue) (M : LeafMeaning) (t : Task) (k : Entered L) (last : L) : Type 0 where
   pub same : (value last).variables ≡ (value k.leaf).variables
   pub final : (test : Term) (body : Code) → IsLoopAt (whole t.program.now) k.place test body
-      → value last ≡ final_leaf M t.options test (after_of M t.options body) (value k.leaf)
+      → value last ≡ final_leaf M t.options.now test (after_of M t.options.now body) (value k.leaf)
 
 -- all that is remembered is so
 pub record Remembers {L : Type 0} (value : L → LeafValue) (M : LeafMeaning) (t : Task) (f : Finals L) : Type 0 where
