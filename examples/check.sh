@@ -1,6 +1,6 @@
 #!/usr/bin/env bash
 # Compares what `famlint` writes for each example with the file NAME.expected beside it: for a file NAME.c here or in refused/ under
-# `plain`, and in families/ and refused/families/ under the words of NAME.words. What is compared is the output, and behind it the line on
+# `plain`, and for a file NAME.words here, in families/ or in refused/families/ under its words. What is compared is the output, and behind it the line on
 # the error stream. Ends with 1 where one differs. It runs the proved program where that is built, and else all examples in one quick run of
 # the same code before any proof, which compiles once, for minutes. No gate runs this.
 set -u
@@ -15,7 +15,7 @@ examples() {
     for example in *.c refused/*.c; do
         echo "${example%.c} plain ${example##*/}"
     done
-    for example in families/*.words refused/families/*.words; do
+    for example in *.words families/*.words refused/families/*.words; do
         echo "${example%.words} $(cat "$example")"
     done
 }

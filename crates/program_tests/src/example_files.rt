@@ -1,7 +1,7 @@
 //! The example files, and the words of commands on them with what is expected, as `examples/to_tests.sh` writes them.
 
 /// Each file under its path.
-pub(crate) const FILES: [(&str, &str); 59] = [
+pub(crate) const FILES: [(&str, &str); 60] = [
     (
         "assertion.c",
         "int level = 900;\nint limit = 1000;\nint main(void)\n{\n    level = level - limit;\n    assert(level > 0 - 200);\n    assert(level >= 0);\n    level = 0;\n}\n",
@@ -13,6 +13,10 @@ pub(crate) const FILES: [(&str, &str); 59] = [
     (
         "logger_mended.c",
         "#include <assert.h>\n/* The data logger of logger.c, mended: the count of ticks starts anew at 0 before it\n   leaves int. As 16 divides 2147483648, the ring buffer goes on where it was. */\nextern int input(void);\n\nstatic int tick, head;\nstatic int sample, millivolts;\nstatic int running = 1;\n\nint main(void)\n{\n    while (running) {\n        sample = input();\n        if (sample < 0 || sample > 4095)\n            sample = 0;\n        millivolts = sample * 3300 / 4095;\n        assert(millivolts <= 3300);\n        head = tick % 16;\n        assert(head >= 0 && head < 16);\n        if (tick == 2147483647)\n            tick = 0;\n        else\n            tick++;\n        running = input();\n    }\n    return 0;\n}\n",
+    ),
+    (
+        "messages.c",
+        "#include <assert.h>\n/* A ring of 8 messages. One is put in where the line is ready. */\nextern int input(void);\n\nstatic int head;\nstatic int ready;\n\nint main(void)\n{\n    while (1) {\n        ready = input();\n        if (ready) {\n            assert(head >= 0 && head < 8);\n            head = (head + 1) % 8;\n        }\n    }\n}\n",
     ),
     (
         "overflow.c",
@@ -235,10 +239,12 @@ pub(crate) const FILES: [(&str, &str); 59] = [
 ];
 
 /// The words of each command on a program without variants, with its output and then its line on the error stream.
-pub(crate) const PROGRAMS: [(&str, &str); 18] = [
+pub(crate) const PROGRAMS: [(&str, &str); 20] = [
     ("plain assertion.c", "7:5: assertion\nalarms: 1\n"),
     ("plain logger.c", "20:9: overflow\nalarms: 1\n"),
     ("plain logger_mended.c", "alarms: 0\n"),
+    ("plain messages.c", "13:13: assertion\nalarms: 1\n"),
+    ("plain --widening=thresholds messages.c", "alarms: 0\n"),
     ("plain overflow.c", "8:5: overflow\nalarms: 1\n"),
     ("plain quiet.c", "alarms: 0\n"),
     ("plain sensor.c", "17:5: zero-divisor\nalarms: 1\n"),
