@@ -1,0 +1,4 @@
+pub mod Saturated
+pub mod Kept
+pub mod Insertions
+pub mod ThresholdLaws

@@ -1,0 +1,4 @@
+pub mod Numbers
+pub mod Thresholds
+pub mod Keeping
+pub mod Laws
