@@ -59,7 +59,7 @@ ge-from v h = grind (arith, ints)
 eq-from : (v : ℤ) → (v +ℤ pos 0) ≤ℤ pos 0 → (pos 0 -ℤ v) ≤ℤ pos 0 → holds_between Eq v (pos 0) ≡ true
 eq-from v h k = grind (arith, ints)
 
-turned-back : (s : List ℤ) (a b : ℕ) → difference s b a ≡ neg_ℤ (difference s a b)
+pub turned-back : (s : List ℤ) (a b : ℕ) → difference s b a ≡ neg_ℤ (difference s a b)
 turned-back s a b = omega (arith, ints)
 
 most-told : (n : ℕ) (e : Edge) (s : List ℤ) (v k : ℤ) → EdgeHolds n e s v → difference s e.first e.second ≤ℤ neg_ℤ (scaled e.is_double (e.constant +ℤ k)) → (v +ℤ k) ≤ℤ pos 0

@@ -10,3 +10,4 @@ pub mod Moving
 pub mod Extending
 pub mod Exactness
 pub mod ExactForms
+pub mod ExactRanges

@@ -1,5 +1,5 @@
 -- How exact octagons are, beyond what every kind of leaf keeps.
-use Rattle.std.specs.Prelude.{◌≡◌, ◌≢◌, ◌↔◌, ℕ, ◌<◌, ℤ, pos, Bool, true, false, ◌&&◌, List, [], ◌∷◌, slice_set}
+use Rattle.std.specs.Prelude.{◌≡◌, ◌≢◌, ◌↔◌, ℕ, ◌<◌, ℤ, pos, Bool, true, false, ◌&&◌, List, [], ◌∷◌, Some, slice_set}
 use Rattle.leaf_domain.specs.declared.form.Form.{Form}
 use Rattle.leaf_domain.specs.declared.range.Range.{Range}
 use Rattle.leaf_domain.specs.declared.compare.Compare.{Compare}
@@ -7,9 +7,9 @@ use Rattle.leaf_domain.specs.declared.compare.Compare.TheVariants.{Ne}
 use Rattle.leaf_domain.specs.Compares.{holds_between}
 use Rattle.leaf_domain.specs.Forms.{form_at, IsForm}
 use Rattle.leaf_domain.specs.Ranges.{Within, IsInInt}
-use Rattle.leaf_domain.specs.Leaves.{LeafValue, Alike}
+use Rattle.leaf_domain.specs.Leaves.{LeafValue, Alike, is_nothing_of, at_store}
 use Rattle.octagon_leaf.specs.Shapes.{is_unit}
-use Rattle.octagon_leaf.specs.Octagons.{octagons, IsOctagon, octagon_holds, octagon_leq, octagon_join, octagon_meet_form, octagon_set_form}
+use Rattle.octagon_leaf.specs.Octagons.{octagons, IsOctagon, octagon_holds, octagon_leq, octagon_join, octagon_bounds, octagon_form_range, octagon_meet_form, octagon_set_form}
 
 -- ---- forms
 -- a constant, or one variable or its negation, with a constant
@@ -54,3 +54,20 @@ abbrev pub SetFormIsExact : Type 0
 SetFormIsExact = (a : LeafValue) (x : ℕ) (f : Form) (r : Range) (s : List ℤ) → IsOctagon a → x < a.variables → IsForm a.variables f → IsInInt r
     → has_one_unit f.terms ≡ true
     → octagon_holds (octagon_set_form a x f r) s ↔ IsFormPut a x f r s
+
+-- at a store of the leaf the value is the number
+pub record IsReached (a : LeafValue) (value : List ℤ → ℤ) (number : ℤ) : Type 0 where
+  pub store : List ℤ
+  pub held : octagon_holds a store
+  pub reached : value store ≡ number
+
+-- each end of a variable's bounds is its value at a store of the leaf
+abbrev pub BoundsAreReached : Type 0
+BoundsAreReached = (a : LeafValue) (x : ℕ) → IsOctagon a → is_nothing_of a ≡ false → x < a.variables
+    → IsReached a (λ s. at_store s x) (octagon_bounds a x).low × IsReached a (λ s. at_store s x) (octagon_bounds a x).high
+
+-- so is each end of the range of a form that has one
+abbrev pub FormRangesAreReached : Type 0
+FormRangesAreReached = (a : LeafValue) (f : Form) (r : Range) → IsOctagon a → is_nothing_of a ≡ false → IsForm a.variables f
+    → octagon_form_range a f ≡ Some r
+    → IsReached a (form_at f) r.low × IsReached a (form_at f) r.high
