@@ -1,5 +1,5 @@
 -- The loops of an analysis: each is inductive, and its head is the leaf at its place.
-use Rattle.std.proofs.Common.{◌≡◌, ℕ, zero, suc, Bool, true, false, if◌then◌else◌, List, ◌++◌, Some, refl, ap, sym, subst}
+use Rattle.std.proofs.Common.{◌≡◌, ℕ, true, false, List, ◌++◌, Some, ap, sym, subst}
 use Rattle.std.specs.List.{AllByRecursion}
 use Rattle.fam_outer.specs.declared.faults.Place.{Place}
 use Rattle.c_tree.specs.declared.tree.Mode.{Mode}
@@ -10,12 +10,12 @@ use Rattle.leaf_domain.specs.Soundness.{Suits, TransferAnswers}
 use Rattle.leaf_domain.specs.Transfer.{assumed, assigned, forgotten}
 use Rattle.leaf_domain.proofs.Answered.{answers_then}
 use Rattle.plain_analysis.specs.declared.options.Options.{Options}
-use Rattle.plain_analysis.specs.Loops.{turn_of, narrowing_of, narrowings_of, widened_leaf, final_leaf}
+use Rattle.plain_analysis.specs.Loops.{turn_of, final_leaf}
 use Rattle.plain_analysis.specs.Places.{entry_in, leaf_or}
 use Rattle.plain_analysis.specs.Statements.{Heads, Entry, passed, entries_by, final_heads, after_of}
 use Rattle.plain_analysis.proofs.JoinLemmas.{join_answer}
 use Rattle.plain_analysis.proofs.Located.{IsListed}
-use Rattle.plain_analysis.proofs.Recursion.{after_answers, final_of_code, loops_settle}
+use Rattle.plain_analysis.proofs.Recursion.{after_answers, final_of_code, finals_are_inductive}
 use Rattle.lifted_analysis.specs.Turns.{Turn, turns_by, is_inductive}
 use Rattle.certificate_laws.specs.Accepted.{AreBelowJoins}
 use Rattle.certificate_laws.proofs.AcceptedLists.{all_left, all_right, all_both, both_true}

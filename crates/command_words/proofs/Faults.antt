@@ -10,7 +10,7 @@ use Rattle.clap.specs.ValueTests.{accepts}
 use Rattle.clap.specs.declared.builder.value_parser.ValueParser.TheVariants as vp
 use Rattle.clap.proofs.OnLiterals.{clap_on_literals}
 use Rattle.command_words.specs.Options.{options_app, words_given}
-use Rattle.command_words.proofs.Uses.{AreFinal, AreGood, AreTurns, IsFirst, IsTurn, Use, at_rows, defaults_final, fits, no_default_fault, refusals, refused_unless, rule_for, walk_at, with_words, words_for, words_walk}
+use Rattle.command_words.proofs.Uses.{AreFinal, AreGood, AreTurns, IsFirst, IsTurn, Use, at_rows, defaults_final, fits, no_default_fault, refused_unless, rule_for, walk_at, with_words, words_for, words_walk}
 use Rattle.command_words.proofs.Uses as uses
 
 pub app_simple : is_simple options_app ≡ true

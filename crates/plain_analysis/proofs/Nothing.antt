@@ -1,5 +1,5 @@
 -- Nothing goes through statements as Nothing.
-use Rattle.std.proofs.Common.{◌≡◌, ℕ, ◌≤◌, ◌+◌, true, List, Option, Some, None, refl, ap, sym, ◌∙◌, ℤ}
+use Rattle.std.proofs.Common.{◌≡◌, ℕ, ◌≤◌, true, List, Option, Some, None, refl, ap, sym, ◌∙◌, ℤ}
 use Rattle.std.specs.Prelude.{is_none, if◌then◌else◌, Bool, false}
 use Rattle.c_tree.specs.Tree.{Term, Code, Done, Assign, Input, Assert, If, While, Block, Skip, Cond}
 use Rattle.leaf_domain.specs.declared.form.Form.{Form}

@@ -1,7 +1,7 @@
 //! The steps of a loop on two leaves: the leaf at its head, and what comes in there with it.
 #![tactic(auto)]
 
-ghost use Rattle.std.specs.Prelude.{◌≡◌, ◌≤◌, IfOk, IfSome, IfNone, true, false};
+ghost use Rattle.std.specs.Prelude.{◌≡◌, ◌≤◌, ◌*◌, IfOk, IfSome, IfNone, true, false};
 ghost use Rattle.plain_analysis.specs.Loops.{moved_by, round_by, round_count};
 
 use crate::options::Options;
@@ -9,14 +9,24 @@ use fam_outer::NoMemory;
 use leaf_domain::{Leaf, Thresholds, leaf_is_valid};
 use std::alloc::Global;
 
+/// So many steps of each of so many bounds.
+fn steps_of_all(bounds: u32, steps: u32) -> u64
+    requires bounds { bounds ≤ 1024 }
+    requires steps { steps ≤ 65 }
+    ensures value { result ≡ bounds * steps }
+    ensures small { result ≤ 66560 }
+{
+    u64::from(bounds) * u64::from(steps)
+}
+
 /// How many rounds of joining and widening a loop has over so many variables: those of joining, so many of widening as the
 /// bounds of a leaf can step through the thresholds and to the type's, and one.
 pub fn round_count<L: Leaf>(options: &Options, variables: u32) -> u64
     requires { variables ≤ 16 }
     ensures { result ≡ round_count L.meaning options.now.thresholds options.now.delay variables }
 {
-    let steps = u64::from(options.thresholds.count()) + 1;
-    u64::from(options.delay) + u64::from(L::bound_count(variables)) * steps + 1
+    let steps = steps_of_all(L::bound_count(variables), options.thresholds.count() + 1);
+    u64::from(options.delay) + steps + 1
 }
 
 /// The join of two leaves.

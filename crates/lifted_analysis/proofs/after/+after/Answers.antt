@@ -222,7 +222,7 @@ widened-loop-k-init g t c =
           let d = value (leaf_of (plain c.args.t.now) v) in
           let count : ℕ → ℕ = round_count M family.options.now.thresholds family.options.now.delay in
           let same : d.variables ≡ family.variables = counted value family c.args.tables.now.leaves (numbered c.args.t.now) v c.requires.state in
-          let all : c.round_count.result - 0 ≡ count d.variables = omega (arith, c.round_count.ensures, ap count same) in
+          let all : c.round_count-rounds.result - 0 ≡ count d.variables = omega (arith, c.round_count-rounds.ensures, ap count same) in
           ap (λ m. rounds_of M family.options.now.thresholds family.options.now.delay (G v) m 0 (value (leaf_of (plain c.in_ok-head.head.at) v))) all
           ∙ ap (λ u. rounds_of M family.options.now.thresholds family.options.now.delay (G v) (count d.variables) 0 (value (leaf_of (erase u) v))) (c.in_ok-head.ensures.at ∙ c.in_ok-start.ensures);
       head = c.in_ok-head.ensures.head;
@@ -241,7 +241,7 @@ widened-returns-then-is_everywhere-clause-at_each g t c =
     let below : M.leq (G v x) x ≡ true =
     ap (λ w. M.leq w x) (sym (c.loop-k.invariant.head.next v)) ∙ (sym (c.in_ok-stable.ensures.at_each v) ∙ c.is_everywhere.ensures c.if-is_everywhere.true v)
     in
-    sym (rounds_stay M family.options.now.thresholds family.options.now.delay (G v) (c.round_count.result - c.loop-k.k) c.loop-k.k x below) ∙ c.loop-k.invariant.rest v
+    sym (rounds_stay M family.options.now.thresholds family.options.now.delay (G v) (c.round_count-rounds.result - c.loop-k.k) c.loop-k.k x below) ∙ c.loop-k.invariant.rest v
 
 pub widened-returns-then-is_everywhere-clause-keeps : goal.widened-returns-then-is_everywhere-clause-keeps
 widened-returns-then-is_everywhere-clause-keeps g t c =
@@ -265,9 +265,9 @@ widened-loop-k-preserved g t c =
           let w = value (leaf_of (plain c.loop-k.head.next) v) in
           let y = value (leaf_of (plain c.in_ok-head-2.head.at) v) in
           let moved : y ≡ round_by M family.options.now.thresholds (nat_lt c.loop-k.k family.options.now.delay) x w =
-          ap (λ u. value (leaf_of (erase u) v)) next.at ∙ subst (λ n. value (leaf_of (plain c.in_ok-made.made) v) ≡ round_by M family.options.now.thresholds (nat_lt c.loop-k.k n) x w) c.from.ensures (made.at_each v)
+          ap (λ u. value (leaf_of (erase u) v)) next.at ∙ subst (λ n. value (leaf_of (plain c.in_ok-made.made) v) ≡ round_by M family.options.now.thresholds (nat_lt c.loop-k.k n) x w) c.from-delay.ensures (made.at_each v)
           in
-          rounds_go M family.options.now.thresholds family.options.now.delay (G v) c.round_count.result c.loop-k.k x w y _ c.loop-k-test.true (c.loop-k.invariant.head.next v) moved (c.loop-k.invariant.rest v);
+          rounds_go M family.options.now.thresholds family.options.now.delay (G v) c.round_count-rounds.result c.loop-k.k x w y _ c.loop-k-test.true (c.loop-k.invariant.head.next v) moved (c.loop-k.invariant.rest v);
       head = next.head;
       keeps = keeps_both a e c.head_at-in-loop-k.new.tables.leaves (keeps_both a d e (keeps_both a b d c.loop-k.invariant.keeps (keeps_same b d c.in_ok-stable.ensures.same)) made.keeps) next.keeps;
       memory = next.memory;

@@ -1,4 +1,4 @@
-use Rattle.std.proofs.Common.{rules, arith, ◌≡◌, ◌-◌, ◌+◌, ◌≤◌, sym, subst, ap, ◌∙◌, IfOk, if◌then◌else◌, nat_lt, false}
+use Rattle.std.proofs.Common.{rules, arith, ◌≡◌, ◌-◌, ◌≤◌, sym, subst, ap, ◌∙◌, IfOk, if◌then◌else◌, nat_lt, false}
 use Rattle.c_tree.specs.Tree.{Done}
 use Rattle.c_tree.specs.View.{term, front, code, whole}
 use Rattle.c_tree.specs.Fit.{IsTermOf, IsCodeOf}
@@ -103,7 +103,7 @@ widened-returns-in-None-clause-value g t c =
     let G = loop_turn M o (term c.args.the_loop.now.test.now) (code c.args.the_loop.now.body.now) (g.L.Leaf.value c.args.leaf.now) in
     let at = g.L.Leaf.value c.loop-k.head.at in
     let stable = ap (λ v. M.leq v at) (sym c.loop-k.invariant.head.next) ∙ (rw c.in-None.is at c.in_ok-moved.ensures.stable) in
-    sym (rounds_stay M o.thresholds o.delay G (c.round_count.result - c.loop-k.k) c.loop-k.k at stable) ∙ c.loop-k.invariant.rest
+    sym (rounds_stay M o.thresholds o.delay G (c.round_count-rounds.result - c.loop-k.k) c.loop-k.k at stable) ∙ c.loop-k.invariant.rest
 
 pub widened-loop-k-preserved : goal.widened-loop-k-preserved
 widened-loop-k-preserved g t c =
@@ -114,9 +114,9 @@ widened-loop-k-preserved g t c =
     let x = value c.loop-k.head.at in
     let w = value c.loop-k.head.next in
     let next = c.in_ok-head-in-Some.ensures in
-    let moved = subst (λ d. value c.in-Some.made ≡ (if nat_lt c.loop-k.k d then M.join x w else M.widen o.thresholds x w)) c.from.ensures (rw c.in-Some.is at c.in_ok-moved.ensures.value) in
+    let moved = subst (λ d. value c.in-Some.made ≡ (if nat_lt c.loop-k.k d then M.join x w else M.widen o.thresholds x w)) c.from-delay.ensures (rw c.in-Some.is at c.in_ok-moved.ensures.value) in
     record {
-      rest = rounds_move M o.thresholds o.delay G c.round_count.result c.loop-k.k x w (value c.in_ok-head-in-Some.head.at) _ c.loop-k-test.true c.loop-k.invariant.head.next (rw c.in-Some.is at c.in_ok-moved.ensures.moved) (next.at ∙ moved) c.loop-k.invariant.rest;
+      rest = rounds_move M o.thresholds o.delay G c.round_count-rounds.result c.loop-k.k x w (value c.in_ok-head-in-Some.head.at) _ c.loop-k-test.true c.loop-k.invariant.head.next (rw c.in-Some.is at c.in_ok-moved.ensures.moved) (next.at ∙ moved) c.loop-k.invariant.rest;
       head = next.head;
       memory = next.memory;
     }
