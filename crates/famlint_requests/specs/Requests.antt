@@ -1,17 +1,19 @@
 -- What the words ask for.
-use Rattle.std.specs.Prelude.{ℕ, ◌≤◌, Bool, ⊤, true, false, not, ◌&&◌, ◌||◌, List, [], ◌∷◌, codes, if◌then◌else◌, Option, Some, None}
+use Rattle.std.specs.Prelude.{ℕ, ◌≤◌, Bool, ⊤, false, List, [], ◌∷◌, codes, if◌then◌else◌, Option, Some, None}
 use Rattle.std.specs.Option.{option_and_then, option_map}
 use Rattle.std.specs.Str.{bytes_eq}
 use Rattle.std.specs.List.{All}
 use Rattle.c_tree.specs.Value.{IsInt}
-use Rattle.command_words.specs.Arguments.{arguments_of, nothing_given}
+use Rattle.command_words.specs.Arguments.{arguments_of}
 use Rattle.command_words.specs.declared.reading.Arguments.{Arguments}
 use Rattle.command_words.specs.declared.settings.Chosen.{Chosen}
 use Rattle.command_words.specs.declared.settings.Domain.TheVariants as domains
-use Rattle.command_words.specs.declared.settings.Given.{Given}
 use Rattle.command_words.specs.declared.settings.OptionSettings.{OptionSettings}
 use Rattle.command_words.specs.Spelling.{number_up_to}
+use Rattle.famlint_requests.specs.Commands.{are_taken, command_of, taken_by}
+use Rattle.famlint_requests.specs.Guides.{guide_of}
 use Rattle.famlint_requests.specs.declared.request.Analysis.{Analysis}
+use Rattle.famlint_requests.specs.declared.request.guide.Guide.{Guide}
 use Rattle.linear_atoms.specs.declared.regions.Regions.{Regions}
 use Rattle.famlint_requests.specs.declared.request.options.Command.{Command}
 use Rattle.famlint_requests.specs.declared.request.options.Command.TheVariants as command
@@ -25,43 +27,6 @@ use Rattle.famlint_requests.specs.declared.request.VariantTask.{VariantTask}
 use Rattle.famlint_requests.specs.declared.request.VariantTask.TheVariants as task
 
 -- ---- options
-
--- the options of an analysis
-abbrev pub analysis_options : Given
-analysis_options = record { domain = true; delay = true; narrow = true; widening = true; overflow = true; regions = false; steps = false; inputs = false }
-
--- the options of an analysis whose report has regions
-abbrev pub family_options : Given
-family_options = record { domain = true; delay = true; narrow = true; widening = true; overflow = true; regions = true; steps = false; inputs = false }
-
--- the same, by intervals
-abbrev pub interval_options : Given
-interval_options = record { domain = false; delay = true; narrow = true; widening = true; overflow = true; regions = true; steps = false; inputs = false }
-
--- the options of a run
-abbrev pub run_options : Given
-run_options = record { domain = false; delay = false; narrow = false; widening = false; overflow = true; regions = false; steps = true; inputs = true }
-
--- the options that a command takes
-abbrev pub taken_by : Command → Given
-taken_by command.Plain = analysis_options
-taken_by command.Project = nothing_given
-taken_by command.Variant = analysis_options
-taken_by command.Run = run_options
-taken_by command.Analyse = family_options
-taken_by command.Invariants = family_options
-taken_by command.Generate = family_options
-taken_by command.Certify = interval_options
-taken_by command.Check = nothing_given
-taken_by command.Advise = analysis_options
-taken_by command.Features = nothing_given
-
--- each option that is given is taken
-abbrev pub are_taken : Given → Given → Bool
-are_taken given taken =
-    (not given.domain || taken.domain) && (not given.delay || taken.delay) && (not given.narrow || taken.narrow)
-    && (not given.widening || taken.widening) && (not given.overflow || taken.overflow) && (not given.regions || taken.regions)
-    && (not given.steps || taken.steps) && (not given.inputs || taken.inputs)
 
 -- the options suit a command
 abbrev pub suits : Command → Arguments → Bool
@@ -82,21 +47,6 @@ abbrev pub interval_analysis : Chosen → Analysis
 interval_analysis chosen = record (analysis_of chosen) { domain = domains.Interval }
 
 -- ---- commands
-
--- the command with the name
-abbrev pub command_of : List ℕ → Option Command
-command_of word =
-    if bytes_eq word (codes "plain") then Some command.Plain
-    else (if bytes_eq word (codes "project") then Some command.Project
-    else (if bytes_eq word (codes "variant") then Some command.Variant
-    else (if bytes_eq word (codes "run") then Some command.Run
-    else (if bytes_eq word (codes "analyse") then Some command.Analyse
-    else (if bytes_eq word (codes "invariants") then Some command.Invariants
-    else (if bytes_eq word (codes "generate") then Some command.Generate
-    else (if bytes_eq word (codes "certify") then Some command.Certify
-    else (if bytes_eq word (codes "check") then Some command.Check
-    else (if bytes_eq word (codes "advise") then Some command.Advise
-    else (if bytes_eq word (codes "features") then Some command.Features else None))))))))))
 
 -- what `plain` asks for with these words; nothing, where they are refused
 abbrev pub plain_request : Analysis → List (List ℕ) → Option Request
@@ -182,9 +132,14 @@ request_with arguments (first ∷ words) = request_by (command_of first) argumen
 abbrev pub request_of : Arguments → Option Request
 request_of arguments = request_with arguments arguments.positional
 
+-- what words ask for, which ask for this text, or for none
+abbrev pub guided : Option Guide → List (List ℕ) → Option Request
+guided (Some guide) words = Some (request.Guide guide)
+guided None words = option_and_then request_of (arguments_of words)
+
 -- what the words after the program's name ask for; nothing, where they are refused
 abbrev pub reading : List (List ℕ) → Option Request
-reading words = option_and_then request_of (arguments_of words)
+reading words = guided (guide_of words) words
 
 -- ---- paths
 
@@ -197,6 +152,7 @@ paths_of (request.Generate number analysis regions) = []
 paths_of (request.Check model file certificate) = model ∷ file ∷ certificate ∷ []
 paths_of (request.Advice model file settings analysis) = model ∷ file ∷ []
 paths_of (request.Features model) = model ∷ []
+paths_of (request.Guide guide) = []
 
 -- the failed path is this one
 abbrev pub is_path : Option (List ℕ) → List ℕ → Bool
@@ -222,6 +178,7 @@ role_of (request.Generate number analysis regions) failed = role.File
 role_of (request.Check model file certificate) failed = role_of_three failed model file certificate
 role_of (request.Advice model file settings analysis) failed = role_beside failed model
 role_of (request.Features model) failed = role.Model
+role_of (request.Guide guide) failed = role.File
 
 -- ---- numbers
 
@@ -240,3 +197,4 @@ IsWithinRanges (request.Generate number analysis regions) = number ≤ 2000
 IsWithinRanges (request.Check model file certificate) = ⊤
 IsWithinRanges (request.Advice model file settings analysis) = ⊤
 IsWithinRanges (request.Features model) = ⊤
+IsWithinRanges (request.Guide guide) = ⊤

@@ -3,4 +3,6 @@
 
 mod request;
 
-pub use request::{Analysis, FamilyTask, Request, Role, SettingWords, VariantTask, read_request};
+pub use request::{
+    Analysis, Command, FamilyTask, Guide, Request, Role, SettingWords, VariantTask, read_request,
+};

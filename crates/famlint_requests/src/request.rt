@@ -1,6 +1,7 @@
 //! What the words ask for, by the shape of the command: which paths are loaded, and what is done with them.
 #![tactic(auto)]
 
+mod guide;
 mod options;
 mod reading;
 
@@ -11,7 +12,9 @@ ghost use Rattle.famlint_requests.specs.Requests.{role_of, role_beside, role_of_
 use c_tree::Mode;
 use command_words::{Domain, Widening, Word};
 use fam_outer::{NoMemory, Text, Values};
+pub use guide::Guide;
 use linear_atoms::Regions;
+pub use options::Command;
 pub use reading::read_request;
 use std::alloc::Global;
 use std::marker::Model;
@@ -62,6 +65,8 @@ pub enum Request {
     Features {
         model: Word,
     },
+    /// A text about the program.
+    Guide(Guide),
 }
 
 /// How programs are analysed.
@@ -222,6 +227,7 @@ impl Request {
                 analysis: _,
             } => role_beside(failed, model),
             Request::Features { model: _ } => Role::Model,
+            Request::Guide(_) => Role::File,
         }
     }
 }

@@ -2,6 +2,7 @@
 #![tactic(auto)]
 
 ghost use Rattle.std.specs.Prelude.{◌≡◌};
+ghost use Rattle.famlint_requests.specs.Commands as commands;
 ghost use Rattle.famlint_requests.specs.Requests as specs;
 
 use crate::request::Analysis;
@@ -26,7 +27,7 @@ pub enum Command {
 impl Command {
     /// The command with the name.
     pub fn of(name: &str) -> Option<Command>
-        ensures { result ≡ specs.command_of name.now }
+        ensures { result ≡ commands.command_of name.now }
     {
         match name {
             "plain" => Some(Command::Plain),
@@ -45,8 +46,8 @@ impl Command {
     }
 
     /// The options that it takes.
-    fn options(self) -> Given
-        ensures { result ≡ specs.taken_by self }
+    pub fn options(self) -> Given
+        ensures { result ≡ commands.taken_by self }
     {
         match self {
             Command::Plain | Command::Variant | Command::Advise => Given {
@@ -105,7 +106,7 @@ impl Command {
 
 /// Whether each option that is given is taken.
 fn are_taken(given: Given, taken: Given) -> bool
-    ensures { result ≡ specs.are_taken given taken }
+    ensures { result ≡ commands.are_taken given taken }
 {
     (!given.domain || taken.domain)
         && (!given.delay || taken.delay)
@@ -115,6 +116,36 @@ fn are_taken(given: Given, taken: Given) -> bool
         && (!given.regions || taken.regions)
         && (!given.steps || taken.steps)
         && (!given.inputs || taken.inputs)
+}
+
+/// All options.
+pub fn all_options() -> Given
+    ensures { result ≡ commands.all_options }
+{
+    Given {
+        domain: true,
+        delay: true,
+        narrow: true,
+        widening: true,
+        overflow: true,
+        regions: true,
+        steps: true,
+        inputs: true,
+    }
+}
+
+/// Whether there is an option among them.
+pub fn is_any(given: Given) -> bool
+    ensures { result ≡ commands.is_any given }
+{
+    given.domain
+        || given.delay
+        || given.narrow
+        || given.widening
+        || given.overflow
+        || given.regions
+        || given.steps
+        || given.inputs
 }
 
 /// Whether the options suit a command.

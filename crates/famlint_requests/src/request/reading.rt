@@ -8,6 +8,7 @@ ghost use Rattle.command_words.specs.Arguments.{texts_of, AnswersWords};
 ghost use Rattle.famlint_requests.specs.Requests as specs;
 ghost use Rattle.famlint_requests.specs.Requests.{reading, IsWithinRanges, HaveInts};
 
+use crate::request::guide::guide_of;
 use crate::request::options::{Command, analysis_of, interval_analysis, suits};
 use crate::request::{Analysis, FamilyTask, Request, SettingWords, VariantTask};
 use command_words::{
@@ -248,6 +249,11 @@ pub fn read_request(alloc: Global, words: &[String]) -> Result<Request, WordsRef
     ensures answer { AnswersWords (reading (texts_of words.now)) result }
     ensures ranges { IfOk result (λ request. IsWithinRanges request) }
 {
-    let arguments = read_words(alloc, words)?;
-    request_of(alloc, &arguments)
+    match guide_of(words) {
+        Some(guide) => Ok(Request::Guide(guide)),
+        None => {
+            let arguments = read_words(alloc, words)?;
+            request_of(alloc, &arguments)
+        }
+    }
 }
