@@ -332,6 +332,7 @@ asked_yes law (request.Family model file analysis regions t) told answer asked h
 asked_yes law (request.Generate number analysis regions) told answer asked h = absurd asked
 asked_yes law (request.Advice model file settings analysis) told answer asked h = absurd asked
 asked_yes law (request.Features model) told answer asked h = absurd asked
+asked_yes law (request.Guide guide) told answer asked h = absurd asked
 
 yes_zero : (answer : Result Done Fault) → IsYes answer → status_at answer ≡ 0
 yes_zero (Ok done) h = h

@@ -112,6 +112,7 @@ answered_low (request.Generate number analysis regions) told done (l, line, is) 
 answered_low (request.Check model file certificate) told done (l, line, is) = verdict_low is.verdict done is.status
 answered_low (request.Advice model file settings analysis) told done (s, selected, is) = advice_low is.found done is.status
 answered_low (request.Features model) told done (m, is, uses) = let e : done.status ≡ 0 = uses.status in omega (arith, e)
+answered_low (request.Guide guide) told done e = rw e (omega arith)
 
 by_exact : (status low : ℕ) → low ≤ 1 → (status ≡ 6 → ⊥) → (status ≡ 7 → ⊥) → (status ≢ 6 → status ≢ 7 → status ≢ 8 → status ≡ low) → (status ≤ 1) ⊎ (status ≡ 8)
 by_exact status low small six seven exact = elim (nat_eq status 8) as (λ b. nat_eq status 8 ≡ b → (status ≤ 1) ⊎ (status ≡ 8)) [

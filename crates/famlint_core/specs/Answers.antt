@@ -1,9 +1,11 @@
 -- What a request is answered, for what is told of the paths that it names.
-use Rattle.std.specs.Prelude.{ℕ, ◌≡◌, ⊤, List, Option, Some, Result, Err}
+use Rattle.std.specs.Prelude.{ℕ, ◌≡◌, ⊤, List, Option, Some, Result, Ok, Err}
 use Rattle.famlint_loads.specs.declared.fault.Done.{Done}
 use Rattle.famlint_loads.specs.declared.fault.Fault.{Fault}
+use Rattle.famlint_requests.specs.Guides.{guide_text}
+use Rattle.famlint_requests.specs.declared.request.guide.Guide as guides
 use Rattle.famlint_requests.specs.declared.request.Request.{Request}
-use Rattle.famlint_requests.specs.declared.request.Request.TheVariants.{Plain, Variant, Family, Generate, Check, Advice, Features}
+use Rattle.famlint_requests.specs.declared.request.Request.TheVariants.{Plain, Variant, Family, Generate, Check, Advice, Features, Guide}
 use Rattle.famlint_loads.specs.CertificateLoads.{IsLoadedForCheck}
 use Rattle.famlint_core.specs.Certified.{IsWrittenByCertify}
 use Rattle.famlint_loads.specs.ProductLines.{IsLoadedFor}
@@ -22,11 +24,17 @@ IsTold (Check model file certificate) content told =
     (content model ≡ Some told.model) × (content file ≡ Some told.file) × (content certificate ≡ Some told.certificate)
 IsTold (Advice model file settings analysis) content told = (content model ≡ Some told.model) × (content file ≡ Some told.file)
 IsTold (Features model) content told = content model ≡ Some told.model
+IsTold (Guide guide) content told = ⊤
 
 -- the request is to check what `certify` writes of its model and its file
 abbrev pub AsksOfCertified : Request → Contents → Type 0
 AsksOfCertified (Check model file certificate) told = IsWrittenByCertify told.model told.file told.certificate
 AsksOfCertified other told = ⊥
+
+-- a text about the program, with status 0, and no fault
+abbrev pub AnswersGuide : guides.Guide → Result Done Fault → Type 0
+AnswersGuide guide (Ok done) = done ≡ record { text = guide_text guide; status = 0 }
+AnswersGuide guide (Err fault) = ⊥
 
 -- a request is answered this where the paths that it names hold this
 abbrev pub Answers : Request → Contents → Result Done Fault → Type 0
@@ -37,6 +45,7 @@ Answers (Generate number analysis regions) told answer = AnswersGenerate analysi
 Answers (Check model file certificate) told answer = AnswersCheck told answer
 Answers (Advice model file settings analysis) told answer = AnswersAdvice analysis settings told answer
 Answers (Features model) told answer = AnswersFeatures told.model answer
+Answers (Guide guide) told answer = AnswersGuide guide answer
 
 -- what a request names is accepted: no fault answers it
 abbrev pub IsAccepted : Request → Contents → Type 0
@@ -51,6 +60,7 @@ IsLoaded (Generate number analysis regions) told failed = ⊥
 IsLoaded (Check model file certificate) told failed = IsLoadedForCheck model file certificate told.model told.file failed
 IsLoaded (Advice model file settings analysis) told failed = IsLoadedFor model file told.model failed
 IsLoaded (Features model) told failed = failed ≡ Some model
+IsLoaded (Guide guide) told failed = ⊥
 
 -- what is promised of the output to a request; of what a model leaves open no more than its answer
 abbrev pub Promised : Request → Contents → ℕ → List ℕ → Type 0
@@ -61,3 +71,4 @@ Promised (Generate number analysis regions) told status text = PromisedGenerate 
 Promised (Check model file certificate) told status text = PromisedCheck told status
 Promised (Advice model file settings analysis) told status text = PromisedAdvice analysis settings told status text
 Promised (Features model) told status text = status ≡ 0
+Promised (Guide guide) told status text = (status ≡ 0) × (text ≡ guide_text guide)

@@ -5,9 +5,10 @@ ghost use Rattle.std.specs.Prelude.{◌≡◌, ◌≤◌, IfOk};
 ghost use Rattle.famlint_loads.specs.Contents.{Contents};
 ghost use Rattle.famlint_core.specs.Answers.{IsTold, Answers, Promised, IsLoaded};
 ghost use Rattle.famlint_loads.specs.Loads.{Comes, IsReadFault, IsReadOf};
+ghost use Rattle.famlint_requests.specs.Guides.{guide_text};
 ghost use Rattle.famlint_requests.specs.Requests.{paths_of, IsWithinRanges};
 
-use fam_outer::Files;
+use fam_outer::{Files, NoMemory};
 use famlint_checks::check::check;
 use famlint_families::advice::advice;
 use famlint_families::family::family;
@@ -16,8 +17,18 @@ use famlint_families::generate::generate;
 use famlint_loads::{Done, Failure};
 use famlint_programs::plain::plain;
 use famlint_programs::variant::variant;
-use famlint_requests::Request;
+use famlint_requests::{Guide, Request};
 use std::alloc::Global;
+
+/// The text that tells of the program.
+fn guided(alloc: Global, guide: &Guide) -> Result<Done, NoMemory>
+    ensures { IfOk result (λ done. done ≡ record { text = guide_text guide.now; status = 0 }) }
+{
+    Ok(Done {
+        text: guide.text(alloc)?,
+        status: 0,
+    })
+}
 
 /// Does what a request asks for: first the loads, then the work.
 pub fn work<F: Files>(alloc: Global, request: &Request, files: &mut F) -> Result<Done, Failure>
@@ -65,5 +76,6 @@ pub fn work<F: Files>(alloc: Global, request: &Request, files: &mut F) -> Result
             analysis,
         } => advice(alloc, model, file, settings, analysis, files),
         Request::Features { model } => features(alloc, model, files),
+        Request::Guide(guide) => Ok(guided(alloc, guide)?),
     }
 }

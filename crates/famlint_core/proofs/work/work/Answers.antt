@@ -1,4 +1,4 @@
-use Rattle.std.proofs.Common.{subst, sym}
+use Rattle.std.proofs.Common.{ap, subst, sym}
 use Rattle.std.specs.Prelude.{IfOk, Ok}
 use Rattle.famlint_core.specs.Answers.{IsTold, IsLoaded, Answers, Promised}
 use Rattle.famlint_loads.specs.Loads.{Comes}
@@ -53,6 +53,17 @@ pub returns-in_ok-generate-in-Generate-clause-promise : goal.returns-in_ok-gener
 returns-in_ok-generate-in-Generate-clause-promise g c = λ told is_told.
     let done = c.in_ok-generate-in-Generate.field-0 in
     subst (λ r. Promised r told done.status done.text) (sym c.in-Generate.is) c.in_ok-generate-in-Generate.ensures.promise
+
+pub returns-in_ok-guided-in-Guide-clause-answer : goal.returns-in_ok-guided-in-Guide-clause-answer
+returns-in_ok-guided-in-Guide-clause-answer g c = λ told is_told.
+    let done = c.in_ok-guided-in-Guide.field-0 in
+    subst (λ r. Answers r told (Ok done)) (sym c.in-Guide.is) c.in_ok-guided-in-Guide.ensures
+
+pub returns-in_ok-guided-in-Guide-clause-promise : goal.returns-in_ok-guided-in-Guide-clause-promise
+returns-in_ok-guided-in-Guide-clause-promise g c = λ told is_told.
+    let done = c.in_ok-guided-in-Guide.field-0 in
+    let e = c.in_ok-guided-in-Guide.ensures in
+    subst (λ r. Promised r told done.status done.text) (sym c.in-Guide.is) (ap (λ d. d.status) e, ap (λ d. d.text) e)
 
 pub returns-in-Check-clause-answer : goal.returns-in-Check-clause-answer
 returns-in-Check-clause-answer g c = λ told is_told.
