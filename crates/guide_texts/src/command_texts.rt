@@ -40,6 +40,8 @@ The alarms of one file without groups: a line LINE:COLUMN: KIND for each, and
 their number. KIND is overflow, zero-divisor or assertion. An alarm says that
 some run may stop there; no run stops where there is none. Status 1 says that
 there are alarms, and 0 that no run stops.
+
+Example: famlint plain --overflow=wrap logger.c
 ";
 
 /// `project`.
@@ -48,6 +50,8 @@ famlint project MODEL FILE SETTING..
 
 The text of one variant: FILE without the lines of groups that the settings do
 not keep, each line in its place.
+
+Example: famlint project queue.json queue.c FAST RETRY SIZE=4 LIMIT=2
 ";
 
 /// `variant`.
@@ -56,6 +60,8 @@ famlint variant MODEL FILE SETTING..
 
 The alarms of the variant that the settings select, as under plain. Status 1
 says that there are alarms, and 0 that no run of the variant stops.
+
+Example: famlint variant queue.json queue.c FAST RETRY SIZE=4 LIMIT=2
 ";
 
 /// `run`.
@@ -64,6 +70,8 @@ famlint run MODEL FILE SETTING..
 
 How a run of one variant stands after at most so many steps: ended, stopped, or
 at a place, with the values of the variables.
+
+Example: famlint run --inputs=1,0,1 queue.json queue.c FAST SIZE=4 LIMIT=2
 ";
 
 /// `analyse`.
@@ -75,6 +83,8 @@ CONFIGURATION, and their number. KIND is overflow, zero-divisor or assertion.
 A configuration that meets the region may have a run that stops there; one that
 meets none has none. The example is the least configuration that meets it.
 Status 1 says that there are alarms, and 0 that no run of any variant stops.
+
+Example: famlint analyse --regions=merged queue.json queue.c
 ";
 
 /// `invariants`.
@@ -83,6 +93,8 @@ famlint invariants MODEL FILE
 
 What is known of the variables at each place of all variants: lines
 LINE:COLUMN: if REGION: what is known, and then the alarms, as under analyse.
+
+Example: famlint invariants ring.json ring.c
 ";
 
 /// `generate`.
@@ -91,6 +103,8 @@ famlint generate NUMBER
 
 The report on a family that famlint makes, of 1 to 2000 blocks: its bytes, its
 places, and its alarms, to see how long a family of its size takes.
+
+Example: famlint generate 500
 ";
 
 /// `certify`.
@@ -99,6 +113,8 @@ famlint certify MODEL FILE
 
 What was found, as a certificate: the invariants of the loops, and the alarms,
 by intervals. check tells whether a certificate holds, without the analysis.
+
+Example: famlint certify ring.json ring.c > ring.certificate
 ";
 
 /// `check`.
@@ -108,6 +124,8 @@ famlint check MODEL FILE CERTIFICATE
 Whether a certificate holds: that each stop of each run of each variant is at a
 place, and of a kind, that it lists for the configuration. Status 0 says that
 it does, and 1 that this could not be shown.
+
+Example: famlint check ring.json ring.c ring.certificate
 ";
 
 /// `advise`.
@@ -116,6 +134,8 @@ famlint advise MODEL FILE SETTING..
 
 The nearest valid configuration to the one that the settings give at which the
 variant has no alarm, and how many features differ; or none, with status 1.
+
+Example: famlint advise queue.json queue.c FAST RETRY
 ";
 
 /// `features`.
@@ -124,4 +144,6 @@ famlint features MODEL
 
 What a model leaves open, over its valid configurations: whether a switch is
 free, dead or always on, and the least and the greatest value of a number.
+
+Example: famlint features queue.json
 ";

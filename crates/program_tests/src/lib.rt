@@ -24,6 +24,8 @@ mod family_tests;
 #[cfg(test)]
 mod generate_tests;
 #[cfg(test)]
+mod guide_tests;
+#[cfg(test)]
 mod merged_tests;
 #[cfg(test)]
 mod plain_tests;
