@@ -35,10 +35,7 @@ fn bounds(leaf: &IntervalLeaf) -> Option<(i64, i64)> {
 
 /// The thresholds of the rows that have some.
 fn some_thresholds(alloc: Global) -> Result<Thresholds, NoMemory> {
-    Ok(Thresholds::from_vec(Vec::from_slice(
-        alloc,
-        &[-4, 6, 10],
-    )?))
+    Ok(Thresholds::from_vec(Vec::from_slice(alloc, &[-4, 6, 10])?))
 }
 
 /// Bounds at the head, those of what comes in, whether the round is an early one, and the bounds that they are joined to,
@@ -113,7 +110,14 @@ fn steps_to_thresholds_are_those_found_by_hand(rt: HostRuntime) -> Result<(), Fa
     let rows = [
         ((0, 5), (0, 6), false, (0, 6), (0, 5), Some((0, 6))),
         ((0, 6), (0, 7), false, (0, 7), (0, 7), Some((0, 10))),
-        ((0, 10), (0, 11), false, (0, 11), (0, 11), Some((0, GREATEST))),
+        (
+            (0, 10),
+            (0, 11),
+            false,
+            (0, 11),
+            (0, 11),
+            Some((0, GREATEST)),
+        ),
         ((0, 5), (-1, 9), false, (-1, 9), (0, 5), Some((-4, 10))),
         ((-4, 5), (-5, 5), false, (-5, 5), (-5, 5), Some((LEAST, 5))),
         ((-4, 10), (1, 8), false, (-4, 10), (1, 8), None),

@@ -25,11 +25,7 @@ fn thresholds_by(alloc: Global, widening: Widening, file: &Program) -> Result<Th
 }
 
 /// How the programs of a file are analysed: all of them to one list of thresholds, which is that of the whole file.
-pub fn options_of(
-    alloc: Global,
-    analysis: &Analysis,
-    file: &Program,
-) -> Result<Options, NoMemory>
+pub fn options_of(alloc: Global, analysis: &Analysis, file: &Program) -> Result<Options, NoMemory>
     ensures { IfOk result (λ made. made ≡ options_of analysis.now (whole file.now)) }
 {
     Ok(Options {

@@ -46,7 +46,10 @@ fn leaves_join_widen_and_narrow(rt: HostRuntime) -> Result<(), Fail> {
     assert_eq!(rt; bounds(&wide), Some((0, GREATEST)));
     let less = leaf(rt.alloc(), 1, 9)?;
     assert_eq!(rt; wide.variables(), less.variables());
-    assert_eq!(rt; bounds(&wide.narrow(rt.alloc(), &less, &none)?), Some((0, 9)));
+    assert_eq!(rt;
+        bounds(&wide.narrow(rt.alloc(), &less, &none)?),
+        Some((0, 9))
+    );
     assert!(rt; leaf(rt.alloc(), 1, 2)?.leq(&small));
     assert!(rt; !great.leq(&small));
     Ok(())

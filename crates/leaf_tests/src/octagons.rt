@@ -68,7 +68,10 @@ fn leaves_join_widen_and_narrow(rt: HostRuntime) -> Result<(), Fail> {
     assert_eq!(rt; bounds(&wide, 1), Some((7, 7)));
     let less = leaf(rt.alloc(), 1, 9)?;
     assert_eq!(rt; wide.variables(), less.variables());
-    assert_eq!(rt; bounds(&wide.narrow(rt.alloc(), &less, &none)?, 0), Some((0, 9)));
+    assert_eq!(rt;
+        bounds(&wide.narrow(rt.alloc(), &less, &none)?, 0),
+        Some((0, 9))
+    );
     assert!(rt; leaf(rt.alloc(), 1, 2)?.leq(&small));
     assert!(rt; !great.leq(&small));
     Ok(())
@@ -134,10 +137,19 @@ fn bounds_that_stepped_are_narrowed(rt: HostRuntime) -> Result<(), Fail> {
     let none = Thresholds::none(rt.alloc());
     let wide = alone(rt.alloc(), -5, 10)?;
     let less = alone(rt.alloc(), 1, 9)?;
-    assert_eq!(rt; bounds(&wide.narrow(rt.alloc(), &less, &thresholds)?, 0), Some((1, 9)));
-    assert_eq!(rt; bounds(&wide.narrow(rt.alloc(), &less, &none)?, 0), Some((-5, 10)));
+    assert_eq!(rt;
+        bounds(&wide.narrow(rt.alloc(), &less, &thresholds)?, 0),
+        Some((1, 9))
+    );
+    assert_eq!(rt;
+        bounds(&wide.narrow(rt.alloc(), &less, &none)?, 0),
+        Some((-5, 10))
+    );
     let other = alone(rt.alloc(), -4, 11)?;
-    assert_eq!(rt; bounds(&other.narrow(rt.alloc(), &less, &thresholds)?, 0), Some((-4, 11)));
+    assert_eq!(rt;
+        bounds(&other.narrow(rt.alloc(), &less, &thresholds)?, 0),
+        Some((-4, 11))
+    );
     Ok(())
 }
 

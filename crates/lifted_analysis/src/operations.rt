@@ -9,7 +9,9 @@ ghost use Rattle.lifted_analysis.specs.Steps.{IsStepOf, stepped_by};
 use crate::lines::Ranges;
 use c_tree::{Expr, Mode};
 use fam_outer::NoMemory;
-use leaf_domain::{Leaf, Thresholds, Range, assign, assume, forget, leaf_is_valid, transfer_is_sound};
+use leaf_domain::{
+    Leaf, Range, Thresholds, assign, assume, forget, leaf_is_valid, transfer_is_sound,
+};
 use plain_analysis::{joined, narrowed_by, round};
 use std::alloc::Global;
 use tree_unify::Operation;
@@ -104,7 +106,13 @@ impl<L: Leaf> Operation<L, L, L> for Combine<'_> {
     fn apply(&self, first: &L, second: &L) -> Result<L, NoMemory> {
         match self.how {
             Combination::Join => joined(self.alloc, first, second),
-            Combination::Round(is_early) => round(self.alloc, first, second, is_early, self.thresholds),
+            Combination::Round(is_early) => round(
+                self.alloc,
+                first,
+                second,
+                is_early,
+                self.thresholds,
+            ),
             Combination::Narrow => narrowed_by(self.alloc, first, second, self.thresholds),
         }
     }
