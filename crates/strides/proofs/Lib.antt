@@ -5,3 +5,4 @@ pub mod Digits
 pub mod StridedLaws
 pub mod WideningLaws
 pub mod WideLaws
+pub mod InclusionLaws

@@ -118,7 +118,7 @@ steps_few ts b i = sum _ _ (length ts) (ends_few ts (range_of b)) (count_small b
     sum a b n p q = omega arith
 
 -- ---- narrowed
-either : (P : Stride → Type 0) (t : Bool) (s g : Stride) → P s → P g → P (if t then g else s)
+pub either : (P : Stride → Type 0) (t : Bool) (s g : Stride) → P s → P g → P (if t then g else s)
 either P true s g p q = q
 either P false s g p q = p
 
