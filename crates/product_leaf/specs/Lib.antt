@@ -1,4 +1,5 @@
 pub mod StrideLeaves
+pub mod Exact
 pub mod View
 pub mod Hashing
 pub mod Laws

@@ -3,7 +3,9 @@
 #![tactic(auto)]
 
 mod form_stride;
+pub mod laws;
 mod leaf;
 mod parts;
 
+pub use laws::{stride_join_is_least, strides_are_exact, strides_are_ordered_by_stores};
 pub use leaf::StrideLeaf;
