@@ -3,7 +3,7 @@
 ghost use Rattle.std.specs.Prelude.{◌≡◌, IfOk};
 ghost use Rattle.c_tree.specs.Value.{IsInt};
 
-use crate::intervals::thresholds;
+use crate::intervals::{GREATEST, thresholds};
 use crate::stores::{Store, holds};
 use fam_outer::NoMemory;
 use leaf_domain::Leaf;
