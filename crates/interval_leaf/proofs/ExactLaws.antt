@@ -3,14 +3,14 @@ use Rattle.std.proofs.Common.{◌≡◌, ℕ, ◌<◌, ℤ, ◌≤ℤ◌, Bool, 
 use Rattle.std.specs.List.{list_any}
 use Rattle.std.proofs.lemmas.Int.{ints, clamps}
 use Rattle.leaf_domain.specs.declared.range.Range.{Range}
-use Rattle.leaf_domain.specs.Ranges.{Within, is_empty_range, empty_range, cover_of, meet_of}
+use Rattle.leaf_domain.specs.Ranges.{Within, is_empty_range, empty_range, cover_of}
 use Rattle.leaf_domain.specs.Leaves.{LeafValue, nothing_of, at_store}
 use Rattle.leaf_domain.specs.Exactness.{LeafExactness, IsStorePut}
 use Rattle.leaf_domain.specs.Ends.{narrowed_range}
 use Rattle.leaf_domain.proofs.EndLemmas.{narrowed_low, narrowed_high}
 use Rattle.leaf_domain.proofs.Variables.{length_replaced}
 use Rattle.leaf_domain.proofs.OnlyHeld.{replaced_back, both_pass, put_at, put_back, put_other, made_only, inside_passes}
-use Rattle.interval_leaf.specs.Intervals.{intervals, pairs_of, interval_of, IsInterval, IsOwn, covers, AllWithinRanges, ContentHolds, interval_holds, interval_leq, interval_join, interval_narrow, interval_meet, interval_with, narrowed_all, settled, lies_in}
+use Rattle.interval_leaf.specs.Intervals.{intervals, pairs_of, interval_of, IsInterval, IsOwn, covers, AllWithinRanges, ContentHolds, interval_holds, interval_leq, interval_join, interval_narrow, interval_meet, met_range, interval_with, narrowed_all, settled, lies_in}
 use Rattle.interval_leaf.specs.Exact.{IntervalsAreOrderedByStores, IntervalJoinIsLeast}
 use Rattle.interval_leaf.specs.Laws.IntervalLaws.{interval_laws}
 use Rattle.interval_leaf.specs.Laws.RangeLists.{pairs_numbers, read_own, held_length}
@@ -30,14 +30,14 @@ with_back n us x r s = by_test (is_empty_range r) refl
     by_test true e h = absurd h
     by_test false e h = (e, made_back (slice_set (pairs_of us) x r) s h)
 
-meet_back : (k : ℤ) (a b : Range) → is_empty_range (meet_of a b) ≡ false → Within k (meet_of a b) → Within k a × Within k b
+meet_back : (k : ℤ) (a b : Range) → is_empty_range (met_range a b) ≡ false → Within k (met_range a b) → Within k a × Within k b
 meet_back k a b e h = grind (arith, ints, clamps)
 
 meet_only : (n : ℕ) (c : Option (List ℤ)) (x : ℕ) (r : Range) (s : List ℤ) → IsInterval (at n c) → x < n → interval_holds (interval_meet (at n c) x r) s → ContentHolds c s × Within (at_store s x) r
 meet_only n None x r s p l h = absurd h
 meet_only n (Some us) x r s p l h =
     let k : x < length (pairs_of us) = omega (arith, p.1.1) in
-    let m : Range = meet_of (slice_index_or (pairs_of us) x empty_range) r in
+    let m : Range = met_range (slice_index_or (pairs_of us) x empty_range) r in
     let (e, w) = with_back n us x m s h in
     let (i, j) = meet_back (at_store s x) (slice_index_or (pairs_of us) x empty_range) r e (put_at (λ r n. Within n r) (pairs_of us) s x m k w) in
     (put_back (λ r n. Within n r) empty_range (pairs_of us) s x m k w i, j)

@@ -110,8 +110,12 @@ interval_bounds v x = slice_index_or (ranges_of v) x empty_range
 abbrev pub interval_with : LeafValue → ℕ → Range → LeafValue
 interval_with v x r = if is_nothing_of v then v else (if is_empty_range r then nothing_of v.variables else interval_of (slice_set (ranges_of v) x r))
 
+-- what a range leaves of a variable's own
+abbrev pub met_range : Range → Range → Range
+met_range own r = meet_of own r
+
 abbrev pub interval_meet : LeafValue → ℕ → Range → LeafValue
-interval_meet v x r = interval_with v x (meet_of (interval_bounds v x) r)
+interval_meet v x r = interval_with v x (met_range (interval_bounds v x) r)
 
 abbrev pub steps_left_in : List ℤ → List Range → ℕ
 steps_left_in ts rs = total_of (ends_left ts) rs

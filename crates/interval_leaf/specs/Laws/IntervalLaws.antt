@@ -4,11 +4,11 @@ use Rattle.std.specs.List.{list_any}
 use Rattle.std.proofs.lemmas.Int.{ints, clamps}
 use Rattle.std.proofs.lemmas.List.{length-map}
 use Rattle.leaf_domain.specs.declared.range.Range.{Range}
-use Rattle.leaf_domain.specs.Ranges.{Within, IsInInt, is_empty_range, empty_range, cover_of, meet_of}
+use Rattle.leaf_domain.specs.Ranges.{Within, IsInInt, is_empty_range, empty_range, cover_of}
 use Rattle.leaf_domain.specs.Ends.{widened_range, narrowed_range}
 use Rattle.leaf_domain.specs.Forms.{form_at}
 use Rattle.leaf_domain.specs.Leaves.{LeafValue, LeafLaws, IsLeafLike, nothing_of, is_nothing_of}
-use Rattle.interval_leaf.specs.Intervals.{intervals, pairs_of, interval_of, IsInterval, AllWithinRanges, ContentHolds, interval_holds, interval_start, interval_leq, interval_join, interval_widen, interval_narrow, interval_bounds, interval_meet, interval_with, interval_steps_left, covers, widened_all, narrowed_all, settled, point_of, AllOwn, IsOwn, HasEnds}
+use Rattle.interval_leaf.specs.Intervals.{intervals, pairs_of, interval_of, IsInterval, AllWithinRanges, ContentHolds, interval_holds, interval_start, interval_leq, interval_join, interval_widen, interval_narrow, interval_bounds, interval_meet, met_range, interval_with, interval_steps_left, covers, widened_all, narrowed_all, settled, point_of, AllOwn, IsOwn, HasEnds}
 use Rattle.leaf_domain.proofs.Variables.{length_zipped, length_replaced}
 use Rattle.interval_leaf.specs.Laws.RangeLists.{pairs_numbers, is_interval, covers_own, widened_all_own, narrowed_all_ends, own_from_all_ends, own_from_ends, own_set, own_points, covers_first, covers_second, inside_holds, widened_all_first, widened_all_second, narrowed_all_hold, none_empty, points_hold, points_alone, lows, lows_hold, held_length, widened_all_fewer, steps_few_in, read_within, read_own, set_within, kept_within}
 
@@ -110,17 +110,17 @@ set_holds : (n : ℕ) (c : Option (List ℤ)) (x : ℕ) (r : Range) (s : List �
 set_holds n None x r s k h w = absurd h
 set_holds n (Some us) x r s k h w = rw (not_empty_by k r w) (made_holds _ _ (set_within (pairs_of us) s x r k h w))
 
-meet_within : (k : ℤ) (a b : Range) → Within k a → Within k b → Within k (meet_of a b)
+meet_within : (k : ℤ) (a b : Range) → Within k a → Within k b → Within k (met_range a b)
 meet_within k a b h g = grind (arith, ints, clamps)
 
-meet_ends : (a b : Range) → HasEnds a → IsInInt b → HasEnds (meet_of a b)
+meet_ends : (a b : Range) → HasEnds a → IsInInt b → HasEnds (met_range a b)
 meet_ends a b h g = grind (arith, ints, clamps)
 
 meet_holds : (n : ℕ) (c : Option (List ℤ)) (x : ℕ) (r : Range) (s : List ℤ) → IsInterval (at n c) → x < n → ContentHolds c s → Within (slice_index_or s x (pos 0)) r → interval_holds (interval_meet (at n c) x r) s
 meet_holds n None x r s p l h w = absurd h
 meet_holds n (Some us) x r s p l h w =
-    let q : Within (slice_index_or s x (pos 0)) (meet_of (slice_index_or (pairs_of us) x empty_range) r) = meet_within _ _ r (read_within (pairs_of us) s x (omega (arith, p.1.1)) h) w in
-    rw (not_empty_by (slice_index_or s x (pos 0)) (meet_of (slice_index_or (pairs_of us) x empty_range) r) q) (made_holds _ s (kept_within (pairs_of us) s x _ h q))
+    let q : Within (slice_index_or s x (pos 0)) (met_range (slice_index_or (pairs_of us) x empty_range) r) = meet_within _ _ r (read_within (pairs_of us) s x (omega (arith, p.1.1)) h) w in
+    rw (not_empty_by (slice_index_or s x (pos 0)) (met_range (slice_index_or (pairs_of us) x empty_range) r) q) (made_holds _ s (kept_within (pairs_of us) s x _ h q))
 
 own_is_in_int : (r : Range) → IsOwn r → IsInInt r
 own_is_in_int r h = record { low = record { low = h.low; high = omega (arith, ints) }; high = record { low = omega (arith, ints); high = h.high } }
