@@ -181,11 +181,11 @@ pub const CODES: [(&str, &str); 54] = [
     ),
     (
         "0",
-        "Status 0: done, and no alarm is printed; `project`, `run` and `features` end\nwith it, `advise` where it has advice, and `check` where the certificate holds.\nOn the error stream: nothing.\nWhat to do: nothing: under `plain` and `variant` no run of the program stops in\nthe chosen mode, under `analyse` and `invariants` no run of any valid\nconfiguration's variant, and under `advise` no run of the variant of the printed\nconfiguration.\n",
+        "Status 0: done, and no alarm is printed; `project`, `run`, `features`, `help`,\n`explain` and `--version` end with it, `advise` where it has advice, and `check`\nwhere the certificate holds.\nOn the error stream: nothing.\nWhat to do: nothing: under `plain` and `variant` no run of the program stops in\nthe chosen mode, under `analyse` and `invariants` no run of any valid\nconfiguration's variant, and under `advise` no run of the variant of the printed\nconfiguration.\n",
     ),
     (
         "1",
-        "Status 1: done, and an alarm is printed; under `advise`, each valid\nconfiguration has an alarm; under `check`, the certificate does not hold.\nOn the error stream: nothing.\nWhat to do: look at the place; where no run stops there, tell more by an `if`,\nor try `--domain octagon`, `--delay` and `--narrow`.\n",
+        "Status 1: done, and an alarm is printed; under `advise`, each valid\nconfiguration has an alarm; under `check`, the certificate does not hold.\nOn the error stream: nothing.\nWhat to do: look at the place; where no run stops there, tell more by an `if`,\nor try `--domain octagon`, `--widening=thresholds`, `--delay` and `--narrow`.\n",
     ),
     (
         "2",

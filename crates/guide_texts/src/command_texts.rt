@@ -10,7 +10,7 @@ usage: famlint COMMAND WORD.. [OPTION..]
 
   analyse MODEL FILE            the alarms of all variants of a family at once
   invariants MODEL FILE         what is known at each place, and then the alarms
-  certify MODEL FILE            the invariants of loops and the alarms, as a certificate
+  certify MODEL FILE            what was found, as a certificate
   check MODEL FILE CERTIFICATE  whether a certificate holds
   plain FILE                    the alarms of one file without groups
   project MODEL FILE SETTING..  the text of one variant

@@ -2,51 +2,50 @@
 #![tactic(auto)]
 
 /// `--domain`.
-pub const DOMAIN: &str = "\
-  --domain interval|octagon|stride   what is known of the variables: bounds of
+pub const DOMAIN: &str =
+    "  --domain interval|octagon|stride   what is known of the variables: bounds of
                                      each; or of sums and differences too; or
                                      bounds with a stride; without it interval
 ";
 
 /// `--delay`.
-pub const DELAY: &str = "\
-  --delay 0..16                      how many rounds of a loop are joined before
+pub const DELAY: &str =
+    "  --delay 0..16                      how many rounds of a loop are joined before
                                      its bounds are widened; without it 0
 ";
 
 /// `--narrow`.
-pub const NARROW: &str = "\
-  --narrow 0..8                      how many rounds of narrowing follow;
+pub const NARROW: &str = "  --narrow 0..8                      how many rounds of narrowing follow;
                                      without it 1
 ";
 
 /// `--widening`.
-pub const WIDENING: &str = "\
-  --widening type|thresholds         whether a bound of a loop that grows goes to
-                                     that of the type, or first to numbers near
-                                     those of FILE; without it type
+pub const WIDENING: &str =
+    "  --widening type|thresholds         whether a bound of a loop that grows goes
+                                     to that of the type, or first to numbers
+                                     near those of FILE; without it type
 ";
 
 /// `--overflow`.
-pub const OVERFLOW: &str = "\
-  --overflow stop|wrap               whether an overflow stops the run, or wraps
+pub const OVERFLOW: &str =
+    "  --overflow stop|wrap               whether an overflow stops the run, or wraps
                                      around modulo 2^32; without it stop
 ";
 
 /// `--regions`.
-pub const REGIONS: &str = "\
-  --regions paths|merged             whether an alarm has a line for each path to
-                                     it, or regions are merged; without it paths
+pub const REGIONS: &str =
+    "  --regions paths|merged             whether an alarm has a line for each path
+                                     to it, or regions are merged; without it
+                                     paths
 ";
 
 /// `--steps`.
-pub const STEPS: &str = "\
-  --steps 0..1000000                 how many statements are run at most;
+pub const STEPS: &str = "  --steps 0..1000000                 how many statements are run at most;
                                      without it 1000
 ";
 
 /// `--inputs`.
-pub const INPUTS: &str = "\
-  --inputs NUMBER,..                 what input() gives, one after another;
+pub const INPUTS: &str =
+    "  --inputs NUMBER,..                 what input() gives, one after another;
                                      without it none
 ";

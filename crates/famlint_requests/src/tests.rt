@@ -1,0 +1,128 @@
+//! Words that ask for a text about the program.
+
+use crate::*;
+use command_words::WordsRefusal;
+use fam_outer::NoMemory;
+use std::alloc::Global;
+use std::test::Fail;
+
+/// The words of a line, with a space between two.
+fn words_of(alloc: Global, line: &str) -> Result<Vec<String>, NoMemory> {
+    let mut words = Vec::new(alloc);
+    for word in line.split_whitespace() {
+        words.push(String::from_str(alloc, word)?)?;
+    }
+    Ok(words)
+}
+
+/// The first line of a text, and the options that begin a line of it.
+fn gist_of(alloc: Global, bytes: &[u8]) -> Result<String, NoMemory> {
+    let mut gist = String::new(alloc);
+    let text = str::from_utf8(bytes).unwrap_or("no UTF-8");
+    for (number, line) in text.lines().enumerate() {
+        if number == 0 {
+            gist.push_str(line)?;
+        }
+        match line.strip_prefix("  --") {
+            Some(rest) => {
+                gist.push_str(" --")?;
+                gist.push_str(rest.split(' ').next().unwrap_or(""))?;
+            }
+            None => {}
+        }
+    }
+    Ok(gist)
+}
+
+/// What the words of a line ask for.
+fn asked(alloc: Global, line: &str) -> Result<String, NoMemory> {
+    let words = words_of(alloc, line)?;
+    match read_request(alloc, words.as_slice()) {
+        Ok(Request::Guide(guide)) => gist_of(alloc, guide.text(alloc)?.bytes()),
+        Ok(_) => Ok(String::from_str(alloc, "work")?),
+        Err(WordsRefusal::Fault(_)) => Ok(String::from_str(alloc, "refused")?),
+        Err(WordsRefusal::NoMemory) => Err(NoMemory),
+    }
+}
+
+/// The gist of the text on all commands.
+const ALL: &str =
+    "usage: famlint COMMAND WORD.. [OPTION..] --help, --domain --delay --narrow --widening --overflow --regions --steps --inputs";
+
+/// The text on the program itself.
+const VERSION: &str = "famlint, proved by rattle-kit-13f logic dac8208d650f15bf";
+
+#[test]
+fn texts_are_asked_for(rt: HostRuntime) -> Result<(), Fail> {
+    let cases = [
+        ("help", ALL),
+        ("--help", ALL),
+        ("-h", ALL),
+        ("--version", VERSION),
+        ("-V", VERSION),
+        (
+            "help plain",
+            "famlint plain FILE --domain --delay --narrow --widening --overflow",
+        ),
+        ("help project", "famlint project MODEL FILE SETTING.."),
+        (
+            "help run",
+            "famlint run MODEL FILE SETTING.. --overflow --steps --inputs",
+        ),
+        (
+            "help analyse",
+            "famlint analyse MODEL FILE --domain --delay --narrow --widening --overflow --regions",
+        ),
+        (
+            "help certify",
+            "famlint certify MODEL FILE --delay --narrow --widening --overflow --regions",
+        ),
+        ("help check", "famlint check MODEL FILE CERTIFICATE"),
+        ("explain F12", "F12: A file is refused."),
+        (
+            "explain C5",
+            "C5: A condition is refused, of a model (M7) or of a file (F8).",
+        ),
+        ("explain 4", "Status 4: the file is refused."),
+        ("plain F", "work"),
+        ("plain --overflow wrap F", "work"),
+    ];
+    for (line, want) in cases {
+        let text = asked(rt.alloc(), line)?;
+        assert_eq!(rt; text.as_str(), want, "at {line}");
+    }
+    Ok(())
+}
+
+#[test]
+fn other_words_are_refused(rt: HostRuntime) -> Result<(), Fail> {
+    let cases = [
+        "",
+        "--help plain",
+        "plain --help",
+        "-h -h",
+        "--help=plain",
+        "-- help",
+        "--help --",
+        "help help",
+        "help plain F",
+        "help --domain",
+        "help -h",
+        "Help",
+        "version",
+        "-V 1",
+        "explain",
+        "explain F18",
+        "explain f12",
+        "explain 10",
+        "explain 04",
+        "explain F1 F2",
+        "explain --steps",
+        "F1",
+    ];
+    for line in cases {
+        let text = asked(rt.alloc(), line)?;
+        assert_eq!(rt; text.as_str(), "refused", "at {line}");
+    }
+    Ok(())
+}
