@@ -21,6 +21,6 @@ mod small_leaves;
 #[cfg(test)]
 mod stores;
 #[cfg(test)]
-mod strides;
+mod stride_leaves;
 #[cfg(test)]
 mod transfer;
