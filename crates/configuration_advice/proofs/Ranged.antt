@@ -8,7 +8,8 @@ use Rattle.cpp_conditions.specs.declared.models.Model.{Model}
 use Rattle.cpp_conditions.specs.Validity.{plain, IsValid}
 use Rattle.cpp_conditions.proofs.Within.{valid_parts}
 use Rattle.linear_atoms.specs.declared.ranges.Span.{Span}
-use Rattle.configuration_advice.specs.Ends.{HasLeast, HasGreatest}
+use Rattle.configuration_advice.specs.declared.ends.End.TheVariants.{Least, Greatest}
+use Rattle.configuration_advice.specs.Ends.{HasEnd}
 use Rattle.configuration_advice.specs.Uses.{value_of, Has, AllFrom, AllTo}
 
 low_at : (fs : List Feature) (f : Feature) (n : ℕ) (values : List ℤ) → IsWithin fs values → slice_get fs n ≡ Some f → f.low ≤ℤ value_of n values
@@ -51,7 +52,7 @@ size_of model f n values v r h e k =
     subst (λ x. unsigned_abs x ≤ 1048576) (sym k) (small_between f.low (value_of n values) f.high ends.low ends.high (all_from_low model f n e values h) (all_to_high model f n e values h))
 
 -- the span from a range's low end to a value that is met has the least one
-pub least_in : (model : Model) (f : Feature) (n : ℕ) (values : List ℤ) (span : Span) → AreRanges model.features → IsValid (plain model) values → slice_get model.features n ≡ Some f → span.high ≡ value_of n values → span.low ≡ f.low → HasLeast model n span
+pub least_in : (model : Model) (f : Feature) (n : ℕ) (values : List ℤ) (span : Span) → AreRanges model.features → IsValid (plain model) values → slice_get model.features n ≡ Some f → span.high ≡ value_of n values → span.low ≡ f.low → HasEnd Least model n span
 least_in model f n values span r h e k m =
     let ends = small_ends model.features f n r e in
     record {
@@ -61,7 +62,7 @@ least_in model f n values span r h e k m =
     }
 
 -- the span from a value that is met to a range's high end has the greatest one
-pub greatest_in : (model : Model) (f : Feature) (n : ℕ) (values : List ℤ) (span : Span) → AreRanges model.features → IsValid (plain model) values → slice_get model.features n ≡ Some f → span.low ≡ value_of n values → span.high ≡ f.high → HasGreatest model n span
+pub greatest_in : (model : Model) (f : Feature) (n : ℕ) (values : List ℤ) (span : Span) → AreRanges model.features → IsValid (plain model) values → slice_get model.features n ≡ Some f → span.low ≡ value_of n values → span.high ≡ f.high → HasEnd Greatest model n span
 greatest_in model f n values span r h e k m =
     let ends = small_ends model.features f n r e in
     record {

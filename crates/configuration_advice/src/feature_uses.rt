@@ -8,7 +8,7 @@ ghost use Rattle.cpp_conditions.specs.Validity.{plain, IsValid, AreFit, IsConfig
 ghost use Rattle.configuration_advice.specs.Uses.{IsUse, AreUses};
 
 use crate::asking::{value_below, value_from, value_of};
-use crate::ends::{greatest_value, least_value};
+use crate::ends::{End, end_value};
 use atom_solver::Prepared;
 use cpp_conditions::Model;
 use fam_outer::NoMemory;
@@ -73,8 +73,8 @@ fn use_of_number(
         low: value,
         high: feature.high,
     };
-    let low = least_value(alloc, prepared, number, to_value)?;
-    let high = greatest_value(alloc, prepared, number, from_value)?;
+    let low = end_value(alloc, prepared, number, End::Least, to_value)?;
+    let high = end_value(alloc, prepared, number, End::Greatest, from_value)?;
     Ok(FeatureUse::Span(low, high))
 }
 
