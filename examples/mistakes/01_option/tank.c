@@ -1,0 +1,7 @@
+int level;
+
+int main(void)
+{
+    while (level < 100)
+        level++;
+}

@@ -1,0 +1,10 @@
+int level;
+int step = 1;
+
+int main(void)
+{
+#ifdef FAST
+    step = 2;
+    while (level < 100)
+        level += step;
+}

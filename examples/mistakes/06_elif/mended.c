@@ -1,0 +1,12 @@
+int step = 1;
+
+int main(void)
+{
+#ifdef FAST
+    step = 2;
+#elif SIZE > 8
+    step = 8;
+#else
+    step = 4;
+#endif
+}

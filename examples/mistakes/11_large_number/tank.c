@@ -1,0 +1,6 @@
+int level = 3000000000;
+
+int main(void)
+{
+    level = 0;
+}

@@ -1,0 +1,6 @@
+int level;
+
+int main(void)
+{
+    level = sensor(4);
+}

@@ -1,0 +1,6 @@
+float level;
+
+int main(void)
+{
+    level = 0;
+}

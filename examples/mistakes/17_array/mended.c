@@ -1,0 +1,9 @@
+int head;
+
+int main(void)
+{
+    while (head < 16) {
+        assert(head >= 0 && head < 16);
+        head++;
+    }
+}

@@ -1,0 +1,8 @@
+int level;
+int empty;
+
+int main(void)
+{
+    if (level = 0)
+        empty = 1;
+}

@@ -1,0 +1,7 @@
+int level;
+int step = 1;
+
+int main(void)
+{
+    level += step;
+}

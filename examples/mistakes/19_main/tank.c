@@ -1,0 +1,2 @@
+int level;
+int step = 1;

@@ -1,0 +1,7 @@
+#include <assert.h>
+int level;
+
+int main(void)
+{
+    level = 0;
+}

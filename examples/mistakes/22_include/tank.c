@@ -1,0 +1,7 @@
+#include <assert.h>
+#include "tank.h"
+
+int main(void)
+{
+    level = 0;
+}
