@@ -55,16 +55,16 @@ def text_of(keys):
 
 def write(path, keys):
     """Writes a baseline of these alarms; the old one stays as it is where that fails."""
-    path, new = os.path.realpath(path), None
-    if os.path.exists(path) and not os.path.isfile(path):
+    target, new = os.path.realpath(path), None
+    if os.path.exists(target) and not os.path.isfile(target):
         raise NoBaseline(f"{path}: error: the baseline cannot be written: it is no file", NOT_WRITTEN)
     try:
         with tempfile.NamedTemporaryFile(
-                "w", encoding="utf-8", dir=folder_of(path), prefix=".famlint-baseline-", delete=False) as file:
+                "w", encoding="utf-8", dir=os.path.dirname(target), prefix=".famlint-baseline-", delete=False) as file:
             new = file.name
             file.write(text_of(keys))
         os.chmod(new, 0o666 & ~mask())
-        os.replace(new, path)
+        os.replace(new, target)
     except OSError as fault:
         if new:
             os.unlink(new)

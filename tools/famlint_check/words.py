@@ -8,6 +8,8 @@ from .tables import COMMANDS, OPTIONS
 
 FORMATS = ("text", "gcc", "sarif", "json")
 OWN = ("model", "format", "baseline", "write-baseline")
+# How like two words are, from 0 to 1, where one may be the other misspelled.
+LIKE = 0.75
 SETTING = re.compile(r"[A-Za-z_][A-Za-z0-9_]*=-?[0-9]+")
 
 
@@ -39,7 +41,7 @@ class Request:
 def like(name):
     """A question that offers the option that is written most like this one."""
     names = [*OWN, *(option.name for option in OPTIONS), "help", "version"]
-    found = difflib.get_close_matches(name, names, 1)
+    found = difflib.get_close_matches(name, names, 1, LIKE)
     return f"; is --{found[0]} meant?" if found else ""
 
 
@@ -93,7 +95,7 @@ def look_at_files(request):
             raise BadWords("the name of a file is empty")
         if os.path.lexists(file):
             continue
-        if file is request.files[0] and difflib.get_close_matches(file, COMMANDS, 1, 0.8):
+        if file is request.files[0] and difflib.get_close_matches(file, COMMANDS, 1, LIKE):
             raise BadWords(f"{file} is no file; famlint-check takes no command, only --model=MODEL and files")
         if SETTING.fullmatch(file):
             raise BadWords(f"{file} is no file; famlint-check looks at all configurations, and takes no setting: use famlint variant")
