@@ -77,8 +77,8 @@ class Sarif:
         text = "; ".join(sentence.says() for sentence in explained)
         to_do = "; ".join(sentence.to_do for sentence in explained if sentence.to_do)
         self.rules.setdefault(name, rule(name, "error", explained[-1].cause, text, to_do))
-        parts = (refusal.says(), refusal.note, *(sentence.cause for sentence in explained))
-        message = ": ".join(part for part in parts if part)
+        message = ": ".join(part for part in (refusal.says(), refusal.note, explained[-1].cause) if part)
+        message += "" if refusal.example is None else f"; example {refusal.example}"
         self.result(refusal, source, name, None, "error", message, {"example": refusal.example})
 
     def failure(self, failure):
