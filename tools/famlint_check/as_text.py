@@ -6,6 +6,7 @@ from .sources import marked, readable
 from .tables import kind_of
 
 COLUMNS = 100
+LONGEST = 40
 BOLD, RED, MAGENTA, GREEN, END = "\033[1m", "\033[1;31m", "\033[1;35m", "\033[32m", "\033[0m"
 
 
@@ -45,7 +46,8 @@ def token_text(source, place):
     """The token at the place, as a headline tells it."""
     token = source.token(place)
     if token:
-        return "'" + (readable(token) if is_utf8(token) else "".join(f"\\x{byte:02X}" for byte in token)) + "'"
+        text = readable(token) if is_utf8(token) else "".join(f"\\x{byte:02X}" for byte in token)
+        return f"'{text if len(text) <= LONGEST else text[:LONGEST] + '...'}'"
     return "the end of the file" if source.is_end(place) else "the end of the line"
 
 

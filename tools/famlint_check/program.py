@@ -60,11 +60,18 @@ class Program:
         return Ran(status, output, told)
 
 
+def at(path):
+    """The famlint at a path. famlint.sh compiles where the proved program is not built."""
+    path = str(path)
+    built = Path(path).resolve().parent / "crates/famlint/out/famlint"
+    return Program(path, os.path.basename(path) == "famlint.sh" and not os.access(built, os.X_OK))
+
+
 def given(name):
     """The famlint that $FAMLINT names: a path, or a name on the path."""
     found = shutil.which(name)
     if found:
-        return Program(found, False)
+        return at(found)
     if os.path.isdir(name):
         raise NoProgram(NOT_RUN, f"$FAMLINT is {name}, a folder")
     if os.path.exists(name):
@@ -86,13 +93,13 @@ def find(script):
     folders = folders_of(script)
     for folder in folders:
         if os.access(folder / "famlint", os.X_OK) and (folder / "famlint").is_file():
-            return Program(str(folder / "famlint"), False)
+            return at(folder / "famlint")
     on_path = shutil.which("famlint")
     if on_path:
-        return Program(on_path, False)
+        return at(on_path)
     checkout = folders[-1].parent
     if os.access(checkout / "famlint.sh", os.X_OK):
-        return Program(str(checkout / "famlint.sh"), not os.access(checkout / "crates/famlint/out/famlint", os.X_OK))
+        return at(checkout / "famlint.sh")
     looked = ", ".join(str(folder / "famlint") for folder in folders)
     raise NoProgram(
         NOT_FOUND, f"there is no famlint: it is not at {looked}, not on the path, and there is no {checkout / 'famlint.sh'}; "
