@@ -1,0 +1,1 @@
+"""What tools/package is made of: manual pages, completions, and the tree of the package."""
