@@ -6,8 +6,10 @@ from typing import NamedTuple
 
 from .program import NoProgram, folders_of
 
-LINK = re.compile(r" ?\(\[[^\]]*\]\([^)]*\)\)|\[([^\]]*)\]\([^)]*\)")
-ELSEWHERE = ("see below", "see that table")
+LINK = re.compile(r" ?\(\[[^\]]*\]\([^)]*\)\)")
+FILE = re.compile(r"\[([A-Z]+\.md)\]\([^)]*\)")
+ELSEWHERE = ("what its C code says", "see below", "see that table")
+EXPLAINED = re.compile(r"\w+: .*? Cause: (.*?)\.? What to do: (.*?)\.?")
 PLACE = re.compile(r"; at [^;.]*$")
 
 # What to do with famlint-check itself, where CODES.md speaks of the commands of famlint.
@@ -25,35 +27,39 @@ class Sentence(NamedTuple):
         return f"{self.code}: {self.cause}" if self.cause else self.code
 
 
-def plain(cell):
-    """A cell of a table without its marks."""
-    text = LINK.sub(lambda found: found[1] or "", cell.strip())
-    return text.replace("`", "").replace("\\|", "|")
+def sentence_of(code, causes, advice):
+    """The sentence from the causes of a code and what to do, one of each for each case; a caret says the place already."""
+    causes = [PLACE.sub("", cause.replace("`", "").removeprefix("also: ")) for cause in causes]
+    advice = [to_do.replace("`", "") for to_do in dict.fromkeys(advice) if to_do not in ELSEWHERE]
+    return Sentence(code, "; or: ".join(causes), TO_DO_HERE.get(code, "; or: ".join(advice)))
 
 
 def rows(text):
     """The rows of all tables of a document that have a column `Code`, each from the names of its columns to its cells."""
     names = []
     for line in text.splitlines():
-        cells = [plain(cell) for cell in re.split(r"(?<!\\)\|", line)[1:-1]] if line.startswith("|") else []
+        cells = [cell.strip().replace("\\|", "|") for cell in re.split(r"(?<!\\)\|", line)[1:-1]] if line.startswith("|") else []
         if not cells:
             names = []
         elif not names:
             names = [name.split(",")[0] for name in cells]
-        elif "Code" in names:
+        elif "Code" in names and set(cells[0]) != {"-"}:
             yield dict(zip(names, cells))
 
 
 def sentences(text):
     """The sentence of each code of CODES.md. Several rows of a code are one sentence."""
-    made = {}
+    found = {}
     for row in rows(text):
-        code = row["Code"]
-        cause, to_do = PLACE.sub("", row.get("Cause", "")), row.get("What to do", "")
-        if code in made:
-            cause, to_do = f"{made[code].cause}; {cause}", f"{made[code].to_do}; {to_do}"
-        made[code] = Sentence(code, cause, "" if to_do in ELSEWHERE else to_do)
-    return made
+        parts = [FILE.sub(r"docs/\1", LINK.sub("", row.get(name, ""))) for name in ("Cause", "What to do")]
+        found.setdefault(row["Code"], []).append(parts)
+    return {code: sentence_of(code, *zip(*parts)) for code, parts in found.items()}
+
+
+def explained_by(code, text):
+    """The sentence from what `famlint explain CODE` prints, or nothing where that has another form."""
+    found = EXPLAINED.fullmatch(" ".join(text.split()))
+    return sentence_of(code, found[1].split(". Or: "), found[2].split(". Or: ")) if found else None
 
 
 @functools.lru_cache(maxsize=None)
@@ -71,15 +77,14 @@ def document(script):
 @functools.lru_cache(maxsize=None)
 def sentence(code, program, script):
     """The sentence of a code, as `F8` or `C2`: that of `famlint explain CODE`, or else that of CODES.md, or else the code alone."""
+    told = None
     if not program.compiles:
         try:
             ran = program.run(["explain", code], lambda line: None)
+            told = explained_by(code, ran.output) if ran.status == 0 else None
         except NoProgram:
-            ran = None
-        if ran and ran.status == 0 and ran.output.strip():
-            return Sentence(code, " ".join(ran.output.split()), "")
-    found = document(script).get(code, Sentence(code, "", ""))
-    return found._replace(to_do=TO_DO_HERE.get(code, found.to_do))
+            pass
+    return told or document(script).get(code) or sentence_of(code, [], [])
 
 
 def explained(codes, program, script):

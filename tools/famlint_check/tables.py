@@ -26,14 +26,15 @@ class Option:
         return ", ".join(self.values)
 
 
-# One line for each option of `analyse` and `plain`. An option with a default is given to famlint in each run, unless the words have it.
-# THE PLACE FOR MORE: `--widening` and `--unknown` of famlint are one line each here, as soon as famlint takes them. Until then it refuses
-# all words with them, with status 2.
+# One line for each option of `analyse` and `plain`, and the one place for a new one. An option with a default is given to famlint in each
+# run, unless the words have it; an older famlint, which does not have the option, then refuses all words, with status 2. So `widening` has
+# no default here yet: default="thresholds" would make it that.
 OPTIONS = (
     Option("domain", ("interval", "octagon", "stride")),
     Option("delay", (0, 16)),
     Option("narrow", (0, 8)),
     Option("overflow", ("stop", "wrap")),
+    Option("widening", ("type", "thresholds")),
     Option("regions", ("paths", "merged"), default="merged", needs_model=True),
 )
 
