@@ -2,7 +2,8 @@
 from famlint_check.tables import COMMANDS, OPTIONS
 from famlint_check.words import FORMATS
 
-# The options of famlint-check itself.
+# The options of famlint that famlint-check has no use for, and those of famlint-check itself.
+OF_RUN = ("steps", "inputs")
 OWN = ("--model=", "--format=", "--baseline=", "--write-baseline=", "--help", "--version")
 
 
@@ -56,7 +57,7 @@ _famlint_check() {
     _famlint_values && return
     if [[ $cur == -* ]]; then
         compopt -o nospace
-        COMPREPLY=($(compgen -W '%(own)s %(options)s' -- "$cur"))
+        COMPREPLY=($(compgen -W '%(own)s' -- "$cur"))
     else
         compopt -o filenames
         COMPREPLY=($(compgen -f -- "$cur"))
@@ -90,19 +91,21 @@ _arguments -S \\
 
 
 def names():
-    return " ".join(f"--{option.name}=" for option in OPTIONS)
+    return " ".join(f"--{name}=" for name in (*(option.name for option in OPTIONS), *OF_RUN))
 
 
 def for_bash():
     """One file for both programs."""
     named = [(option.name, values_of(option)) for option in OPTIONS] + [("format", FORMATS)]
-    return BASH % {"cases": cases(named), "options": names(), "own": " ".join(OWN), "commands": " ".join(COMMANDS)}
+    own = " ".join((*OWN, *(f"--{option.name}=" for option in OPTIONS)))
+    return BASH % {"cases": cases(named), "options": names(), "own": own, "commands": " ".join(COMMANDS)}
 
 
 def for_zsh():
     """A file for each program."""
     options = "\n".join(f"    '--{option.name}=:{option.name}:({' '.join(values_of(option))})' \\" for option in OPTIONS)
+    of_run = "".join(f"\n    '--{name}=:{name}:' \\" for name in OF_RUN)
     return {
-        "famlint": ZSH_FAMLINT % {"options": options, "commands": " ".join(COMMANDS)},
+        "famlint": ZSH_FAMLINT % {"options": options + of_run, "commands": " ".join(COMMANDS)},
         "famlint-check": ZSH_CHECK % {"options": options, "formats": " ".join(FORMATS)},
     }

@@ -26,9 +26,10 @@ def block(lines):
     return [".PP", ".RS 4", ".nf", *(escaped(line) for line in lines), ".fi", ".RE"]
 
 
-def row(cells):
-    """A row of a table: its first cell, and the others below it."""
-    others = ".br\n".join(f"{inline(cell)}\n" for cell in cells[1:] if cell).rstrip("\n")
+def row(heads, cells):
+    """A row of a table: its first cell, and the others below it; where there are several, with their heads."""
+    named = [f"{head}: {cell}" if len(cells) > 2 else cell for head, cell in zip(heads[1:], cells[1:]) if cell]
+    others = "\n.br\n".join(inline(text) for text in named)
     return [".TP", inline(cells[0]) or "\\&", others or "\\&"]
 
 
@@ -37,8 +38,9 @@ def cells_of(line):
 
 
 def table(lines):
-    """A table without the line of its heads."""
-    return [part for line in lines[2:] for part in row(cells_of(line))]
+    """A table."""
+    heads = cells_of(lines[0])
+    return [part for line in lines[2:] for part in row(heads, cells_of(line))]
 
 
 def item(lines):
@@ -65,7 +67,12 @@ def kind_of(line):
     return "item" if line.startswith("- ") else "text"
 
 
-def groups(lines):
+def kind_in_help(line):
+    """What a line of a help text belongs to."""
+    return "blank" if not line.strip() else "block" if line.startswith("  ") else "text"
+
+
+def groups(lines, kind_of=kind_of):
     """The lines in groups, each with its kind. An item or a paragraph goes on up to a line of another kind."""
     kind, group = "blank", []
     for line in lines:
@@ -96,13 +103,14 @@ def of_markdown(text):
 
 
 def of_help(text):
-    """The body of a page from a text with indented blocks."""
-    made = [".SH DESCRIPTION"]
-    for kind, lines in groups(text.splitlines()):
+    """A part of a page from a text with indented blocks."""
+    made = []
+    for kind, lines in groups(text.splitlines(), kind_in_help):
         if kind == "block":
-            made += block([line[4:] for line in lines])
+            left = min(len(line) - len(line.lstrip()) for line in lines)
+            made += block([line[left:] for line in lines])
         elif kind != "blank":
-            made += [".PP", " ".join(escaped(line) for line in lines)]
+            made += [".PP", "\n".join(escaped(line) for line in lines)]
     return made
 
 
