@@ -54,6 +54,7 @@ class Check:
         self.tally = Tally()
         self.noticed = set()
         self.found = []
+        self.reported = []
         self.known = baseline.Known(request.own["baseline"]) if "baseline" in request.own else None
         self.is_quiet = "write-baseline" in request.own and self.known is None
 
@@ -68,20 +69,21 @@ class Check:
         for file in self.request.files:
             ran = self.program.run(self.request.command(file), self.notice)
             if ran.status <= 1:
-                self.report(file, ran.output)
+                self.report(file, ran)
             else:
                 self.tally.meets(ran.status)
                 if self.is_of_all(file, ran):
                     break
         if self.known:
-            self.tally.mended = self.known.mended(self.request.files)
+            self.tally.mended = self.known.mended(self.reported)
 
-    def report(self, file, output):
+    def report(self, file, ran):
         """The alarms of a file."""
-        report = report_of(file, output)
-        if not report.is_whole:
+        report = report_of(file, ran.output)
+        if not report.is_whole or ran.status != bool(report.alarms):
             self.fail(Failure(file, f"{self.program.path} prints no report", "is it famlint?"), NOT_RUN)
             return
+        self.reported.append(file)
         source = Source(file)
         for alarm in report.alarms:
             self.found.append((alarm, source))

@@ -45,7 +45,7 @@ class InFolder(unittest.TestCase):
     def run_script(self, *words, script=SCRIPT, folder=None):
         ended = subprocess.run(
             [str(script), *words], cwd=folder or self.folder, env=self.environment, stdin=subprocess.DEVNULL, capture_output=True,
-            timeout=60, check=False)
+            timeout=300, check=False)
         return Ended(ended.returncode, ended.stdout.decode("utf-8", "surrogateescape"), ended.stderr.decode("utf-8", "surrogateescape"))
 
     def has(self, ended, status, out="", errors=""):

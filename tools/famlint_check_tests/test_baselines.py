@@ -55,6 +55,10 @@ class Baselines(InFolder):
         self.has(self.run_script("--baseline=known.json", "tick.c"), 0)
         self.has(self.run_script("--baseline=known.json", "--format=text", "tick.c"), 0, "alarms: 0; known and mended: 1\n")
 
+    def test_of_a_refused_file_nothing_is_mended(self):
+        self.write("tick.c", "@\n")
+        self.assertEqual(self.run_script("--baseline=known.json", "--format=text", "tick.c").out, "alarms: 0; errors: 1\n")
+
     def test_counts(self):
         self.has(self.run_script("--baseline=known.json", "--format=text", "tick.c"), 0, "alarms: 0; known: 1\n")
 

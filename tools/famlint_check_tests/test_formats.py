@@ -68,7 +68,7 @@ class Text(InFolder):
         except OSError:
             pass  # the other end is closed
         os.close(terminal)
-        self.assertEqual(process.wait(timeout=60), 1)
+        self.assertEqual(process.wait(timeout=300), 1)
         return got.decode().replace("\r\n", "\n")
 
     def test_colours(self):

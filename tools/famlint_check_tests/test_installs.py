@@ -25,7 +25,7 @@ class Installs(InFolder):
     def tool(self, name, *words):
         ended = subprocess.run(
             [str(self.folder / "top/tools" / name), *words], cwd=self.folder, env=self.environment, stdin=subprocess.DEVNULL,
-            capture_output=True, text=True, timeout=60, check=False)
+            capture_output=True, text=True, timeout=300, check=False)
         return Ended(ended.returncode, ended.stdout, ended.stderr)
 
     def standing(self, folder):
