@@ -1,0 +1,3 @@
+#ifndef STAMP
+#elif FAST
+#endif

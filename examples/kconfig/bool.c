@@ -1,0 +1,3 @@
+#ifdef CONFIG_FAST
+#elif defined(CONFIG_SAFE)
+#endif

@@ -1,0 +1,3 @@
+#if CONFIG_FIRST
+#elif CONFIG_EVEN || CONFIG_ODD
+#endif

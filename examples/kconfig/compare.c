@@ -1,0 +1,2 @@
+#if CONFIG_SPAN && CONFIG_NONE && CONFIG_SAME && CONFIG_ON
+#endif

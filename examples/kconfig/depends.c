@@ -1,0 +1,3 @@
+#if CONFIG_STAMP && \
+    !CONFIG_QUICK
+#endif

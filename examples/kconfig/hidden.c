@@ -1,0 +1,2 @@
+#if CONFIG_BIG && CONFIG_WORD >= 8 && CONFIG_CHECKS && !CONFIG_RELIC
+#endif

@@ -1,0 +1,2 @@
+#if CONFIG_QUEUE && CONFIG_SIZE
+#endif

@@ -1,0 +1,3 @@
+#ifdef CONFIG_TITLE
+#elif CONFIG_LONG
+#endif

@@ -1,0 +1,4 @@
+#if CONFIG_RATE > 8 && CONFIG_PLACE == 64 && CONFIG_BURST && CONFIG_HUGE && CONFIG_LIMIT
+#endif
+#ifdef CONFIG_PLACE
+#endif
