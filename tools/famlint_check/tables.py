@@ -27,14 +27,13 @@ class Option:
 
 
 # One line for each option of `analyse` and `plain`, and the one place for a new one. An option with a default is given to famlint in each
-# run, unless the words have it; an older famlint, which does not have the option, then refuses all words, with status 2. So `widening` has
-# no default here yet: default="thresholds" would make it that.
+# run, unless the words have it; an older famlint, which does not have the option, then refuses all words, with status 2.
 OPTIONS = (
     Option("domain", ("interval", "octagon", "stride")),
     Option("delay", (0, 16)),
     Option("narrow", (0, 8)),
     Option("overflow", ("stop", "wrap")),
-    Option("widening", ("type", "thresholds")),
+    Option("widening", ("type", "thresholds"), default="thresholds"),
     Option("regions", ("paths", "merged"), default="merged", needs_model=True),
 )
 
