@@ -34,12 +34,22 @@ fn gist_of(alloc: Global, bytes: &[u8]) -> Result<String, NoMemory> {
     Ok(gist)
 }
 
+/// The gist of the text that is asked for, if it is one.
+fn told(alloc: Global, request: &Request) -> Result<String, NoMemory> {
+    match request {
+        Request::Guide(guide) => {
+            let text = guide.text(alloc)?;
+            gist_of(alloc, text.bytes())
+        }
+        _ => Ok(String::from_str(alloc, "work")?),
+    }
+}
+
 /// What the words of a line ask for.
 fn asked(alloc: Global, line: &str) -> Result<String, NoMemory> {
     let words = words_of(alloc, line)?;
     match read_request(alloc, words.as_slice()) {
-        Ok(Request::Guide(guide)) => gist_of(alloc, guide.text(alloc)?.bytes()),
-        Ok(_) => Ok(String::from_str(alloc, "work")?),
+        Ok(request) => told(alloc, &request),
         Err(WordsRefusal::Fault(_)) => Ok(String::from_str(alloc, "refused")?),
         Err(WordsRefusal::NoMemory) => Err(NoMemory),
     }
