@@ -113,10 +113,10 @@ fn merged_counted<L: Leaf, K: Ledger>(
 /// The findings of an analysis with each tree restricted to the vectors at which `plausible` is true (the operator restrict of
 /// O. Coudert and J. C. Madre, "A unified framework for the formal verification of sequential circuits", ICCAD 1990).
 ///
-/// Each tree of a place and each alarm tree stays where it is in its list. At each vector that is plausible it leads where it did; at
-/// others it may lead anywhere, so that it has no test that only such vectors need, and each of its tests is one that it had. The
-/// trees must have numbers, as those of `analyse_family` have, and the numbers of `plausible` be below 64. Only the pairs of a tree's
-/// nodes and of the trees that sides and unions of `plausible` come to are looked at, each once. The only refusal is want of memory.
+/// Each tree of a place and each alarm tree stays where it is in its list, and each of its tests and leaves is one that it had. At each
+/// vector that is plausible it leads where it did; at others it may lead to any leaf that it had. The trees must have numbers, as those
+/// of `analyse_family` have, and the numbers of `plausible` be below 64. Only the pairs of a tree's nodes and of the trees that sides
+/// and unions of `plausible` come to are looked at, each once. The only refusal is want of memory.
 pub fn merged_findings<L: Leaf>(
     alloc: Global,
     findings: &FamilyFindings<L>,

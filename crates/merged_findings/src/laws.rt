@@ -7,16 +7,14 @@ ghost use Rattle.decision_tree.specs.Plain.{Plain};
 ghost use Rattle.lifted_analysis.specs.Canon.{IsTreeOf};
 ghost use Rattle.merged_findings.specs.Merged.{IsMergedTree, IsTreeWhere};
 
-/// A merged tree leads each vector that is plausible to what the function gives there, and has no test and no leaf that the one
-/// tree of the function lacks.
-
+/// A merged tree leads each vector that is plausible to what the function gives there; its tests are below `m`, and each of its leaves
+/// is what the function gives somewhere.
 pub fn merged_trees_lead<A>()
     ensures { (m : ℕ) (f : List Bool → A) (plausible : Proposition ℕ) (t : Plain A)
         → IsMergedTree m f plausible t → IsTreeWhere m f plausible t }
 {}
 
-/// So does the one tree of the function itself.
-
+/// So it is of the one tree of the function itself.
 pub fn one_trees_lead<A>()
     ensures { (m : ℕ) (f : List Bool → A) (plausible : Proposition ℕ) (t : Plain A)
         → IsTreeOf m f t → IsTreeWhere m f plausible t }
