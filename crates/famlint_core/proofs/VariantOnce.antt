@@ -1,5 +1,5 @@
 -- What is asked of a variant is answered once.
-use Rattle.std.proofs.Common.{◌≡◌, ℕ, ℤ, Bool, List, Option, Result, Ok, Err, sym, ap, subst, ◌∙◌}
+use Rattle.std.proofs.Common.{◌≡◌, ℕ, ℤ, Bool, List, Option, Result, Ok, Err, sym, ap, ap₂, subst, ◌∙◌}
 use Rattle.std.specs.Prelude.{if◌then◌else◌}
 use Rattle.fam_outer.specs.declared.faults.FileCode.{FileCode}
 use Rattle.fam_outer.specs.declared.faults.Place.{Place}
@@ -17,6 +17,7 @@ use Rattle.feature_model.specs.Settings.{config_of, settled, steps, unset}
 use Rattle.feature_model.specs.Stages.{◌>>=◌}
 use Rattle.variant_projector.specs.Variant.{IsVariant}
 use Rattle.c_tree.specs.Tree.{Whole}
+use Rattle.c_tree.specs.View.{whole}
 use Rattle.c_parser.specs.declared.family.Family.{Family}
 use Rattle.c_parser.specs.Reading.{IsPlainReadOver}
 use Rattle.c_parser.specs.Variants.{names_in, AreSameFamily, FamiliesAreNotRefused, FamiliesAreReadOnce, FamiliesAreRefusedOnce}
