@@ -15,7 +15,7 @@ use Rattle.famlint_programs.specs.ProgramAnswers.{AnswersPlain, plain_done}
 abbrev pub OneReading : Type 0
 OneReading = (given : List (List ℕ)) (bytes : List ℕ) (r s : Result Whole (FileCode × Place)) → IsPlainReadOver given bytes r → IsPlainReadOver given bytes s → r ≡ s
 
-one_program : OneReading → (bytes : List ℕ) (p q : Whole) → IsPlainRead bytes (Ok p) → IsPlainRead bytes (Ok q) → p ≡ q
+pub one_program : OneReading → (bytes : List ℕ) (p q : Whole) → IsPlainRead bytes (Ok p) → IsPlainRead bytes (Ok q) → p ≡ q
 one_program once bytes p q h k = let e : (let r : Result Whole (FileCode × Place) = Ok p in r) ≡ Ok q = once [] bytes (Ok p) (Ok q) h k in cc
 
 -- bytes are answered once

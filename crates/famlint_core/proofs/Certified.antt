@@ -155,11 +155,11 @@ are_distinct features h = distinct_so h.outline.entries h.outline.entries h.outl
 
 -- ---- two product lines of the same bytes
 
-record AreSameLines (k l : ProductLine) : Type 0 where
-  model : plain k.model ≡ plain l.model
-  code : whole k.family.code ≡ whole l.family.code
-  atoms : k.family.atoms ≡ l.family.atoms
-  truths : (values : List ℤ) → truths_of k.family.conditions (vector_at k.family.atoms values) ≡ truths_of l.family.conditions (vector_at l.family.atoms values)
+pub record AreSameLines (k l : ProductLine) : Type 0 where
+  pub model : plain k.model ≡ plain l.model
+  pub code : whole k.family.code ≡ whole l.family.code
+  pub atoms : k.family.atoms ≡ l.family.atoms
+  pub truths : (values : List ℤ) → truths_of k.family.conditions (vector_at k.family.atoms values) ≡ truths_of l.family.conditions (vector_at l.family.atoms values)
 
 abbrev lines_ok : Told → Result Told (FileCode × Place)
 lines_ok t = Ok t
@@ -179,7 +179,7 @@ same_atoms once a b bytes f g e o p =
     (subst (λ (m : Plain). AreAtomsOf (m.constraints ++ o.are.told.conditions) f.atoms) e o.are.conditions.atoms_are) in
     one_list ((plain b).constraints ++ p.are.told.conditions) f.atoms g.atoms mine p.are.conditions.atoms_are
 
-are_same : CertifiedLaws → (m f : List ℕ) (k l : ProductLine) → IsProductLine m f k → IsProductLine m f l → AreSameLines k l
+pub are_same : CertifiedLaws → (m f : List ℕ) (k l : ProductLine) → IsProductLine m f k → IsProductLine m f l → AreSameLines k l
 are_same laws m f k l h i =
     let e : plain k.model ≡ plain l.model = same_line_model laws.once m f k l h i in
     let family : AreSameFamily k.family l.family = laws.once.families k.model l.model f k.family l.family e h.family i.family in

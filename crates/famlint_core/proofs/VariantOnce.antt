@@ -33,7 +33,7 @@ use Rattle.famlint_loads.specs.Contents.{Contents}
 use Rattle.famlint_loads.specs.Faults.{example_of, fault_of_settings}
 use Rattle.famlint_loads.specs.Loads.{IsFamily, IsModel}
 use Rattle.famlint_loads.specs.ProductLines as lines
-use Rattle.famlint_loads.specs.ProductLines.{IsLineRefused, IsProductLine}
+use Rattle.famlint_loads.specs.ProductLines.{IsLineRefused, IsProductLine, IsProgramAt}
 use Rattle.famlint_loads.specs.Selected as selected
 use Rattle.famlint_loads.specs.Selected.{AreSelected, IsProgramOf, IsSelectionRefused, IsSettled}
 use Rattle.famlint_core.proofs.Answering.{OneReading}
@@ -166,35 +166,35 @@ same_refusal laws m f words x y (selected.no_settings l i h) (selected.no_line k
 same_refusal laws m f words x y (selected.no_settings l i h) (selected.no_settings n j k) =
     same_settings_fault l.model n.model (same_line_model laws m f l n i j) words x y h k
 
--- ---- what is done
+-- ---- two product lines of the same files
 
--- two selections of the same files and settings
-record AreSame (s t : Selected) : Type 0 where
-  model : plain s.line.model ≡ plain t.line.model
-  code : whole s.line.family.code ≡ whole t.line.family.code
-  names : names_in s.line.family ≡ names_in t.line.family
-  values : s.config.values ≡ t.config.values
-  text : s.line.text ≡ t.line.text
+pub record AreAlike (k l : ProductLine) : Type 0 where
+  pub model : plain k.model ≡ plain l.model
+  pub code : whole k.family.code ≡ whole l.family.code
+  pub text : k.text ≡ l.text
 
-same_selected : VariantLaws → (m f : List ℕ) (words : List (List ℕ)) (s t : Selected) → AreSelected m f words s → AreSelected m f words t → AreSame s t
-same_selected laws m f words s t h k =
-    let e : plain s.line.model ≡ plain t.line.model = same_line_model laws m f s.line t.line h.line k.line in
-    let family : AreSameFamily s.line.family t.line.family = laws.families s.line.model t.line.model f s.line.family t.line.family e h.line.family k.line.family in
-    record {
-      model = e;
-      code = family.code;
-      names = ap (λ (w : Whole). w.names) family.code;
-      values = same_values s.config.values t.config.values (sym h.config ∙ same_config s.line.model t.line.model e words ∙ k.config);
-      text = h.line.text ∙ sym k.line.text;
-    }
+pub alike : VariantLaws → (m f : List ℕ) (k l : ProductLine) → IsProductLine m f k → IsProductLine m f l → AreAlike k l
+alike laws m f k l h i =
+    let e : plain k.model ≡ plain l.model = same_line_model laws m f k l h i in
+    let family : AreSameFamily k.family l.family = laws.families k.model l.model f k.family l.family e h.family i.family in
+    record { model = e; code = family.code; text = h.text ∙ sym i.text }
 
-same_text : VariantLaws → (s t : Selected) → AreSame s t → (x y : List ℕ) → IsVariant (plain s.line.model) s.config.values s.line.text x → IsVariant (plain t.line.model) t.config.values t.line.text y → x ≡ y
-same_text laws s t e x y h k =
-    laws.texts (plain t.line.model) (truths_at t.config.values) t.line.text x y
-    (subst (λ (b : List ℕ). IsPreprocessed (plain t.line.model) (truths_at t.config.values) b x) e.text
-    (subst (λ (v : List ℤ). IsPreprocessed (plain t.line.model) (truths_at v) s.line.text x) e.values
-    (subst (λ (m : Plain). IsPreprocessed m (truths_at s.config.values) s.line.text x) e.model h)))
-    k
+-- the texts and the programs of their variants are the same
+
+variant_moved : (k l : ProductLine) → AreAlike k l → (values : List ℤ) (x : List ℕ) → IsVariant (plain k.model) values k.text x → IsVariant (plain l.model) values l.text x
+variant_moved k l e values x h =
+    subst (λ (b : List ℕ). IsPreprocessed (plain l.model) (truths_at values) b x) e.text
+    (subst (λ (m : Plain). IsPreprocessed m (truths_at values) k.text x) e.model h)
+
+pub program_moved : (k l : ProductLine) → AreAlike k l → (values : List ℤ) (p : Whole) → IsProgramAt k values p → IsProgramAt l values p
+program_moved k l e values p h = record {
+  text = h.text;
+  preprocessed = variant_moved k l e values h.text h.preprocessed;
+  read = subst (λ (w : Whole). IsPlainReadOver w.names h.text (Ok p)) e.code h.read;
+}
+
+one_text : VariantLaws → (l : ProductLine) (values : List ℤ) (x y : List ℕ) → IsVariant (plain l.model) values l.text x → IsVariant (plain l.model) values l.text y → x ≡ y
+one_text laws l values x y h k = laws.texts (plain l.model) (truths_at values) l.text x y h k
 
 abbrev read_ok : Whole → Result Whole (FileCode × Place)
 read_ok p = Ok p
@@ -202,20 +202,43 @@ read_ok p = Ok p
 same_read : (p q : Whole) → read_ok p ≡ read_ok q → p ≡ q
 same_read p q e = let k : read_ok p ≡ read_ok q = e in cc
 
+pub one_program : VariantLaws → (l : ProductLine) (values : List ℤ) (p q : Whole) → IsProgramAt l values p → IsProgramAt l values q → p ≡ q
+one_program laws l values p q h k =
+    let text : h.text ≡ k.text = one_text laws l values h.text k.text h.preprocessed k.preprocessed in
+    same_read p q
+    (laws.programs (names_in l.family) k.text (Ok p) (Ok q) (subst (λ (b : List ℕ). IsPlainReadOver (names_in l.family) b (Ok p)) text h.read) k.read)
+
+-- ---- what is done
+
+-- two selections of the same files and settings
+pub record AreSame (s t : Selected) : Type 0 where
+  pub line : AreAlike s.line t.line
+  pub values : s.config.values ≡ t.config.values
+
+pub same_selected : VariantLaws → (m f : List ℕ) (words : List (List ℕ)) (s t : Selected) → AreSelected m f words s → AreSelected m f words t → AreSame s t
+same_selected laws m f words s t h k =
+    let line : AreAlike s.line t.line = alike laws m f s.line t.line h.line k.line in
+    record {
+      line = line;
+      values = same_values s.config.values t.config.values (sym h.config ∙ same_config s.line.model t.line.model line.model words ∙ k.config);
+    }
+
+same_text : VariantLaws → (s t : Selected) → AreSame s t → (x y : List ℕ) → IsVariant (plain s.line.model) s.config.values s.line.text x → IsVariant (plain t.line.model) t.config.values t.line.text y → x ≡ y
+same_text laws s t e x y h k =
+    one_text laws t.line t.config.values x y
+    (subst (λ (v : List ℤ). IsVariant (plain t.line.model) v t.line.text x) e.values (variant_moved s.line t.line e.line s.config.values x h)) k
+
 same_program : VariantLaws → (s t : Selected) → AreSame s t → (p q : Whole) → IsProgramOf s p → IsProgramOf t q → p ≡ q
 same_program laws s t e p q h k =
-    let text : h.text ≡ k.text = same_text laws s t e h.text k.text h.preprocessed k.preprocessed in
-    same_read p q
-    (laws.programs (names_in t.line.family) k.text (Ok p) (Ok q)
-    (subst (λ (b : List ℕ). IsPlainReadOver (names_in t.line.family) b (Ok p)) text (subst (λ (ns : List (List ℕ)). IsPlainReadOver ns h.text (Ok p)) e.names h.read))
-    k.read)
+    one_program laws t.line t.config.values p q
+    (subst (λ (v : List ℤ). IsProgramAt t.line v p) e.values (program_moved s.line t.line e.line s.config.values p h)) k
 
 abbrev done : List ℕ → ℕ → Done
 done text status = record { text = text; status = status }
 
 same_done : VariantLaws → (task : VariantTask) (s t : Selected) → AreSame s t → (x y : Done) → IsDone task s x → IsDone task t y → x ≡ y
 same_done laws Project s t e x y (h, i) (k, j) = ap (λ (b : List ℕ). done b x.status) (same_text laws s t e x.text y.text h k) ∙ ap (done y.text) (i ∙ sym j)
-same_done laws (Variant analysis) s t e x y (p, h, i) (q, k, j) = i ∙ ap₂ (program_done analysis) e.code (same_program laws s t e p q h k) ∙ sym j
+same_done laws (Variant analysis) s t e x y (p, h, i) (q, k, j) = i ∙ ap₂ (program_done analysis) e.line.code (same_program laws s t e p q h k) ∙ sym j
 same_done laws (Run steps inputs mode) s t e x y (p, h, i) (q, k, j) = i ∙ ap (run_done inputs steps mode) (same_program laws s t e p q h k) ∙ sym j
 
 -- a variant is answered once

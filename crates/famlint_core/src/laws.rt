@@ -10,6 +10,8 @@ ghost use Rattle.famlint_checks.specs.Checked.{AnswersCheck};
 ghost use Rattle.famlint_programs.specs.ProgramAnswers.{AnswersPlain, AnswersVariant};
 ghost use Rattle.famlint_loads.specs.Contents.{Contents};
 ghost use Rattle.famlint_core.specs.Certified.{IsWrittenByCertify, IsYes};
+ghost use Rattle.famlint_core.specs.Theorem.{QuietFamiliesAreSafe, ReportsTellEachStop, FamiliesAreRead, QuietProgramsAreSafe};
+ghost use Rattle.famlint_core.specs.Theorem.{ProgramsAreRead, CheckedCertificatesListEachStop, AdviceIsSafe};
 
 use c_parser::laws::{reads_at_most_once, reads_something};
 use c_parser::variants::families_are_read_once;
@@ -52,4 +54,58 @@ pub fn certificates_are_accepted()
     texts_are_read_once();
     families_are_of_files();
     written_analyses_are_accepted();
+}
+
+/// Where `analyse` ends with status 0, no run of the variant of any valid configuration stops.
+pub fn quiet_families_are_safe()
+    ensures { QuietFamiliesAreSafe }
+{
+    bytes_say_one_model();
+    families_are_read_once();
+    variants_have_one_text();
+    reads_at_most_once();
+}
+
+/// Where `analyse` ends with status 0 or 1, each stop of each run of each valid configuration's variant is told by exactly one line of
+/// the report, and there are such variants.
+pub fn reports_tell_each_stop()
+    ensures told { ReportsTellEachStop }
+    ensures read { FamiliesAreRead }
+{
+    bytes_say_one_model();
+    families_are_read_once();
+    variants_have_one_text();
+    reads_at_most_once();
+}
+
+/// Where `plain` ends with status 0, no run of the program that the file is read as stops, and there is such a program.
+pub fn quiet_programs_are_safe()
+    ensures safe { QuietProgramsAreSafe }
+    ensures read { ProgramsAreRead }
+{
+    reads_at_most_once();
+}
+
+/// Where `check` ends with status 0, the certificate lists each stop of each run of each valid configuration's variant.
+pub fn checked_certificates_list_each_stop()
+    ensures { CheckedCertificatesListEachStop }
+{
+    bytes_say_one_model();
+    families_are_read_once();
+    variants_have_one_text();
+    reads_at_most_once();
+    texts_are_read_once();
+    families_are_of_files();
+    written_analyses_are_accepted();
+}
+
+/// Where `advise` ends with status 0, no run of the variant of the configuration that it prints stops, and each valid configuration that
+/// is nearer has an alarm.
+pub fn advice_is_safe()
+    ensures { AdviceIsSafe }
+{
+    bytes_say_one_model();
+    families_are_read_once();
+    variants_have_one_text();
+    reads_at_most_once();
 }

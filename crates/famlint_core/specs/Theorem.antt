@@ -1,0 +1,126 @@
+-- What a user may believe of the output: the page to read first.
+--
+-- In one sentence: where a run of `analyse` ends with 0 or 1, each stop of each run of each valid configuration's variant is told by
+-- exactly one line of the report, and with 0 no such run stops.
+--
+-- The clause `promise` of the top call `famlint` says: where the words ask for this request, and the paths that it names hold what is
+-- told, a run that ends with status 0 or 1 has appended a text to the output, of which what is `Promised` holds. What follows from this in
+-- the words of runs stands here; laws in src/laws.rt have these statements.
+--
+-- `IsProductLine told.model told.file l` says that the bytes of MODEL and FILE spell the model and the family of l, `IsValid` that values
+-- are a valid configuration of the model, and `IsProgramAt l values p` that the preprocessed text of its variant is read as the program p.
+-- `run_of p inputs n mode` is where at most n steps of p lead from its start, and `StoppedEnd place kind` is a stop: an overflow, a zero
+-- divisor or a failed assertion.
+use Rattle.std.specs.Prelude.{ℕ, ℤ, ◌≡◌, true, List, Some, Ok}
+use Rattle.std.specs.List.{All}
+use Rattle.fam_outer.specs.declared.faults.Place.{Place}
+use Rattle.c_tree.specs.declared.tree.Kind.{Kind}
+use Rattle.c_tree.specs.Run.{StoppedEnd, run_of}
+use Rattle.c_tree.specs.Tree.{Whole}
+use Rattle.c_tree.specs.Value.{IsInt}
+use Rattle.c_tree.specs.View.{whole}
+use Rattle.linear_atoms.specs.declared.regions.Regions.{Regions}
+use Rattle.cpp_conditions.specs.Numbering.{vector_at}
+use Rattle.cpp_conditions.specs.Validity.{plain, IsValid}
+use Rattle.c_parser.specs.Reading.{IsPlainRead}
+use Rattle.alarm_report.specs.declared.alarms.FamilyAlarm.{FamilyAlarm}
+use Rattle.alarm_report.specs.Alarms.{TellsOnce}
+use Rattle.alarm_report.specs.Texts.{alarm_text}
+use Rattle.certificate_format.specs.declared.certificates.Certificate.{Certificate}
+use Rattle.invariant_certificate.specs.Passes.{is_listed}
+use Rattle.configuration_advice.specs.declared.comparing.Advice as nearest
+use Rattle.configuration_advice.specs.Texts.{advice_text}
+use Rattle.famlint_requests.specs.declared.request.Analysis.{Analysis}
+use Rattle.famlint_requests.specs.declared.request.FamilyTask.TheVariants.{Analyse}
+use Rattle.famlint_requests.specs.declared.request.Request.TheVariants.{Plain, Family, Check, Advice}
+use Rattle.famlint_loads.specs.declared.product_line.ProductLine.{ProductLine}
+use Rattle.famlint_loads.specs.declared.selected.Selected.{Selected}
+use Rattle.famlint_loads.specs.CertificateLoads.{ReadsCertificate}
+use Rattle.famlint_loads.specs.Contents.{Contents}
+use Rattle.famlint_loads.specs.ProductLines.{IsProductLine, IsProgramAt}
+use Rattle.famlint_loads.specs.Selected.{AreSelected}
+use Rattle.famlint_programs.specs.AnalysisOptions.{options_of}
+use Rattle.famlint_programs.specs.ProgramAnswers.{meaning_of}
+use Rattle.famlint_families.specs.Advised.{IsGoodAdvice}
+use Rattle.famlint_core.specs.Answers.{Promised}
+
+-- ---- families
+
+-- Where `analyse` ends with status 0, no run of the variant of any valid configuration stops, on any inputs of `int`, after any number of
+-- steps, and in the mode that the words ask for.
+abbrev pub QuietFamiliesAreSafe : Type 0
+QuietFamiliesAreSafe =
+    (model file : List ℕ) (analysis : Analysis) (regions : Regions) (told : Contents) (text : List ℕ)
+    → Promised (Family model file analysis regions Analyse) told 0 text
+    → (l : ProductLine) → IsProductLine told.model told.file l
+    → (values : List ℤ) → IsValid (plain l.model) values
+    → (p : Whole) → IsProgramAt l values p
+    → (inputs : List ℤ) (n : ℕ) (place : Place) (kind : Kind) → All IsInt inputs
+    → run_of p inputs n analysis.mode ≡ StoppedEnd place kind → ⊥
+
+-- Where it ends with status 0 or 1, the text is the report of alarms, and each stop of each such run is told by exactly one of its lines:
+-- one with this place, this kind and a region that the configuration meets.
+abbrev pub ReportsTellEachStop : Type 0
+ReportsTellEachStop =
+    (model file : List ℕ) (analysis : Analysis) (regions : Regions) (told : Contents) (status : ℕ) (text : List ℕ)
+    → Promised (Family model file analysis regions Analyse) told status text
+    → (l : ProductLine) → IsProductLine told.model told.file l
+    → (alarms : List FamilyAlarm) × (text ≡ alarm_text regions l.model.features alarms)
+    × ((values : List ℤ) → IsValid (plain l.model) values
+    → (p : Whole) → IsProgramAt l values p
+    → (inputs : List ℤ) (n : ℕ) (place : Place) (kind : Kind) → All IsInt inputs
+    → run_of p inputs n analysis.mode ≡ StoppedEnd place kind → TellsOnce alarms place kind values)
+
+-- There is what these two speak of: the bytes spell a model and a family, and the variant of each valid configuration is read as a program.
+abbrev pub FamiliesAreRead : Type 0
+FamiliesAreRead =
+    (model file : List ℕ) (analysis : Analysis) (regions : Regions) (told : Contents) (status : ℕ) (text : List ℕ)
+    → Promised (Family model file analysis regions Analyse) told status text
+    → (l : ProductLine) × IsProductLine told.model told.file l
+    × ((values : List ℤ) → IsValid (plain l.model) values → (p : Whole) × IsProgramAt l values p)
+
+-- ---- one program
+
+-- Where `plain` ends with status 0, no run of the program that the file is read as stops.
+abbrev pub QuietProgramsAreSafe : Type 0
+QuietProgramsAreSafe =
+    (file : List ℕ) (analysis : Analysis) (told : Contents) (text : List ℕ)
+    → Promised (Plain file analysis) told 0 text
+    → (p : Whole) → IsPlainRead told.file (Ok p)
+    → (inputs : List ℤ) (n : ℕ) (place : Place) (kind : Kind) → All IsInt inputs
+    → run_of p inputs n analysis.mode ≡ StoppedEnd place kind → ⊥
+
+-- There is such a program.
+abbrev pub ProgramsAreRead : Type 0
+ProgramsAreRead =
+    (file : List ℕ) (analysis : Analysis) (told : Contents) (status : ℕ) (text : List ℕ)
+    → Promised (Plain file analysis) told status text → (p : Whole) × IsPlainRead told.file (Ok p)
+
+-- ---- certificates and advice
+
+-- Where `check` ends with status 0, the bytes of CERTIFICATE spell a certificate, and each stop of each run of the variant of each valid
+-- configuration, in the certificate's mode, is at a place and of a kind for which one of its alarms has a region that the configuration
+-- meets.
+abbrev pub CheckedCertificatesListEachStop : Type 0
+CheckedCertificatesListEachStop =
+    (model file certificate : List ℕ) (told : Contents) (text : List ℕ)
+    → Promised (Check model file certificate) told 0 text
+    → (l : ProductLine) → IsProductLine told.model told.file l
+    → (c : Certificate) × ReadsCertificate l told.certificate (Ok c)
+    × ((values : List ℤ) → IsValid (plain l.model) values
+    → (p : Whole) → IsProgramAt l values p
+    → (inputs : List ℤ) (n : ℕ) (place : Place) (kind : Kind) → All IsInt inputs
+    → run_of p inputs n c.mode ≡ StoppedEnd place kind → is_listed c.alarms.items (place, kind) (vector_at l.family.atoms values) ≡ true)
+
+-- Where `advise` ends with status 0, the text is that of a valid configuration, no run of its variant stops, and each valid configuration
+-- that is nearer to the given one has an alarm (`IsGoodAdvice`).
+abbrev pub AdviceIsSafe : Type 0
+AdviceIsSafe =
+    (model file : List ℕ) (settings : List (List ℕ)) (analysis : Analysis) (told : Contents) (text : List ℕ)
+    → Promised (Advice model file settings analysis) told 0 text
+    → (s : Selected) → AreSelected told.model told.file settings s
+    → (advice : nearest.Advice) × (text ≡ advice_text s.line.model.features (Some advice))
+    × IsGoodAdvice (meaning_of analysis.domain) (options_of analysis (whole s.line.family.code)) s.line s.config.values advice
+    × ((p : Whole) → IsProgramAt s.line advice.config.values p
+    → (inputs : List ℤ) (n : ℕ) (place : Place) (kind : Kind) → All IsInt inputs
+    → run_of p inputs n analysis.mode ≡ StoppedEnd place kind → ⊥)
