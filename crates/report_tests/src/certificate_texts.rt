@@ -4,6 +4,7 @@ ghost use Rattle.std.specs.Prelude.{◌≡◌, IfOk, [], length};
 ghost use Rattle.c_tree.specs.Value.{IsInt};
 ghost use Rattle.linear_atoms.specs.Atoms.{AreLiterals, IsAtom};
 
+use crate::features::switch;
 use alarm_report::{FamilyAlarm, FamilyInvariant, Literals, Region};
 use c_tree::{Kind, Mode};
 use certificate_format::certificate_text;
@@ -21,13 +22,8 @@ use std::test::Fail;
 fn features(alloc: Global) -> Result<Vec<Feature>, NoMemory>
     ensures { IfOk result (λ made. length made.items ≡ 1) }
 {
-    let switch = Feature {
-        name: Text::from_bytes(alloc, b"A")?,
-        boolean: true,
-        low: 0,
-        high: 1,
-    };
-    Ok(vec![in alloc; switch]?)
+    let feature = switch(alloc, b"A")?;
+    Ok(vec![in alloc; feature]?)
 }
 
 /// `x` and `i`.

@@ -3,6 +3,7 @@
 ghost use Rattle.std.specs.Prelude.{◌≡◌, [], length, IfOk};
 ghost use Rattle.linear_atoms.specs.Atoms.{AreAtoms, IsAtom};
 
+use crate::features::switch;
 use certificate_format::read_certificate;
 use fam_outer::{Refusal, Text};
 use linear_atoms::{Atom, Feature, Terms};
@@ -17,13 +18,8 @@ const HEADER: &str = "famlint certificate 1 stop\n";
 fn features(alloc: Global) -> Result<Vec<Feature>, Fail>
     ensures { IfOk result (λ made. length made.items ≡ 1) }
 {
-    let switch = Feature {
-        name: Text::from_bytes(alloc, b"A")?,
-        boolean: true,
-        low: 0,
-        high: 1,
-    };
-    Ok(vec![in alloc; switch]?)
+    let feature = switch(alloc, b"A")?;
+    Ok(vec![in alloc; feature]?)
 }
 
 /// A well-formed atom over one feature.

@@ -8,6 +8,8 @@ mod certificate_texts;
 #[cfg(test)]
 mod certificates_read;
 #[cfg(test)]
+mod features;
+#[cfg(test)]
 mod regions;
 #[cfg(test)]
 mod reports;

@@ -6,6 +6,7 @@ ghost use Rattle.c_tree.specs.View.{term, whole};
 ghost use Rattle.c_tree.specs.Whole.{IsProgram, IsPlainProgram};
 ghost use Rattle.linear_atoms.specs.Atoms.{AreLiterals, IsAtom};
 
+use crate::features::{number_feature, switch};
 use alarm_report::{
     FamilyAlarm, FamilyInvariant, Literals, Region, alarm_text, invariant_text, leaf_text,
     variant_report,
@@ -31,28 +32,13 @@ fn at(line: u32, column: u32) -> Place
 
 // ---- alarms
 
-fn feature(
-    alloc: Global,
-    name: &[u8],
-    boolean: bool,
-    low: i64,
-    high: i64,
-) -> Result<Feature, Fail> {
-    Ok(Feature {
-        name: Text::from_bytes(alloc, name)?,
-        boolean,
-        low,
-        high,
-    })
-}
-
 /// `A`, which is Boolean, and `N` and `M` from -5 to 5.
 fn features(alloc: Global) -> Result<Vec<Feature>, Fail>
     ensures { IfOk result (λ made. length made.items ≡ 3) }
 {
-    let switch = feature(alloc, b"A", true, 0, 1)?;
-    let first = feature(alloc, b"N", false, -5, 5)?;
-    let second = feature(alloc, b"M", false, -5, 5)?;
+    let switch = switch(alloc, b"A")?;
+    let first = number_feature(alloc, b"N", -5, 5)?;
+    let second = number_feature(alloc, b"M", -5, 5)?;
     Ok(vec![in alloc; switch, first, second]?)
 }
 

@@ -3,38 +3,24 @@
 ghost use Rattle.std.specs.Prelude.{◌≡◌, ◌≤◌, unsigned_abs, length, IfOk};
 ghost use Rattle.linear_atoms.specs.Atoms.{AreAtoms, AreLiterals, IsAtom};
 
+use crate::features::{number_feature, switch};
 use alarm_report::texts::push_region;
 use certificate_format::read_certificate;
-use fam_outer::{Refusal, Text};
+use fam_outer::Refusal;
 use linear_atoms::{Atom, Feature, Literal, Regions, Terms};
 use smallvec::SmallVec;
 use std::alloc::Global;
 use std::process::Abort;
 use std::test::Fail;
 
-fn feature(
-    alloc: Global,
-    name: &[u8],
-    boolean: bool,
-    low: i64,
-    high: i64,
-) -> Result<Feature, Fail> {
-    Ok(Feature {
-        name: Text::from_bytes(alloc, name)?,
-        boolean,
-        low,
-        high,
-    })
-}
-
 /// `A` and `B`, which are Boolean, and `N` and `M` from -9 to 9.
 fn features(alloc: Global) -> Result<Vec<Feature>, Fail>
     ensures { IfOk result (λ made. length made.items ≡ 4) }
 {
-    let first = feature(alloc, b"A", true, 0, 1)?;
-    let second = feature(alloc, b"B", true, 0, 1)?;
-    let third = feature(alloc, b"N", false, -9, 9)?;
-    let fourth = feature(alloc, b"M", false, -9, 9)?;
+    let first = switch(alloc, b"A")?;
+    let second = switch(alloc, b"B")?;
+    let third = number_feature(alloc, b"N", -9, 9)?;
+    let fourth = number_feature(alloc, b"M", -9, 9)?;
     Ok(vec![in alloc; first, second, third, fourth]?)
 }
 
