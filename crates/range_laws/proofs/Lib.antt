@@ -1,0 +1,5 @@
+pub mod EndLemmas
+pub mod ArithmeticEnds
+pub mod CutEnds
+pub mod NearestSteps
+pub mod Hulls

@@ -1,0 +1,5 @@
+pub mod Ends
+pub mod Arithmetic
+pub mod Cuts
+pub mod Nearest
+pub mod Joins
