@@ -3,8 +3,11 @@
 
 ghost use Rattle.range_laws.specs.Arithmetic.{EndsAreResults, ArithmeticIsLeast, SumsAreExact};
 ghost use Rattle.range_laws.specs.Cuts.{CutIsExact, EndsAreMet, CutIsLeast};
+ghost use Rattle.range_laws.specs.Clips.{ClippedSumsAreExact, ClippedQuotientsAreResults};
+ghost use Rattle.range_laws.specs.Folds.{FoldEndsAreWrapped, FoldIsLeast, FoldIsExact};
 ghost use Rattle.range_laws.specs.Joins.{HullIsLeast, CoverIsHull, MeetIsExact};
 ghost use Rattle.range_laws.specs.Nearest.{NearestIsLeast};
+ghost use Rattle.range_laws.specs.Remainders.{RemainderEndsAreResults, SingleRemaindersAreResults, RemaindersAreLeast, SomeRemaindersAreNotLeast};
 
 /// How exact `arithmetic` is, before clipping. Each end of a range of sums, differences, products or quotients is the result of
 /// numbers of the operands, so that no range with all results has fewer numbers; there is none where an operand is empty or the
@@ -13,6 +16,32 @@ pub fn arithmetic_is_least()
     ensures ends { EndsAreResults }
     ensures least { ArithmeticIsLeast }
     ensures sums { SumsAreExact }
+{}
+
+/// How exact `arithmetic` is by `%`, before clipping. Each end that is a number of the left operand is a remainder, and so are both
+/// ends where each operand is a single number. So where the left operand has 0, no range with all remainders has fewer numbers. Else
+/// one may: the remainders of 4 and 5 by 3 are 1 and 2, and their range is 0 to 2.
+pub fn remainders_are_least_from_zero()
+    ensures ends { RemainderEndsAreResults }
+    ensures single { SingleRemaindersAreResults }
+    ensures least { RemaindersAreLeast }
+    ensures more { SomeRemaindersAreNotLeast }
+{}
+
+/// How exact `clip` is on ranges of results of numbers of `int`. Each number of a clipped range of sums or differences is a result.
+/// The low of a clipped range of quotients is a quotient, and so is the high unless the least `int` may be divided by -1: that
+/// quotient is not within `int`, and the greatest within it may be less than the greatest `int`. Of products no end need be one.
+pub fn clipped_ends_are_results()
+    ensures sums { ClippedSumsAreExact }
+    ensures quotients { ClippedQuotientsAreResults }
+{}
+
+/// How exact `fold` is: each end is a wrapped number of the range, so that no range with all wrapped numbers has fewer; and each
+/// number is one, where a multiple of 2^32 brings the range within `int`.
+pub fn fold_is_least()
+    ensures ends { FoldEndsAreWrapped }
+    ensures least { FoldIsLeast }
+    ensures numbers { FoldIsExact }
 {}
 
 /// How exact `cut` is. For each number that remains of the left operand the comparison holds with a number of the right one,

@@ -1,0 +1,8 @@
+use Rattle.range_laws.proofs.ClippedEnds.{clipped-sums, clipped-quotients}
+use Rattle.range_laws.proofs.laws.clipped_ends_are_results.Goals as goal
+
+pub returns-clause-sums : goal.returns-clause-sums
+returns-clause-sums c = clipped-sums
+
+pub returns-clause-quotients : goal.returns-clause-quotients
+returns-clause-quotients c = clipped-quotients
