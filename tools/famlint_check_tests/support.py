@@ -33,8 +33,8 @@ class InFolder(unittest.TestCase):
         folder = tempfile.TemporaryDirectory(prefix="famlint-check-test-")
         self.addCleanup(folder.cleanup)
         self.folder = Path(folder.name).resolve()
-        self.environment = {
-            "PATH": f"{Path(sys.executable).parent}:{os.environ['PATH']}", "FAMLINT": str(TOY), "LC_ALL": "C.UTF-8", "HOME": str(self.folder)}
+        path = f"{Path(sys.executable).parent}:{os.environ['PATH']}"
+        self.environment = {"PATH": path, "FAMLINT": str(TOY), "LC_ALL": "C.UTF-8", "HOME": str(self.folder)}
 
     def write(self, name, text):
         path = self.folder / name
