@@ -1,17 +1,17 @@
 -- The ends of clipped ranges of results.
-use Rattle.std.proofs.Common.{◌≡◌, ◌≢◌, ℕ, zero, suc, ◌*◌, ◌/◌, ◌≤◌, ◌<◌, ℤ, pos, negsuc, ◌≤ℤ◌, int_lt, int_div, Bool, true, false, if◌then◌else◌, Some, None, refl, sym, subst, ◌∙◌, arith}
+use Rattle.std.proofs.Common.{◌≡◌, ◌*ℤ◌, inr, inl, ◌⊎◌, ◌≢◌, ℕ, zero, suc, ◌*◌, ◌/◌, ◌≤◌, ◌<◌, ℤ, pos, negsuc, ◌≤ℤ◌, int_lt, int_div, Bool, true, false, if◌then◌else◌, Some, None, refl, sym, subst, ◌∙◌, arith}
 use Rattle.std.proofs.Math.Nat.{div-mul-le_self, mul-le-mul_left}
 use Rattle.std.proofs.lemmas.Int.{ints, clamps}
 use Rattle.std.proofs.lemmas.Bool.{false≢true}
 use Rattle.std.specs.Int.{int_min, int_max}
 use Rattle.std.specs.Ordering.{int_eq}
 use Rattle.c_tree.specs.Value.{least, greatest, IsInt}
-use Rattle.c_tree.specs.declared.tree.Op.TheVariants.{Div, Rem}
+use Rattle.c_tree.specs.declared.tree.Op.TheVariants.{Mul, Div, Rem}
 use Rattle.leaf_domain.specs.declared.range.Range.{Range}
-use Rattle.leaf_domain.specs.Ranges.{Within, IsInInt, is_empty_range, range_of_ends, range_at, empty_range, clip_of, exact, arithmetic_range}
+use Rattle.leaf_domain.specs.Ranges.{Within, IsInInt, is_empty_range, range_of_ends, range_at, empty_range, whole_int, clip_of, exact, arithmetic_range}
 use Rattle.range_laws.specs.Ends.{EndsAre}
 use Rattle.range_laws.specs.Arithmetic.{IsResult}
-use Rattle.range_laws.specs.Clips.{ClippedSumsAreExact, QuotientsFit, ClippedQuotientsAreResults}
+use Rattle.range_laws.specs.Clips.{ClippedSumsAreExact, QuotientsFit, ClippedQuotientsAreResults, HighIsNoQuotient, EndsAreNoProducts}
 use Rattle.range_laws.proofs.EndLemmas.{within_ends}
 use Rattle.range_laws.proofs.ArithmeticEnds.{sums-exact, ends-results}
 
@@ -107,6 +107,61 @@ div_not_rem : Div ≢ Rem
 div_not_rem e = cc
 
 pub clipped-quotients : ClippedQuotientsAreResults
-clipped-quotients a b i j e =
+clipped-quotients a b i e =
     let c = clipped_ends (IsResult Div a b) (arithmetic_range Div a b) (ends-results Div a b div_not_rem) (λ k r. result_low a b k i r) e in
     record { low = c.0; high = λ f. c.1 (λ k r. result_high a b k i f r) }
+
+-- ---- ends of clipped ranges that are no results
+minus_two_or_one : (m : ℤ) → Within m (range_at (negsuc 1) (negsuc 0)) → (m ≡ negsuc 1) ⊎ (m ≡ negsuc 0)
+minus_two_or_one m w = by_test (int_eq m (negsuc 0)) refl
+  where
+    one : int_eq m (negsuc 0) ≡ true → m ≡ negsuc 0
+    one e = grind (arith, ints)
+
+    two : int_eq m (negsuc 0) ≡ false → m ≡ negsuc 1
+    two e = let l = w.low in let h = w.high in grind (arith, ints)
+
+    by_test : (t : Bool) → int_eq m (negsuc 0) ≡ t → (m ≡ negsuc 1) ⊎ (m ≡ negsuc 0)
+    by_test true e = inr (one e)
+    by_test false e = inl (two e)
+
+no_quotient : IsResult Div (range_at least least) (range_at (negsuc 1) (negsuc 0)) greatest → ⊥
+no_quotient r = by_right (minus_two_or_one r.right r.right_within)
+  where
+    only : r.left ≡ least
+    only = omega (arith, ints, r.left_within.low, r.left_within.high)
+
+    told_least : exact Div least r.right ≡ Some greatest
+    told_least = subst (λ n. exact Div n r.right ≡ Some greatest) only r.told
+
+    by_right : (r.right ≡ negsuc 1) ⊎ (r.right ≡ negsuc 0) → ⊥
+    by_right (inl e) = let f : exact Div least (negsuc 1) ≡ Some greatest = subst (λ m. exact Div least m ≡ Some greatest) e told_least in let g : pos 1073741824 ≡ greatest = cc in omega (arith, ints, g)
+    by_right (inr e) = let f : exact Div least (negsuc 0) ≡ Some greatest = subst (λ m. exact Div least m ≡ Some greatest) e told_least in let g : pos 2147483648 ≡ greatest = cc in omega (arith, ints, g)
+
+pub high-no-quotient : HighIsNoQuotient
+high-no-quotient = record { clipped = refl; high = no_quotient }
+
+times_three : (k : ℤ) → IsResult Mul (range_at (pos 3) (pos 3)) whole_int k → (m : ℤ) × (pos 3 *ℤ m ≡ k)
+times_three k r = (r.right, product)
+  where
+    three : r.left ≡ pos 3
+    three = omega (arith, ints, r.left_within.low, r.left_within.high)
+
+    told_three : exact Mul (pos 3) r.right ≡ Some k
+    told_three = subst (λ n. exact Mul n r.right ≡ Some k) three r.told
+
+    product : pos 3 *ℤ r.right ≡ k
+    product = let f = told_three in cc
+
+not_least : (m : ℤ) → pos 3 *ℤ m ≡ least → ⊥
+not_least m e = omega (arith, ints, e)
+
+not_greatest : (m : ℤ) → pos 3 *ℤ m ≡ greatest → ⊥
+not_greatest m e = omega (arith, ints, e)
+
+pub ends-no-products : EndsAreNoProducts
+ends-no-products = record {
+  clipped = refl;
+  low = λ r. let (m, e) = times_three least r in not_least m e;
+  high = λ r. let (m, e) = times_three greatest r in not_greatest m e;
+}

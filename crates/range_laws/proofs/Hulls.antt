@@ -1,13 +1,13 @@
 -- The numbers of hulls and meets.
-use Rattle.std.proofs.Common.{inl, inr, ℤ, ◌≤ℤ◌, refl, arith}
+use Rattle.std.proofs.Common.{◌≡◌, inl, inr, ℤ, ◌≤ℤ◌, false, refl, subst, arith}
 use Rattle.std.proofs.lemmas.Int.{ints, clamps}
 use Rattle.std.specs.Int.{int_min, int_max}
 use Rattle.leaf_domain.specs.declared.range.Range.{Range}
-use Rattle.leaf_domain.specs.Ranges.{Within, hull_of, meet_of}
+use Rattle.leaf_domain.specs.Ranges.{Within, is_empty_range, hull_of, cover_of, meet_of}
 use Rattle.leaf_domain.proofs.ArithmeticLemmas.{hull_first, hull_second}
 use Rattle.leaf_domain.proofs.CutLemmas.{ends_hold}
 use Rattle.range_laws.specs.Ends.{EndsAre}
-use Rattle.range_laws.specs.Joins.{IsInEither, HullIsLeast, CoverIsHull, MeetIsExact}
+use Rattle.range_laws.specs.Joins.{IsInEither, IsLeastOfBoth, HullIsLeast, CoverIsLeast, MeetIsExact}
 use Rattle.range_laws.proofs.EndLemmas.{some, low_in, high_in, ends_hull, within_ends, least_by_ends}
 
 held : (a b : Range) (n : ℤ) → IsInEither a b n → Within n (hull_of a b)
@@ -26,8 +26,11 @@ hull-least a b = record {
   least = least_by_ends (IsInEither a b) (hull_of a b) (ends_hull (IsInEither a b) a b (first_ends a b) (second_ends a b));
 }
 
-pub cover-hull : CoverIsHull
-cover-hull a b e f = rw (e, f) refl
+cover_is_hull : (a b : Range) → is_empty_range a ≡ false → is_empty_range b ≡ false → hull_of a b ≡ cover_of a b
+cover_is_hull a b e f = rw (e, f) refl
+
+pub cover-least : CoverIsLeast
+cover-least a b e f = subst (IsLeastOfBoth a b) (cover_is_hull a b e f) (hull-least a b)
 
 both : (a b : Range) (n : ℤ) → Within n (meet_of a b) → Within n a × Within n b
 both a b n w = let (l, h) = within_ends n (int_max a.low b.low) (int_min a.high b.high) w in (

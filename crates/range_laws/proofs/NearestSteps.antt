@@ -1,10 +1,10 @@
 -- The nearest number is the least of those that cover the bound.
 use Rattle.std.proofs.Common.{◌≡◌, ◌⊎◌, inl, inr, ℤ, ◌≤ℤ◌, int_le, int_lt, Bool, true, false, if◌then◌else◌, List, [], ◌∷◌, Contains, refl, arith}
 use Rattle.std.proofs.lemmas.Int.{ints}
-use Rattle.std.proofs.lemmas.List.Elements.{All-nil, All-cons, All-weaker, Contains-append_right}
+use Rattle.std.proofs.lemmas.List.Elements.{All-nil, All-cons, All-weaker, All-contains, Contains-append_right}
 use Rattle.std.specs.Int.{int_min}
 use Rattle.leaf_domain.specs.Thresholds.{nearest}
-use Rattle.range_laws.specs.Nearest.{IsNearest, NearestIsLeast}
+use Rattle.range_laws.specs.Nearest.{IsNearest, NearestIsLeast, NearestIsOne}
 
 here : (t : ℤ) (ts : List ℤ) → Contains (t ∷ ts) t
 here t ts = (0, omega arith, refl)
@@ -56,3 +56,14 @@ next limit t ts bound n i = by_test (int_le bound t) refl
 pub nearest-least : NearestIsLeast
 nearest-least limit [] bound l = record { covers = l; within = omega (arith, ints); step = inl refl; least = All-nil (λ x. bound ≤ℤ x → limit ≤ℤ x) }
 nearest-least limit (t ∷ ts) bound l = next limit t ts bound (nearest limit ts bound) (nearest-least limit ts bound l)
+
+-- ---- only one number is the nearest
+nearer : (limit : ℤ) (ts : List ℤ) (bound m n : ℤ) → IsNearest limit ts bound m → IsNearest limit ts bound n → m ≤ℤ n
+nearer limit ts bound m n i j = by_step j.step
+  where
+    by_step : (n ≡ limit) ⊎ Contains ts n → m ≤ℤ n
+    by_step (inl e) = omega (arith, ints, e, i.within)
+    by_step (inr c) = All-contains (λ t. bound ≤ℤ t → m ≤ℤ t) ts n i.least c j.covers
+
+pub nearest-one : NearestIsOne
+nearest-one limit ts bound m n i j = omega (arith, ints, nearer limit ts bound m n i j, nearer limit ts bound n m j i)

@@ -8,17 +8,17 @@ use Rattle.range_laws.specs.Ends.{IsLeastWith}
 abbrev pub IsInEither : Range → Range → ℤ → Type 0
 IsInEither a b n = Within n a ⊎ Within n b
 
--- the hull has both ranges, and each range that has both has the hull
-pub record IsHull (a b : Range) : Type 0 where
-  pub holds : (n : ℤ) → IsInEither a b n → Within n (hull_of a b)
-  pub least : IsLeastWith (IsInEither a b) (hull_of a b)
+-- the range has both ranges, and each range that has both has it
+pub record IsLeastOfBoth (a b r : Range) : Type 0 where
+  pub holds : (n : ℤ) → IsInEither a b n → Within n r
+  pub least : IsLeastWith (IsInEither a b) r
 
 abbrev pub HullIsLeast : Type 0
-HullIsLeast = (a b : Range) → IsHull a b
+HullIsLeast = (a b : Range) → IsLeastOfBoth a b (hull_of a b)
 
--- of two ranges that are not empty the cover is the hull
-abbrev pub CoverIsHull : Type 0
-CoverIsHull = (a b : Range) → is_empty_range a ≡ false → is_empty_range b ≡ false → cover_of a b ≡ hull_of a b
+-- so is the cover of two ranges that are not empty
+abbrev pub CoverIsLeast : Type 0
+CoverIsLeast = (a b : Range) → is_empty_range a ≡ false → is_empty_range b ≡ false → IsLeastOfBoth a b (cover_of a b)
 
 -- the meet has just the numbers of both
 abbrev pub MeetIsExact : Type 0

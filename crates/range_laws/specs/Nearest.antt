@@ -12,3 +12,7 @@ pub record IsNearest (limit : ℤ) (ts : List ℤ) (bound result : ℤ) : Type 0
 
 abbrev pub NearestIsLeast : Type 0
 NearestIsLeast = (limit : ℤ) (ts : List ℤ) (bound : ℤ) → bound ≤ℤ limit → IsNearest limit ts bound (nearest limit ts bound)
+
+-- only one number is that
+abbrev pub NearestIsOne : Type 0
+NearestIsOne = (limit : ℤ) (ts : List ℤ) (bound m n : ℤ) → IsNearest limit ts bound m → IsNearest limit ts bound n → m ≡ n
