@@ -4,14 +4,14 @@ use Rattle.std.specs.Prelude.{◌≡◌, true}
 use Rattle.std.proofs.Common.{ap}
 use Rattle.leaf_domain.specs.Leaves.{LeafValue, LeafLaws, same_leaf}
 use Rattle.leaf_domain.proofs.LeafEquality.{leaf_decides}
-use Rattle.interval_leaf.specs.Intervals.{intervals}
+use Rattle.interval_leaf.specs.Intervals.{ranges, intervals}
 use Rattle.interval_leaf.specs.Hashing.{fed_leaf}
-use Rattle.interval_leaf.specs.Laws.IntervalLaws as proved
+use Rattle.interval_leaf.specs.Laws.RangeLists.{range_laws}
+use Rattle.nonrelational_leaf.proofs.LiftedLaws.{lifted_laws}
 pub mod RangeLists
-pub mod IntervalLaws
 
 pub interval_laws : LeafLaws intervals
-interval_laws = proved.interval_laws
+interval_laws = lifted_laws ranges range_laws
 
 pub leaf_alike : (x y : LeafValue) → same_leaf x y ≡ true → fed_leaf x ≡ fed_leaf y
 leaf_alike x y e = ap fed_leaf ((leaf_decides x y).0 e)

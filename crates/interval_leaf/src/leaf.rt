@@ -11,10 +11,11 @@ ghost use Rattle.leaf_domain.proofs.LeafEquality.{leaf_decides, leaf_partial, le
 ghost use Rattle.interval_leaf.specs.Hashing.{fed_leaf};
 
 use crate::ranges::{
-    are_inside, are_same, covered, has_empty, narrowed_ranges, points, replaced, widened_ranges,
+    are_inside, are_same, covered, has_empty, narrowed_ranges, points, widened_ranges,
 };
 use fam_outer::NoMemory;
-use leaf_domain::{Compare, Form, Leaf, Range, Thresholds};
+use leaf_domain::{Compare, Form, Leaf, Operation, Range, Thresholds};
+use nonrelational_leaf::replaced;
 use std::alloc::Global;
 use std::hash::{Hash, Hasher};
 use std::marker::Model;
@@ -288,5 +289,29 @@ impl Leaf for IntervalLeaf {
         r: Range,
     ) -> Result<IntervalLeaf, NoMemory> {
         self.with(alloc, x, r)
+    }
+
+    fn operation_range(&self, _p: &Operation) -> Option<Range> {
+        None
+    }
+
+    fn meet_operation(
+        self,
+        _alloc: Global,
+        _p: &Operation,
+        _op: Compare,
+        _r: Range,
+    ) -> Result<IntervalLeaf, NoMemory> {
+        Ok(self)
+    }
+
+    fn set_operation(
+        &self,
+        alloc: Global,
+        x: u32,
+        _p: &Operation,
+        r: Range,
+    ) -> Result<IntervalLeaf, NoMemory> {
+        self.set_range(alloc, x, r)
     }
 }

@@ -1,7 +1,7 @@
 //! Lists of ranges, one for each variable.
 #![tactic(auto)]
 
-ghost use Rattle.std.specs.Prelude.{◌≡◌, ◌<◌, IfOk, length, map, zip, slice_set};
+ghost use Rattle.std.specs.Prelude.{◌≡◌, IfOk, length, map};
 ghost use Rattle.std.specs.List.{list_any};
 ghost use Rattle.leaf_domain.specs.Ranges.{is_empty_range};
 ghost use Rattle.leaf_domain.specs.Leaves.{same_numbers};
@@ -82,21 +82,6 @@ pub(crate) fn has_empty(a: &[Range]) -> bool
     ensures { result ≡ list_any is_empty_range a.now }
 {
     a.iter().any(|r| r.is_empty())
-}
-
-/// The ranges with that of `x` replaced.
-pub(crate) fn replaced(
-    alloc: Global,
-    a: &[Range],
-    x: u32,
-    r: Range,
-) -> Result<Vec<Range>, AllocError>
-    requires { x < length a.now }
-    ensures { IfOk result (λ v. v.items ≡ slice_set a.now x r) }
-{
-    let mut changed = a.to_vec(alloc)?;
-    changed[x as usize] = r;
-    Ok(changed)
 }
 
 /// Whether the ranges are the same.

@@ -8,6 +8,8 @@ use Rattle.c_tree.specs.declared.tree.Op.TheVariants.{Add, Sub, Mul, Div, Rem, L
 use Rattle.c_tree.specs.Tree.{Term, Number, Var, Neg, Not, Binary}
 use Rattle.c_tree.specs.Fit.{IsTermOf}
 use Rattle.leaf_domain.specs.declared.form.Form.{Form}
+use Rattle.leaf_domain.specs.declared.operation.Operation.{Operation}
+use Rattle.leaf_domain.specs.Operations.{HasOperation, operation_where, operation_if, kept_operation}
 use Rattle.linear_terms.specs.Terms.{RisesFrom, IsRising, AreBelow, terms_sum, terms_by}
 use Rattle.linear_terms.proofs.Bounds.{terms_sum_below, terms_by_below}
 use Rattle.linear_terms.proofs.Sums.{rises_lower, terms_sum_rises, terms_by_rises}
@@ -146,3 +148,32 @@ more_variables n m (Binary op a b) l h = (more_variables n m a l h.0, more_varia
 pub answered_difference : (count : ℕ) (r : Result (Option Form) NoMemory) (f g : Option Form) → IfOk r (λ k. k ≡ difference_form f g) → HasForm count f → HasForm count g → IfOk r (HasForm count)
 answered_difference count (Ok k) f g i h j = rw i (difference_is_form count f g h j)
 answered_difference count (Err fault) f g i h j = tt
+
+-- ---- operations
+
+pub where_is_operation : (count : ℕ) (t : Bool) (op : Op) (g h : Option Form) → HasForm count g → HasForm count h → HasOperation count (operation_where t op g h)
+where_is_operation count true op (Some g) (Some h) i j = record { left = i; right = j }
+where_is_operation count true op (Some g) None i j = tt
+where_is_operation count true op None h i j = tt
+where_is_operation count false op g h i j = tt
+
+if_is_operation : (count : ℕ) (t : Bool) (p : Option Operation) → HasOperation count p → HasOperation count (operation_if t p)
+if_is_operation count true None h = tt
+if_is_operation count false None h = tt
+if_is_operation count true (Some p) h = h
+if_is_operation count false (Some p) h = tt
+
+pub kept_is_operation : (count : ℕ) (op : Op) (t : Bool) (p : Option Operation) → HasOperation count p → HasOperation count (kept_operation op t p)
+kept_is_operation count Div t p h = h
+kept_is_operation count Rem t p h = h
+kept_is_operation count Add t p h = if_is_operation count t p h
+kept_is_operation count Sub t p h = if_is_operation count t p h
+kept_is_operation count Mul t p h = if_is_operation count t p h
+kept_is_operation count Lt t p h = if_is_operation count t p h
+kept_is_operation count Le t p h = if_is_operation count t p h
+kept_is_operation count Gt t p h = if_is_operation count t p h
+kept_is_operation count Ge t p h = if_is_operation count t p h
+kept_is_operation count Eq t p h = if_is_operation count t p h
+kept_is_operation count Ne t p h = if_is_operation count t p h
+kept_is_operation count And t p h = if_is_operation count t p h
+kept_is_operation count Or t p h = if_is_operation count t p h

@@ -8,16 +8,18 @@ use Rattle.c_tree.specs.declared.tree.Kind.TheVariants.{Overflow, ZeroDivisor, A
 use Rattle.c_tree.specs.Tree.{Term, Number, Var, Neg, Not, Binary}
 use Rattle.c_tree.specs.Fit.{IsTermOf}
 use Rattle.leaf_domain.specs.declared.form.Form.{Form}
+use Rattle.leaf_domain.specs.declared.operation.Operation.{Operation}
 use Rattle.leaf_domain.specs.declared.range.Range.{Range}
 use Rattle.leaf_domain.specs.declared.compare.Compare.{Compare}
 use Rattle.leaf_domain.specs.declared.compare.Compare.TheVariants as compares
 use Rattle.leaf_domain.specs.declared.stops.Stops.{Stops}
 use Rattle.leaf_domain.specs.declared.survey.Survey.{Survey}
-use Rattle.leaf_domain.specs.Ranges.{empty_range, range_at, clip_of, arithmetic_range, is_arithmetic}
+use Rattle.leaf_domain.specs.Ranges.{empty_range, range_at, clip_of, is_arithmetic}
 use Rattle.leaf_domain.specs.Compares.{negation_of}
 use Rattle.leaf_domain.specs.Forms.{form_of_term}
+use Rattle.leaf_domain.specs.Operations.{operation_if}
 use Rattle.leaf_domain.specs.Leaves.{LeafValue, LeafMeaning, is_nothing_of}
-use Rattle.leaf_domain.specs.Transfer.{transfer, where_some, range_where_some, variable_of, form_where, form_less_zero, zero_range, compared, negated_range, raw_of_sum, results_in, fits_in, is_inside, range_of_term, assumed}
+use Rattle.leaf_domain.specs.Transfer.{transfer, where_some, range_where_some, variable_of, form_where, form_less_zero, zero_range, operands_compared, negated_range, raw_of_sum, operation_at_leaf, range_at_leaf, results_in, fits_in, is_inside, range_of_term, assumed}
 use Rattle.leaf_domain.specs.Stops.{is_of_value, may_term}
 use Rattle.leaf_domain.specs.Evaluations.{is_truth_term, compare_of_op, compared_terms, compared_zero, stops_of, has_kind, no_stops, stops_where_some, joined_stops, operator_stops, survey_of, operation_survey, truth_survey}
 use Rattle.leaf_domain.proofs.AtNothing.{no_stop_at_nothing}
@@ -181,40 +183,41 @@ kind_is M mode Assertion e v = refl
 
 -- ---- the sides of a number
 
-zero_side : (M : LeafMeaning) (op : Compare) (x : Option ℕ) (f : Option Form) (fits : Bool) (r : Range) (v : LeafValue) → is_nothing_of v ≡ false
-    → compared M op x None (range_where_some v r) zero_range (form_where fits (form_less_zero f)) v ≡ where_some v (compared M op x None r zero_range (form_where fits (form_less_zero f)) v)
-zero_side M op x f fits r v h =
-    ap (λ k. compared M op x None k zero_range (form_where fits (form_less_zero f)) v) (range_other v r h) ∙ sym (where_other v _ h)
+zero_side : (M : LeafMeaning) (op : Compare) (x : Option ℕ) (f : Option Form) (p : Option Operation) (fits : Bool) (r : Range) (v : LeafValue) → is_nothing_of v ≡ false
+    → operands_compared M op x None (range_where_some v r) zero_range (form_where fits (form_less_zero f)) p None v ≡ where_some v (operands_compared M op x None r zero_range (form_where fits (form_less_zero f)) p None v)
+zero_side M op x f p fits r v h =
+    ap (λ k. operands_compared M op x None k zero_range (form_where fits (form_less_zero f)) p None v) (range_other v r h) ∙ sym (where_other v _ h)
 
-modular_side : (M : LeafMeaning) (mode : Mode) (op : Compare) (f : Option Form) (fit : Bool) (plain : Range) (v : LeafValue) → is_nothing_of v ≡ false
-    → compared M op None None (range_where_some v (results_in mode (raw_of_sum M f fit plain v))) zero_range (form_where (fits_in mode (fit && is_inside (raw_of_sum M f fit plain v))) (form_less_zero f)) v
-    ≡ where_some v (compared M op None None (results_in mode (raw_of_sum M f fit plain v)) zero_range (form_where (fits_in mode (fit && is_inside (raw_of_sum M f fit plain v))) (form_less_zero f)) v)
-modular_side M mode op f fit plain v h = zero_side M op None f (fits_in mode (fit && is_inside (raw_of_sum M f fit plain v))) (results_in mode (raw_of_sum M f fit plain v)) v h
+modular_side : (M : LeafMeaning) (mode : Mode) (op : Compare) (f : Option Form) (p : Option Operation) (fit : Bool) (plain : Range) (v : LeafValue) → is_nothing_of v ≡ false
+    → operands_compared M op None None (range_where_some v (results_in mode (raw_of_sum M f fit plain v))) zero_range (form_where (fits_in mode (fit && is_inside (raw_of_sum M f fit plain v))) (form_less_zero f)) (operation_if (fits_in mode (fit && is_inside (raw_of_sum M f fit plain v))) p) None v
+    ≡ where_some v (operands_compared M op None None (results_in mode (raw_of_sum M f fit plain v)) zero_range (form_where (fits_in mode (fit && is_inside (raw_of_sum M f fit plain v))) (form_less_zero f)) (operation_if (fits_in mode (fit && is_inside (raw_of_sum M f fit plain v))) p) None v)
+modular_side M mode op f p fit plain v h =
+    zero_side M op None f (operation_if (fits_in mode (fit && is_inside (raw_of_sum M f fit plain v))) p) (fits_in mode (fit && is_inside (raw_of_sum M f fit plain v))) (results_in mode (raw_of_sum M f fit plain v)) v h
 
 pub number_true : (M : LeafMeaning) (mode : Mode) (e : Term) (v : LeafValue) → is_nothing_of v ≡ false → is_truth_term e ≡ false
     → compared_zero M compares.Ne (variable_of e) (survey_of M mode e v) v ≡ (transfer M mode e).when_true v
-number_true M mode (Number n) v h t = zero_side M compares.Ne None (form_of_term (Number n)) true (range_at n n) v h
-number_true M mode (Var x) v h t = zero_side M compares.Ne (Some x) (form_of_term (Var x)) true (M.bounds_of v x) v h
-number_true M mode (Neg a) v h t = modular_side M mode compares.Ne (form_of_term (Neg a)) ((transfer M mode a).fits v) (negated_range ((transfer M mode a).range v)) v h
+number_true M mode (Number n) v h t = zero_side M compares.Ne None (form_of_term (Number n)) None true (range_at n n) v h
+number_true M mode (Var x) v h t = zero_side M compares.Ne (Some x) (form_of_term (Var x)) None true (M.bounds_of v x) v h
+number_true M mode (Neg a) v h t = modular_side M mode compares.Ne (form_of_term (Neg a)) None ((transfer M mode a).fits v) (negated_range ((transfer M mode a).range v)) v h
 number_true M mode (Not a) v h t = cc
-number_true M mode (Binary Add a b) v h t = modular_side M mode compares.Ne (form_of_term (Binary Add a b)) ((transfer M mode a).fits v && (transfer M mode b).fits v) (arithmetic_range Add ((transfer M mode a).range v) ((transfer M mode b).range v)) v h
-number_true M mode (Binary Sub a b) v h t = modular_side M mode compares.Ne (form_of_term (Binary Sub a b)) ((transfer M mode a).fits v && (transfer M mode b).fits v) (arithmetic_range Sub ((transfer M mode a).range v) ((transfer M mode b).range v)) v h
-number_true M mode (Binary Mul a b) v h t = modular_side M mode compares.Ne (form_of_term (Binary Mul a b)) ((transfer M mode a).fits v && (transfer M mode b).fits v) (arithmetic_range Mul ((transfer M mode a).range v) ((transfer M mode b).range v)) v h
-number_true M mode (Binary Div a b) v h t = zero_side M compares.Ne None None (fits_in mode false) (clip_of (arithmetic_range Div ((transfer M mode a).range v) ((transfer M mode b).range v))) v h
-number_true M mode (Binary Rem a b) v h t = zero_side M compares.Ne None None (fits_in mode false) (clip_of (arithmetic_range Rem ((transfer M mode a).range v) ((transfer M mode b).range v))) v h
+number_true M mode (Binary Add a b) v h t = modular_side M mode compares.Ne (form_of_term (Binary Add a b)) (operation_at_leaf Add (form_of_term a) (form_of_term b) (transfer M mode a) (transfer M mode b) v) ((transfer M mode a).fits v && (transfer M mode b).fits v) (range_at_leaf M Add (form_of_term a) (form_of_term b) (transfer M mode a) (transfer M mode b) v) v h
+number_true M mode (Binary Sub a b) v h t = modular_side M mode compares.Ne (form_of_term (Binary Sub a b)) (operation_at_leaf Sub (form_of_term a) (form_of_term b) (transfer M mode a) (transfer M mode b) v) ((transfer M mode a).fits v && (transfer M mode b).fits v) (range_at_leaf M Sub (form_of_term a) (form_of_term b) (transfer M mode a) (transfer M mode b) v) v h
+number_true M mode (Binary Mul a b) v h t = modular_side M mode compares.Ne (form_of_term (Binary Mul a b)) (operation_at_leaf Mul (form_of_term a) (form_of_term b) (transfer M mode a) (transfer M mode b) v) ((transfer M mode a).fits v && (transfer M mode b).fits v) (range_at_leaf M Mul (form_of_term a) (form_of_term b) (transfer M mode a) (transfer M mode b) v) v h
+number_true M mode (Binary Div a b) v h t = zero_side M compares.Ne None None (operation_at_leaf Div (form_of_term a) (form_of_term b) (transfer M mode a) (transfer M mode b) v) (fits_in mode false) (clip_of (range_at_leaf M Div (form_of_term a) (form_of_term b) (transfer M mode a) (transfer M mode b) v)) v h
+number_true M mode (Binary Rem a b) v h t = zero_side M compares.Ne None None (operation_at_leaf Rem (form_of_term a) (form_of_term b) (transfer M mode a) (transfer M mode b) v) (fits_in mode false) (clip_of (range_at_leaf M Rem (form_of_term a) (form_of_term b) (transfer M mode a) (transfer M mode b) v)) v h
 number_true M mode (Binary op a b) v h t = cc
 
 pub number_false : (M : LeafMeaning) (mode : Mode) (e : Term) (v : LeafValue) → is_nothing_of v ≡ false → is_truth_term e ≡ false
     → compared_zero M compares.Eq (variable_of e) (survey_of M mode e v) v ≡ (transfer M mode e).when_false v
-number_false M mode (Number n) v h t = zero_side M compares.Eq None (form_of_term (Number n)) true (range_at n n) v h
-number_false M mode (Var x) v h t = zero_side M compares.Eq (Some x) (form_of_term (Var x)) true (M.bounds_of v x) v h
-number_false M mode (Neg a) v h t = modular_side M mode compares.Eq (form_of_term (Neg a)) ((transfer M mode a).fits v) (negated_range ((transfer M mode a).range v)) v h
+number_false M mode (Number n) v h t = zero_side M compares.Eq None (form_of_term (Number n)) None true (range_at n n) v h
+number_false M mode (Var x) v h t = zero_side M compares.Eq (Some x) (form_of_term (Var x)) None true (M.bounds_of v x) v h
+number_false M mode (Neg a) v h t = modular_side M mode compares.Eq (form_of_term (Neg a)) None ((transfer M mode a).fits v) (negated_range ((transfer M mode a).range v)) v h
 number_false M mode (Not a) v h t = cc
-number_false M mode (Binary Add a b) v h t = modular_side M mode compares.Eq (form_of_term (Binary Add a b)) ((transfer M mode a).fits v && (transfer M mode b).fits v) (arithmetic_range Add ((transfer M mode a).range v) ((transfer M mode b).range v)) v h
-number_false M mode (Binary Sub a b) v h t = modular_side M mode compares.Eq (form_of_term (Binary Sub a b)) ((transfer M mode a).fits v && (transfer M mode b).fits v) (arithmetic_range Sub ((transfer M mode a).range v) ((transfer M mode b).range v)) v h
-number_false M mode (Binary Mul a b) v h t = modular_side M mode compares.Eq (form_of_term (Binary Mul a b)) ((transfer M mode a).fits v && (transfer M mode b).fits v) (arithmetic_range Mul ((transfer M mode a).range v) ((transfer M mode b).range v)) v h
-number_false M mode (Binary Div a b) v h t = zero_side M compares.Eq None None (fits_in mode false) (clip_of (arithmetic_range Div ((transfer M mode a).range v) ((transfer M mode b).range v))) v h
-number_false M mode (Binary Rem a b) v h t = zero_side M compares.Eq None None (fits_in mode false) (clip_of (arithmetic_range Rem ((transfer M mode a).range v) ((transfer M mode b).range v))) v h
+number_false M mode (Binary Add a b) v h t = modular_side M mode compares.Eq (form_of_term (Binary Add a b)) (operation_at_leaf Add (form_of_term a) (form_of_term b) (transfer M mode a) (transfer M mode b) v) ((transfer M mode a).fits v && (transfer M mode b).fits v) (range_at_leaf M Add (form_of_term a) (form_of_term b) (transfer M mode a) (transfer M mode b) v) v h
+number_false M mode (Binary Sub a b) v h t = modular_side M mode compares.Eq (form_of_term (Binary Sub a b)) (operation_at_leaf Sub (form_of_term a) (form_of_term b) (transfer M mode a) (transfer M mode b) v) ((transfer M mode a).fits v && (transfer M mode b).fits v) (range_at_leaf M Sub (form_of_term a) (form_of_term b) (transfer M mode a) (transfer M mode b) v) v h
+number_false M mode (Binary Mul a b) v h t = modular_side M mode compares.Eq (form_of_term (Binary Mul a b)) (operation_at_leaf Mul (form_of_term a) (form_of_term b) (transfer M mode a) (transfer M mode b) v) ((transfer M mode a).fits v && (transfer M mode b).fits v) (range_at_leaf M Mul (form_of_term a) (form_of_term b) (transfer M mode a) (transfer M mode b) v) v h
+number_false M mode (Binary Div a b) v h t = zero_side M compares.Eq None None (operation_at_leaf Div (form_of_term a) (form_of_term b) (transfer M mode a) (transfer M mode b) v) (fits_in mode false) (clip_of (range_at_leaf M Div (form_of_term a) (form_of_term b) (transfer M mode a) (transfer M mode b) v)) v h
+number_false M mode (Binary Rem a b) v h t = zero_side M compares.Eq None None (operation_at_leaf Rem (form_of_term a) (form_of_term b) (transfer M mode a) (transfer M mode b) v) (fits_in mode false) (clip_of (range_at_leaf M Rem (form_of_term a) (form_of_term b) (transfer M mode a) (transfer M mode b) v)) v h
 number_false M mode (Binary op a b) v h t = cc
 
 pub number_true_is : (M : LeafMeaning) (mode : Mode) (e : Term) (v w : LeafValue) (found : Survey) → is_nothing_of v ≡ false → is_truth_term e ≡ false → found ≡ survey_of M mode e v

@@ -26,7 +26,7 @@ use Rattle.leaf_domain.proofs.FormValues.{Comes, neg_comes, add_comes, sub_comes
 use Rattle.leaf_domain.proofs.Results.{gives, then_stops, Stopping, at_left, at_right, at_operator, both_stop, in_range_stops, result_stops, zero_from_test, nonzero_from_test, and_left, and_right, negated_holds, int_inside}
 use Rattle.leaf_domain.proofs.Comparisons.{held, term_over}
 use Rattle.leaf_domain.proofs.SoundNodes.{Sound, raw_holds}
-use Rattle.leaf_domain.proofs.SoundLemmas.{transfer_sound, BothFit, ranges_of, exact_within, assumed_holds, assumed_answers}
+use Rattle.leaf_domain.proofs.SoundLemmas.{transfer_sound, BothFit, Given, ranges_of, exact_within, assumed_holds, assumed_answers}
 
 -- ---- tests
 
@@ -147,47 +147,39 @@ module _ (M : LeafMeaning) (laws : LeafLaws M) (mode : Mode) (forms : FormsAreFo
       (raw_holds M laws mode forms (form_of_term (Neg a)) ((transfer M mode a).fits v) (negated_range (range_of_term M mode a v)) v s (neg_ℤ n) h (λ d q. forms v.variables (Neg a) d o q) w
       (λ f. neg_comes s a n ((sound a).form_comes v s n h o w f g)) (negated_holds n _ ((sound a).range_holds v s n h o w g)))
 
-  -- two operands that have values in a leaf
-  pub record Given (a b : Term) (v : LeafValue) (s : List ℤ) (n m : ℤ) : Type 0 where
-    pub valid : M.valid v
-    pub over : IsTermOf v.variables a × IsTermOf v.variables b
-    pub held_at : M.holds v s
-    pub left_is : value_of a s mode ≡ Ok n
-    pub right_is : value_of b s mode ≡ Ok m
-
-  left_within : (a b : Term) (v : LeafValue) (s : List ℤ) (n m : ℤ) → Given a b v s n m → Within n (range_of_term M mode a v)
+  left_within : (a b : Term) (v : LeafValue) (s : List ℤ) (n m : ℤ) → Given M laws mode forms a b v s n m → Within n (range_of_term M mode a v)
   left_within a b v s n m p = (sound a).range_holds v s n p.valid p.over.0 p.held_at p.left_is
 
-  right_within : (a b : Term) (v : LeafValue) (s : List ℤ) (n m : ℤ) → Given a b v s n m → Within m (range_of_term M mode b v)
+  right_within : (a b : Term) (v : LeafValue) (s : List ℤ) (n m : ℤ) → Given M laws mode forms a b v s n m → Within m (range_of_term M mode b v)
   right_within a b v s n m p = (sound b).range_holds v s m p.valid p.over.1 p.held_at p.right_is
 
-  left_comes : (a b : Term) (v : LeafValue) (s : List ℤ) (n m : ℤ) → Given a b v s n m → BothFit M laws mode forms a b v ≡ true → Comes s (form_of_term a) n
+  left_comes : (a b : Term) (v : LeafValue) (s : List ℤ) (n m : ℤ) → Given M laws mode forms a b v s n m → BothFit M laws mode forms a b v ≡ true → Comes s (form_of_term a) n
   left_comes a b v s n m p f = (sound a).form_comes v s n p.valid p.over.0 p.held_at (and_left _ _ f) p.left_is
 
-  right_comes : (a b : Term) (v : LeafValue) (s : List ℤ) (n m : ℤ) → Given a b v s n m → BothFit M laws mode forms a b v ≡ true → Comes s (form_of_term b) m
+  right_comes : (a b : Term) (v : LeafValue) (s : List ℤ) (n m : ℤ) → Given M laws mode forms a b v s n m → BothFit M laws mode forms a b v ≡ true → Comes s (form_of_term b) m
   right_comes a b v s n m p f = (sound b).form_comes v s m p.valid p.over.1 p.held_at (and_right _ _ f) p.right_is
 
-  pub raw_add : (a b : Term) (v : LeafValue) (s : List ℤ) (n m : ℤ) → Given a b v s n m → Within (n +ℤ m) (raw_of_term M mode (Binary Add a b) v)
+  pub raw_add : (a b : Term) (v : LeafValue) (s : List ℤ) (n m : ℤ) → Given M laws mode forms a b v s n m → Within (n +ℤ m) (raw_of_term M mode (Binary Add a b) v)
   raw_add a b v s n m p = rw (held M laws v s p.held_at)
       (raw_holds M laws mode forms (form_of_term (Binary Add a b)) (BothFit M laws mode forms a b v) (ranges_of M laws mode forms Add a b v) v s (n +ℤ m) p.valid (λ d q. forms v.variables (Binary Add a b) d p.over q) p.held_at
       (λ f. add_comes s a b n m (left_comes a b v s n m p f) (right_comes a b v s n m p f))
-      (exact_within M laws mode forms Add a b v n m (n +ℤ m) (left_within a b v s n m p) (right_within a b v s n m p) refl (λ q. cc)))
+      (exact_within M laws mode forms Add a b (sound a) (sound b) v s n m (n +ℤ m) p refl (λ q. cc)))
 
-  pub raw_sub : (a b : Term) (v : LeafValue) (s : List ℤ) (n m : ℤ) → Given a b v s n m → Within (n -ℤ m) (raw_of_term M mode (Binary Sub a b) v)
+  pub raw_sub : (a b : Term) (v : LeafValue) (s : List ℤ) (n m : ℤ) → Given M laws mode forms a b v s n m → Within (n -ℤ m) (raw_of_term M mode (Binary Sub a b) v)
   raw_sub a b v s n m p = rw (held M laws v s p.held_at)
       (raw_holds M laws mode forms (form_of_term (Binary Sub a b)) (BothFit M laws mode forms a b v) (ranges_of M laws mode forms Sub a b v) v s (n -ℤ m) p.valid (λ d q. forms v.variables (Binary Sub a b) d p.over q) p.held_at
       (λ f. sub_comes s a b n m (left_comes a b v s n m p f) (right_comes a b v s n m p f))
-      (exact_within M laws mode forms Sub a b v n m (n -ℤ m) (left_within a b v s n m p) (right_within a b v s n m p) refl (λ q. cc)))
+      (exact_within M laws mode forms Sub a b (sound a) (sound b) v s n m (n -ℤ m) p refl (λ q. cc)))
 
-  pub raw_mul : (a b : Term) (v : LeafValue) (s : List ℤ) (n m : ℤ) → Given a b v s n m → Within (n *ℤ m) (raw_of_term M mode (Binary Mul a b) v)
+  pub raw_mul : (a b : Term) (v : LeafValue) (s : List ℤ) (n m : ℤ) → Given M laws mode forms a b v s n m → Within (n *ℤ m) (raw_of_term M mode (Binary Mul a b) v)
   raw_mul a b v s n m p = rw (held M laws v s p.held_at)
       (raw_holds M laws mode forms (form_of_term (Binary Mul a b)) (BothFit M laws mode forms a b v) (ranges_of M laws mode forms Mul a b v) v s (n *ℤ m) p.valid (λ d q. forms v.variables (Binary Mul a b) d p.over q) p.held_at
       (λ f. mul_comes s a b n m (left_comes a b v s n m p f) (right_comes a b v s n m p f))
-      (exact_within M laws mode forms Mul a b v n m (n *ℤ m) (left_within a b v s n m p) (right_within a b v s n m p) refl (λ q. cc)))
+      (exact_within M laws mode forms Mul a b (sound a) (sound b) v s n m (n *ℤ m) p refl (λ q. cc)))
 
-  raw_div : (a b : Term) (v : LeafValue) (s : List ℤ) (n m : ℤ) → Given a b v s n m → is_zero m ≡ false → Within (int_div n m) (raw_of_term M mode (Binary Div a b) v)
+  raw_div : (a b : Term) (v : LeafValue) (s : List ℤ) (n m : ℤ) → Given M laws mode forms a b v s n m → is_zero m ≡ false → Within (int_div n m) (raw_of_term M mode (Binary Div a b) v)
   raw_div a b v s n m p z = rw (held M laws v s p.held_at)
-      (exact_within M laws mode forms Div a b v n m (int_div n m) (left_within a b v s n m p) (right_within a b v s n m p) (ap (λ t. if t then None else Some (int_div n m)) z) (λ q. cc))
+      (exact_within M laws mode forms Div a b (sound a) (sound b) v s n m (int_div n m) p (ap (λ t. if t then None else Some (int_div n m)) z) (λ q. cc))
 
   -- ---- an expression that stops
 
@@ -195,7 +187,7 @@ module _ (M : LeafMeaning) (laws : LeafLaws M) (mode : Mode) (forms : FormsAreFo
   unless_held v s b w e = rw (held M laws v s w) e
 
   -- how an operator on two operands stops
-  operator_may : (kind : Kind) (op : Op) (a b : Term) (v : LeafValue) (s : List ℤ) (n m : ℤ) → Given a b v s n m
+  operator_may : (kind : Kind) (op : Op) (a b : Term) (v : LeafValue) (s : List ℤ) (n m : ℤ) → Given M laws mode forms a b v s n m
       → stops_at mode kind op (raw_of_term M mode (Binary op a b) v) (range_of_term M mode a v) (range_of_term M mode b v) ≡ true
       → unless_nothing v (either_stops (may_term M mode kind a v) (may_term M mode kind b v) (stops_at mode kind op (raw_of_term M mode (Binary op a b) v) (range_of_term M mode a v) (range_of_term M mode b v)) (range_of_term M mode a v) (range_of_term M mode b v)) ≡ true
   operator_may kind op a b v s n m p e = unless_held v s _ p.held_at
@@ -210,7 +202,7 @@ module _ (M : LeafMeaning) (laws : LeafLaws M) (mode : Mode) (forms : FormsAreFo
       → ((kind : Kind) (v : LeafValue) → may_term M mode kind (Binary op a b) v ≡ unless_nothing v (either_stops (may_term M mode kind a v) (may_term M mode kind b v) (stops_at mode kind op (raw_of_term M mode (Binary op a b) v) (range_of_term M mode a v) (range_of_term M mode b v)) (range_of_term M mode a v) (range_of_term M mode b v)))
       → ((s : List ℤ) → value_of (Binary op a b) s mode ≡ (value_of a s mode >>= λ n. value_of b s mode >>= λ m. f n m))
       → ((n : ℕ) → IsTermOf n (Binary op a b) → IsTermOf n a × IsTermOf n b)
-      → ((kind : Kind) (v : LeafValue) (s : List ℤ) (n m : ℤ) → Given a b v s n m → f n m ≡ Err kind
+      → ((kind : Kind) (v : LeafValue) (s : List ℤ) (n m : ℤ) → Given M laws mode forms a b v s n m → f n m ≡ Err kind
       → (is_of_value kind ≡ true) × (stops_at mode kind op (raw_of_term M mode (Binary op a b) v) (range_of_term M mode a v) (range_of_term M mode b v) ≡ true))
       → Stops (Binary op a b)
   unfolding Stops
@@ -229,7 +221,7 @@ module _ (M : LeafMeaning) (laws : LeafLaws M) (mode : Mode) (forms : FormsAreFo
         may = may_is kind v ∙ unless_held v s _ w (either_right (may_term M mode kind a v) (may_term M mode kind b v) (stops_at mode kind op (raw_of_term M mode (Binary op a b) v) (range_of_term M mode a v) (range_of_term M mode b v)) (range_of_term M mode a v) (range_of_term M mode b v) (not_empty n _ ((sound a).range_holds v s n h p.0 w d)) t.may);
       }
       by_cause (at_operator t) =
-          let r : Given a b v s t.first t.second = record { valid = h; over = p; held_at = w; left_is = t.first_is; right_is = t.second_is } in
+          let r : Given M laws mode forms a b v s t.first t.second = record { valid = h; over = p; held_at = w; left_is = t.first_is; right_is = t.second_is } in
           let q = own kind v s t.first t.second r t.is in
           record { of_value = q.0; may = may_is kind v ∙ operator_may kind op a b v s t.first t.second r q.1 }
 
@@ -281,7 +273,7 @@ module _ (M : LeafMeaning) (laws : LeafLaws M) (mode : Mode) (forms : FormsAreFo
           let t = sb kind (assumed M mode a false v) s first.valid (term_over M laws b v _ first o.1) (assumed_holds M laws mode forms a false v s (pos 0) (record { valid = h; term = o.0 }) w d refl) e in
           record { of_value = t.of_value; may = unless_held v s _ w (or_right (may_term M mode kind a v) _ t.may) }
 
-  quotient_may : (a b : Term) (kind : Kind) (v : LeafValue) (s : List ℤ) (n m : ℤ) → Given a b v s n m → quotient_of n m ≡ Err kind
+  quotient_may : (a b : Term) (kind : Kind) (v : LeafValue) (s : List ℤ) (n m : ℤ) → Given M laws mode forms a b v s n m → quotient_of n m ≡ Err kind
       → (is_of_value kind ≡ true) × (stops_at mode kind Div (raw_of_term M mode (Binary Div a b) v) (range_of_term M mode a v) (range_of_term M mode b v) ≡ true)
   quotient_may a b kind v s n m p e = by_cause kind (quotient_stops n m kind e)
     where
@@ -294,7 +286,7 @@ module _ (M : LeafMeaning) (laws : LeafLaws M) (mode : Mode) (forms : FormsAreFo
       by_cause ZeroDivisor (inr q) = cc q.0
       by_cause Assertion (inr q) = cc q.0
 
-  remainder_may : (a b : Term) (kind : Kind) (v : LeafValue) (s : List ℤ) (n m : ℤ) → Given a b v s n m → remainder_of n m ≡ Err kind
+  remainder_may : (a b : Term) (kind : Kind) (v : LeafValue) (s : List ℤ) (n m : ℤ) → Given M laws mode forms a b v s n m → remainder_of n m ≡ Err kind
       → (is_of_value kind ≡ true) × (stops_at mode kind Rem (raw_of_term M mode (Binary Rem a b) v) (range_of_term M mode a v) (range_of_term M mode b v) ≡ true)
   remainder_may a b kind v s n m p e = by_cause kind (remainder_stops n m kind e)
     where

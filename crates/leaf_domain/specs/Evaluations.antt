@@ -7,6 +7,7 @@ use Rattle.c_tree.specs.declared.tree.Op.{Op}
 use Rattle.c_tree.specs.declared.tree.Op.TheVariants.{Div, Rem, Lt, Le, Gt, Ge, Eq}
 use Rattle.c_tree.specs.Tree.{Term, Not, Binary}
 use Rattle.leaf_domain.specs.declared.form.Form.{Form}
+use Rattle.leaf_domain.specs.declared.operation.Operation.{Operation}
 use Rattle.leaf_domain.specs.declared.range.Range.{Range}
 use Rattle.leaf_domain.specs.declared.compare.Compare.{Compare}
 use Rattle.leaf_domain.specs.declared.compare.Compare.TheVariants as compares
@@ -14,12 +15,13 @@ use Rattle.leaf_domain.specs.declared.evaluation.Evaluation.{Evaluation}
 use Rattle.leaf_domain.specs.declared.sides.Operand.{Operand}
 use Rattle.leaf_domain.specs.declared.stops.Stops.{Stops}
 use Rattle.leaf_domain.specs.declared.survey.Survey.{Survey}
-use Rattle.leaf_domain.specs.Ranges.{IsInInt, is_empty_range, range_at, clip_of, arithmetic_range, is_arithmetic}
+use Rattle.leaf_domain.specs.Ranges.{IsInInt, is_empty_range, range_at, clip_of, is_arithmetic}
 use Rattle.leaf_domain.specs.Leaves.{LeafValue, LeafMeaning}
-use Rattle.leaf_domain.specs.Transfer.{Transfer, transfer, range_where_some, range_of_sides, fits_in, is_inside, results_in, raw_of_sum, negated_range, form_where, form_less_zero, zero_range, compared}
+use Rattle.leaf_domain.specs.Transfer.{Transfer, transfer, range_where_some, range_of_sides, fits_in, is_inside, results_in, raw_of_sum, negated_range, form_where, form_less_zero, zero_range, compared, operands_compared, operands_range}
 use Rattle.leaf_domain.specs.Forms.{form_of_term, kept_form, constant_form, variable_form, multiple_form, difference_form, binary_form}
 use Rattle.leaf_domain.specs.Stops.{may_leave, stops_at, either_stops, unless_nothing, may_term}
 use Rattle.leaf_domain.specs.Sums.{HasForm}
+use Rattle.leaf_domain.specs.Operations.{HasOperation, operation_where, kept_operation}
 
 -- the ranges and the fit of an expression in a leaf
 abbrev pub evaluation_of : Transfer → LeafValue → Evaluation
@@ -52,10 +54,10 @@ abbrev pub negation_at : LeafMeaning → Mode → Option Form → Evaluation →
 negation_at M mode f a v = modular_at M mode f a.fits (negated_range a.range) v
 
 -- an arithmetic operator on two operands
-abbrev pub arithmetic_at : LeafMeaning → Mode → Op → Option Form → Evaluation → Evaluation → LeafValue → Evaluation
-arithmetic_at M mode Div f a b v = divided_at mode (arithmetic_range Div a.range b.range) v
-arithmetic_at M mode Rem f a b v = divided_at mode (arithmetic_range Rem a.range b.range) v
-arithmetic_at M mode op f a b v = modular_at M mode f (a.fits && b.fits) (arithmetic_range op a.range b.range) v
+abbrev pub arithmetic_at : LeafMeaning → Mode → Op → Option Form → Option Operation → Evaluation → Evaluation → LeafValue → Evaluation
+arithmetic_at M mode Div f p a b v = divided_at mode (operands_range M Div p a.range b.range v) v
+arithmetic_at M mode Rem f p a b v = divided_at mode (operands_range M Rem p a.range b.range v) v
+arithmetic_at M mode op f p a b v = modular_at M mode f (a.fits && b.fits) (operands_range M op p a.range b.range v) v
 
 -- ---- comparisons
 
@@ -77,14 +79,18 @@ pub record IsOperand (count : ℕ) (a : Operand) : Type 0 where
 abbrev pub compared_at : LeafMeaning → Compare → Operand → Operand → Option Form → LeafValue → LeafValue
 compared_at M op a b f v = compared M op a.variable b.variable a.range b.range f v
 
+-- the leaf where the comparison of two operands holds, each also seen as what an operator gives
+abbrev pub operands_compared_at : LeafMeaning → Compare → Operand → Operand → Option Form → Option Operation → Option Operation → LeafValue → LeafValue
+operands_compared_at M op a b f p q v = operands_compared M op a.variable b.variable a.range b.range f p q v
+
 -- the leaf where the comparison of two expressions holds, by what was found of them
 abbrev pub compared_terms : LeafMeaning → Compare → Option ℕ → Option ℕ → Survey → Survey → LeafValue → LeafValue
 compared_terms M op x y left right v =
-    compared M op x y left.evaluation.range right.evaluation.range (form_where (left.evaluation.fits && right.evaluation.fits) (difference_form left.form right.form)) v
+    operands_compared M op x y left.evaluation.range right.evaluation.range (form_where (left.evaluation.fits && right.evaluation.fits) (difference_form left.form right.form)) left.operation right.operation v
 
 -- the leaf where the comparison of a number with 0 holds, by what was found of it
 abbrev pub compared_zero : LeafMeaning → Compare → Option ℕ → Survey → LeafValue → LeafValue
-compared_zero M op x found v = compared M op x None found.evaluation.range zero_range (form_where found.evaluation.fits (form_less_zero found.form)) v
+compared_zero M op x found v = operands_compared M op x None found.evaluation.range zero_range (form_where found.evaluation.fits (form_less_zero found.form)) found.operation None v
 
 -- ---- stops
 
@@ -124,36 +130,38 @@ operator_stops mode op raw left right r s = record {
 -- ---- all that one pass finds
 
 abbrev pub survey_of : LeafMeaning → Mode → Term → LeafValue → Survey
-survey_of M mode e v = record { evaluation = evaluation_of (transfer M mode e) v; form = form_of_term e; stops = stops_of M mode e v }
+survey_of M mode e v = record { evaluation = evaluation_of (transfer M mode e) v; form = form_of_term e; operation = (transfer M mode e).operation v; stops = stops_of M mode e v }
 
--- a range within `int`, and a form over so many variables, which are at most 16
+-- a range within `int`, and a form and an operation over so many variables, which are at most 16
 pub record IsOver (count : ℕ) (s : Survey) : Type 0 where
   pub range : IsInInt s.evaluation.range
   pub form : HasForm count s.form
   pub few : HasForm 16 s.form
+  pub operation : HasOperation count s.operation
 
 abbrev pub number_survey : ℤ → LeafValue → Survey
-number_survey n v = record { evaluation = number_at v (range_at n n) (range_at n n) true; form = kept_form (constant_form n); stops = no_stops }
+number_survey n v = record { evaluation = number_at v (range_at n n) (range_at n n) true; form = kept_form (constant_form n); operation = None; stops = no_stops }
 
 abbrev pub variable_survey : LeafMeaning → ℕ → LeafValue → Survey
-variable_survey M x v = record { evaluation = number_at v (M.bounds_of v x) (M.bounds_of v x) true; form = Some (variable_form x); stops = no_stops }
+variable_survey M x v = record { evaluation = number_at v (M.bounds_of v x) (M.bounds_of v x) true; form = Some (variable_form x); operation = None; stops = no_stops }
 
--- a number, by its evaluation, its form and the stops that it has where the leaf is not Nothing
-abbrev pub numeric_survey : LeafValue → Evaluation → Option Form → Stops → Survey
-numeric_survey v found f s = record { evaluation = found; form = f; stops = stops_where_some v s }
+-- a number, by its evaluation, its form, its operation and the stops that it has where the leaf is not Nothing
+abbrev pub numeric_survey : LeafValue → Evaluation → Option Form → Option Operation → Stops → Survey
+numeric_survey v found f p s = record { evaluation = found; form = f; operation = p; stops = stops_where_some v s }
 
 abbrev pub negation_survey : LeafMeaning → Mode → Survey → LeafValue → Survey
 negation_survey M mode a v =
     let f = multiple_form (negsuc 0) a.form in
     let found = negation_at M mode f a.evaluation v in
-    numeric_survey v found f (negation_stops mode found.raw a.stops a.evaluation.range)
+    numeric_survey v found f None (negation_stops mode found.raw a.stops a.evaluation.range)
 
 abbrev pub operation_survey : LeafMeaning → Mode → Op → Survey → Survey → LeafValue → Survey
 operation_survey M mode op a b v =
     let f = binary_form op a.form b.form in
-    let found = arithmetic_at M mode op f a.evaluation b.evaluation v in
-    numeric_survey v found f (operator_stops mode op found.raw a.stops b.stops a.evaluation.range b.evaluation.range)
+    let p = operation_where (a.evaluation.fits && b.evaluation.fits) op a.form b.form in
+    let found = arithmetic_at M mode op f p a.evaluation b.evaluation v in
+    numeric_survey v found f (kept_operation op found.fits p) (operator_stops mode op found.raw a.stops b.stops a.evaluation.range b.evaluation.range)
 
 -- a truth value that is 1 in the first leaf and 0 in the second
 abbrev pub truth_survey : Mode → LeafValue → LeafValue → Stops → Survey
-truth_survey mode when_true when_false s = record { evaluation = truth_at mode when_true when_false; form = None; stops = s }
+truth_survey mode when_true when_false s = record { evaluation = truth_at mode when_true when_false; form = None; operation = None; stops = s }

@@ -2,6 +2,7 @@ pub mod Ranges
 pub mod Compares
 pub mod Forms
 pub mod Sums
+pub mod Operations
 pub mod Leaves
 pub mod Transfer
 pub mod Evaluations

@@ -1,7 +1,7 @@
 //! The ends of a range, as widening moves them to thresholds and narrowing takes them back.
 #![tactic(auto)]
 
-ghost use Rattle.std.specs.Prelude.{◌≡◌, ◌≤ℤ◌, ◌<ℤ◌, neg_ℤ};
+ghost use Rattle.std.specs.Prelude.{◌≡◌, ◌≤ℤ◌};
 ghost use Rattle.c_tree.specs.Value.{least};
 ghost use Rattle.leaf_domain.specs.Ends.{low_step, high_step, is_low_step, is_high_step, widened_range, narrowed_range};
 

@@ -5,11 +5,13 @@ ghost use Rattle.std.specs.Prelude.{◌≡◌, IsTrue, not, true};
 ghost use Rattle.c_tree.specs.View.{term};
 ghost use Rattle.leaf_domain.specs.Ranges.{IsInInt, is_arithmetic};
 ghost use Rattle.leaf_domain.specs.Sums.{HasForm};
-ghost use Rattle.leaf_domain.specs.Transfer.{fits_in, truth_range, negated_range, is_inside, results_in, raw_of_sum, form_range_of, form_where};
+ghost use Rattle.leaf_domain.specs.Operations.{HasOperation};
+ghost use Rattle.leaf_domain.specs.Transfer.{fits_in, truth_range, negated_range, is_inside, results_in, raw_of_sum, form_range_of, form_where, operation_range_of, operands_range, narrowed_by};
 ghost use Rattle.leaf_domain.specs.Evaluations.{is_truth_term, truth_at, number_at, modular_at, divided_at, negation_at, arithmetic_at};
 
 use crate::form::Form;
 use crate::leaf::Leaf;
+use crate::operation::Operation;
 use crate::range::{Range, arithmetic};
 use c_tree::{Expr, Mode, Op};
 
@@ -210,23 +212,57 @@ pub(crate) fn negation<L: Leaf>(
     modular(leaf, mode, form, a.fits, negated(a.range))
 }
 
+/// The range of what an operator gives in a leaf, where its operands have forms that count and the kind of leaf has one.
+fn operation_range<L: Leaf>(leaf: &L, p: &Option<Operation>) -> Option<Range>
+    requires { HasOperation (L.value leaf.now).variables p.now }
+    ensures { result ≡ operation_range_of L.meaning p.now (L.value leaf.now) }
+{
+    match p {
+        Some(p) => leaf.operation_range(p),
+        None => None,
+    }
+}
+
+/// The range met with another, where there is one.
+fn narrowed(range: Range, by: Option<Range>) -> Range
+    ensures { result ≡ narrowed_by by range }
+{
+    match by {
+        Some(by) => range.meet(by),
+        None => range,
+    }
+}
+
+/// The range of an operator on operands of these ranges before clipping, met with that of the operation.
+fn operands_range<L: Leaf>(leaf: &L, op: Op, p: &Option<Operation>, a: Range, b: Range) -> Range
+    requires op { IsTrue (is_arithmetic op) }
+    requires p { HasOperation (L.value leaf.now).variables p.now }
+    requires a { IsInInt a }
+    requires b { IsInInt b }
+    ensures { result ≡ operands_range L.meaning op p.now a b (L.value leaf.now) }
+{
+    narrowed(arithmetic(op, a, b), operation_range(leaf, p))
+}
+
 /// An arithmetic operator on two operands.
 pub(crate) fn operation<L: Leaf>(
     leaf: &L,
     mode: Mode,
     op: Op,
     form: &Option<Form>,
+    p: &Option<Operation>,
     a: Evaluation,
     b: Evaluation,
 ) -> Evaluation
     requires op { IsTrue (is_arithmetic op) }
     requires form { HasForm (L.value leaf.now).variables form.now }
+    requires p { HasOperation (L.value leaf.now).variables p.now }
     requires a { IsInInt a.range }
     requires b { IsInInt b.range }
-    ensures value { result ≡ arithmetic_at L.meaning mode op form.now a b (L.value leaf.now) }
+    ensures value { result ≡ arithmetic_at L.meaning mode op form.now p.now a b (L.value leaf.now) }
     ensures int { IsInInt result.range }
 {
-    let plain = arithmetic(op, a.range, b.range);
+    let plain = operands_range(leaf, op, p, a.range, b.range);
     match op {
         Op::Div | Op::Rem => divided(leaf, mode, plain),
         _ => modular(leaf, mode, form, a.fits && b.fits, plain),

@@ -5,10 +5,12 @@ ghost use Rattle.std.specs.Prelude.{◌≡◌, ◌<◌, ◌≤◌, true, IfOk, l
 ghost use Rattle.leaf_domain.specs.Ranges.{IsInInt};
 ghost use Rattle.c_tree.specs.Value.{IsInt};
 ghost use Rattle.leaf_domain.specs.Forms.{IsForm};
+ghost use Rattle.leaf_domain.specs.Operations.{IsOperation};
 ghost use Rattle.leaf_domain.specs.Leaves.{LeafValue, LeafMeaning, LeafLaws, nothing_of, is_nothing_of, same_leaf};
 
 use crate::compare::Compare;
 use crate::form::Form;
+use crate::operation::Operation;
 use crate::range::Range;
 use crate::thresholds::Thresholds;
 use fam_outer::NoMemory;
@@ -40,7 +42,7 @@ pub trait Leaf: Eq + Hash + Drop {
     fn bound_count(variables: u32) -> u32
         requires { variables ≤ 16 }
         ensures value { result ≡ meaning.bound_count variables }
-        ensures small { result ≤ 1024 };
+        ensures small { result ≤ 2048 };
 
     /// The number of variables. Each leaf of the kind has one of the kind's values.
     fn variables(&self) -> u32
@@ -114,6 +116,38 @@ pub trait Leaf: Eq + Hash + Drop {
         requires f { IsForm (value self.now).variables f.now }
         requires r { IsInInt r }
         ensures { IfOk result (λ leaf. value leaf ≡ meaning.set_form (value self.now) x f.now r) };
+
+    /// The range of what an operator gives on two forms, before clipping, where the kind of leaf has one. That of their ranges
+    /// is met with it.
+    fn operation_range(&self, p: &Operation) -> Option<Range>
+        requires { IsOperation (value self.now).variables p.now }
+        ensures { result ≡ meaning.operation_range (value self.now) p.now };
+
+    /// The stores at which what an operator gives on two forms compares so with some number of the range, as far as the kind of
+    /// leaf sees.
+    fn meet_operation(
+        self,
+        alloc: Global,
+        p: &Operation,
+        op: Compare,
+        r: Range,
+    ) -> Result<Self, NoMemory>
+        requires p { IsOperation (value self).variables p.now }
+        requires r { IsInInt r }
+        ensures { IfOk result (λ leaf. value leaf ≡ meaning.meet_operation (value self) p.now op r) };
+
+    /// The stores with a variable replaced by what an operator gives on two forms, which lies in the range.
+    fn set_operation(
+        &self,
+        alloc: Global,
+        x: u32,
+        p: &Operation,
+        r: Range,
+    ) -> Result<Self, NoMemory>
+        requires x { x < (value self.now).variables }
+        requires p { IsOperation (value self.now).variables p.now }
+        requires r { IsInInt r }
+        ensures { IfOk result (λ leaf. value leaf ≡ meaning.set_operation (value self.now) x p.now r) };
 
     /// Leaves are equal where their values are, number for number.
     ghost equal: { (a b : Self) → Self.eq a b ≡ same_leaf (value a) (value b) };

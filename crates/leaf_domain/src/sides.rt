@@ -8,14 +8,16 @@ ghost use Rattle.leaf_domain.specs.declared.compare.Compare.TheVariants.{Ne, Eq}
 ghost use Rattle.leaf_domain.specs.Ranges.{IsInInt};
 ghost use Rattle.leaf_domain.specs.Compares.{negation_of};
 ghost use Rattle.leaf_domain.specs.Sums.{HasForm};
-ghost use Rattle.leaf_domain.specs.Transfer.{variable_of, met, form_met};
-ghost use Rattle.leaf_domain.specs.Evaluations.{IsOperand, IsOver, no_stops, joined_stops, compared_at, compared_terms, compared_zero, compare_of_op};
+ghost use Rattle.leaf_domain.specs.Operations.{HasOperation};
+ghost use Rattle.leaf_domain.specs.Transfer.{variable_of, met, form_met, operation_met};
+ghost use Rattle.leaf_domain.specs.Evaluations.{IsOperand, IsOver, no_stops, joined_stops, compared_at, operands_compared_at, compared_terms, compared_zero, compare_of_op};
 
 use crate::compare::{Compare, cut, mirror, negation};
 use crate::differences::{difference_where, less_zero_where};
 use crate::form::Form;
 use crate::laws::leaf_is_valid;
 use crate::leaf::Leaf;
+use crate::operation::Operation;
 use crate::range::Range;
 use crate::stops::{Stops, joined_stops, no_stops};
 use crate::survey::Survey;
@@ -274,6 +276,52 @@ fn compare<L: Leaf>(
     meet_form(alloc, made, form, op)
 }
 
+/// The leaf met with the comparison of what an operator gives with some number of the range, where there is one.
+fn meet_operation<L: Leaf>(
+    alloc: Global,
+    leaf: L,
+    operation: &Option<Operation>,
+    op: Compare,
+    r: Range,
+) -> Result<L, NoMemory>
+    requires operation { HasOperation (L.value leaf).variables operation.now }
+    requires r { IsInInt r }
+    ensures value { IfOk result (λ made. L.value made ≡ operation_met L.meaning operation.now op r (L.value leaf)) }
+    ensures same { IfOk result (λ made. (L.value made).variables ≡ (L.value leaf).variables) }
+{
+    leaf_is_valid(&leaf);
+    match operation {
+        None => Ok(leaf),
+        Some(operation) => leaf.meet_operation(alloc, operation, op, r),
+    }
+}
+
+/// The leaf where the comparison of two operands holds, whose difference has the form, and each of which is also seen as what
+/// an operator gives, where there is one.
+fn compare_operations<L: Leaf>(
+    alloc: Global,
+    leaf: &L,
+    op: Compare,
+    a: Operand,
+    b: Operand,
+    form: &Option<Form>,
+    first: &Option<Operation>,
+    second: &Option<Operation>,
+) -> Result<L, NoMemory>
+    requires a { IsOperand (L.value leaf.now).variables a }
+    requires b { IsOperand (L.value leaf.now).variables b }
+    requires form { HasForm (L.value leaf.now).variables form.now }
+    requires first { HasOperation (L.value leaf.now).variables first.now }
+    requires second { HasOperation (L.value leaf.now).variables second.now }
+    ensures value { IfOk result (λ made. L.value made
+        ≡ operands_compared_at L.meaning op a b form.now first.now second.now (L.value leaf.now)) }
+    ensures same { IfOk result (λ made. (L.value made).variables ≡ (L.value leaf.now).variables) }
+{
+    let made = compare(alloc, leaf, op, a, b, form)?;
+    let made = meet_operation(alloc, made, first, op, b.range)?;
+    meet_operation(alloc, made, second, mirror(op), a.range)
+}
+
 /// Both outcomes of a comparison.
 fn compare_both<L: Leaf>(
     alloc: Global,
@@ -282,22 +330,28 @@ fn compare_both<L: Leaf>(
     a: Operand,
     b: Operand,
     form: &Option<Form>,
+    first: &Option<Operation>,
+    second: &Option<Operation>,
 ) -> Result<Sides<L>, NoMemory>
     requires a { IsOperand (L.value leaf.now).variables a }
     requires b { IsOperand (L.value leaf.now).variables b }
     requires form { HasForm (L.value leaf.now).variables form.now }
+    requires first { HasOperation (L.value leaf.now).variables first.now }
+    requires second { HasOperation (L.value leaf.now).variables second.now }
     ensures when_true { IfOk result
-        (λ made. L.value made.when_true ≡ compared_at L.meaning op a b form.now (L.value leaf.now)) }
+        (λ made. L.value made.when_true
+        ≡ operands_compared_at L.meaning op a b form.now first.now second.now (L.value leaf.now)) }
     ensures when_false { IfOk result
         (λ made. L.value made.when_false
-        ≡ compared_at L.meaning (negation_of op) a b form.now (L.value leaf.now)) }
+        ≡ operands_compared_at L.meaning (negation_of op) a b form.now first.now second.now (L.value leaf.now)) }
     ensures true_same { IfOk result
         (λ made. (L.value made.when_true).variables ≡ (L.value leaf.now).variables) }
     ensures false_same { IfOk result
         (λ made. (L.value made.when_false).variables ≡ (L.value leaf.now).variables) }
 {
-    let when_true = compare(alloc, leaf, op, a, b, form)?;
-    let when_false = compare(alloc, leaf, negation(op), a, b, form)?;
+    let when_true = compare_operations(alloc, leaf, op, a, b, form, first, second)?;
+    let other = negation(op);
+    let when_false = compare_operations(alloc, leaf, other, a, b, form, first, second)?;
     Ok(Sides {
         when_true,
         when_false,
@@ -335,7 +389,8 @@ pub(crate) fn compare_operands<L: Leaf>(
     let form = difference_where(alloc, &left.form, &right.form, counts)?;
     let a = operand_of(leaf, a, left.evaluation.range);
     let b = operand_of(leaf, b, right.evaluation.range);
-    compare_both(alloc, leaf, op, a, b, &form)
+    let (first, second) = (&left.operation, &right.operation);
+    compare_both(alloc, leaf, op, a, b, &form, first, second)
 }
 
 /// The leaves where a number is not 0 and where it is, by what was found of it.
@@ -364,5 +419,6 @@ pub(crate) fn compare_zero<L: Leaf>(
         range: Range { low: 0, high: 0 },
     };
     let number = operand_of(leaf, e, found.evaluation.range);
-    compare_both(alloc, leaf, Compare::Ne, number, zero, &form)
+    let (op, first) = (Compare::Ne, &found.operation);
+    compare_both(alloc, leaf, op, number, zero, &form, first, &None)
 }

@@ -12,18 +12,20 @@ use crate::form::Form;
 use crate::laws::leaf_is_valid;
 use crate::leaf::Leaf;
 use crate::linear::{combined, constant, negated, variable};
+use crate::operation::{Operation, kept_operation, operation_where};
 use crate::range::Range;
 use crate::stops::{Stops, negation_stops, no_stops, operator_stops, stops_where_some};
 use c_tree::{Mode, Op};
 use fam_outer::NoMemory;
 use std::alloc::Global;
 
-/// The ranges of an expression, its linear form where it has one, and the kinds with which it may
-/// stop.
+/// The ranges of an expression, its linear form where it has one, the operator that gives its value where its operands have
+/// linear forms, and the kinds with which it may stop.
 #[derive(Debug, Drop)]
 pub struct Survey {
     pub evaluation: Evaluation,
     pub form: Option<Form>,
+    pub operation: Option<Operation>,
     pub stops: Stops,
 }
 
@@ -36,6 +38,7 @@ pub(crate) fn number<L: Leaf>(alloc: Global, leaf: &L, n: i64) -> Survey
     Survey {
         evaluation: atom(leaf, Range { low: n, high: n }),
         form: constant(alloc, n),
+        operation: None,
         stops: no_stops(),
     }
 }
@@ -51,6 +54,7 @@ pub(crate) fn variable_at<L: Leaf>(alloc: Global, leaf: &L, x: u32) -> Result<Su
     Ok(Survey {
         evaluation: atom(leaf, leaf.bounds_of(x)),
         form: Some(form),
+        operation: None,
         stops: no_stops(),
     })
 }
@@ -72,6 +76,7 @@ pub(crate) fn negation<L: Leaf>(
     Ok(Survey {
         evaluation: found,
         form,
+        operation: None,
         stops: stops_where_some(leaf, stops),
     })
 }
@@ -82,23 +87,33 @@ pub(crate) fn operation<L: Leaf>(
     leaf: &L,
     mode: Mode,
     op: Op,
-    a: &Survey,
-    b: &Survey,
+    a: Survey,
+    b: Survey,
 ) -> Result<Survey, NoMemory>
     requires op { IsTrue (is_arithmetic op) }
-    requires a { IsOver (L.value leaf.now).variables a.now }
-    requires b { IsOver (L.value leaf.now).variables b.now }
+    requires a { IsOver (L.value leaf.now).variables a }
+    requires b { IsOver (L.value leaf.now).variables b }
     ensures value { IfOk result (λ found. found
-        ≡ operation_survey L.meaning mode op a.now b.now (L.value leaf.now)) }
+        ≡ operation_survey L.meaning mode op a b (L.value leaf.now)) }
     ensures over { IfOk result (IsOver (L.value leaf.now).variables) }
 {
     let form = combined(alloc, op, &a.form, &b.form)?;
-    let found = evaluation::operation(leaf, mode, op, &form, a.evaluation, b.evaluation);
-    let (r, s) = (a.evaluation.range, b.evaluation.range);
-    let stops = operator_stops(mode, op, found.raw, a.stops, b.stops, r, s);
+    let (left, right) = (a.evaluation, b.evaluation);
+    let operation = operation_where(left.fits && right.fits, op, a.form, b.form);
+    let found = evaluation::operation(leaf, mode, op, &form, &operation, left, right);
+    let stops = operator_stops(
+        mode,
+        op,
+        found.raw,
+        a.stops,
+        b.stops,
+        left.range,
+        right.range,
+    );
     Ok(Survey {
         evaluation: found,
         form,
+        operation: kept_operation(op, found.fits, operation),
         stops: stops_where_some(leaf, stops),
     })
 }
@@ -111,6 +126,7 @@ pub(crate) fn truth<L: Leaf>(when_true: &L, when_false: &L, mode: Mode, stops: S
     Survey {
         evaluation: evaluation::truth(when_true, when_false, mode),
         form: None,
+        operation: None,
         stops,
     }
 }

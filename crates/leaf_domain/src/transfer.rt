@@ -6,6 +6,7 @@ ghost use Rattle.c_tree.specs.Fit.{IsTermOf};
 ghost use Rattle.c_tree.specs.View.{term};
 ghost use Rattle.leaf_domain.specs.Ranges.{IsInInt};
 ghost use Rattle.leaf_domain.specs.Sums.{HasForm};
+ghost use Rattle.leaf_domain.specs.Operations.{HasOperation};
 ghost use Rattle.leaf_domain.specs.Evaluations.{IsOver, survey_of, stops_of};
 ghost use Rattle.leaf_domain.specs.Transfer as transfer;
 
@@ -14,6 +15,7 @@ use crate::evaluation::is_truth;
 use crate::form::Form;
 use crate::laws::leaf_is_valid;
 use crate::leaf::Leaf;
+use crate::operation::Operation;
 use crate::range::Range;
 use crate::sides::{
     Sides, Split, both, compare_operands, compare_zero, comparison, copies, either, sides_of,
@@ -51,7 +53,7 @@ pub(crate) fn survey<L: Leaf>(
         Expr::Binary(op, a, b) => {
             let left = survey(alloc, leaf, a, mode)?;
             let right = survey(alloc, leaf, b, mode)?;
-            operation(alloc, leaf, mode, *op, &left, &right)
+            operation(alloc, leaf, mode, *op, left, right)
         }
         Expr::Not(_) => unreachable!(),
     }
@@ -180,24 +182,48 @@ pub fn assume<L: Leaf>(
     if want { Ok(when_true) } else { Ok(when_false) }
 }
 
-/// The leaf with a variable set to a form, where there is one, or to a range.
+/// The leaf with a variable set to what an operator gives, where there is one, or to a range.
+fn set_operation<L: Leaf>(
+    alloc: Global,
+    leaf: &L,
+    x: u32,
+    operation: &Option<Operation>,
+    range: Range,
+) -> Result<L, NoMemory>
+    requires x { x < (L.value leaf.now).variables }
+    requires operation { HasOperation (L.value leaf.now).variables operation.now }
+    requires range { IsInInt range }
+    ensures value { IfOk result (λ made. L.value made
+        ≡ transfer.operation_set L.meaning x operation.now range (L.value leaf.now)) }
+    ensures same { IfOk result (λ made. (L.value made).variables ≡ (L.value leaf.now).variables) }
+{
+    leaf_is_valid(leaf);
+    match operation {
+        None => leaf.set_range(alloc, x, range),
+        Some(operation) => leaf.set_operation(alloc, x, operation, range),
+    }
+}
+
+/// The leaf with a variable set to a form, where there is one, to what an operator gives, or to a range.
 fn set<L: Leaf>(
     alloc: Global,
     leaf: &L,
     x: u32,
     form: &Option<Form>,
+    operation: &Option<Operation>,
     range: Range,
 ) -> Result<L, NoMemory>
     requires x { x < (L.value leaf.now).variables }
     requires form { HasForm (L.value leaf.now).variables form.now }
+    requires operation { HasOperation (L.value leaf.now).variables operation.now }
     requires range { IsInInt range }
     ensures value { IfOk result (λ made. L.value made
-        ≡ transfer.form_set L.meaning x form.now range (L.value leaf.now)) }
+        ≡ transfer.form_set L.meaning x form.now operation.now range (L.value leaf.now)) }
     ensures same { IfOk result (λ made. (L.value made).variables ≡ (L.value leaf.now).variables) }
 {
     leaf_is_valid(leaf);
     match form {
-        None => leaf.set_range(alloc, x, range),
+        None => set_operation(alloc, leaf, x, operation, range),
         Some(form) => leaf.set_form(alloc, x, form, range),
     }
 }
@@ -213,13 +239,14 @@ pub fn assign<L: Leaf>(alloc: Global, leaf: &L, x: u32, e: &Expr, mode: Mode) ->
     let Survey {
         evaluation,
         form,
+        operation,
         ..
     } = survey(alloc, leaf, e, mode)?;
     if evaluation.range.is_empty() {
         return L::nothing(alloc, leaf.variables());
     }
     let form = form_where(form, evaluation.fits);
-    set(alloc, leaf, x, &form, evaluation.range)
+    set(alloc, leaf, x, &form, &operation, evaluation.range)
 }
 
 /// The leaf after `x = input()`, which is any number of `int`.

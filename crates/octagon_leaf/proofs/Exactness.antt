@@ -30,7 +30,7 @@ use Rattle.octagon_leaf.specs.Laws.Meets.{bounded-kept, bounded-all, AllMet, hol
 use Rattle.octagon_leaf.specs.Laws.Terms.{bounded-dropped}
 use Rattle.octagon_leaf.specs.Laws.Forms.{ShapeHolds, shape-holds, compared-meets}
 use Rattle.octagon_leaf.specs.Laws.Matrices.{greater-bounded, narrowed-kept}
-use Rattle.octagon_leaf.specs.Laws.OctagonLaws.{IsClosed, closed, holds-best-of, between-meets}
+use Rattle.octagon_leaf.specs.Laws.OctagonLaws.{IsClosed, some-holds, closed, holds-best-of, between-meets}
 use Rattle.octagon_leaf.proofs.Assigning.{met-within}
 use Rattle.octagon_leaf.proofs.Moving.{set-back}
 use Rattle.octagon_leaf.proofs.Extending.{Extends, extends}
@@ -142,6 +142,7 @@ narrow-only ts n k (Some us) (Some vs) s p q e f h =
 
 pub leaf-exact : LeafExactness octagons
 leaf-exact = record {
+  some_holds = λ a. some-holds a.variables a.content;
   meet_only = λ a x r s p l i. meet-only a.variables a.content x r s p l;
   meet_form_only = λ a f op s p g. meet-form-only a.variables a.content f op s p g;
   set_only = λ a x r s p l i. set-only a.variables a.content x r s p l;

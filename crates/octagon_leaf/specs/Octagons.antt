@@ -223,4 +223,7 @@ octagons = record {
   meet_form = octagon_meet_form;
   set_range = octagon_set_range;
   set_form = octagon_set_form;
+  operation_range = λ v p. None;
+  meet_operation = λ v p op r. v;
+  set_operation = λ v x p r. octagon_set_range v x r;
 }

@@ -19,7 +19,7 @@ use crate::filled::{differences, joined, moved, narrowed, widened, with_range};
 use crate::meets::{Meet, met};
 use crate::shape::{Shape, between, compared, edge_range, equal_to, half, shape_of, term_between};
 use fam_outer::NoMemory;
-use leaf_domain::{Compare, Form, Leaf, Range, Thresholds};
+use leaf_domain::{Compare, Form, Leaf, Operation, Range, Thresholds};
 use octagon_closure::{Closed, close};
 use octagon_matrix::Matrix;
 use std::alloc::Global;
@@ -464,6 +464,30 @@ impl Leaf for OctagonLeaf {
                 Ok(OctagonLeaf::from_best(self.count(), set))
             }
         }
+    }
+
+    fn operation_range(&self, _p: &Operation) -> Option<Range> {
+        None
+    }
+
+    fn meet_operation(
+        self,
+        _alloc: Global,
+        _p: &Operation,
+        _op: Compare,
+        _r: Range,
+    ) -> Result<OctagonLeaf, NoMemory> {
+        Ok(self)
+    }
+
+    fn set_operation(
+        &self,
+        alloc: Global,
+        x: u32,
+        _p: &Operation,
+        r: Range,
+    ) -> Result<OctagonLeaf, NoMemory> {
+        self.set_range(alloc, x, r)
     }
 }
 

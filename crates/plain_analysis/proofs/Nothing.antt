@@ -3,12 +3,13 @@ use Rattle.std.proofs.Common.{◌≡◌, ℕ, ◌≤◌, true, List, Option, Som
 use Rattle.std.specs.Prelude.{is_none, if◌then◌else◌, Bool, false}
 use Rattle.c_tree.specs.Tree.{Term, Code, Done, Assign, Input, Assert, If, While, Block, Skip, Cond}
 use Rattle.leaf_domain.specs.declared.form.Form.{Form}
+use Rattle.leaf_domain.specs.declared.operation.Operation.{Operation}
 use Rattle.leaf_domain.specs.declared.range.Range.{Range}
 use Rattle.leaf_domain.specs.Forms.{form_of_term}
 use Rattle.leaf_domain.specs.Ranges.{is_empty_range, whole_int}
 use Rattle.leaf_domain.specs.Leaves.{LeafValue, LeafMeaning, LeafLaws, Alike, nothing_of, is_nothing_of}
 use Rattle.leaf_domain.specs.Soundness.{TransferAnswers}
-use Rattle.leaf_domain.specs.Transfer.{assumed, assigned, form_set, form_where, fits_term, range_of_term}
+use Rattle.leaf_domain.specs.Transfer.{assumed, assigned, operation_set, form_set, form_where, fits_term, operation_of_term, range_of_term}
 use Rattle.plain_analysis.specs.declared.options.Options.{Options}
 use Rattle.plain_analysis.specs.Loops.{turn_of, round_count, widened_leaf, narrowing_of, narrowings_of, final_leaf}
 use Rattle.plain_analysis.specs.Statements.{after_of}
@@ -26,15 +27,20 @@ module _ (M : LeafMeaning) (laws : LeafLaws M) (o : Options) (answers : Transfer
   alike : Alike M (nothing_of n) (nothing_of n)
   alike = record { first = laws.nothing_valid n few; second = laws.nothing_valid n few; same = refl }
 
-  set_nothing : (f : Option Form) (x : ℕ) (r : Range) → form_set M x f r (nothing_of n) ≡ nothing_of n
-  set_nothing None x r = laws.set_nothing n x r
-  set_nothing (Some f) x r = laws.set_form_nothing n x f r
+  set_operation_nothing : (p : Option Operation) (x : ℕ) (r : Range) → operation_set M x p r (nothing_of n) ≡ nothing_of n
+  set_operation_nothing None x r = laws.set_nothing n x r
+  set_operation_nothing (Some p) x r = laws.set_operation_nothing n x p r
+
+  set_nothing : (f : Option Form) (p : Option Operation) (x : ℕ) (r : Range) → form_set M x f p r (nothing_of n) ≡ nothing_of n
+  set_nothing None p x r = set_operation_nothing p x r
+  set_nothing (Some f) p x r = laws.set_form_nothing n x f r
 
   assigned_nothing : (x : ℕ) (e : Term) → assigned M o.mode x e (nothing_of n) ≡ nothing_of n
   assigned_nothing x e =
       let f : Option Form = form_where (fits_term M o.mode e (nothing_of n)) (form_of_term e) in
+      let p : Option Operation = operation_of_term M o.mode e (nothing_of n) in
       let r : Range = range_of_term M o.mode e (nothing_of n) in
-      elim (is_empty_range r) as (λ b. (if b then nothing_of n else form_set M x f r (nothing_of n)) ≡ nothing_of n) [ true ↦ refl | false ↦ set_nothing f x r ]
+      elim (is_empty_range r) as (λ b. (if b then nothing_of n else form_set M x f p r (nothing_of n)) ≡ nothing_of n) [ true ↦ refl | false ↦ set_nothing f p x r ]
 
   assumed_nothing : (e : Term) (want : Bool) → assumed M o.mode e want (nothing_of n) ≡ nothing_of n
   assumed_nothing e want = answers.assumed_of_nothing e want (nothing_of n) refl
@@ -63,7 +69,7 @@ module _ (M : LeafMeaning) (laws : LeafLaws M) (o : Options) (answers : Transfer
   pub after_nothing : (c : Code) → after_of M o c (nothing_of n) ≡ nothing_of n
   after_nothing Done = refl
   after_nothing (Assign place x e rest) = ap (after_of M o rest) (assigned_nothing x e) ∙ after_nothing rest
-  after_nothing (Input place x rest) = ap (after_of M o rest) (set_nothing None x whole_int) ∙ after_nothing rest
+  after_nothing (Input place x rest) = ap (after_of M o rest) (set_nothing None None x whole_int) ∙ after_nothing rest
   after_nothing (Assert place e rest) = ap (after_of M o rest) (assumed_nothing e true) ∙ after_nothing rest
   after_nothing (If place e p q rest) =
       ap (after_of M o rest) (joined_nothing (after_of M o p (assumed M o.mode e true (nothing_of n))) (after_of M o q (assumed M o.mode e false (nothing_of n)))

@@ -22,10 +22,6 @@ module _ (M : LeafMeaning) (laws : LeafLaws M) (ts : List ℤ) (n : ℕ) (delay 
     count : x.variables ≡ n
     some : is_nothing_of x ≡ false
 
-  held_content : (m : ℕ) (c : Option (List ℤ)) (s : List ℤ) → M.holds (record { variables = m; content = c }) s → is_nothing_of (record { variables = m; content = c }) ≡ false
-  held_content m None s h = absurd (laws.nothing_holds m s h)
-  held_content m (Some ns) s h = refl
-
   alike : (x : LeafValue) → Iterate x → Alike M x (G x)
   alike x h = let a = turns.answers x h.valid h.count in record { first = h.valid; second = a.valid; same = sym a.same }
 
@@ -34,13 +30,13 @@ module _ (M : LeafMeaning) (laws : LeafLaws M) (ts : List ℤ) (n : ℕ) (delay 
     where
       joined : Iterate (M.join x (G x))
       joined =
-          let a = laws.join_answers x (G x) (alike x h) in let s = laws.some_holds x h.valid h.some in
-          record { valid = a.valid; count = a.same ∙ h.count; some = held_content _ _ s.0 (laws.join_holds x (G x) s.0 (alike x h) (inl s.1)) }
+          let a = laws.join_answers x (G x) (alike x h) in
+          record { valid = a.valid; count = a.same ∙ h.count; some = laws.join_some x (G x) (alike x h) h.some }
 
       widened : Iterate (M.widen ts x (G x))
       widened =
-          let a = laws.widen_answers ts x (G x) (alike x h) in let s = laws.some_holds x h.valid h.some in
-          record { valid = a.valid; count = a.same ∙ h.count; some = held_content _ _ s.0 (laws.widen_holds ts x (G x) s.0 (alike x h) (inl s.1)) }
+          let a = laws.widen_answers ts x (G x) (alike x h) in
+          record { valid = a.valid; count = a.same ∙ h.count; some = laws.widen_some ts x (G x) (alike x h) h.some }
 
       by_tests : (t u : Bool) → Iterate (if t then x else (if u then M.join x (G x) else M.widen ts x (G x)))
       by_tests true u = h

@@ -11,10 +11,10 @@ use std::alloc::Global;
 
 /// So many steps of each of so many bounds.
 fn steps_of_all(bounds: u32, steps: u32) -> u64
-    requires bounds { bounds ≤ 1024 }
+    requires bounds { bounds ≤ 2048 }
     requires steps { steps ≤ 65 }
     ensures value { result ≡ bounds * steps }
-    ensures small { result ≤ 66560 }
+    ensures small { result ≤ 133120 }
 {
     u64::from(bounds) * u64::from(steps)
 }

@@ -9,7 +9,7 @@ use Rattle.strides.specs.declared.strided.Strided.{Strided}
 use Rattle.strides.specs.Strided.{is_bare, reduced, best_part, point_at, IsOwn, joined}
 use Rattle.strides.proofs.StridedLaws.{reduced_best, best_reduced, joined_best, point_best, reduced_own}
 use Rattle.product_leaf.specs.StrideLeaves.{numbers_of, AllOwn, joined_all, all_same_parts}
-use Rattle.product_leaf.specs.Laws.Parts.{own_some, IsLimited}
+use Rattle.product_leaf.specs.Laws.Parts.{IsLimited}
 
 pub reduced_twice : (b : Strided) → is_bare b ≡ false → reduced (reduced b) ≡ reduced b
 reduced_twice b e = best_reduced (reduced b) (reduced_best b e)
@@ -18,7 +18,7 @@ pub best_twice : (bs : List Strided) → AllOwn bs → map reduced (map reduced 
 best_twice [] h = refl
 best_twice (b ∷ bs) h = ap (λ x. x ∷ map reduced (map reduced bs)) (reduced_twice b h.0.some) ∙ ap (λ xs. reduced b ∷ xs) (best_twice bs h.1)
 
-joined_once : (a b : Strided) → is_bare a ≡ false → is_bare b ≡ false → reduced (joined (reduced a) (reduced b)) ≡ joined (reduced a) (reduced b)
+pub joined_once : (a b : Strided) → is_bare a ≡ false → is_bare b ≡ false → reduced (joined (reduced a) (reduced b)) ≡ joined (reduced a) (reduced b)
 joined_once a b e f = best_reduced (joined (reduced a) (reduced b)) (joined_best (reduced a) (reduced b) (reduced_best a e) (reduced_best b f))
 
 pub joined_twice : (us bs : List Strided) → AllOwn us → AllOwn bs → map reduced (joined_all (map reduced us) (map reduced bs)) ≡ joined_all (map reduced us) (map reduced bs)
@@ -32,15 +32,6 @@ pub best_set : (bs : List Strided) (x : ℕ) (b : Strided) → map reduced (slic
 best_set [] x b = refl
 best_set (a ∷ bs) zero b = refl
 best_set (a ∷ bs) (suc x) b = ap (λ xs. reduced a ∷ xs) (best_set bs x b)
-
-or_false : (t : Bool) → (t || false) ≡ t
-or_false true = refl
-or_false false = refl
-
-pub bare_set : (bs : List Strided) (x : ℕ) (b : Strided) → AllOwn bs → x < length bs → list_any is_bare (slice_set bs x b) ≡ is_bare b
-bare_set [] x b h l = absurd (omega arith)
-bare_set (a ∷ bs) zero b h l = ap (λ t. is_bare b || t) (own_some bs h.1) ∙ or_false (is_bare b)
-bare_set (a ∷ bs) (suc x) b h l = ap (λ t. t || list_any is_bare (slice_set bs x b)) h.0.some ∙ bare_set bs x b h.1 (omega arith)
 
 -- ---- best bounds of one part
 pub part_own : (b : Strided) (r : Option Strided) → r ≡ best_part b → IsLimited b → IfSome r IsOwn

@@ -4,15 +4,16 @@ use Rattle.std.specs.Prelude.{◌≡◌, true}
 use Rattle.std.proofs.Common.{ap}
 use Rattle.leaf_domain.specs.Leaves.{LeafValue, LeafLaws, same_leaf}
 use Rattle.leaf_domain.proofs.LeafEquality.{leaf_decides}
-use Rattle.product_leaf.specs.StrideLeaves.{strides}
+use Rattle.product_leaf.specs.StrideLeaves.{stride_parts, strides}
 use Rattle.product_leaf.specs.Hashing.{fed_leaf}
-use Rattle.product_leaf.specs.Laws.StrideLaws as proved
+use Rattle.product_leaf.specs.Laws.StrideLaws.{stride_part_laws}
+use Rattle.nonrelational_leaf.proofs.LiftedLaws.{lifted_laws}
 pub mod Parts
 pub mod FormStrides
 pub mod StrideLaws
 
 pub stride_laws : LeafLaws strides
-stride_laws = proved.stride_laws
+stride_laws = lifted_laws stride_parts stride_part_laws
 
 pub leaf_alike : (x y : LeafValue) → same_leaf x y ≡ true → fed_leaf x ≡ fed_leaf y
 leaf_alike x y e = ap fed_leaf ((leaf_decides x y).0 e)

@@ -14,10 +14,11 @@ ghost use Rattle.product_leaf.specs.Hashing.{fed_leaf};
 use crate::form_stride::form_stride;
 use crate::parts::{
     are_inside, are_same, best_part, copied, has_bare, joined, met_part, narrowed, points, reduced,
-    replaced, widened,
+    widened,
 };
 use fam_outer::NoMemory;
-use leaf_domain::{Compare, Form, Leaf, Range, Thresholds};
+use leaf_domain::{Compare, Form, Leaf, Operation, Range, Thresholds};
+use nonrelational_leaf::replaced;
 use std::alloc::Global;
 use std::hash::{Hash, Hasher};
 use std::marker::Model;
@@ -336,5 +337,29 @@ impl Leaf for StrideLeaf {
                 self.with(alloc, x, Strided::best(r.low, r.high, stride))
             }
         }
+    }
+
+    fn operation_range(&self, _p: &Operation) -> Option<Range> {
+        None
+    }
+
+    fn meet_operation(
+        self,
+        _alloc: Global,
+        _p: &Operation,
+        _op: Compare,
+        _r: Range,
+    ) -> Result<StrideLeaf, NoMemory> {
+        Ok(self)
+    }
+
+    fn set_operation(
+        &self,
+        alloc: Global,
+        x: u32,
+        _p: &Operation,
+        r: Range,
+    ) -> Result<StrideLeaf, NoMemory> {
+        self.set_range(alloc, x, r)
     }
 }

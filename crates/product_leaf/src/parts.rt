@@ -1,7 +1,7 @@
 //! Lists of parts, one for each variable.
 #![tactic(auto)]
 
-ghost use Rattle.std.specs.Prelude.{◌≡◌, ◌<◌, IfOk, length, map, slice_set};
+ghost use Rattle.std.specs.Prelude.{◌≡◌, IfOk, length, map};
 ghost use Rattle.std.specs.List.{list_any};
 ghost use Rattle.leaf_domain.specs.Leaves.{same_numbers};
 ghost use Rattle.strides.specs.Strided.{is_bare, reduced, best_part, point_at};
@@ -121,21 +121,6 @@ pub(crate) fn met_part(part: Strided, r: Range) -> Strided
         high: part.high.min(r.high),
         stride: part.stride,
     }
-}
-
-/// The parts with that of `x` replaced.
-pub(crate) fn replaced(
-    alloc: Global,
-    parts: &[Strided],
-    x: u32,
-    part: Strided,
-) -> Result<Vec<Strided>, AllocError>
-    requires { x < length parts.now }
-    ensures { IfOk result (λ v. v.items ≡ slice_set parts.now x part) }
-{
-    let mut changed = parts.to_vec(alloc)?;
-    changed[x as usize] = part;
-    Ok(changed)
 }
 
 /// Whether the four numbers of two parts are the same.

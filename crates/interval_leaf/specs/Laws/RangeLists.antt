@@ -1,18 +1,15 @@
--- Facts on lists of ranges.
-use Rattle.std.proofs.Common.{◌≡◌, ℕ, int_le, ◌≤ℤ◌, ◌+◌, ◌*◌, ◌<◌, ◌≤◌, ℤ, pos, Bool, true, false, ◌&&◌, ◌||◌, List, [], ◌∷◌, length, map, slice_set, slice_index_or, refl, ap, sym, ◌∙◌, arith, All}
+-- Ranges meet the laws of a domain of one variable, and what the code's proofs ask of lists of them.
+use Rattle.std.proofs.Common.{◌≡◌, ℕ, int_le, ◌≤ℤ◌, ◌+◌, ◌*◌, ◌<◌, ◌≤◌, ℤ, Bool, true, false, ◌&&◌, ◌||◌, List, [], ◌∷◌, length, slice_set, refl, ap, sym, ◌∙◌, arith}
 use Rattle.std.specs.List.{list_any}
-use Rattle.std.specs.Prelude.{⊤}
 use Rattle.std.proofs.lemmas.Int.{ints, clamps}
-use Rattle.std.proofs.lemmas.List.Elements.{All-head, All-tail}
+use Rattle.c_tree.specs.Value.{IsInt, least, greatest}
 use Rattle.leaf_domain.specs.declared.range.Range.{Range}
-use Rattle.leaf_domain.specs.Ranges.{Within, is_empty_range, cover_of, empty_range}
+use Rattle.leaf_domain.specs.Ranges.{Within, IsInInt, is_empty_range, cover_of, empty_range}
 use Rattle.leaf_domain.specs.Ends.{widened_range, narrowed_range, ends_left}
 use Rattle.leaf_domain.proofs.EndLemmas.{widened_low_first, widened_low_second, widened_high_first, widened_high_second, widened_low_inside, widened_high_inside, ends_fall, ends_fewer_low, ends_fewer_high, ends_few, narrowed_low, narrowed_high}
-use Rattle.leaf_domain.proofs.StepSums.{zipped_fewer, few_each}
-use Rattle.c_tree.specs.Value.{IsInt, least, greatest}
-use Rattle.leaf_domain.proofs.Variables as variables
-use Rattle.leaf_domain.proofs.Variables.{of_any, each_zipped, each_set, each_read, holds_first, holds_second, holds_tested, holds_made, held_read, held_set, held_part}
-use Rattle.interval_leaf.specs.Intervals.{numbers_of, pairs_of, interval_of, IsOwn, AllOwn, HasEnds, AllEnds, point_of, covers, lies_in, all_lie_in, widened_all, narrowed_all, IsInterval, AllWithinRanges, steps_left_in}
+use Rattle.leaf_domain.proofs.Variables.{each_zipped, each_set}
+use Rattle.nonrelational_leaf.specs.PartLaws.{PartLaws}
+use Rattle.interval_leaf.specs.Intervals.{ranges, numbers_of, pairs_of, met_range, IsOwn, AllOwn, HasEnds, AllEnds, point_of, lies_in, narrowed_all}
 
 pub pairs_numbers : (rs : List Range) → pairs_of (numbers_of rs) ≡ rs
 pairs_numbers [] = refl
@@ -21,9 +18,6 @@ pairs_numbers (r ∷ rs) = ap (λ x. r ∷ x) (pairs_numbers rs)
 -- ---- ranges that a leaf can have
 cover_own : (a b : Range) → IsOwn a → IsOwn b → IsOwn (cover_of a b)
 cover_own a b h k = record { low = omega (arith, ints, clamps); order = omega (arith, ints, clamps); high = omega (arith, ints, clamps) }
-
-pub covers_own : (us bs : List Range) → AllOwn us → AllOwn bs → AllOwn (covers us bs)
-covers_own us bs h k = each_zipped IsOwn IsOwn cover_of cover_own us bs h k
 
 in_order : (l m h : ℤ) → l ≤ℤ m → m ≤ℤ h → l ≤ℤ h
 in_order l m h p q = omega (arith, ints)
@@ -34,9 +28,6 @@ widened_own ts a b h k = record {
   order = in_order _ _ _ (widened_low_first ts a b a.high k.low h.order) (widened_high_first ts a b a.high k.high (omega (arith, ints)));
   high = widened_high_inside ts a b h.high;
 }
-
-pub widened_all_own : (ts : List ℤ) (us bs : List Range) → AllOwn us → AllOwn bs → AllOwn (widened_all ts us bs)
-widened_all_own ts us bs h k = each_zipped IsOwn IsOwn (widened_range ts) (widened_own ts) us bs h k
 
 narrowed_ends : (ts : List ℤ) (a b : Range) → IsOwn a → IsOwn b → HasEnds (narrowed_range ts a b)
 narrowed_ends ts a b h k = (narrowed_low (λ n. least ≤ℤ n) ts a b h.low k.low, narrowed_high (λ n. n ≤ℤ greatest) ts a b h.high k.high)
@@ -58,13 +49,6 @@ own_from_all_ends (r ∷ rs) h e = let (p, q) = apart (is_empty_range r) (list_a
 pub own_set : (rs : List Range) (x : ℕ) (r : Range) → AllOwn rs → IsOwn r → AllOwn (slice_set rs x r)
 own_set rs x r h k = each_set IsOwn rs x r h k
 
-pub own_points : (s : List ℤ) → All IsInt s → AllOwn (map point_of s)
-own_points [] h = tt
-own_points (n ∷ s) h = let k = All-head IsInt n s h in (record { low = k.low; order = omega (arith, ints); high = k.high }, own_points s (All-tail IsInt n s h))
-
-pub is_interval : (rs : List Range) → length rs ≤ 16 → AllOwn rs → IsInterval (interval_of rs)
-is_interval rs h k = (h, (ap numbers_of (pairs_numbers rs), ap length (sym (pairs_numbers rs)), rw (pairs_numbers rs) k))
-
 -- ---- stores
 cover_first : (n : ℤ) (a b : Range) → Within n a → Within n (cover_of a b)
 cover_first n a b h = record { low = omega (arith, ints, clamps); high = omega (arith, ints, clamps) }
@@ -72,17 +56,8 @@ cover_first n a b h = record { low = omega (arith, ints, clamps); high = omega (
 cover_second : (n : ℤ) (a b : Range) → Within n b → Within n (cover_of a b)
 cover_second n a b h = record { low = omega (arith, ints, clamps); high = omega (arith, ints, clamps) }
 
-pub covers_first : (us bs : List Range) (s : List ℤ) → length us ≡ length bs → AllWithinRanges us s → AllWithinRanges (covers us bs) s
-covers_first us bs s e h = holds_first (λ r n. Within n r) (λ r. ⊤) cover_of (λ a b n p q k. cover_first n a b k) us bs s e (of_any us) (of_any bs) h
-
-pub covers_second : (us bs : List Range) (s : List ℤ) → length us ≡ length bs → AllWithinRanges bs s → AllWithinRanges (covers us bs) s
-covers_second us bs s e h = holds_second (λ r n. Within n r) (λ r. ⊤) cover_of (λ a b n p q k. cover_second n a b k) us bs s e (of_any us) (of_any bs) h
-
 within_wider : (n : ℤ) (a b : Range) → lies_in a b ≡ true → Within n a → Within n b
 within_wider n a b e h = grind (arith, ints)
-
-pub inside_holds : (us bs : List Range) (s : List ℤ) → length us ≡ length bs → all_lie_in us bs ≡ true → AllWithinRanges us s → AllWithinRanges bs s
-inside_holds us bs s e f h = holds_tested (λ r n. Within n r) lies_in (λ a b n i k. within_wider n a b i k) us bs s e f h
 
 widened_first : (ts : List ℤ) (x g : Range) (n : ℤ) → IsOwn x → IsOwn g → Within n x → Within n (widened_range ts x g)
 widened_first ts x g n p q h = record { low = widened_low_first ts x g n q.low h.low; high = widened_high_first ts x g n q.high h.high }
@@ -90,52 +65,13 @@ widened_first ts x g n p q h = record { low = widened_low_first ts x g n q.low h
 widened_second : (ts : List ℤ) (x g : Range) (n : ℤ) → IsOwn x → IsOwn g → Within n g → Within n (widened_range ts x g)
 widened_second ts x g n p q h = record { low = widened_low_second ts x g n q.low h.low; high = widened_high_second ts x g n q.high h.high }
 
-pub widened_all_first : (ts : List ℤ) (us bs : List Range) (s : List ℤ) → length us ≡ length bs → AllOwn us → AllOwn bs → AllWithinRanges us s → AllWithinRanges (widened_all ts us bs) s
-widened_all_first ts us bs s e p q h = holds_first (λ r n. Within n r) IsOwn (widened_range ts) (widened_first ts) us bs s e p q h
-
-pub widened_all_second : (ts : List ℤ) (us bs : List Range) (s : List ℤ) → length us ≡ length bs → AllOwn us → AllOwn bs → AllWithinRanges bs s → AllWithinRanges (widened_all ts us bs) s
-widened_all_second ts us bs s e p q h = holds_second (λ r n. Within n r) IsOwn (widened_range ts) (widened_second ts) us bs s e p q h
-
 narrowed_holds : (ts : List ℤ) (x g : Range) (n : ℤ) → lies_in g x ≡ true → Within n g → Within n (narrowed_range ts x g)
 narrowed_holds ts x g n e h =
     let k : Within n x = within_wider n g x e h in
     record { low = narrowed_low (λ l. l ≤ℤ n) ts x g k.low h.low; high = narrowed_high (λ m. n ≤ℤ m) ts x g k.high h.high }
 
-pub narrowed_all_hold : (ts : List ℤ) (xs gs : List Range) (s : List ℤ) → length xs ≡ length gs → all_lie_in gs xs ≡ true → AllWithinRanges gs s → AllWithinRanges (narrowed_all ts xs gs) s
-narrowed_all_hold ts xs gs s e f h = holds_made (λ r n. Within n r) lies_in (narrowed_range ts) (narrowed_holds ts) xs gs s e f h
-
 not_empty_within : (n : ℤ) (r : Range) → Within n r → is_empty_range r ≡ false
 not_empty_within n r h = grind (arith, ints)
-
-pub none_empty : (rs : List Range) (s : List ℤ) → AllWithinRanges rs s → list_any is_empty_range rs ≡ false
-none_empty [] s h = refl
-none_empty (r ∷ rs) [] h = absurd h
-none_empty (r ∷ rs) (n ∷ s) h = rw (not_empty_within n r h.0) (none_empty rs s h.1)
-
-pub points_hold : (s : List ℤ) → AllWithinRanges (map point_of s) s
-points_hold [] = tt
-points_hold (n ∷ s) = (record { low = omega (arith, ints); high = omega (arith, ints) }, points_hold s)
-
-pub points_alone : (s t : List ℤ) → AllWithinRanges (map point_of s) t → t ≡ s
-points_alone [] [] h = refl
-points_alone [] (m ∷ t) h = absurd h
-points_alone (n ∷ s) [] h = absurd h
-points_alone (n ∷ s) (m ∷ t) h = let e : m ≡ n = one_point n m h.0 in ap (λ x. x ∷ t) e ∙ ap (λ x. n ∷ x) (points_alone s t h.1)
-  where
-    one_point : (i j : ℤ) → Within j (point_of i) → j ≡ i
-    one_point i j k = omega (arith, ints)
-
-pub lows : List Range → List ℤ
-lows [] = []
-lows (r ∷ rs) = r.low ∷ lows rs
-
-pub lows_hold : (rs : List Range) → AllOwn rs → AllWithinRanges rs (lows rs)
-unfolding lows
-lows_hold [] h = tt
-lows_hold (r ∷ rs) h = (record { low = omega (arith, ints); high = h.0.order }, lows_hold rs h.1)
-
-pub held_length : (rs : List Range) (s : List ℤ) → AllWithinRanges rs s → length s ≡ length rs
-held_length rs s h = variables.held_length (λ r n. Within n r) rs s h
 
 -- ---- how many steps are left
 widened_fewer : (ts : List ℤ) (x g : Range) → IsOwn g → lies_in g x ≡ false → ends_left ts (widened_range ts x g) < ends_left ts x
@@ -145,22 +81,59 @@ widened_fewer ts x g h e = by_low (int_le x.low g.low) refl
     by_low true f = ends_fewer_high ts x g h.low h.high (sym (ap (λ b. b && int_le g.high x.high) f) ∙ e)
     by_low false f = ends_fewer_low ts x g h.low h.high f
 
-pub widened_all_fewer : (ts : List ℤ) (us bs : List Range) → length us ≡ length bs → AllOwn us → AllOwn bs → all_lie_in bs us ≡ false → steps_left_in ts (widened_all ts us bs) < steps_left_in ts us
-widened_all_fewer ts us bs e h k f =
-    zipped_fewer (ends_left ts) IsOwn (widened_range ts) (λ x g p q. ends_fall ts x g q.low q.high) lies_in (λ x g p q t. widened_fewer ts x g q t) us bs e h k f
-
-pub steps_few_in : (ts : List ℤ) (rs : List Range) → AllOwn rs → steps_left_in ts rs ≤ 2 * length rs * (length ts + 1)
-steps_few_in ts rs h = few_each (ends_left ts) IsOwn 2 (length ts + 1) (λ r p. ends_few ts r) rs h
-
 -- ---- one variable
-pub read_within : (rs : List Range) (s : List ℤ) (x : ℕ) → x < length rs → AllWithinRanges rs s → Within (slice_index_or s x (pos 0)) (slice_index_or rs x empty_range)
-read_within rs s x p h = held_read (λ r n. Within n r) empty_range rs s x p h
+own_in_int : (r : Range) → IsOwn r → IsInInt r
+own_in_int r h = record { low = record { low = h.low; high = omega (arith, ints) }; high = record { low = omega (arith, ints); high = h.high } }
 
-pub read_own : (rs : List Range) (x : ℕ) → x < length rs → AllOwn rs → IsOwn (slice_index_or rs x empty_range)
-read_own rs x p h = each_read IsOwn empty_range rs x p h
+point_own : (n : ℤ) → IsInt n → IsOwn (point_of n)
+point_own n h = record { low = h.low; order = omega (arith, ints); high = h.high }
 
-pub set_within : (rs : List Range) (s : List ℤ) (x : ℕ) (r : Range) (n : ℤ) → AllWithinRanges rs s → Within n r → AllWithinRanges (slice_set rs x r) (slice_set s x n)
-set_within rs s x r n h k = held_set (λ r n. Within n r) rs s x r n h k
+point_has : (n : ℤ) → Within n (point_of n)
+point_has n = record { low = omega (arith, ints); high = omega (arith, ints) }
 
-pub kept_within : (rs : List Range) (s : List ℤ) (x : ℕ) (r : Range) → AllWithinRanges rs s → Within (slice_index_or s x (pos 0)) r → AllWithinRanges (slice_set rs x r) s
-kept_within rs s x r h k = held_part (λ r n. Within n r) rs s x r h k
+point_alone : (n m : ℤ) → Within m (point_of n) → m ≡ n
+point_alone n m h = omega (arith, ints)
+
+meet_within : (n : ℤ) (a b : Range) → Within n a → Within n b → Within n (met_range a b)
+meet_within n a b h g = grind (arith, ints, clamps)
+
+meet_ends : (a b : Range) → IsOwn a → IsInInt b → HasEnds (met_range a b)
+meet_ends a b h g = let p : least ≤ℤ a.low = h.low in let q : a.high ≤ℤ greatest = h.high in grind (arith, ints, clamps)
+
+empty_in_int : IsInInt empty_range
+empty_in_int = record { low = record { low = omega (arith, ints); high = omega (arith, ints) }; high = record { low = omega (arith, ints); high = omega (arith, ints) } }
+
+pub range_laws : PartLaws ranges
+range_laws = record {
+  parts_told = pairs_numbers;
+  point_own = point_own;
+  point_has = point_has;
+  point_alone = point_alone;
+  number = λ r. r.low;
+  own_has = λ r h. record { low = omega (arith, ints); high = h.order };
+  has_not_bare = λ r n. not_empty_within n r;
+  best_own = λ r h. h;
+  best_has = λ r n. (λ h. h, λ h. h);
+  leq_has = λ a b n. within_wider n a b;
+  join_own = cover_own;
+  join_first = λ a b n. cover_first n a b;
+  join_second = λ a b n. cover_second n a b;
+  widen_own = widened_own;
+  widen_first = widened_first;
+  widen_second = widened_second;
+  widen_falls = λ ts a b h k. ends_fall ts a b k.low k.high;
+  widen_fewer = λ ts a b h k. widened_fewer ts a b k;
+  steps_few = λ ts r h. ends_few ts r;
+  narrow_own = λ ts a b h k. own_from_ends (narrowed_range ts a b) (narrowed_ends ts a b h k);
+  narrow_has = narrowed_holds;
+  range_in_int = own_in_int;
+  range_has = λ r n h. h;
+  bare_in_int = empty_in_int;
+  bare_is_empty = refl;
+  meet_own = λ a r h i. own_from_ends (met_range a r) (meet_ends a r h i);
+  meet_has = λ a r n. meet_within n a r;
+  range_own = λ r i. own_from_ends r (i.low.low, i.high.high);
+  in_range = λ r n h. h;
+  form_own = λ rs f r i. own_from_ends r (i.low.low, i.high.high);
+  form_has = λ rs f r s g h w. w;
+}

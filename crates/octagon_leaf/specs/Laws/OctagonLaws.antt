@@ -9,6 +9,8 @@ use Rattle.leaf_domain.specs.declared.compare.Compare.{Compare}
 use Rattle.leaf_domain.specs.Compares.{holds_between}
 use Rattle.leaf_domain.specs.Ranges.{Within, IsInInt, is_empty_range, empty_range, range_at}
 use Rattle.leaf_domain.specs.Forms.{form_at, IsForm}
+use Rattle.leaf_domain.proofs.Answered.{some_held}
+use Rattle.leaf_domain.proofs.ArithmeticLemmas.{not_empty}
 use Rattle.leaf_domain.specs.Leaves.{LeafValue, LeafLaws, IsLeafLike, nothing_of, is_nothing_of, at_store}
 use Rattle.leaf_domain.specs.Thresholds.{nearest, steps_from}
 use Rattle.leaf_domain.proofs.ThresholdLemmas.{steps_fewer, steps_few, scaled_length}
@@ -90,7 +92,7 @@ start-holds : (s t : List ℤ) → octagon_holds (octagon_start s) t ↔ (t ≡ 
 start-holds s t = (λ h. start-alone s t h, λ e. let P : List ℤ → Type 0 = λ u. octagon_holds (octagon_start s) u in subst P (sym e) (start-itself s))
 
 -- ---- one leaf
-some-holds : (n : ℕ) (c : Option (List ℤ)) → IsOctagon (at n c) → is_nothing_of (at n c) ≡ false → (s : List ℤ) × ContentHolds n c s
+pub some-holds : (n : ℕ) (c : Option (List ℤ)) → IsOctagon (at n c) → is_nothing_of (at n c) ≡ false → (s : List ℤ) × ContentHolds n c s
 some-holds n None p e = cc
 some-holds n (Some ns) p e = p.1.1
 
@@ -518,6 +520,13 @@ set-form-holds n None x f r s p l g i h w = absurd h
 set-form-holds n (Some us) x f r s p l g i h w =
     rw (not-empty (form_at f s) r w) (set-shape-holds n us x (shape_of f) r s (form_at f s) p l i h (shape-holds n f s g) w)
 
+-- octagons give an operation no range
+abbrev no_operation_range : Option Range
+no_operation_range = None
+
+no_range : (r : Range) (P : Type 0) → no_operation_range ≡ Some r → P
+no_range r P e = cc
+
 pub octagon_laws : LeafLaws octagons
 octagon_laws = record {
   valid_few = λ a p. p.0;
@@ -526,7 +535,6 @@ octagon_laws = record {
   start_holds = start-holds;
   nothing_valid = λ n l. (l, tt);
   nothing_holds = λ n s h. h;
-  some_holds = λ a. some-holds a.variables a.content;
   holds_length = λ a s p. holds-length a.variables a.content s;
   best_answers = λ a. best-answers a.variables a.content;
   best_holds = λ a. best-holds a.variables a.content;
@@ -536,10 +544,12 @@ octagon_laws = record {
   leq_nothing = λ n a. leq-nothing a.variables n a.content;
   join_answers = λ a b k. join-answers a.variables b.variables a.content b.content k.first k.second k.same;
   join_holds = λ a b s k. join-holds a.variables b.variables a.content b.content s k.first k.second k.same;
+  join_some = λ a b k e. let t = some-holds a.variables a.content k.first e in some_held octagons (λ n s h. h) (octagon_join a b) t.0 (join-holds a.variables b.variables a.content b.content t.0 k.first k.second k.same (inl t.1));
   join_nothing = λ a. refl;
   nothing_join = λ a. nothing-join a.variables a.content;
   widen_answers = λ ts a b k. widen-answers ts a.variables b.variables a.content b.content k.first k.second k.same;
   widen_holds = λ ts a b s k. widen-holds ts a.variables b.variables a.content b.content s k.first k.second k.same;
+  widen_some = λ ts a b k e. let t = some-holds a.variables a.content k.first e in some_held octagons (λ n s h. h) (octagon_widen ts a b) t.0 (widen-holds ts a.variables b.variables a.content b.content t.0 k.first k.second k.same (inl t.1));
   widen_grows = λ ts a b k. widen-grows ts a.variables b.variables a.content b.content k.first k.second k.same;
   steps_few = λ ts a p. steps-few ts a.variables a.content;
   narrow_answers = λ ts a b k. narrow-answers ts a.variables b.variables a.content b.content k.first k.second k.same;
@@ -547,6 +557,7 @@ octagon_laws = record {
   narrow_nothing = λ ts n a. refl;
   bounds_in_int = λ a x. bounds-int a.variables a.content x;
   bounds_hold = λ a x s. bounds-hold a.variables a.content x s;
+  bounds_some = λ a x p l e. let t = some-holds a.variables a.content p e in not_empty _ (octagon_bounds a x) (bounds-hold a.variables a.content x t.0 p l t.1);
   bounds_nothing = λ n x. refl;
   form_holds = λ a f r s. form-holds a.variables a.content f r s;
   form_nothing = λ n f r. form-nothing n (shape_of f) r;
@@ -562,4 +573,11 @@ octagon_laws = record {
   set_form_answers = λ a x f r p l g i. set-form-answers a.variables a.content x f r p;
   set_form_holds = λ a x f r s. set-form-holds a.variables a.content x f r s;
   set_form_nothing = λ n x f r. refl;
+  operation_holds = λ a p r s n h o w g e. no_range r (Within n r) e;
+  meet_operation_answers = λ a p op r h o i. record { valid = h; same = refl };
+  meet_operation_holds = λ a p op r s n m h o i w g k e. w;
+  meet_operation_nothing = λ n p op r. refl;
+  set_operation_answers = λ a x p r h l o i. set-answers a.variables a.content x r h;
+  set_operation_holds = λ a x p r s n h l o i w g k. set-holds a.variables a.content x r s n h l i w k;
+  set_operation_nothing = λ n x p r. refl;
 }

@@ -10,4 +10,5 @@ returns-clause-over g c = record {
   range = c.negation-found.ensures.int;
   form = rw c.in_ok-form.ensures (multiple_is_form _ (negsuc 0) c.args.a.now.form c.requires.form);
   few = rw c.in_ok-form.ensures (multiple_is_form 16 (negsuc 0) c.args.a.now.form c.requires.few);
+  operation = tt;
 }

@@ -25,9 +25,9 @@ of_best-requires-clause-best c =
 pub returns-in-None : goal.returns-in-None
 returns-in-None c = λ b e.
     c.none-in-None.ensures ∙ ap nothing_of c.count-in-None.ensures.value
-    ∙ with_nothing_is c.args.self.now c.in-Some.parts.now c.args.x b c.in-Some.ensures.best c.requires.x (sym c.in-None.is ∙ e)
+    ∙ with_nothing_is c.args.self.now c.in-Some.parts.now c.args.x b c.in-Some.ensures.best (sym c.in-None.is ∙ e)
 
 pub returns-in_ok-replaced-in-Some-part : goal.returns-in_ok-replaced-in-Some-part
 returns-in_ok-replaced-in-Some-part c = λ b e.
     c.of_best.ensures ∙ ap leaf_of c.in_ok-replaced-in-Some-part.ensures
-    ∙ with_part_is c.args.self.now c.in-Some.parts.now c.args.x c.in-Some-part.part b c.in-Some.ensures.best c.requires.x (sym c.in-Some-part.is ∙ e)
+    ∙ with_part_is c.args.self.now c.in-Some.parts.now c.args.x c.in-Some-part.part b c.in-Some.ensures.best (sym c.in-Some-part.is ∙ e)

@@ -1,7 +1,8 @@
 use Rattle.std.proofs.Common.{◌∙◌, sym, subst}
 use Rattle.strides.specs.Strided.{joined}
-use Rattle.product_leaf.specs.StrideLeaves.{AllOwn}
-use Rattle.product_leaf.specs.Laws.Parts.{joined_all_own}
+use Rattle.product_leaf.specs.StrideLeaves.{stride_parts, AllOwn}
+use Rattle.nonrelational_leaf.proofs.PartLists.{joined_own}
+use Rattle.product_leaf.specs.Laws.StrideLaws.{stride_part_laws}
 use Rattle.product_leaf.proofs.PartLemmas.{joined_again}
 use Rattle.product_leaf.proofs.Meanings.{best_count, best_all_own, few_zipped, join_is}
 use Rattle.product_leaf.proofs.leaf.StrideLeafLeaf.join.Goals as goal
@@ -24,7 +25,7 @@ of_best-requires-clause-few c =
 pub of_best-requires-clause-own : goal.of_best-requires-clause-own
 of_best-requires-clause-own c =
     subst AllOwn (sym c.in_ok-joined-in-Some-best_parts.ensures)
-    (joined_all_own _ _ (best_all_own _ _ c.in-Some.ensures.best) (best_all_own _ _ c.in-Some-best_parts.ensures.best))
+    (joined_own stride_parts stride_part_laws _ _ (best_all_own _ _ c.in-Some.ensures.best) (best_all_own _ _ c.in-Some-best_parts.ensures.best))
 
 pub of_best-requires-clause-best : goal.of_best-requires-clause-best
 of_best-requires-clause-best c =

@@ -19,6 +19,7 @@ with-requires-clause-best c = part_best c.met_part.result c.best_part.result c.b
 
 pub returns-in-Some : goal.returns-in-Some
 returns-in-Some c =
+    let l : c.args.x < length c.in-Some.parts.now = omega (arith, c.requires.x, own_count _ _ c.in-Some.ensures.standing) in
     let P : LeafValue → Type 0 = λ u. IfOk c.with.result (λ leaf. leaf ≡ u) in
-    subst P (met_is c.args.self.now c.in-Some.parts.now c.args.x c.args.r c.in-Some.ensures.standing)
+    subst P (met_is c.args.self.now c.in-Some.parts.now c.args.x c.args.r c.in-Some.ensures.standing l)
     (c.with.ensures (met_part (part_at c.in-Some.parts.now c.args.x) c.args.r) (c.best_part.ensures ∙ ap best_part c.met_part.ensures))

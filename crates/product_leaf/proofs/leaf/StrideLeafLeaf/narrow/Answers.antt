@@ -2,9 +2,10 @@ use Rattle.std.proofs.Common.{◌≡◌, ◌∙◌, length, true, false, ap, sub
 use Rattle.std.specs.List.{list_any}
 use Rattle.leaf_domain.specs.Leaves.{LeafValue, nothing_of}
 use Rattle.strides.specs.Strided.{is_bare, narrowed}
-use Rattle.product_leaf.specs.StrideLeaves.{AllOwn}
+use Rattle.product_leaf.specs.StrideLeaves.{stride_parts, AllOwn}
 use Rattle.leaf_domain.proofs.Variables.{length_zipped}
-use Rattle.product_leaf.specs.Laws.Parts.{narrowed_all_own}
+use Rattle.nonrelational_leaf.proofs.PartLists.{narrowed_own}
+use Rattle.product_leaf.specs.Laws.StrideLaws.{stride_part_laws}
 use Rattle.product_leaf.proofs.Meanings.{own_count, best_count, best_all_own, few_zipped, narrow_is, settled_bare, settled_full}
 use Rattle.product_leaf.proofs.leaf.StrideLeafLeaf.narrow.Goals as goal
 
@@ -24,7 +25,7 @@ pub standing_as-requires-clause-own : goal.standing_as-requires-clause-own
 standing_as-requires-clause-own c =
     let e : list_any is_bare c.in_ok-narrowed.narrowed.items ≡ false = ap (list_any is_bare) (sym c.deref.ensures.value) ∙ sym c.has_bare.ensures ∙ c.if-has_bare.false in
     subst AllOwn (sym c.in_ok-narrowed.ensures)
-    (narrowed_all_own _ _ _ c.in-Some.ensures.standing.own (best_all_own _ _ c.in-Some-best_parts.ensures.best) (ap (list_any is_bare) (sym c.in_ok-narrowed.ensures) ∙ e))
+    (narrowed_own stride_parts stride_part_laws _ _ _ c.in-Some.ensures.standing.own (best_all_own _ _ c.in-Some-best_parts.ensures.best) (ap (list_any is_bare) (sym c.in_ok-narrowed.ensures) ∙ e))
 
 pub returns-then-has_bare : goal.returns-then-has_bare
 returns-then-has_bare c =

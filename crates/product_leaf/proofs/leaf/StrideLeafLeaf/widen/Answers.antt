@@ -1,8 +1,9 @@
 use Rattle.std.proofs.Common.{◌≡◌, ◌∙◌, sym, subst, IfOk}
 use Rattle.leaf_domain.specs.Leaves.{LeafValue}
 use Rattle.strides.specs.Strided.{widened}
-use Rattle.product_leaf.specs.StrideLeaves.{AllOwn}
-use Rattle.product_leaf.specs.Laws.Parts.{widened_all_own}
+use Rattle.product_leaf.specs.StrideLeaves.{stride_parts, AllOwn}
+use Rattle.nonrelational_leaf.proofs.PartLists.{widened_own}
+use Rattle.product_leaf.specs.Laws.StrideLaws.{stride_part_laws}
 use Rattle.product_leaf.proofs.Meanings.{own_count, best_count, best_all_own, few_zipped, widen_is}
 use Rattle.product_leaf.proofs.leaf.StrideLeafLeaf.widen.Goals as goal
 
@@ -24,7 +25,7 @@ standing_as-requires-clause-few c =
 pub standing_as-requires-clause-own : goal.standing_as-requires-clause-own
 standing_as-requires-clause-own c =
     subst AllOwn (sym c.in_ok-widened-in-Some-best_parts.ensures)
-    (widened_all_own _ _ _ c.in-Some.ensures.standing.own (best_all_own _ _ c.in-Some-best_parts.ensures.best))
+    (widened_own stride_parts stride_part_laws _ _ _ c.in-Some.ensures.standing.own (best_all_own _ _ c.in-Some-best_parts.ensures.best))
 
 pub returns-in_ok-widened-in-Some-best_parts : goal.returns-in_ok-widened-in-Some-best_parts
 returns-in_ok-widened-in-Some-best_parts c =

@@ -1,0 +1,4 @@
+pub mod Parts
+pub mod PartLaws
+pub mod Lifted
+pub mod Exact
