@@ -11,5 +11,6 @@ pub mod Making
 pub mod Mapped
 pub mod Unified
 pub mod Within
+pub mod Walked
 pub mod FormulaTrees
 pub mod TreeTruths

@@ -135,7 +135,7 @@ module _ {A B C : Type 0} {P : A → B → C → Type 0} where
         | Ok r ↦ λ a b. record {
           of_leaves = noted_memo p (numbered r) (kept m x) (kept n y) ht hu (memo_kept k h.of_leaves) v w l j a b;
           of_nodes = memo_kept k h.of_nodes;
-          tally = subst (λ ds. IsTally t u (keys_of ds)) (sym b.entries) (tally_added es p b.tree h.tally (leaf_pair p m n x y l j v w) none);
+          tally = subst (λ ds. IsTally (IsPairOfLeaves t u) (keys_of ds)) (sym b.entries) (tally_added es p b.tree h.tally (leaf_pair p m n x y l j v w) none);
         }
         | Err e ↦ λ _ _. tt
       ]
@@ -145,7 +145,7 @@ module _ {A B C : Type 0} {P : A → B → C → Type 0} where
       → (xs : List A) (ys : List B) → HoldsLeaves xs (erase t) → HoldsLeaves ys (erase u) → d + length es ≤ s + length xs * length ys
   bounded_leaf t u es ns p m n x y s d ht hu h none v w l j e xs ys hx hy =
       let one = tally_pushed es p h.tally (leaf_pair p m n x y l j v w) none in
-      let f : length (keys_of es ++ p ∷ []) ≤ length xs * length ys = tally_bound t u xs ys (keys_of es ++ p ∷ []) ht hu one hx hy in
+      let f : length (keys_of es ++ p ∷ []) ≤ length xs * length ys = tally_bound t u (keys_of es ++ p ∷ []) ht hu xs ys one hx hy in
       let k : length (keys_of es ++ p ∷ []) ≡ length es + 1 = pushed (keys_of es) p ∙ ap (λ i. i + 1) (length-mapped (λ (a : Pair × Tree C). a.0) es) in
       omega arith
     where
@@ -156,7 +156,7 @@ module _ {A B C : Type 0} {P : A → B → C → Type 0} where
   pub bounded_known : {forest : List (Plain C)} (t : Numbered A) (u : Numbered B) (es ns : List (Pair × Tree C)) (s : ℕ) → IsNumbered t → IsNumbered u → IsKnown P forest t u es ns
       → (xs : List A) (ys : List B) → HoldsLeaves xs (erase t) → HoldsLeaves ys (erase u) → s + length es ≤ s + length xs * length ys
   bounded_known t u es ns s ht hu h xs ys hx hy =
-      let f : length (keys_of es) ≤ length xs * length ys = tally_bound t u xs ys (keys_of es) ht hu h.tally hx hy in
+      let f : length (keys_of es) ≤ length xs * length ys = tally_bound t u (keys_of es) ht hu xs ys h.tally hx hy in
       let k : length (keys_of es) ≡ length es = length-mapped (λ (a : Pair × Tree C). a.0) es in
       omega arith
 

@@ -11,7 +11,7 @@ use Rattle.decision_tree.specs.Listed.{Keeps}
 use Rattle.decision_tree.specs.View.{numbered}
 use Rattle.decision_tree.proofs.Places.{pushed_at, mapped_at, absent_at}
 use Rattle.tree_unify.specs.declared.memo.Pair.{Pair}
-use Rattle.tree_unify.specs.Made.{same_pair, IsMade, IsMemo, IsPairOfLeaves, IsTally}
+use Rattle.tree_unify.specs.Made.{same_pair, IsMade, IsMemo, IsTally}
 use Rattle.tree_unify.proofs.Places.{inserted_at, inserted_last, keys_pushed}
 
 of_eqb : (a b : ℕ) → eqb a b ≡ true → a ≡ b
@@ -72,16 +72,16 @@ module _ {A B C : Type 0} {P : A → B → C → Type 0} where
     ];
   }
 
-module _ {A B : Type 0} {t : Numbered A} {u : Numbered B} where
+module _ {Q : Pair → Type 0} where
   -- one more pair, which is not there
-  pub tally_pushed : {C : Type 0} (es : List (Pair × Tree C)) (p : Pair) → IsTally t u (keys_of es) → IsPairOfLeaves t u p → lookup (same_pair p) es ≡ None → IsTally t u (keys_of es ++ p ∷ [])
-  tally_pushed {C} es p h leaves none =
+  pub tally_pushed : {C : Type 0} (es : List (Pair × Tree C)) (p : Pair) → IsTally Q (keys_of es) → Q p → lookup (same_pair p) es ≡ None → IsTally Q (keys_of es ++ p ∷ [])
+  tally_pushed {C} es p h is none =
       let apart : (i : ℕ) (q : Pair) → slice_get (keys_of es) i ≡ Some q → p.left ≡ q.left → p.right ≡ q.right → ⊥ =
       λ i q g l r.
       let at = mapped_at (λ (e : Pair × Tree C). e.0) es i q g in
       true≢false (sym (pair_same p q l r) ∙ (ap (same_pair p) (sym at.2) ∙ absent_at (same_pair p) es i at.0 none at.1)) in
       record {
-        leaves = λ i q g. elim (pushed_at (keys_of es) p i q g) [ inl old ↦ h.leaves i q old | inr new ↦ subst (IsPairOfLeaves t u) (sym new.1) leaves ];
+        each = λ i q g. elim (pushed_at (keys_of es) p i q g) [ inl old ↦ h.each i q old | inr new ↦ subst Q (sym new.1) is ];
         distinct = λ i j q s a b l r. elim (pushed_at (keys_of es) p i q a) [
           | inl c ↦ elim (pushed_at (keys_of es) p j s b) [
             | inl d ↦ h.distinct i j q s c d l r
@@ -94,12 +94,12 @@ module _ {A B : Type 0} {t : Numbered A} {u : Numbered B} where
         ];
       }
 
-  pub tally_added : {C : Type 0} (es : List (Pair × Tree C)) (p : Pair) (r : Tree C) → IsTally t u (keys_of es) → IsPairOfLeaves t u p → lookup (same_pair p) es ≡ None → IsTally t u (keys_of (insert_entry same_pair es p r))
-  tally_added es p r h leaves none =
-      subst (IsTally t u) (sym (ap keys_of (inserted_last same_pair p r es none) ∙ keys_pushed es p r)) (tally_pushed es p h leaves none)
+  pub tally_added : {C : Type 0} (es : List (Pair × Tree C)) (p : Pair) (r : Tree C) → IsTally Q (keys_of es) → Q p → lookup (same_pair p) es ≡ None → IsTally Q (keys_of (insert_entry same_pair es p r))
+  tally_added es p r h is none =
+      subst (IsTally Q) (sym (ap keys_of (inserted_last same_pair p r es none) ∙ keys_pushed es p r)) (tally_pushed es p h is none)
 
-  pub tally_empty : {C : Type 0} (es : List (Pair × Tree C)) → es ≡ [] → IsTally t u (keys_of es)
-  tally_empty {C} es none = subst (λ ds. IsTally t u (keys_of ds)) (sym none) (record { leaves = λ i p g. nothing i p g; distinct = λ i j p q a b l r. cc })
+  pub tally_empty : {C : Type 0} (es : List (Pair × Tree C)) → es ≡ [] → IsTally Q (keys_of es)
+  tally_empty {C} es none = subst (λ ds. IsTally Q (keys_of ds)) (sym none) (record { each = λ i p g. nothing i p g; distinct = λ i j p q a b l r. cc })
     where
-      nothing : (i : ℕ) (p : Pair) → slice_get {X = Pair} [] i ≡ Some p → IsPairOfLeaves t u p
+      nothing : (i : ℕ) (p : Pair) → slice_get {X = Pair} [] i ≡ Some p → Q p
       nothing i p g = cc

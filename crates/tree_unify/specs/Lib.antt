@@ -4,4 +4,5 @@ pub mod Leafwise
 pub mod Leaves
 pub mod Made
 pub mod Sides
+pub mod Subtrees
 pub mod Formulas

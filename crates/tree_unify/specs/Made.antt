@@ -1,5 +1,6 @@
 -- What is known of trees that are made and remembered during one call.
-use Rattle.std.specs.Prelude.{◌≡◌, ℕ, Bool, List, Some, slice_get, ◌==◌, ◌&&◌}
+use Rattle.std.specs.Prelude.{◌≡◌, ℕ, Bool, List, Some, None, slice_get, ◌==◌, ◌&&◌}
+use Rattle.std.specs.Map.{lookup}
 use Rattle.indexmap.specs.IndexMap.{insert_entry}
 use Rattle.decision_tree.specs.declared.tree.Tree.{Tree}
 use Rattle.decision_tree.specs.Plain.{Plain, IsReducedFrom}
@@ -31,10 +32,23 @@ pub record IsPairOfLeaves {A B : Type 0} (t : Numbered A) (u : Numbered B) (p : 
   pub left : IsWithin (kept p.left first) t
   pub right : IsWithin (kept p.right second) u
 
--- all pairs are of leaves, and no pair stands twice
-pub record IsTally {A B : Type 0} (t : Numbered A) (u : Numbered B) (pairs : List Pair) : Type 0 where
-  pub leaves : (i : ℕ) (p : Pair) → slice_get pairs i ≡ Some p → IsPairOfLeaves t u p
+-- the pair has the numbers of a subtree of t and a subtree of u
+pub record IsPairOf {A B : Type 0} (t : Numbered A) (u : Numbered B) (p : Pair) : Type 0 where
+  pub first : Numbered A
+  pub second : Numbered B
+  pub first_within : IsWithin first t
+  pub second_within : IsWithin second u
+  pub left : p.left ≡ root first
+  pub right : p.right ≡ root second
+
+-- each pair is such a one, and no pair stands twice
+pub record IsTally (Q : Pair → Type 0) (pairs : List Pair) : Type 0 where
+  pub each : (i : ℕ) (p : Pair) → slice_get pairs i ≡ Some p → Q p
   pub distinct : (i j : ℕ) (p q : Pair) → slice_get pairs i ≡ Some p → slice_get pairs j ≡ Some q → p.left ≡ q.left → p.right ≡ q.right → i ≡ j
+
+-- no pairs were noted but those of subtrees of t and u
+pub record IsNotedWithin {A B C : Type 0} (t : Numbered A) (u : Numbered B) (before after : List (Pair × Tree C)) : Type 0 where
+  pub others : (p : Pair) → (IsPairOf t u p → ⊥) → lookup (same_pair p) before ≡ None → lookup (same_pair p) after ≡ None
 
 -- r was noted for the pair
 pub record IsNoted {C : Type 0} (p : Pair) (r : Numbered C) (before after : List (Pair × Tree C)) : Type 0 where

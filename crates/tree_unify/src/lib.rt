@@ -14,7 +14,7 @@ pub mod truths;
 
 pub use formulas::{test_tree, test_tree_in};
 pub use leafwise::{map, select, unify};
-pub use numbered::{map_in, unify_in};
+pub use numbered::{map_in, unify_counted, unify_in};
 pub use operation::Operation;
 pub use restricted::restrict;
 pub use steps::Steps;

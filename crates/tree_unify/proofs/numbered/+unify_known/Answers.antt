@@ -1,11 +1,14 @@
-use Rattle.std.proofs.Common.{true, false, ◌≡◌, ◌<◌, rules, arith, refl, Some}
+use Rattle.std.proofs.Common.{true, false, ◌≡◌, ◌<◌, ◌+◌, length, rules, arith, refl, None, Some}
 use Rattle.std.proofs.lemmas.Grind.{common_steps}
 use Rattle.std.specs.Map.{lookup}
-use Rattle.decision_tree.specs.Numbered.{root}
+use Rattle.decision_tree.specs.Numbered.{root, IsNumbered}
 use Rattle.decision_tree.specs.View.{numbered, plain}
 use Rattle.tree_unify.specs.Made.{same_pair}
 use Rattle.tree_unify.proofs.Making.{known_node, made_node_ok, bounded_known, made_found, side_tree, made_at_leaves}
 use Rattle.decision_tree.proofs.Numbers.{keeps_same, keeps_both, tree_stays}
+use Rattle.tree_unify.specs.Known.{IsWalked}
+use Rattle.tree_unify.proofs.Within.{within_self}
+use Rattle.tree_unify.proofs.Walked.{on_ok, noted_none, walk_known, AreSides, sides, noted_within, walked_node, counted_node, room_for_node}
 use Rattle.tree_unify.proofs.numbered.+unify_known.Goals as goal
 
 pub returns-in-Some-clause-made : goal.returns-in-Some-clause-made
@@ -46,3 +49,60 @@ returns-in-Some-clause-keeps g t c = keeps_same _ _ refl
 
 pub returns-in-Leaf-Leaf-clause-made : goal.returns-in-Leaf-Leaf-clause-made
 returns-in-Leaf-Leaf-clause-made g t c = made_at_leaves _ _ c.unify_leaves.result (plain c.args.t.now) (plain c.args.u.now) _ _ (search rules) (search rules) c.unify_leaves.ensures.made
+
+-- ---- the walk
+pub returns-in-Leaf-Leaf-clause-within : goal.returns-in-Leaf-Leaf-clause-within
+returns-in-Leaf-Leaf-clause-within g t c = on_ok c.unify_leaves.result _ (noted_none _ _ _ _ c.unify_leaves.ensures.nodes)
+
+pub returns-in-Leaf-Leaf-clause-room : goal.returns-in-Leaf-Leaf-clause-room
+returns-in-Leaf-Leaf-clause-room g t c = walk_known _ _ c.args.memo.now.nodes.entries c.args.memo.now.nodes.entries _ _ c.requires.t_numbered c.requires.u_numbered c.requires.walked refl
+
+pub returns-in-Some-clause-within : goal.returns-in-Some-clause-within
+returns-in-Some-clause-within g t c = on_ok c.share.result _ (noted_none _ _ _ _ refl)
+
+pub returns-in-Some-clause-room : goal.returns-in-Some-clause-room
+returns-in-Some-clause-room g t c = walk_known _ _ c.args.memo.now.nodes.entries c.args.memo.now.nodes.entries _ _ c.requires.t_numbered c.requires.u_numbered c.requires.walked refl
+
+pub returns-clause-walked : goal.returns-clause-walked
+returns-clause-walked g t c =
+    let small : c.min-k.result < 64 = grind (arith, common_steps) in
+    let no : AreSides (numbered c.args.t.now) (numbered c.args.u.now) (numbered c.side.result.now) (numbered c.side-2.result.now) =
+    sides (numbered c.args.t.now) (numbered c.args.u.now) c.min-k.result false _ _ (search rules) small (c.side.ensures.within _ (within_self _)) (c.side-2.ensures.within _ (within_self _)) c.side.ensures.side c.side-2.ensures.side in
+    let yes : AreSides (numbered c.args.t.now) (numbered c.args.u.now) (numbered c.side-3.result.now) (numbered c.side-4.result.now) =
+    sides (numbered c.args.t.now) (numbered c.args.u.now) c.min-k.result true _ _ (search rules) small (c.side-3.ensures.within _ (within_self _)) (c.side-4.ensures.within _ (within_self _)) c.side-3.ensures.side c.side-4.ensures.side in
+    let none : lookup (same_pair (record { left = c.number.result; right = c.number-2.result })) c.args.memo.now.nodes.entries ≡ None = search rules in
+    walked_node (numbered c.args.t.now) (numbered c.args.u.now) (numbered c.args.whole.now.t.now) (numbered c.args.whole.now.u.now) c.requires.t_numbered c.requires.u_numbered c.requires.t_within c.requires.u_within (record { left = c.number.result; right = c.number-2.result }) c.number.ensures.number c.number-2.ensures.number
+    c.args.memo.now.nodes.entries _ _ _ _ _ _ no yes c.in_ok-no.ensures.within c.in_ok-yes.ensures.within c.note_node.new.entries.entries c.note_node.result none c.in_ok-yes.ensures.walked c.note_node.ensures.noted
+
+pub returns-clause-within : goal.returns-clause-within
+returns-clause-within g t c =
+    let small : c.min-k.result < 64 = grind (arith, common_steps) in
+    let no : AreSides (numbered c.args.t.now) (numbered c.args.u.now) (numbered c.side.result.now) (numbered c.side-2.result.now) =
+    sides (numbered c.args.t.now) (numbered c.args.u.now) c.min-k.result false _ _ (search rules) small (c.side.ensures.within _ (within_self _)) (c.side-2.ensures.within _ (within_self _)) c.side.ensures.side c.side-2.ensures.side in
+    let yes : AreSides (numbered c.args.t.now) (numbered c.args.u.now) (numbered c.side-3.result.now) (numbered c.side-4.result.now) =
+    sides (numbered c.args.t.now) (numbered c.args.u.now) c.min-k.result true _ _ (search rules) small (c.side-3.ensures.within _ (within_self _)) (c.side-4.ensures.within _ (within_self _)) c.side-3.ensures.side c.side-4.ensures.side in
+    let none : lookup (same_pair (record { left = c.number.result; right = c.number-2.result })) c.args.memo.now.nodes.entries ≡ None = search rules in
+    noted_within (numbered c.args.t.now) (numbered c.args.u.now) (numbered c.args.whole.now.t.now) (numbered c.args.whole.now.u.now) c.requires.t_numbered c.requires.u_numbered c.requires.t_within c.requires.u_within (record { left = c.number.result; right = c.number-2.result }) c.number.ensures.number c.number-2.ensures.number
+    c.args.memo.now.nodes.entries _ _ _ _ _ _ no yes c.in_ok-no.ensures.within c.in_ok-yes.ensures.within c.note_node.new.entries.entries c.note_node.result none c.note_node.ensures.noted
+
+pub returns-clause-nodes : goal.returns-clause-nodes
+returns-clause-nodes g t c =
+    let small : c.min-k.result < 64 = grind (arith, common_steps) in
+    let no : AreSides (numbered c.args.t.now) (numbered c.args.u.now) (numbered c.side.result.now) (numbered c.side-2.result.now) =
+    sides (numbered c.args.t.now) (numbered c.args.u.now) c.min-k.result false _ _ (search rules) small (c.side.ensures.within _ (within_self _)) (c.side-2.ensures.within _ (within_self _)) c.side.ensures.side c.side-2.ensures.side in
+    let yes : AreSides (numbered c.args.t.now) (numbered c.args.u.now) (numbered c.side-3.result.now) (numbered c.side-4.result.now) =
+    sides (numbered c.args.t.now) (numbered c.args.u.now) c.min-k.result true _ _ (search rules) small (c.side-3.ensures.within _ (within_self _)) (c.side-4.ensures.within _ (within_self _)) c.side-3.ensures.side c.side-4.ensures.side in
+    let none : lookup (same_pair (record { left = c.number.result; right = c.number-2.result })) c.args.memo.now.nodes.entries ≡ None = search rules in
+    counted_node (numbered c.args.t.now) (numbered c.args.u.now) (numbered c.args.whole.now.t.now) (numbered c.args.whole.now.u.now) c.requires.t_numbered c.requires.u_numbered c.requires.t_within c.requires.u_within (record { left = c.number.result; right = c.number-2.result }) c.number.ensures.number c.number-2.ensures.number
+    c.args.memo.now.nodes.entries _ _ _ _ _ _ no yes c.in_ok-no.ensures.within c.in_ok-yes.ensures.within c.note_node.new.entries.entries c.note_node.result none c.args.nodes.now _ _ (omega (arith, c.in_ok-no.ensures.nodes, c.in_ok-yes.ensures.nodes)) c.note_node.ensures.counted c.note_node.ensures.noted
+
+pub returns-clause-room : goal.returns-clause-room
+returns-clause-room g t c =
+    let small : c.min-k.result < 64 = grind (arith, common_steps) in
+    let no : AreSides (numbered c.args.t.now) (numbered c.args.u.now) (numbered c.side.result.now) (numbered c.side-2.result.now) =
+    sides (numbered c.args.t.now) (numbered c.args.u.now) c.min-k.result false _ _ (search rules) small (c.side.ensures.within _ (within_self _)) (c.side-2.ensures.within _ (within_self _)) c.side.ensures.side c.side-2.ensures.side in
+    let yes : AreSides (numbered c.args.t.now) (numbered c.args.u.now) (numbered c.side-3.result.now) (numbered c.side-4.result.now) =
+    sides (numbered c.args.t.now) (numbered c.args.u.now) c.min-k.result true _ _ (search rules) small (c.side-3.ensures.within _ (within_self _)) (c.side-4.ensures.within _ (within_self _)) c.side-3.ensures.side c.side-4.ensures.side in
+    let none : lookup (same_pair (record { left = c.number.result; right = c.number-2.result })) c.args.memo.now.nodes.entries ≡ None = search rules in
+    room_for_node (numbered c.args.t.now) (numbered c.args.u.now) (numbered c.args.whole.now.t.now) (numbered c.args.whole.now.u.now) c.requires.t_numbered c.requires.u_numbered c.requires.t_within c.requires.u_within (record { left = c.number.result; right = c.number-2.result }) c.number.ensures.number c.number-2.ensures.number
+    c.args.memo.now.nodes.entries _ _ _ _ _ _ no yes c.in_ok-no.ensures.within c.in_ok-yes.ensures.within c.note_node.new.entries.entries c.note_node.result none c.args.nodes.now _ _ c.in_ok-yes.ensures.walked (omega (arith, c.in_ok-no.ensures.nodes, c.in_ok-yes.ensures.nodes)) c.note_node.ensures.counted

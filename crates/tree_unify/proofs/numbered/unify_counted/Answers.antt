@@ -1,7 +1,7 @@
 use Rattle.std.proofs.Common.{arith}
 use Rattle.decision_tree.specs.View.{numbered, plain}
 use Rattle.tree_unify.proofs.Making.{made_unified, made_leaves, made_tests, made_tree}
-use Rattle.tree_unify.proofs.numbered.unify_in.Goals as goal
+use Rattle.tree_unify.proofs.numbered.unify_counted.Goals as goal
 
 pub returns-clause-unified : goal.returns-clause-unified
 returns-clause-unified g c = made_unified _ _ c.unify_known.result (plain c.args.t.now) (plain c.args.u.now) c.unify_known.ensures.made
@@ -17,3 +17,6 @@ returns-clause-tree g c = made_tree _ _ c.unify_known.result (numbered c.args.t.
 
 pub returns-clause-steps : goal.returns-clause-steps
 returns-clause-steps g c = λ xs ys hx hy. omega (arith, c.unify_known.ensures.bounded xs ys hx hy)
+
+pub returns-clause-nodes : goal.returns-clause-nodes
+returns-clause-nodes g c = λ xs ys hx hy. omega (arith, c.unify_known.ensures.room xs ys hx hy)
