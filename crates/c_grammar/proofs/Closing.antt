@@ -5,9 +5,9 @@ use Rattle.c_tree.specs.declared.lists.Declared.{Declared}
 use Rattle.c_tree.specs.Tree.{Term, Var, Binary, Code, Done, Assign, Input, Assert, If, While, Block, Skip, Cond, followed}
 use Rattle.c_grammar.specs.declared.items.Sign.TheVariants as signs
 use Rattle.c_grammar.specs.declared.items.Item.{Item}
-use Rattle.c_grammar.specs.Grammar.{at, tighter, applied, updated, File, file_of}
+use Rattle.c_grammar.specs.Grammar.{at, tighter, applied, updated, changed_by_one, File, file_of}
 use Rattle.c_grammar.specs.Ahead.{Loose, NoElse}
-use Rattle.c_grammar.specs.Machine.{Tailing, Another, Final, Frame, Paren, Pre, Left, Stack, Top, Braces, Yes, No, ThenOf, ElseOf, LoopOf, Use, ToAssign, ToUpdate, ToAssert, ToChoose, ToLoop, Sections, Outermost, InPart, InLast, Aim, ToPrototype, ToMain, ReadingState, Outside, AfterStatic, AfterExtern, AfterInt, AfterExternInt, Declaring, Bare, Starting, Negating, Started, Parameters, InParameters, AfterVoid, AfterParameters, Ready, Ended, Wants, Has, Named, Opens, InputOpens, InputCloses, Finishing, Returning, Returned, Closing, Over, with_declared, linked, run}
+use Rattle.c_grammar.specs.Machine.{Tailing, Another, Final, Frame, Paren, Pre, Left, Stack, Top, Braces, Yes, No, ThenOf, ElseOf, LoopOf, Use, ToAssign, ToUpdate, ToAssert, ToChoose, ToLoop, Sections, Outermost, InPart, InLast, Aim, ToPrototype, ToMain, ReadingState, Outside, AfterStatic, AfterExtern, AfterType, NoWord, StaticWord, ExternWord, Declaring, Bare, Starting, Negating, Started, Parameters, InParameters, AfterVoid, AfterParameters, Ready, Ended, Wants, Has, Counting, Named, Opens, InputOpens, InputCloses, Finishing, Returning, Returned, Closing, Over, with_declared, linked, run}
 use Rattle.c_grammar.proofs.Complete.{pre_absorbs, left_absorbs, loop_absorbs, else_absorbs, then_absorbs}
 
 pub nowhere : Place
@@ -93,8 +93,9 @@ unfolding run after_declarator
 completes (Outside secs ds) = after_declarations secs ds
 completes (AfterStatic secs ds) = let h = after_declarator 0 (pos 0) secs ds in (at nowhere signs.Int ∷ at nowhere (signs.Name 0) ∷ h.0, h.1, h.2)
 completes (AfterExtern secs ds) = let h = after_parameters (ToPrototype secs ds) in (at nowhere signs.Int ∷ at nowhere signs.Input ∷ at nowhere signs.Open ∷ at nowhere signs.Close ∷ h.0, h.1, h.2)
-completes (AfterInt secs ds) = let h = after_declarator 0 (pos 0) secs ds in (at nowhere (signs.Name 0) ∷ h.0, h.1, h.2)
-completes (AfterExternInt secs ds) = let h = after_parameters (ToPrototype secs ds) in (at nowhere signs.Input ∷ at nowhere signs.Open ∷ at nowhere signs.Close ∷ h.0, h.1, h.2)
+completes (AfterType NoWord words secs ds) = let h = after_declarator 0 (pos 0) secs ds in (at nowhere (signs.Name 0) ∷ h.0, h.1, h.2)
+completes (AfterType StaticWord words secs ds) = let h = after_declarator 0 (pos 0) secs ds in (at nowhere (signs.Name 0) ∷ h.0, h.1, h.2)
+completes (AfterType ExternWord words secs ds) = let h = after_parameters (ToPrototype secs ds) in (at nowhere signs.Input ∷ at nowhere signs.Open ∷ at nowhere signs.Close ∷ h.0, h.1, h.2)
 completes (Declaring secs ds) = let h = after_declarator 0 (pos 0) secs ds in (at nowhere (signs.Name 0) ∷ h.0, h.1, h.2)
 completes (Bare x secs ds) = let h = after_declarations secs (with_declared secs ds x (pos 0)) in (at nowhere signs.Semicolon ∷ h.0, h.1, h.2)
 completes (Starting x secs ds) = let h = after_declarator x (pos 0) secs ds in (at nowhere (signs.Number (pos 0)) ∷ h.0, h.1, h.2)
@@ -108,6 +109,7 @@ completes (Ready outer) = let h = closes outer (Skip nowhere Done) in (at nowher
 completes (Ended outer c) = let h = closes outer c in (closers outer, h.0, h.1)
 completes (Wants fs u) = let h = ends_expr fs u (Var 0) in (at nowhere (signs.Name 0) ∷ h.tail, h.made, h.reads)
 completes (Has fs u e) = let h = ends_expr fs u e in (h.tail, h.made, h.reads)
+completes (Counting p u outer) = let h = closes outer (changed_by_one p 0 u) in (at nowhere (signs.Name 0) ∷ at nowhere signs.Semicolon ∷ closers outer, h.0, h.1)
 completes (Named p x outer) = let h = closes outer (Assign p x (Var 0) Done) in (at nowhere signs.Equals ∷ at nowhere (signs.Name 0) ∷ at nowhere signs.Semicolon ∷ closers outer, h.0, h.1)
 completes (Opens u) = let h = ends_use u (Var 0) in (at nowhere signs.Open ∷ at nowhere (signs.Name 0) ∷ h.tail, h.made, h.reads)
 completes (InputOpens p x outer) = let h = closes outer (Input p x Done) in (at nowhere signs.Open ∷ at nowhere signs.Close ∷ at nowhere signs.Semicolon ∷ closers outer, h.0, h.1)

@@ -5,9 +5,9 @@ use Rattle.c_tree.specs.declared.lists.Declared.{Declared}
 use Rattle.c_tree.specs.Tree.{Term, Var, Binary, Code, Done, Assign, Input, Assert, If, While, Block, Skip, Cond, followed}
 use Rattle.c_grammar.specs.declared.items.Sign.TheVariants as signs
 use Rattle.c_grammar.specs.declared.items.Item.{Item}
-use Rattle.c_grammar.specs.Grammar.{at, tighter, applied, updated, File, file_of}
+use Rattle.c_grammar.specs.Grammar.{at, tighter, applied, updated, changed_by_one, File, file_of}
 use Rattle.c_grammar.specs.Ahead.{Loose, NoElse}
-use Rattle.c_grammar.specs.Machine.{Tailing, Another, Final, Frame, Paren, Pre, Left, Stack, Top, Braces, Yes, No, ThenOf, ElseOf, LoopOf, Use, ToAssign, ToUpdate, ToAssert, ToChoose, ToLoop, Sections, Outermost, InPart, InLast, Aim, ToPrototype, ToMain, ReadingState, Outside, AfterStatic, AfterExtern, AfterInt, AfterExternInt, Declaring, Bare, Starting, Negating, Started, Parameters, InParameters, AfterVoid, AfterParameters, Ready, Ended, Wants, Has, Named, Opens, InputOpens, InputCloses, Finishing, Returning, Returned, Closing, Over, with_declared, linked}
+use Rattle.c_grammar.specs.Machine.{Tailing, Another, Final, Frame, Paren, Pre, Left, Stack, Top, Braces, Yes, No, ThenOf, ElseOf, LoopOf, Use, ToAssign, ToUpdate, ToAssert, ToChoose, ToLoop, Sections, Outermost, InPart, InLast, Aim, ToPrototype, ToMain, ReadingState, Outside, AfterStatic, AfterExtern, AfterType, NoWord, StaticWord, ExternWord, Declaring, Bare, Starting, Negating, Started, Parameters, InParameters, AfterVoid, AfterParameters, Ready, Ended, Wants, Has, Counting, Named, Opens, InputOpens, InputCloses, Finishing, Returning, Returned, Closing, Over, with_declared, linked}
 use Rattle.c_grammar.specs.Deep.{guarded}
 use Rattle.c_grammar.proofs.Complete.{pre_step, left_step, loop_step, else_step, then_step}
 use Rattle.c_grammar.proofs.Closing.{nowhere, closers, closers_no_else}
@@ -99,8 +99,9 @@ unfolding guarded after_declarator
 goes_on_within (Outside secs ds) n few = after_declarations secs ds n
 goes_on_within (AfterStatic secs ds) n few = let h = after_declarator 0 (pos 0) secs ds 0 in (at nowhere signs.Int ∷ at nowhere (signs.Name 0) ∷ h.0, h.1, h.2)
 goes_on_within (AfterExtern secs ds) n few = let h = after_parameters (ToPrototype secs ds) 0 in (at nowhere signs.Int ∷ at nowhere signs.Input ∷ at nowhere signs.Open ∷ at nowhere signs.Close ∷ h.0, h.1, h.2)
-goes_on_within (AfterInt secs ds) n few = let h = after_declarator 0 (pos 0) secs ds 0 in (at nowhere (signs.Name 0) ∷ h.0, h.1, h.2)
-goes_on_within (AfterExternInt secs ds) n few = let h = after_parameters (ToPrototype secs ds) 0 in (at nowhere signs.Input ∷ at nowhere signs.Open ∷ at nowhere signs.Close ∷ h.0, h.1, h.2)
+goes_on_within (AfterType NoWord words secs ds) n few = let h = after_declarator 0 (pos 0) secs ds 0 in (at nowhere (signs.Name 0) ∷ h.0, h.1, h.2)
+goes_on_within (AfterType StaticWord words secs ds) n few = let h = after_declarator 0 (pos 0) secs ds 0 in (at nowhere (signs.Name 0) ∷ h.0, h.1, h.2)
+goes_on_within (AfterType ExternWord words secs ds) n few = let h = after_parameters (ToPrototype secs ds) 0 in (at nowhere signs.Input ∷ at nowhere signs.Open ∷ at nowhere signs.Close ∷ h.0, h.1, h.2)
 goes_on_within (Declaring secs ds) n few = let h = after_declarator 0 (pos 0) secs ds 0 in (at nowhere (signs.Name 0) ∷ h.0, h.1, h.2)
 goes_on_within (Bare x secs ds) n few = let h = after_declarations secs (with_declared secs ds x (pos 0)) 0 in (at nowhere signs.Semicolon ∷ h.0, h.1, h.2)
 goes_on_within (Starting x secs ds) n few = let h = after_declarator x (pos 0) secs ds 0 in (at nowhere (signs.Number (pos 0)) ∷ h.0, h.1, h.2)
@@ -114,6 +115,7 @@ goes_on_within (Ready outer) n few = let h = closes outer (Skip nowhere Done) 0 
 goes_on_within (Ended outer c) n few = let h = closes outer c n in (closers outer, h.0, h.1)
 goes_on_within (Wants fs u) n few = let h = ends_expr fs u (Var 0) n few in (at nowhere (signs.Name 0) ∷ h.tail, h.made, takes (Wants fs u) (Has fs u (Var 0)) nowhere (signs.Name 0) n n h.tail refl refl refl few ∙ h.reads)
 goes_on_within (Has fs u e) n few = let h = ends_expr fs u e n few in (h.tail, h.made, h.reads)
+goes_on_within (Counting p u outer) n few = let h = closes outer (changed_by_one p 0 u) 0 in (at nowhere (signs.Name 0) ∷ at nowhere signs.Semicolon ∷ closers outer, h.0, h.1)
 goes_on_within (Named p x outer) n few = let h = closes outer (Assign p x (Var 0) Done) 0 in (at nowhere signs.Equals ∷ at nowhere (signs.Name 0) ∷ at nowhere signs.Semicolon ∷ closers outer, h.0, h.1)
 goes_on_within (Opens u) n few = let h = ends_use u (Var 0) 0 (omega arith) in (at nowhere signs.Open ∷ at nowhere (signs.Name 0) ∷ h.tail, h.made, h.reads)
 goes_on_within (InputOpens p x outer) n few = let h = closes outer (Input p x Done) 0 in (at nowhere signs.Open ∷ at nowhere signs.Close ∷ at nowhere signs.Semicolon ∷ closers outer, h.0, h.1)

@@ -9,7 +9,7 @@ use Rattle.c_tree.specs.Tree.{Code, Done, Assign, Input, Assert, If, While, Bloc
 use Rattle.c_tree.specs.Project.{IsNumbered, IsGuarded, IsConditioned}
 use Rattle.c_grammar.specs.declared.items.Item.{Item}
 use Rattle.c_grammar.specs.declared.items.Sign.TheVariants as signs
-use Rattle.c_grammar.specs.Grammar.{at, Shape, Writes, none, more, choice, ends, otherwise, elif, assign, input, update, count, assert, skip, block, while, if_then, if_else, declared, Part, Outer, Vars, Later, Declares, nothing, variables, prototype, section, last_var, next_var, end_part, else_part, elif_part, Returns, no_return, return, Body, body, Main, main, File, Forms, file, has_groups, whole_of}
+use Rattle.c_grammar.specs.Grammar.{at, Shape, Writes, none, more, choice, ends, otherwise, elif, assign, input, update, count, prefix_count, assert, skip, block, while, if_then, if_else, declared, Part, Outer, Vars, Later, Declares, nothing, variables, prototype, section, last_var, next_var, end_part, else_part, elif_part, Returns, no_return, return, Body, body, Main, main, File, Forms, file, has_groups, whole_of}
 use Rattle.c_grammar.specs.Facts.{AreConditionsOf, Conditioned}
 
 cut : (n : ℕ) (xs ys : List Item) → AreConditionsOf n (xs ++ ys) → AreConditionsOf n xs × AreConditionsOf n ys
@@ -38,6 +38,7 @@ code_numbered n (assign p q r x e) h = tt
 code_numbered n (input p q r s t u x) h = tt
 code_numbered n (update p q r x u e) h = tt
 code_numbered n (count p q r x u) h = tt
+code_numbered n (prefix_count p q r x u) h = tt
 code_numbered n (assert p q r s e) h = tt
 code_numbered n (skip p) h = tt
 code_numbered n (block p q {ts} s) h = (code_numbered n s (cut n ts (at q signs.RightBrace ∷ []) h.1).0, tt)
@@ -61,12 +62,12 @@ GuardsOf (Later gs) = gs
 
 declared_numbered : {s : Part} {us : List Item} {ds : List Declared} (n : ℕ) → Declares s us ds → All (IsBelow n) (GuardsOf s) → AreConditionsOf n us → All (IsGuarded n) ds
 declared_numbered n (nothing gs) g h = All-nil (IsGuarded n)
-declared_numbered n (variables p gs {us} {vs} {ws} {ds} {es} o v d) g h =
-    let k = cut n vs ws (cut n us (at p signs.Int ∷ (vs ++ ws)) h).1.1 in
+declared_numbered n (variables gs {us} {vs} {ws} {ds} {es} o v d) g h =
+    let k = cut n vs ws (cut n us (vs ++ ws) h).1 in
     All-append (IsGuarded n) ds es (declared_numbered n v g k.0) (declared_numbered n d g k.1)
-declared_numbered n (prototype p q r s t gs {us} {vs} {ws} o v d) g h =
-    let k = cut n us (at p signs.Int ∷ at q signs.Input ∷ at r signs.Open ∷ (vs ++ at s signs.Close ∷ at t signs.Semicolon ∷ ws)) h in
-    declared_numbered n d g (cut n vs (at s signs.Close ∷ at t signs.Semicolon ∷ ws) k.1.1.1.1).1.1.1
+declared_numbered n (prototype q r s t gs {us} {vs} {ws} o v d) g h =
+    let k = cut n us (at q signs.Input ∷ at r signs.Open ∷ (vs ++ at s signs.Close ∷ at t signs.Semicolon ∷ ws)) h in
+    declared_numbered n d g (cut n vs (at s signs.Close ∷ at t signs.Semicolon ∷ ws) k.1.1.1).1.1.1
 declared_numbered n (section p m gs {us} {vs} {ws} {cs} {ds} {es} a b d) g h =
     let k = cut n us (vs ++ ws) h.1 in
     let l = cut n vs ws k.1 in
@@ -87,7 +88,9 @@ body_numbered : {ts : List Item} {c : Code} {p : Place} (n : ℕ) → Body ts c 
 body_numbered n (body p {us} {vs} {ws} {c} {d} s r e) h = followed_numbered n c d (code_numbered n s (cut n us (vs ++ at p signs.RightBrace ∷ ws) h).0) (return_numbered n r)
 
 main_numbered : {ts : List Item} {c : Code} {p : Place} (n : ℕ) → Main ts c p → AreConditionsOf n ts → IsNumbered n c
-main_numbered n (main p q r s t u {us} {vs} o b) h = body_numbered n b (cut n us (at s signs.Close ∷ at t signs.LeftBrace ∷ vs) h.1.1.1).1.1.1
+main_numbered n (main q r s t u {ts} {us} {vs} y o b) h =
+    let k = cut n ts (at q signs.Main ∷ at r signs.Open ∷ (us ++ at s signs.Close ∷ at t signs.LeftBrace ∷ vs)) h in
+    body_numbered n b (cut n us (at s signs.Close ∷ at t signs.LeftBrace ∷ vs) k.1.1.1).1.1.1
 
 file_numbered : (n : ℕ) (items : List Item) (f : File) → Forms items f → AreConditionsOf n items → IsNumbered n f.body × All (IsGuarded n) f.declared
 file_numbered n _ _ (file {us} {vs} d m) h = let k = cut n us vs h in (main_numbered n m k.1, declared_numbered n d (All-nil (IsBelow n)) k.0)

@@ -47,6 +47,12 @@ updated_by_an_expression : run start (items (head ++ signs.Name 0 ∷ signs.Plus
 unfolding run
 updated_by_an_expression = refl
 
+-- int main ( ) { x %= y + 2 ; -- y ; ++ x ; }
+updated_and_counted : run start (items (head ++ signs.Name 0 ∷ signs.PercentEquals ∷ signs.Name 1 ∷ signs.Oper Add ∷ signs.Number (pos 2) ∷ signs.Semicolon ∷ signs.MinusMinus ∷ signs.Name 1 ∷ signs.Semicolon ∷ signs.PlusPlus ∷ signs.Name 0 ∷ signs.Semicolon ∷ signs.RightBrace ∷ []))
+    ≡ Ok (file_of [] (Assign (place 5) 0 (Binary Rem (Var 0) (Binary Add (Var 1) (Number (pos 2)))) (Assign (place 11) 1 (Binary Sub (Var 1) (Number (pos 1))) (Assign (place 14) 0 (Binary Add (Var 0) (Number (pos 1))) Done))) (place 17))
+unfolding run
+updated_and_counted = refl
+
 -- int main ( ) { x -- ; y = input ( ) ; assert ( x < 1 == y && ! - x || + y ) ; }
 levels_of_operators : run start (items (head ++ signs.Name 0 ∷ signs.MinusMinus ∷ signs.Semicolon ∷ signs.Name 1 ∷ signs.Equals ∷ signs.Input ∷ signs.Open ∷ signs.Close ∷ signs.Semicolon
     ∷ signs.Assert ∷ signs.Open ∷ signs.Name 0 ∷ signs.Oper Lt ∷ signs.Number (pos 1) ∷ signs.Oper Eq ∷ signs.Name 1 ∷ signs.Oper And ∷ signs.Bang ∷ signs.Oper Sub ∷ signs.Name 0 ∷ signs.Oper Or ∷ signs.Oper Add ∷ signs.Name 1 ∷ signs.Close ∷ signs.Semicolon ∷ signs.RightBrace ∷ []))

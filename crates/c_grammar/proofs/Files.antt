@@ -8,9 +8,9 @@ use Rattle.c_tree.specs.Tree.{Code, Done, followed}
 use Rattle.c_grammar.specs.declared.items.Sign.{Sign}
 use Rattle.c_grammar.specs.declared.items.Sign.TheVariants as signs
 use Rattle.c_grammar.specs.declared.items.Item.{Item}
-use Rattle.c_grammar.specs.Grammar.{at, Optional, absent, present, Declarator, bare, positive, negative, with_true, with_false, declared, Part, Outer, Vars, Later, Declares, nothing, variables, prototype, section, last_var, next_var, end_part, else_part, elif_part, Returns, no_return, return, Gap, Gaps, GapRest, Empty, no_more, empty_section, empty_end, empty_else, empty_elif, Body, body, Main, main, File, file_of, Forms, file}
+use Rattle.c_grammar.specs.Grammar.{at, Optional, absent, present, Typed, int, int32, signed, signed_int, int_signed, Begins, only_type, then_type, Declarator, bare, positive, negative, with_true, with_false, declared, Part, Outer, Vars, Later, Declares, nothing, variables, prototype, section, last_var, next_var, end_part, else_part, elif_part, Returns, no_return, return, Gap, Gaps, GapRest, Empty, no_more, empty_section, empty_end, empty_else, empty_elif, Body, body, Main, main, File, file_of, Forms, file}
 use Rattle.c_grammar.specs.Ahead.{NoElse}
-use Rattle.c_grammar.specs.Machine.{Tailing, Another, Final, Top, Sections, Outermost, InPart, InLast, guards_of, Aim, ToPrototype, ToMain, Outside, AfterInt, Declaring, Parameters, AfterParameters, Ready, Over, with_declared, run, start}
+use Rattle.c_grammar.specs.Machine.{Tailing, Another, Final, Top, Sections, Outermost, InPart, InLast, guards_of, Aim, ToPrototype, ToMain, ReadingState, Outside, AfterStatic, AfterExtern, AfterType, Leading, NoWord, StaticWord, ExternWord, TypeWords, OneInt, OneSigned, WholeType, Declaring, Parameters, AfterParameters, Ready, Over, with_declared, run, start}
 use Rattle.c_grammar.proofs.Complete.{accepted, followed-none}
 
 -- ---- declarations
@@ -32,29 +32,69 @@ vars_first (next_var p gs (bare q x) h) w = tt
 vars_first (next_var p gs (positive q r s x n) h) w = tt
 vars_first (next_var p gs (negative q r s t x n) h) w = tt
 
-after_int_same : (secs : Sections) (es : List Declared) (p : Place) (s : Sign) (w : List Item) → IsName s → run (AfterInt secs es) (at p s ∷ w) ≡ run (Declaring secs es) (at p s ∷ w)
-unfolding run
-after_int_same secs es p (signs.Name x) w h = refl
-after_int_same secs es p _ w h = absurd h
+-- where a declaration has this before its type
+abbrev pub before_type : Leading → Sections → List Declared → ReadingState
+before_type NoWord secs es = Outside secs es
+before_type StaticWord secs es = AfterStatic secs es
+before_type ExternWord secs es = AfterExtern secs es
 
-after_int : (secs : Sections) (es : List Declared) (w : List Item) → NameFirst w → run (AfterInt secs es) w ≡ run (Declaring secs es) w
-after_int secs es [] h = absurd h
-after_int secs es (x ∷ w) h = after_int_same secs es x.place x.sign w h
+unfoldable pub words_of : {us : List Item} → Typed us → TypeWords
+words_of (int p) = OneInt
+words_of (int32 p) = WholeType
+words_of (signed p) = OneSigned
+words_of (signed_int p q) = WholeType
+words_of (int_signed p q) = WholeType
 
-int_then : {us : List Item} (p : Place) (secs : Sections) (es : List Declared) (w : List Item) → Optional signs.Static us → NameFirst w → run (Outside secs es) (us ++ at p signs.Int ∷ w) ≡ run (Declaring secs es) w
+typed_then : {us : List Item} (lead : Leading) (secs : Sections) (es : List Declared) (w : List Item) (y : Typed us) → run (before_type lead secs es) (us ++ w) ≡ run (AfterType lead (words_of y) secs es) w
+unfolding run words_of
+typed_then NoWord secs es w (int p) = refl
+typed_then NoWord secs es w (int32 p) = refl
+typed_then NoWord secs es w (signed p) = refl
+typed_then NoWord secs es w (signed_int p q) = refl
+typed_then NoWord secs es w (int_signed p q) = refl
+typed_then StaticWord secs es w (int p) = refl
+typed_then StaticWord secs es w (int32 p) = refl
+typed_then StaticWord secs es w (signed p) = refl
+typed_then StaticWord secs es w (signed_int p q) = refl
+typed_then StaticWord secs es w (int_signed p q) = refl
+typed_then ExternWord secs es w (int p) = refl
+typed_then ExternWord secs es w (int32 p) = refl
+typed_then ExternWord secs es w (signed p) = refl
+typed_then ExternWord secs es w (signed_int p q) = refl
+typed_then ExternWord secs es w (int_signed p q) = refl
+
+name_then : (words : TypeWords) (secs : Sections) (es : List Declared) (p : Place) (s : Sign) (w : List Item) → IsName s → run (AfterType NoWord words secs es) (at p s ∷ w) ≡ run (Declaring secs es) (at p s ∷ w)
 unfolding run
-int_then p secs es w (absent s) h = after_int secs es w h
-int_then p secs es w (present q s) h = refl
+name_then words secs es p (signs.Name x) w h = refl
+name_then words secs es p _ w h = absurd h
+
+static_name_then : (words : TypeWords) (secs : Sections) (es : List Declared) (p : Place) (s : Sign) (w : List Item) → IsName s → run (AfterType StaticWord words secs es) (at p s ∷ w) ≡ run (Declaring secs es) (at p s ∷ w)
+unfolding run
+static_name_then words secs es p (signs.Name x) w h = refl
+static_name_then words secs es p _ w h = absurd h
+
+behind_type_then : (words : TypeWords) (secs : Sections) (es : List Declared) (w : List Item) → NameFirst w → run (AfterType NoWord words secs es) w ≡ run (Declaring secs es) w
+behind_type_then words secs es [] h = absurd h
+behind_type_then words secs es (x ∷ w) h = name_then words secs es x.place x.sign w h
+
+behind_static_then : (words : TypeWords) (secs : Sections) (es : List Declared) (w : List Item) → NameFirst w → run (AfterType StaticWord words secs es) w ≡ run (Declaring secs es) w
+behind_static_then words secs es [] h = absurd h
+behind_static_then words secs es (x ∷ w) h = static_name_then words secs es x.place x.sign w h
+
+begins_then : {us : List Item} (secs : Sections) (es : List Declared) (w : List Item) → Begins signs.Static us → NameFirst w → run (Outside secs es) (us ++ w) ≡ run (Declaring secs es) w
+unfolding run
+begins_then secs es w (only_type s y) h = typed_then NoWord secs es w y ∙ behind_type_then (words_of y) secs es w h
+begins_then secs es w (then_type q s {us} y) h = typed_then StaticWord secs es w y ∙ behind_static_then (words_of y) secs es w h
 
 parameters : {us : List Item} (r s : Place) (aim : Aim) (w : List Item) → Optional signs.Void us → run (Parameters aim) (at r signs.Open ∷ (us ++ at s signs.Close ∷ w)) ≡ run (AfterParameters aim) w
 unfolding run
 parameters r s aim w (absent t) = refl
 parameters r s aim w (present q t) = refl
 
-prototyped : {us : List Item} (p q : Place) (secs : Sections) (es : List Declared) (w : List Item) → Optional signs.Extern us → run (Outside secs es) (us ++ at p signs.Int ∷ at q signs.Input ∷ w) ≡ run (Parameters (ToPrototype secs es)) w
+prototyped : {us : List Item} (q : Place) (secs : Sections) (es : List Declared) (w : List Item) → Begins signs.Extern us → run (Outside secs es) (us ++ at q signs.Input ∷ w) ≡ run (Parameters (ToPrototype secs es)) w
 unfolding run
-prototyped p q secs es w (absent t) = refl
-prototyped p q secs es w (present r t) = refl
+prototyped q secs es w (only_type s y) = typed_then NoWord secs es (at q signs.Input ∷ w) y
+prototyped q secs es w (then_type p s {us} y) = typed_then ExternWord secs es (at q signs.Input ∷ w) y
 
 at_comma : {us : List Item} {x : ℕ} {n : ℤ} (p : Place) (secs : Sections) (es : List Declared) (w : List Item) → Declarator us x n → run (Declaring secs es) (us ++ at p signs.Comma ∷ w) ≡ run (Declaring secs (with_declared secs es x n)) w
 unfolding run
@@ -79,17 +119,17 @@ regroup secs a b c w = ap (λ (y : List Declared). run (Outside secs y) w) (appe
 pub goes : {s : Part} {ts : List Item} {ds : List Declared} → Declares s ts ds → Goes s ts ds
 unfolding run
 goes (nothing gs) = λ secs is es w. ap (λ (y : List Declared). run (Outside secs y) w) (sym (append-nil es))
-goes (variables p gs {us} {vs} {ws} {ds} {es = fs} o v d) = λ secs is es w.
-    let re : (us ++ at p signs.Int ∷ (vs ++ ws)) ++ w ≡ us ++ at p signs.Int ∷ (vs ++ (ws ++ w)) = simp append_assoc in
+goes (variables gs {us} {vs} {ws} {ds} {es = fs} o v d) = λ secs is es w.
+    let re : (us ++ (vs ++ ws)) ++ w ≡ us ++ (vs ++ (ws ++ w)) = simp append_assoc in
     ap (run (Outside secs es)) re
-    ∙ int_then p secs es (vs ++ (ws ++ w)) o (vars_first v (ws ++ w))
+    ∙ begins_then secs es (vs ++ (ws ++ w)) o (vars_first v (ws ++ w))
     ∙ goes v secs is es (ws ++ w)
     ∙ goes d secs is (es ++ ds) w
     ∙ regroup secs es ds fs w
-goes (prototype p q r s t gs {us} {vs} {ws} {es = fs} o v d) = λ secs is es w.
-    let re : (us ++ at p signs.Int ∷ at q signs.Input ∷ at r signs.Open ∷ (vs ++ at s signs.Close ∷ at t signs.Semicolon ∷ ws)) ++ w ≡ us ++ at p signs.Int ∷ at q signs.Input ∷ at r signs.Open ∷ (vs ++ at s signs.Close ∷ at t signs.Semicolon ∷ (ws ++ w)) = simp append_assoc in
+goes (prototype q r s t gs {us} {vs} {ws} {es = fs} o v d) = λ secs is es w.
+    let re : (us ++ at q signs.Input ∷ at r signs.Open ∷ (vs ++ at s signs.Close ∷ at t signs.Semicolon ∷ ws)) ++ w ≡ us ++ at q signs.Input ∷ at r signs.Open ∷ (vs ++ at s signs.Close ∷ at t signs.Semicolon ∷ (ws ++ w)) = simp append_assoc in
     ap (run (Outside secs es)) re
-    ∙ prototyped p q secs es (at r signs.Open ∷ (vs ++ at s signs.Close ∷ at t signs.Semicolon ∷ (ws ++ w))) o
+    ∙ prototyped q secs es (at r signs.Open ∷ (vs ++ at s signs.Close ∷ at t signs.Semicolon ∷ (ws ++ w))) o
     ∙ parameters r s (ToPrototype secs es) (at t signs.Semicolon ∷ (ws ++ w)) v
     ∙ goes d secs is es w
 goes (section p n gs {us} {vs} {ws} {cs} {ds} {es = fs} a b d) = λ secs is es w.
@@ -166,7 +206,8 @@ body_read ds (body p {us} {vs} {ws} {c} {d} s r e) =
 
 main_read : {ts : List Item} {c : Code} {p : Place} (ds : List Declared) → Main ts c p → run (Outside Outermost ds) ts ≡ Ok (file_of ds c p)
 unfolding run
-main_read ds (main p q r s t u {us} {vs} {c} o b) = parameters r s (ToMain ds) (at t signs.LeftBrace ∷ vs) o ∙ body_read ds b
+main_read ds (main q r s t u {ts} {us} {vs} {c} y o b) =
+    typed_then NoWord Outermost ds (at q signs.Main ∷ at r signs.Open ∷ (us ++ at s signs.Close ∷ at t signs.LeftBrace ∷ vs)) y ∙ parameters r s (ToMain ds) (at t signs.LeftBrace ∷ vs) o ∙ body_read ds b
 
 pub is_read : (ts : List Item) (f : File) → Forms ts f → run start ts ≡ Ok f
 is_read _ _ (file {us} {vs} {ds} {c} {p} d m) = goes d Outermost refl [] vs ∙ main_read ds m

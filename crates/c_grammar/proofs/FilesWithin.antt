@@ -9,31 +9,67 @@ use Rattle.c_tree.specs.Tree.{Code, Done, Skip, followed}
 use Rattle.c_grammar.specs.declared.items.Sign.{Sign}
 use Rattle.c_grammar.specs.declared.items.Sign.TheVariants as signs
 use Rattle.c_grammar.specs.declared.items.Item.{Item}
-use Rattle.c_grammar.specs.Grammar.{at, Optional, absent, present, Declarator, bare, positive, negative, with_true, with_false, declared, Part, Outer, Vars, Later, Returns, no_return, return, Gap, Gaps, GapRest, File, file_of}
-use Rattle.c_grammar.specs.Machine.{Tailing, Another, Final, Top, Sections, Outermost, InPart, InLast, guards_of, Aim, ToPrototype, ToMain, ReadingState, Outside, AfterStatic, AfterExtern, AfterInt, AfterExternInt, Declaring, Bare, Starting, Negating, Started, Parameters, InParameters, AfterVoid, AfterParameters, Ready, Returning, Returned, Closing, Over, with_declared, step, start}
+use Rattle.c_grammar.specs.Grammar.{at, Optional, absent, present, Typed, int, int32, signed, signed_int, int_signed, Begins, only_type, then_type, Declarator, bare, positive, negative, with_true, with_false, declared, Part, Outer, Vars, Later, Returns, no_return, return, Gap, Gaps, GapRest, File, file_of}
+use Rattle.c_grammar.specs.Machine.{Tailing, Another, Final, Top, Sections, Outermost, InPart, InLast, guards_of, Aim, ToPrototype, ToMain, ReadingState, Outside, AfterStatic, AfterExtern, AfterType, Leading, NoWord, StaticWord, ExternWord, TypeWords, OneInt, OneSigned, WholeType, first_word, Declaring, Bare, Starting, Negating, Started, Parameters, InParameters, AfterVoid, AfterParameters, Ready, Returning, Returned, Closing, Over, with_declared, step, start}
 use Rattle.c_grammar.specs.Deep.{opens_more, tail_depth, guarded}
 use Rattle.c_grammar.specs.Within.{DeclaresIn, nothing, variables, prototype, section, last_var, next_var, end_part, else_part, elif_part, EmptyIn, no_more, empty_section, empty_end, empty_else, empty_elif, BodyWithin, body, MainWithin, main, FormsWithin, file}
 use Rattle.c_grammar.proofs.Complete.{followed-none}
-use Rattle.c_grammar.proofs.Files.{NameFirst, IsName, vars_first, return_no_else}
+use Rattle.c_grammar.proofs.Files.{NameFirst, IsName, before_type, words_of, vars_first, return_no_else}
 use Rattle.c_grammar.proofs.Within.{declares_plain}
 use Rattle.c_grammar.proofs.CompleteWithin.{same_within}
 use Rattle.c_grammar.proofs.StatesWithin.{token, opens_in, accepted_in}
 
 -- ---- declarations
 
-after_int_same : (secs : Sections) (es : List Declared) (p : Place) (s : Sign) → IsName s → step (AfterInt secs es) p s ≡ step (Declaring secs es) p s
-after_int_same secs es p (signs.Name x) h = refl
-after_int_same secs es p _ h = absurd h
-
 name_at : (w : List Item) (x : Item) (v : List Item) → w ≡ x ∷ v → NameFirst w → IsName x.sign
 name_at w x v is h = subst NameFirst is h
 
-after_int : (secs : Sections) (es : List Declared) (w : List Item) → NameFirst w → guarded (AfterInt secs es) 0 w ≡ guarded (Declaring secs es) 0 w
-after_int secs es w h = same_within (AfterInt secs es) (Declaring secs es) 0 refl refl refl w (λ x v is. after_int_same secs es x.place x.sign (name_at w x v is h))
+-- one word of a type
+word : (lead : Leading) (secs : Sections) (es : List Declared) (p : Place) (s : Sign) (words : TypeWords) (w : List Item) → first_word lead secs es s ≡ Some (AfterType lead words secs es) → step (before_type lead secs es) p s ≡ first_word lead secs es s → opens_more s ≡ false → guarded (before_type lead secs es) 0 (at p s ∷ w) ≡ guarded (AfterType lead words secs es) 0 w
+word NoWord secs es p s words w is same plain = token (Outside secs es) (AfterType NoWord words secs es) p s 0 w (same ∙ is) plain refl
+word StaticWord secs es p s words w is same plain = token (AfterStatic secs es) (AfterType StaticWord words secs es) p s 0 w (same ∙ is) plain refl
+word ExternWord secs es p s words w is same plain = token (AfterExtern secs es) (AfterType ExternWord words secs es) p s 0 w (same ∙ is) plain refl
 
-pub int_then : {us : List Item} (p : Place) (secs : Sections) (es : List Declared) (w : List Item) → Optional signs.Static us → NameFirst w → guarded (Outside secs es) 0 (us ++ at p signs.Int ∷ w) ≡ guarded (Declaring secs es) 0 w
-int_then p secs es w (absent s) h = token (Outside secs es) (AfterInt secs es) p signs.Int 0 w refl refl refl ∙ after_int secs es w h
-int_then p secs es w (present q s) h = token (Outside secs es) (AfterStatic secs es) q signs.Static 0 (at p signs.Int ∷ w) refl refl refl ∙ token (AfterStatic secs es) (Declaring secs es) p signs.Int 0 w refl refl refl
+int_word : (lead : Leading) (secs : Sections) (es : List Declared) (p : Place) (w : List Item) → guarded (before_type lead secs es) 0 (at p signs.Int ∷ w) ≡ guarded (AfterType lead OneInt secs es) 0 w
+int_word NoWord secs es p w = word NoWord secs es p signs.Int OneInt w refl refl refl
+int_word StaticWord secs es p w = word StaticWord secs es p signs.Int OneInt w refl refl refl
+int_word ExternWord secs es p w = word ExternWord secs es p signs.Int OneInt w refl refl refl
+
+int32_word : (lead : Leading) (secs : Sections) (es : List Declared) (p : Place) (w : List Item) → guarded (before_type lead secs es) 0 (at p signs.Int32 ∷ w) ≡ guarded (AfterType lead WholeType secs es) 0 w
+int32_word NoWord secs es p w = word NoWord secs es p signs.Int32 WholeType w refl refl refl
+int32_word StaticWord secs es p w = word StaticWord secs es p signs.Int32 WholeType w refl refl refl
+int32_word ExternWord secs es p w = word ExternWord secs es p signs.Int32 WholeType w refl refl refl
+
+signed_word : (lead : Leading) (secs : Sections) (es : List Declared) (p : Place) (w : List Item) → guarded (before_type lead secs es) 0 (at p signs.Signed ∷ w) ≡ guarded (AfterType lead OneSigned secs es) 0 w
+signed_word NoWord secs es p w = word NoWord secs es p signs.Signed OneSigned w refl refl refl
+signed_word StaticWord secs es p w = word StaticWord secs es p signs.Signed OneSigned w refl refl refl
+signed_word ExternWord secs es p w = word ExternWord secs es p signs.Signed OneSigned w refl refl refl
+
+typed_then : {us : List Item} (lead : Leading) (secs : Sections) (es : List Declared) (w : List Item) (y : Typed us) → guarded (before_type lead secs es) 0 (us ++ w) ≡ guarded (AfterType lead (words_of y) secs es) 0 w
+unfolding words_of
+typed_then lead secs es w (int p) = int_word lead secs es p w
+typed_then lead secs es w (int32 p) = int32_word lead secs es p w
+typed_then lead secs es w (signed p) = signed_word lead secs es p w
+typed_then lead secs es w (signed_int p q) = signed_word lead secs es p (at q signs.Int ∷ w) ∙ token (AfterType lead OneSigned secs es) (AfterType lead WholeType secs es) q signs.Int 0 w refl refl refl
+typed_then lead secs es w (int_signed p q) = int_word lead secs es p (at q signs.Signed ∷ w) ∙ token (AfterType lead OneInt secs es) (AfterType lead WholeType secs es) q signs.Signed 0 w refl refl refl
+
+name_same : (words : TypeWords) (secs : Sections) (es : List Declared) (p : Place) (s : Sign) → IsName s → step (AfterType NoWord words secs es) p s ≡ step (Declaring secs es) p s
+name_same words secs es p (signs.Name x) h = refl
+name_same words secs es p _ h = absurd h
+
+static_name_same : (words : TypeWords) (secs : Sections) (es : List Declared) (p : Place) (s : Sign) → IsName s → step (AfterType StaticWord words secs es) p s ≡ step (Declaring secs es) p s
+static_name_same words secs es p (signs.Name x) h = refl
+static_name_same words secs es p _ h = absurd h
+
+behind_type_then : (words : TypeWords) (secs : Sections) (es : List Declared) (w : List Item) → NameFirst w → guarded (AfterType NoWord words secs es) 0 w ≡ guarded (Declaring secs es) 0 w
+behind_type_then words secs es w h = same_within (AfterType NoWord words secs es) (Declaring secs es) 0 refl refl refl w (λ x v is. name_same words secs es x.place x.sign (name_at w x v is h))
+
+behind_static_then : (words : TypeWords) (secs : Sections) (es : List Declared) (w : List Item) → NameFirst w → guarded (AfterType StaticWord words secs es) 0 w ≡ guarded (Declaring secs es) 0 w
+behind_static_then words secs es w h = same_within (AfterType StaticWord words secs es) (Declaring secs es) 0 refl refl refl w (λ x v is. static_name_same words secs es x.place x.sign (name_at w x v is h))
+
+pub begins_then : {us : List Item} (secs : Sections) (es : List Declared) (w : List Item) → Begins signs.Static us → NameFirst w → guarded (Outside secs es) 0 (us ++ w) ≡ guarded (Declaring secs es) 0 w
+begins_then secs es w (only_type s y) h = typed_then NoWord secs es w y ∙ behind_type_then (words_of y) secs es w h
+begins_then secs es w (then_type q s {us} y) h = token (Outside secs es) (AfterStatic secs es) q signs.Static 0 (us ++ w) refl refl refl ∙ typed_then StaticWord secs es w y ∙ behind_static_then (words_of y) secs es w h
 
 pub parameters : {us : List Item} (r s : Place) (aim : Aim) (w : List Item) → Optional signs.Void us → guarded (Parameters aim) 0 (at r signs.Open ∷ (us ++ at s signs.Close ∷ w)) ≡ guarded (AfterParameters aim) 0 w
 parameters {us} r s aim w (absent t) = token (Parameters aim) (InParameters aim) r signs.Open 0 (at s signs.Close ∷ w) refl refl refl ∙ token (InParameters aim) (AfterParameters aim) s signs.Close 0 w refl refl refl
@@ -42,12 +78,13 @@ parameters {us} r s aim w (present q t) =
     ∙ token (InParameters aim) (AfterVoid aim) q signs.Void 0 (at s signs.Close ∷ w) refl refl refl
     ∙ token (AfterVoid aim) (AfterParameters aim) s signs.Close 0 w refl refl refl
 
-pub prototyped : {us : List Item} (p q : Place) (secs : Sections) (es : List Declared) (w : List Item) → Optional signs.Extern us → guarded (Outside secs es) 0 (us ++ at p signs.Int ∷ at q signs.Input ∷ w) ≡ guarded (Parameters (ToPrototype secs es)) 0 w
-prototyped p q secs es w (absent t) = token (Outside secs es) (AfterInt secs es) p signs.Int 0 (at q signs.Input ∷ w) refl refl refl ∙ token (AfterInt secs es) (Parameters (ToPrototype secs es)) q signs.Input 0 w refl refl refl
-prototyped p q secs es w (present r t) =
-    token (Outside secs es) (AfterExtern secs es) r signs.Extern 0 (at p signs.Int ∷ at q signs.Input ∷ w) refl refl refl
-    ∙ token (AfterExtern secs es) (AfterExternInt secs es) p signs.Int 0 (at q signs.Input ∷ w) refl refl refl
-    ∙ token (AfterExternInt secs es) (Parameters (ToPrototype secs es)) q signs.Input 0 w refl refl refl
+pub prototyped : {us : List Item} (q : Place) (secs : Sections) (es : List Declared) (w : List Item) → Begins signs.Extern us → guarded (Outside secs es) 0 (us ++ at q signs.Input ∷ w) ≡ guarded (Parameters (ToPrototype secs es)) 0 w
+prototyped q secs es w (only_type s y) =
+    typed_then NoWord secs es (at q signs.Input ∷ w) y ∙ token (AfterType NoWord (words_of y) secs es) (Parameters (ToPrototype secs es)) q signs.Input 0 w refl refl refl
+prototyped q secs es w (then_type p s {us} y) =
+    token (Outside secs es) (AfterExtern secs es) p signs.Extern 0 (us ++ at q signs.Input ∷ w) refl refl refl
+    ∙ typed_then ExternWord secs es (at q signs.Input ∷ w) y
+    ∙ token (AfterType ExternWord (words_of y) secs es) (Parameters (ToPrototype secs es)) q signs.Input 0 w refl refl refl
 
 -- behind a declarator
 pub declarator : {us : List Item} {x : ℕ} {n : ℤ} (secs : Sections) (es : List Declared) (p : Place) (s : Sign) (next : ReadingState) (w : List Item) → step (Started x n secs es) p s ≡ Some next → step (Bare x secs es) p s ≡ step (Started x (pos 0) secs es) p s → opens_more s ≡ false → Declarator us x n
@@ -88,17 +125,17 @@ GoesIn k (Later gs) ts ds = (hs : List Guard) (n : ℕ) (outer : Sections) → w
 
 pub goes_in : {k : ℕ} {s : Part} {ts : List Item} {ds : List Declared} → DeclaresIn k s ts ds → GoesIn k s ts ds
 goes_in (nothing gs) = λ secs is h es w. ap (λ (y : List Declared). guarded (Outside secs y) 0 w) (sym (append-nil es))
-goes_in (variables p gs {us} {vs} {ws} {ds} {es = fs} o v d) = λ secs is h es w.
-    let re : (us ++ at p signs.Int ∷ (vs ++ ws)) ++ w ≡ us ++ at p signs.Int ∷ (vs ++ (ws ++ w)) = simp append_assoc in
+goes_in (variables gs {us} {vs} {ws} {ds} {es = fs} o v d) = λ secs is h es w.
+    let re : (us ++ (vs ++ ws)) ++ w ≡ us ++ (vs ++ (ws ++ w)) = simp append_assoc in
     ap (guarded (Outside secs es) 0) re
-    ∙ int_then p secs es (vs ++ (ws ++ w)) o (vars_first (declares_plain v) (ws ++ w))
+    ∙ begins_then secs es (vs ++ (ws ++ w)) o (vars_first (declares_plain v) (ws ++ w))
     ∙ goes_in v secs is h es (ws ++ w)
     ∙ goes_in d secs is h (es ++ ds) w
     ∙ regroup secs es ds fs w
-goes_in (prototype p q r s t gs {us} {vs} {ws} {es = fs} o v d) = λ secs is h es w.
-    let re : (us ++ at p signs.Int ∷ at q signs.Input ∷ at r signs.Open ∷ (vs ++ at s signs.Close ∷ at t signs.Semicolon ∷ ws)) ++ w ≡ us ++ at p signs.Int ∷ at q signs.Input ∷ at r signs.Open ∷ (vs ++ at s signs.Close ∷ at t signs.Semicolon ∷ (ws ++ w)) = simp append_assoc in
+goes_in (prototype q r s t gs {us} {vs} {ws} {es = fs} o v d) = λ secs is h es w.
+    let re : (us ++ at q signs.Input ∷ at r signs.Open ∷ (vs ++ at s signs.Close ∷ at t signs.Semicolon ∷ ws)) ++ w ≡ us ++ at q signs.Input ∷ at r signs.Open ∷ (vs ++ at s signs.Close ∷ at t signs.Semicolon ∷ (ws ++ w)) = simp append_assoc in
     ap (guarded (Outside secs es) 0) re
-    ∙ prototyped p q secs es (at r signs.Open ∷ (vs ++ at s signs.Close ∷ at t signs.Semicolon ∷ (ws ++ w))) o
+    ∙ prototyped q secs es (at r signs.Open ∷ (vs ++ at s signs.Close ∷ at t signs.Semicolon ∷ (ws ++ w))) o
     ∙ parameters r s (ToPrototype secs es) (at t signs.Semicolon ∷ (ws ++ w)) v
     ∙ token (AfterParameters (ToPrototype secs es)) (Outside secs es) t signs.Semicolon 0 (ws ++ w) refl refl refl
     ∙ goes_in d secs is h es w
@@ -186,11 +223,11 @@ unfolding guarded
 over_all f = refl
 
 -- `main` up to its first statement
-pub enters_main : {us : List Item} (p q r s t : Place) (ds : List Declared) (w : List Item) → Optional signs.Void us
-    → guarded (Outside Outermost ds) 0 (at p signs.Int ∷ at q signs.Main ∷ at r signs.Open ∷ (us ++ at s signs.Close ∷ at t signs.LeftBrace ∷ w)) ≡ guarded (Ready (Top ds Done)) 0 w
-enters_main {us} p q r s t ds w o =
-    token (Outside Outermost ds) (AfterInt Outermost ds) p signs.Int 0 (at q signs.Main ∷ at r signs.Open ∷ (us ++ at s signs.Close ∷ at t signs.LeftBrace ∷ w)) refl refl refl
-    ∙ token (AfterInt Outermost ds) (Parameters (ToMain ds)) q signs.Main 0 (at r signs.Open ∷ (us ++ at s signs.Close ∷ at t signs.LeftBrace ∷ w)) refl refl refl
+pub enters_main : {ts us : List Item} (q r s t : Place) (ds : List Declared) (w : List Item) → Typed ts → Optional signs.Void us
+    → guarded (Outside Outermost ds) 0 (ts ++ at q signs.Main ∷ at r signs.Open ∷ (us ++ at s signs.Close ∷ at t signs.LeftBrace ∷ w)) ≡ guarded (Ready (Top ds Done)) 0 w
+enters_main {ts} {us} q r s t ds w y o =
+    typed_then NoWord Outermost ds (at q signs.Main ∷ at r signs.Open ∷ (us ++ at s signs.Close ∷ at t signs.LeftBrace ∷ w)) y
+    ∙ token (AfterType NoWord (words_of y) Outermost ds) (Parameters (ToMain ds)) q signs.Main 0 (at r signs.Open ∷ (us ++ at s signs.Close ∷ at t signs.LeftBrace ∷ w)) refl refl refl
     ∙ parameters r s (ToMain ds) (at t signs.LeftBrace ∷ w) o
     ∙ opens_in (AfterParameters (ToMain ds)) (Ready (Top ds Done)) t signs.LeftBrace 0 w refl refl (omega arith)
 
@@ -203,7 +240,7 @@ body_in ds (body p {us} {vs} {ws} {c} {d} s r e) =
     ∙ over_all (file_of ds (followed c d) p)
 
 main_in : {ts : List Item} {c : Code} {p : Place} (ds : List Declared) → MainWithin ts c p → guarded (Outside Outermost ds) 0 ts ≡ Ok (file_of ds c p)
-main_in ds (main p q r s t u {us} {vs} {c} o b) = enters_main p q r s t ds vs o ∙ body_in ds b
+main_in ds (main q r s t u {ts} {us} {vs} {c} y o b) = enters_main q r s t ds vs y o ∙ body_in ds b
 
 -- a file within the limits is read within them
 pub read_within : (ts : List Item) (f : File) → FormsWithin ts f → guarded start 0 ts ≡ Ok f

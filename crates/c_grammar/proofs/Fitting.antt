@@ -13,7 +13,7 @@ use Rattle.c_tree.specs.Project.{projected_start}
 use Rattle.c_tree.specs.Whole.{IsDeclaredOf}
 use Rattle.c_grammar.specs.declared.items.Item.{Item}
 use Rattle.c_grammar.specs.declared.items.Sign.TheVariants as signs
-use Rattle.c_grammar.specs.Grammar.{at, Prefix, Positive, Negative, Inverse, applied, Expresses, number, name, group, prefix, loose, binary, Shape, Writes, none, more, choice, ends, otherwise, elif, assign, input, update, count, assert, skip, block, while, if_then, if_else, Declarator, bare, positive, negative, declared, Part, Declares, nothing, variables, prototype, section, last_var, next_var, end_part, else_part, elif_part, Returns, no_return, return, Body, body, Main, main, File, Forms, file, has_groups, zeros}
+use Rattle.c_grammar.specs.Grammar.{at, Prefix, Positive, Negative, Inverse, applied, Expresses, number, name, group, prefix, loose, binary, Shape, Writes, none, more, choice, ends, otherwise, elif, assign, input, update, count, prefix_count, assert, skip, block, while, if_then, if_else, Declarator, bare, positive, negative, declared, Part, Declares, nothing, variables, prototype, section, last_var, next_var, end_part, else_part, elif_part, Returns, no_return, return, Body, body, Main, main, File, Forms, file, has_groups, zeros}
 use Rattle.c_grammar.specs.Facts.{AreFit, WellFormed, PlainWithoutGroups}
 use Rattle.c_tree.proofs.Starts.{length-start, ints-start}
 use Rattle.c_grammar.proofs.Keeping.{no_groups}
@@ -63,6 +63,7 @@ code_fits n (assign p q r x {ts} e) h = (h.0, term_fits n e (fit_split n ts (at 
 code_fits n (input p q r s t u x) h = (h.0, tt)
 code_fits n (update p q r x u {ts} e) h = (h.0, (h.0, term_fits n e (fit_split n ts (at r signs.Semicolon ∷ []) h.1.1).0), tt)
 code_fits n (count p q r x u) h = (h.0, (h.0, (omega (arith, ints), omega (arith, ints))), tt)
+code_fits n (prefix_count p q r x u) h = (h.1.0, (h.1.0, (omega (arith, ints), omega (arith, ints))), tt)
 code_fits n (assert p q r s {ts} e) h = (term_fits n e (fit_split n ts (at r signs.Close ∷ at s signs.Semicolon ∷ []) h.1.1).0, tt)
 code_fits n (skip p) h = tt
 code_fits n (block p q {ts} s) h = (code_fits n s (fit_split n ts (at q signs.RightBrace ∷ []) h.1).0, tt)
@@ -83,13 +84,13 @@ one_fits n x v gs h = record { target = h.0; value = h.1 }
 
 declared_fits : {s : Part} {ts : List Item} {ds : List Declared} (n : ℕ) → Declares s ts ds → AreFit n ts → All (IsDeclaredOf n) ds
 declared_fits n (nothing gs) h = All-nil (IsDeclaredOf n)
-declared_fits n (variables p gs {us} {vs} {ws} {ds} {es} o v d) h =
-    let k = fit_split n us (at p signs.Int ∷ (vs ++ ws)) h in
-    let l = fit_split n vs ws k.1.1 in
+declared_fits n (variables gs {us} {vs} {ws} {ds} {es} o v d) h =
+    let k = fit_split n us (vs ++ ws) h in
+    let l = fit_split n vs ws k.1 in
     All-append (IsDeclaredOf n) ds es (declared_fits n v l.0) (declared_fits n d l.1)
-declared_fits n (prototype p q r s t gs {us} {vs} {ws} o v d) h =
-    let k = fit_split n us (at p signs.Int ∷ at q signs.Input ∷ at r signs.Open ∷ (vs ++ at s signs.Close ∷ at t signs.Semicolon ∷ ws)) h in
-    declared_fits n d (fit_split n vs (at s signs.Close ∷ at t signs.Semicolon ∷ ws) k.1.1.1.1).1.1.1
+declared_fits n (prototype q r s t gs {us} {vs} {ws} o v d) h =
+    let k = fit_split n us (at q signs.Input ∷ at r signs.Open ∷ (vs ++ at s signs.Close ∷ at t signs.Semicolon ∷ ws)) h in
+    declared_fits n d (fit_split n vs (at s signs.Close ∷ at t signs.Semicolon ∷ ws) k.1.1.1).1.1.1
 declared_fits n (section p m gs {us} {vs} {ws} {cs} {ds} {es} a b d) h =
     let k = fit_split n us (vs ++ ws) h.1 in
     let l = fit_split n vs ws k.1 in
@@ -128,6 +129,7 @@ code_plain (assign p q r x e) h = tt
 code_plain (input p q r s t u x) h = tt
 code_plain (update p q r x u e) h = tt
 code_plain (count p q r x u) h = tt
+code_plain (prefix_count p q r x u) h = tt
 code_plain (assert p q r s e) h = tt
 code_plain (skip p) h = tt
 code_plain (block p q {ts} s) h = (code_plain s (no_groups ts (at q signs.RightBrace ∷ []) h).0, tt)
@@ -145,7 +147,8 @@ body_plain : {ts : List Item} {c : Code} {p : Place} → Body ts c p → has_gro
 body_plain (body p {us} {vs} {ws} {c} {d} s r e) h = followed_plain c d (code_plain s (no_groups us (vs ++ at p signs.RightBrace ∷ ws) h).0) (return_plain r)
 
 main_plain : {ts : List Item} {c : Code} {p : Place} → Main ts c p → has_groups ts ≡ false → IsPlain c
-main_plain (main p q r s t u {us} {vs} o b) h = body_plain b (no_groups us (at s signs.Close ∷ at t signs.LeftBrace ∷ vs) h).1
+main_plain (main q r s t u {ts} {us} {vs} y o b) h =
+    body_plain b (no_groups us (at s signs.Close ∷ at t signs.LeftBrace ∷ vs) (no_groups ts (at q signs.Main ∷ at r signs.Open ∷ (us ++ at s signs.Close ∷ at t signs.LeftBrace ∷ vs)) h).1).1
 
 file_plain : (items : List Item) (f : File) → Forms items f → has_groups items ≡ false → IsPlain f.body
 file_plain _ _ (file {us} {vs} d m) h = main_plain m (no_groups us vs h).1
@@ -163,7 +166,9 @@ body_fits : {ts : List Item} {c : Code} {p : Place} (n : ℕ) → Body ts c p �
 body_fits n (body p {us} {vs} {ws} {c} {d} s r e) h = followed_fits n c d (code_fits n s (fit_split n us (vs ++ at p signs.RightBrace ∷ ws) h).0) (return_fits n r)
 
 main_fits : {ts : List Item} {c : Code} {p : Place} (n : ℕ) → Main ts c p → AreFit n ts → IsCodeOf n c
-main_fits n (main p q r s t u {us} {vs} o b) h = body_fits n b (fit_split n us (at s signs.Close ∷ at t signs.LeftBrace ∷ vs) h.1.1.1).1.1.1
+main_fits n (main q r s t u {ts} {us} {vs} y o b) h =
+    let k = fit_split n ts (at q signs.Main ∷ at r signs.Open ∷ (us ++ at s signs.Close ∷ at t signs.LeftBrace ∷ vs)) h in
+    body_fits n b (fit_split n us (at s signs.Close ∷ at t signs.LeftBrace ∷ vs) k.1.1.1).1.1.1
 
 file_code_fits : (n : ℕ) (items : List Item) (f : File) → Forms items f → AreFit n items → IsCodeOf n f.body
 file_code_fits n _ _ (file {us} {vs} d m) h = main_fits n m (fit_split n us vs h).1

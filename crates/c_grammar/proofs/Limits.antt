@@ -12,8 +12,8 @@ use Rattle.c_tree.specs.Whole.{operators, nesting, IsSmall}
 use Rattle.c_grammar.specs.declared.items.Sign.{Sign}
 use Rattle.c_grammar.specs.declared.items.Sign.TheVariants as signs
 use Rattle.c_grammar.specs.declared.items.Item.{Item}
-use Rattle.c_grammar.specs.Grammar.{tighter, Positive, Negative, Inverse, File}
-use Rattle.c_grammar.specs.Machine.{Frame, Paren, Pre, Left, Stack, Top, Braces, Yes, No, ThenOf, ElseOf, LoopOf, Use, ToAssign, ToUpdate, ToAssert, ToChoose, ToLoop, Sections, Outermost, InPart, InLast, Aim, ToPrototype, ToMain, Tailing, Another, ReadingState, Outside, AfterStatic, AfterExtern, AfterInt, AfterExternInt, Declaring, Bare, Starting, Negating, Started, Parameters, InParameters, AfterVoid, AfterParameters, Ready, Ended, Wants, Has, Named, Opens, InputOpens, InputCloses, Finishing, Returning, Returned, Closing, Over, settle, input_of, want, tested, closed_by, assigned, ended_by, have, folded, else_of, linked, opened, braced, returned, next_part, last_part, group_end, begin, on, named, at_open, at_close, at_semicolon, at_int, at_input, next_condition, last_section, section_end, outside, declaring, main_of, after_int, started, is_bare, starting, negating, in_parameters, after_parameters, returning, closing, over, step, finish, start}
+use Rattle.c_grammar.specs.Grammar.{Count, tighter, Positive, Negative, Inverse, File}
+use Rattle.c_grammar.specs.Machine.{Frame, Paren, Pre, Left, Stack, Top, Braces, Yes, No, ThenOf, ElseOf, LoopOf, Use, ToAssign, ToUpdate, ToAssert, ToChoose, ToLoop, Sections, Outermost, InPart, InLast, Aim, ToPrototype, ToMain, Tailing, Another, ReadingState, Outside, AfterStatic, AfterExtern, AfterType, Leading, NoWord, StaticWord, ExternWord, TypeWords, OneInt, OneSigned, Declaring, Bare, Starting, Negating, Started, Parameters, InParameters, AfterVoid, AfterParameters, Ready, Ended, Wants, Has, Counting, Named, Opens, InputOpens, InputCloses, Finishing, Returning, Returned, Closing, Over, settle, input_of, want, tested, closed_by, assigned, ended_by, have, folded, else_of, linked, opened, braced, returned, next_part, last_part, group_end, begin, on, named, counting, at_open, at_close, at_semicolon, at_input, next_condition, last_section, section_end, outside, declaring, main_of, first_word, naming, behind_type, after_type, started, is_bare, starting, negating, in_parameters, after_parameters, returning, closing, over, step, finish, start}
 use Rattle.c_grammar.specs.Deep.{depth, opens_more, is_nested, counted, is_long, is_deep, Fault, ended, went, guarded}
 
 max_parts : (a b k m : ℕ) → max a b + k ≤ m → (a + k ≤ m) × (b + k ≤ m)
@@ -122,6 +122,7 @@ StateFits (Ready outer) k = Fits outer
 StateFits (Ended outer c) k = Fits outer × Fine (depth outer) c
 StateFits (Wants fs u) k = UseFits u × (weight fs ≤ k) × (k ≤ 64)
 StateFits (Has fs u e) k = UseFits u × (weight fs + operators e ≤ k) × (k ≤ 64)
+StateFits (Counting p u outer) k = Fits outer
 StateFits (Named p x outer) k = Fits outer
 StateFits (Opens u) k = UseFits u
 StateFits (InputOpens p x outer) k = Fits outer
@@ -176,6 +177,8 @@ begin_fits : (outer : Stack) (p : Place) (s : Sign) (k : ℕ) → (opens_more s 
 unfolding StateFits UseFits
 begin_fits outer p (signs.Name x) k l h = h
 begin_fits outer p signs.Semicolon k l h = (h, (depth_fits outer h, tt))
+begin_fits outer p signs.PlusPlus k l h = h
+begin_fits outer p signs.MinusMinus k l h = h
 begin_fits outer p signs.LeftBrace k l h = let lt = leb-false 64 (depth outer) l in ((omega (arith, lt), tt), h)
 begin_fits outer p signs.RightBrace k l h = braced_fits p k outer h
 begin_fits outer p signs.Assert k l h = h
@@ -279,9 +282,17 @@ unfolding StateFits UseFits weight
 named_fits q x outer signs.Equals h = (h, omega arith, omega arith)
 named_fits q x outer signs.PlusEquals h = (h, omega arith, omega arith)
 named_fits q x outer signs.MinusEquals h = (h, omega arith, omega arith)
+named_fits q x outer signs.StarEquals h = (h, omega arith, omega arith)
+named_fits q x outer signs.SlashEquals h = (h, omega arith, omega arith)
+named_fits q x outer signs.PercentEquals h = (h, omega arith, omega arith)
 named_fits q x outer signs.PlusPlus h = (h, (depth_fits outer h, (omega arith, tt)))
 named_fits q x outer signs.MinusMinus h = (h, (depth_fits outer h, (omega arith, tt)))
 named_fits q x outer _ h = tt
+
+counting_fits : (q : Place) (u : Count) (outer : Stack) (s : Sign) → Fits outer → IfSome (counting q u outer s) (λ next. StateFits next 0)
+unfolding StateFits
+counting_fits q u outer (signs.Name x) h = (h, (depth_fits outer h, (omega arith, tt)))
+counting_fits q u outer _ h = tt
 
 open_fits : (next : ReadingState) (s : Sign) → StateFits next 0 → IfSome (at_open next s) (λ n. StateFits n 0)
 open_fits next signs.Open h = h
@@ -314,20 +325,22 @@ section_end_fits Outermost ds = tt
 section_end_fits (InPart gs n outer) ds = tt
 section_end_fits (InLast gs outer) ds = tt
 
+first_fits : (lead : Leading) (secs : Sections) (ds : List Declared) (s : Sign) → IfSome (first_word lead secs ds s) (λ next. StateFits next 0)
+unfolding StateFits
+first_fits lead secs ds signs.Int = tt
+first_fits lead secs ds signs.Int32 = tt
+first_fits lead secs ds signs.Signed = tt
+first_fits lead secs ds _ = tt
+
 outside_fits : (secs : Sections) (ds : List Declared) (s : Sign) → IfSome (outside secs ds s) (λ next. StateFits next 0)
 unfolding StateFits
 outside_fits secs ds signs.Static = tt
 outside_fits secs ds signs.Extern = tt
-outside_fits secs ds signs.Int = tt
 outside_fits secs ds (signs.GroupIf n) = tt
 outside_fits secs ds (signs.GroupElif n) = condition_fits n secs ds
 outside_fits secs ds signs.GroupElse = last_section_fits secs ds
 outside_fits secs ds signs.GroupEnd = section_end_fits secs ds
-outside_fits secs ds _ = tt
-
-int_fits : (next : ReadingState) (s : Sign) → StateFits next 0 → IfSome (at_int next s) (λ n. StateFits n 0)
-int_fits next signs.Int h = h
-int_fits next _ h = tt
+outside_fits secs ds s = first_fits NoWord secs ds s
 
 at_input_fits : (next : ReadingState) (s : Sign) → StateFits next 0 → IfSome (at_input next s) (λ n. StateFits n 0)
 at_input_fits next signs.Input h = h
@@ -338,17 +351,29 @@ unfolding StateFits
 main_fits Outermost ds = tt
 main_fits _ ds = tt
 
-after_int_fits : (secs : Sections) (ds : List Declared) (s : Sign) → IfSome (after_int secs ds s) (λ next. StateFits next 0)
+naming_fits : (secs : Sections) (ds : List Declared) (s : Sign) → IfSome (naming secs ds s) (λ next. StateFits next 0)
 unfolding StateFits
-after_int_fits secs ds (signs.Name x) = tt
-after_int_fits secs ds signs.Input = tt
-after_int_fits secs ds signs.Main = main_fits secs ds
-after_int_fits secs ds _ = tt
+naming_fits secs ds (signs.Name x) = tt
+naming_fits secs ds signs.Input = tt
+naming_fits secs ds signs.Main = main_fits secs ds
+naming_fits secs ds _ = tt
 
 declaring_fits : (secs : Sections) (ds : List Declared) (s : Sign) → IfSome (declaring secs ds s) (λ next. StateFits next 0)
 unfolding StateFits
 declaring_fits secs ds (signs.Name x) = tt
 declaring_fits secs ds _ = tt
+
+behind_type_fits : (lead : Leading) (secs : Sections) (ds : List Declared) (s : Sign) → IfSome (behind_type lead secs ds s) (λ next. StateFits next 0)
+unfolding StateFits
+behind_type_fits NoWord secs ds s = naming_fits secs ds s
+behind_type_fits StaticWord secs ds s = declaring_fits secs ds s
+behind_type_fits ExternWord secs ds s = at_input_fits (Parameters (ToPrototype secs ds)) s tt
+
+after_type_fits : (lead : Leading) (secs : Sections) (ds : List Declared) (s : Sign) (words : TypeWords) → IfSome (after_type lead secs ds s words) (λ next. StateFits next 0)
+unfolding StateFits
+after_type_fits lead secs ds signs.Signed OneInt = tt
+after_type_fits lead secs ds signs.Int OneSigned = tt
+after_type_fits lead secs ds s words = behind_type_fits lead secs ds s
 
 started_fits : (x : ℕ) (n : ℤ) (secs : Sections) (ds : List Declared) (s : Sign) → IfSome (started x n secs ds s) (λ next. StateFits next 0)
 unfolding StateFits
@@ -405,10 +430,9 @@ over_fits f _ _ h = tt
 step_fits : (state : ReadingState) (p : Place) (s : Sign) (k : ℕ) → is_nested state s ≡ false → is_long state s k ≡ false → StateFits state k → IfSome (step state p s) (λ next. StateFits next (counted state s k))
 unfolding StateFits UseFits weight
 step_fits (Outside secs ds) p s k d l h = outside_fits secs ds s
-step_fits (AfterStatic secs ds) p s k d l h = int_fits (Declaring secs ds) s tt
-step_fits (AfterExtern secs ds) p s k d l h = int_fits (AfterExternInt secs ds) s tt
-step_fits (AfterInt secs ds) p s k d l h = after_int_fits secs ds s
-step_fits (AfterExternInt secs ds) p s k d l h = at_input_fits (Parameters (ToPrototype secs ds)) s tt
+step_fits (AfterStatic secs ds) p s k d l h = first_fits StaticWord secs ds s
+step_fits (AfterExtern secs ds) p s k d l h = first_fits ExternWord secs ds s
+step_fits (AfterType lead words secs ds) p s k d l h = after_type_fits lead secs ds s words
 step_fits (Declaring secs ds) p s k d l h = declaring_fits secs ds s
 step_fits (Bare x secs ds) p s k d l h = bare_fits x secs ds s
 step_fits (Starting x secs ds) p s k d l h = starting_fits x secs ds s
@@ -422,6 +446,7 @@ step_fits (Ready outer) p s k d l h = begin_fits outer p s 0 d h
 step_fits (Ended outer c) p s k d l h = on_fits outer c p s 0 d h.0 h.1
 step_fits (Wants fs u) p s k d l h = want_fits fs u p s k l h
 step_fits (Has fs u e) p s k d l h = have_fits fs u e p s k l h
+step_fits (Counting q u outer) p s k d l h = counting_fits q u outer s h
 step_fits (Named q x outer) p s k d l h = named_fits q x outer s h
 step_fits (Opens u) p s k d l h = open_fits (Wants [] u) s (h, omega arith, omega arith)
 step_fits (InputOpens q x outer) p s k d l h = open_fits (InputCloses q x outer) s h

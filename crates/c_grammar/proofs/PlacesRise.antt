@@ -8,7 +8,7 @@ use Rattle.c_tree.specs.Whole.{IsBeforeAll, IsRising}
 use Rattle.c_tree.proofs.Listed.{places_of-followed}
 use Rattle.c_grammar.specs.declared.items.Item.{Item}
 use Rattle.c_grammar.specs.declared.items.Sign.TheVariants as signs
-use Rattle.c_grammar.specs.Grammar.{at, update_sign, count_sign, Shape, Writes, none, more, choice, ends, otherwise, elif, assign, input, update, count, assert, skip, block, while, if_then, if_else, Returns, no_return, return, Body, body, Main, main, File, Forms, file}
+use Rattle.c_grammar.specs.Grammar.{at, update_sign, count_sign, Shape, Writes, none, more, choice, ends, otherwise, elif, assign, input, update, count, prefix_count, assert, skip, block, while, if_then, if_else, Returns, no_return, return, Body, body, Main, main, File, Forms, file}
 use Rattle.c_grammar.specs.Facts.{IsBeforeItems, AreRising}
 
 -- the places are those of some of the items
@@ -57,6 +57,7 @@ code_part (assign p q r x {ts} e) = keep (at p (signs.Name x)) (no_part (at q si
 code_part (input p q r s t u x) = keep (at p (signs.Name x)) (no_part (at q signs.Equals ∷ at r signs.Input ∷ at s signs.Open ∷ at t signs.Close ∷ at u signs.Semicolon ∷ []))
 code_part (update p q r x u {ts} e) = keep (at p (signs.Name x)) (no_part (at q (update_sign u) ∷ (ts ++ at r signs.Semicolon ∷ [])))
 code_part (count p q r x u) = keep (at p (signs.Name x)) (no_part (at q (count_sign u) ∷ at r signs.Semicolon ∷ []))
+code_part (prefix_count p q r x u) = keep (at p (count_sign u)) (no_part (at q (signs.Name x) ∷ at r signs.Semicolon ∷ []))
 code_part (assert p q r s {ts} e) = keep (at p signs.Assert) (no_part (at q signs.Open ∷ (ts ++ at r signs.Close ∷ at s signs.Semicolon ∷ [])))
 code_part (skip p) = keep (at p signs.Semicolon) end
 code_part (block p q s) = keep (at p signs.LeftBrace) (joined (code_part s) (no_part (at q signs.RightBrace ∷ [])))
@@ -74,7 +75,7 @@ body_part (body p {us} {vs} {ws} {c} {d} s r e) =
     subst (λ (y : List Place). IsPart y (us ++ (vs ++ at p signs.RightBrace ∷ ws))) is (joined (code_part s) (joined (return_part r) (keep (at p signs.RightBrace) (no_part ws))))
 
 main_part : {ts : List Item} {c : Code} {p : Place} → Main ts c p → IsPart (places_of c ++ p ∷ []) ts
-main_part (main p q r s t u {us} {vs} o b) = pass (at p signs.Int) (pass (at q signs.Main) (pass (at r signs.Open) (pass_all us (pass (at s signs.Close) (pass (at t signs.LeftBrace) (body_part b))))))
+main_part (main q r s t u {ts} {us} {vs} y o b) = pass_all ts (pass (at q signs.Main) (pass (at r signs.Open) (pass_all us (pass (at s signs.Close) (pass (at t signs.LeftBrace) (body_part b))))))
 
 pub file_part : (items : List Item) (f : File) → Forms items f → IsPart (places_of f.body ++ f.end ∷ []) items
 file_part _ _ (file {us} {vs} d m) = pass_all us (main_part m)

@@ -9,9 +9,9 @@ use Rattle.c_tree.specs.Tree.{Code}
 use Rattle.c_grammar.specs.declared.items.Sign.{Sign}
 use Rattle.c_grammar.specs.declared.items.Sign.TheVariants as signs
 use Rattle.c_grammar.specs.declared.items.Item.{Item}
-use Rattle.c_grammar.specs.Grammar.{at, none, Optional, absent, present, bare, positive, negative, with_true, with_false, declared, Outer, Declares, nothing, variables, prototype, section, last_var, next_var, end_part, else_part, elif_part, Gaps, Empty, no_more, empty_section, empty_end, empty_else, empty_elif, main, File, file_of, Forms}
-use Rattle.c_grammar.specs.Machine.{Tailing, Another, Final, Sections, Outermost, InPart, InLast, guards_of, Aim, ToPrototype, ToMain, Outside, AfterStatic, AfterExtern, AfterInt, AfterExternInt, Declaring, Bare, Starting, Negating, Started, Parameters, InParameters, AfterVoid, AfterParameters, Returning, Returned, Closing, Over, with_declared, at_open, at_close, at_semicolon, at_int, at_input, next_condition, last_section, section_end, outside, declaring, main_of, after_int, started, is_bare, starting, negating, in_parameters, after_parameters, returning, closing, over}
-use Rattle.c_grammar.proofs.Standing.{Tail, VarsTail, Trailing, Stands}
+use Rattle.c_grammar.specs.Grammar.{at, none, Optional, absent, present, Typed, int, int32, signed, signed_int, int_signed, Begins, only_type, then_type, bare, positive, negative, with_true, with_false, declared, Outer, Declares, nothing, variables, prototype, section, last_var, next_var, end_part, else_part, elif_part, Gaps, Empty, no_more, empty_section, empty_end, empty_else, empty_elif, main, File, file_of, Forms}
+use Rattle.c_grammar.specs.Machine.{Tailing, Another, Final, Sections, Outermost, InPart, InLast, guards_of, Aim, ToPrototype, ToMain, Outside, AfterStatic, AfterExtern, AfterType, Leading, NoWord, StaticWord, ExternWord, TypeWords, OneInt, OneSigned, WholeType, Declaring, Bare, Starting, Negating, Started, Parameters, InParameters, AfterVoid, AfterParameters, Returning, Returned, Closing, Over, with_declared, at_open, at_close, at_semicolon, at_input, next_condition, last_section, section_end, outside, declaring, main_of, first_word, naming, behind_type, after_type, started, is_bare, starting, negating, in_parameters, after_parameters, returning, closing, over}
+use Rattle.c_grammar.proofs.Standing.{Words, one_int, one_signed, whole_type, Led, no_word, static_word, extern_word, Tail, VarsTail, Trailing, Stands}
 
 -- ---- one item in front of what may come next
 
@@ -30,20 +30,20 @@ prepends (InPart gs n outer) ds es t w f k r =
 prepends (InLast gs outer) ds es t w f k r =
     (t ++ r.0, r.1, es ++ r.2, r.3, k r.0 r.2 r.4, tail_at outer ((ds ++ es) ++ r.2) (ds ++ (es ++ r.2)) r.1 f (append_assoc ds es r.2) r.5, ap (λ (y : List Item). t ++ y) r.6 ∙ sym (append_assoc t r.0 (at r.3 signs.GroupEnd ∷ r.1)))
 
-vars_tail : {us : List Item} (p : Place) (secs : Sections) (ds : List Declared) (w : List Item) (f : File) → Optional signs.Static us → VarsTail secs ds w f → Tail secs ds (us ++ at p signs.Int ∷ w) f
-vars_tail {us} p secs ds w f o v =
-    let is : (us ++ at p signs.Int ∷ v.0) ++ v.1 ≡ us ++ at p signs.Int ∷ w = append_assoc us (at p signs.Int ∷ v.0) v.1 ∙ ap (λ (y : List Item). us ++ at p signs.Int ∷ y) (sym v.5) in
-    let k : (ws : List Item) (fs : List Declared) → Declares (Outer (guards_of secs)) ws fs → Declares (Outer (guards_of secs)) ((us ++ at p signs.Int ∷ v.0) ++ ws) (v.2 ++ fs) =
-    λ ws fs d. subst (λ (y : List Item). Declares (Outer (guards_of secs)) y (v.2 ++ fs)) (sym (append_assoc us (at p signs.Int ∷ v.0) ws)) (variables p (guards_of secs) o v.3 d) in
-    subst (λ (y : List Item). Tail secs ds y f) is (prepends secs ds v.2 (us ++ at p signs.Int ∷ v.0) v.1 f k v.4)
+vars_tail : {us : List Item} (secs : Sections) (ds : List Declared) (w : List Item) (f : File) → Begins signs.Static us → VarsTail secs ds w f → Tail secs ds (us ++ w) f
+vars_tail {us} secs ds w f o v =
+    let is : (us ++ v.0) ++ v.1 ≡ us ++ w = append_assoc us v.0 v.1 ∙ ap (λ (y : List Item). us ++ y) (sym v.5) in
+    let k : (ws : List Item) (fs : List Declared) → Declares (Outer (guards_of secs)) ws fs → Declares (Outer (guards_of secs)) ((us ++ v.0) ++ ws) (v.2 ++ fs) =
+    λ ws fs d. subst (λ (y : List Item). Declares (Outer (guards_of secs)) y (v.2 ++ fs)) (sym (append_assoc us v.0 ws)) (variables (guards_of secs) o v.3 d) in
+    subst (λ (y : List Item). Tail secs ds y f) is (prepends secs ds v.2 (us ++ v.0) v.1 f k v.4)
 
-prototype_tail : {us vs : List Item} (p q r s t : Place) (secs : Sections) (ds : List Declared) (w : List Item) (f : File) → Optional signs.Extern us → Optional signs.Void vs → Tail secs ds w f
-    → Tail secs ds (us ++ at p signs.Int ∷ at q signs.Input ∷ at r signs.Open ∷ (vs ++ at s signs.Close ∷ at t signs.Semicolon ∷ w)) f
-prototype_tail {us} {vs} p q r s t secs ds w f o v h =
-    let text : List Item = us ++ at p signs.Int ∷ at q signs.Input ∷ at r signs.Open ∷ (vs ++ at s signs.Close ∷ at t signs.Semicolon ∷ []) in
-    let re : (ws : List Item) → us ++ at p signs.Int ∷ at q signs.Input ∷ at r signs.Open ∷ (vs ++ at s signs.Close ∷ at t signs.Semicolon ∷ ws) ≡ text ++ ws = λ ws. simp append_assoc in
+prototype_tail : {us vs : List Item} (q r s t : Place) (secs : Sections) (ds : List Declared) (w : List Item) (f : File) → Begins signs.Extern us → Optional signs.Void vs → Tail secs ds w f
+    → Tail secs ds (us ++ at q signs.Input ∷ at r signs.Open ∷ (vs ++ at s signs.Close ∷ at t signs.Semicolon ∷ w)) f
+prototype_tail {us} {vs} q r s t secs ds w f o v h =
+    let text : List Item = us ++ at q signs.Input ∷ at r signs.Open ∷ (vs ++ at s signs.Close ∷ at t signs.Semicolon ∷ []) in
+    let re : (ws : List Item) → us ++ at q signs.Input ∷ at r signs.Open ∷ (vs ++ at s signs.Close ∷ at t signs.Semicolon ∷ ws) ≡ text ++ ws = λ ws. simp append_assoc in
     let k : (ws : List Item) (fs : List Declared) → Declares (Outer (guards_of secs)) ws fs → Declares (Outer (guards_of secs)) (text ++ ws) ([] ++ fs) =
-    λ ws fs d. subst (λ (y : List Item). Declares (Outer (guards_of secs)) y fs) (re ws) (prototype p q r s t (guards_of secs) o v d) in
+    λ ws fs d. subst (λ (y : List Item). Declares (Outer (guards_of secs)) y fs) (re ws) (prototype q r s t (guards_of secs) o v d) in
     subst (λ (y : List Item). Tail secs ds y f) (sym (re w)) (prepends secs ds [] text w f k (tail_at secs ds (ds ++ []) w f (sym (append-nil ds)) h))
 
 open_tail : (p : Place) (n : ℕ) (secs : Sections) (ds : List Declared) (w : List Item) (f : File) → Tail (InPart (guards_of secs) n secs) ds w f → Tail secs ds (at p (signs.GroupIf n) ∷ w) f
@@ -99,27 +99,77 @@ declaring_keeps secs ds p _ a r = tt
 
 -- ---- the first items of declarations
 
-pub static_keeps : (secs : Sections) (ds : List Declared) (p : Place) (s : Sign) (a : List Item) → Stands (AfterStatic secs ds) a → IfSome (at_int (Declaring secs ds) s) (λ next. Stands next (a ++ at p s ∷ []))
-static_keeps secs ds p signs.Int a r = λ w f v. moves a (at p signs.Int) w (r (at p signs.Int ∷ w) f (λ q. vars_tail p secs ds w f (present q signs.Static) v))
+-- the words of a whole type, and what a declaration begins with
+words_typed : {t : TypeWords} {us : List Item} → Words t us → Typed us
+words_typed (one_int p) = int p
+words_typed (one_signed p) = signed p
+words_typed (whole_type y) = y
+
+led_typed : {t : TypeWords} {us : List Item} → Led NoWord t us → Typed us
+led_typed (no_word k) = words_typed k
+
+led_alone : {t : TypeWords} {us : List Item} (s : Sign) → Led NoWord t us → Begins s us
+led_alone s k = only_type s (led_typed k)
+
+led_static : {t : TypeWords} {us : List Item} → Led StaticWord t us → Begins signs.Static us
+led_static (static_word p k) = then_type p signs.Static (words_typed k)
+
+led_extern : {t : TypeWords} {us : List Item} → Led ExternWord t us → Begins signs.Extern us
+led_extern (extern_word p k) = then_type p signs.Extern (words_typed k)
+
+-- a second word
+then_signed : {lead : Leading} {us : List Item} (p : Place) → Led lead OneInt us → Led lead WholeType (us ++ at p signs.Signed ∷ [])
+then_signed p (no_word (one_int q)) = no_word (whole_type (int_signed q p))
+then_signed p (static_word r (one_int q)) = static_word r (whole_type (int_signed q p))
+then_signed p (extern_word r (one_int q)) = extern_word r (whole_type (int_signed q p))
+
+then_int : {lead : Leading} {us : List Item} (p : Place) → Led lead OneSigned us → Led lead WholeType (us ++ at p signs.Int ∷ [])
+then_int p (no_word (one_signed q)) = no_word (whole_type (signed_int q p))
+then_int p (static_word r (one_signed q)) = static_word r (whole_type (signed_int q p))
+then_int p (extern_word r (one_signed q)) = extern_word r (whole_type (signed_int q p))
+
+regrouped : (secs : Sections) (ds : List Declared) (us : List Item) (x : Item) (w : List Item) (f : File) → Tail secs ds ((us ++ x ∷ []) ++ w) f → Tail secs ds (us ++ x ∷ w) f
+regrouped secs ds us x w f t = subst (λ (y : List Item). Tail secs ds y f) (append_assoc us (x ∷ []) w) t
+
+pub static_keeps : (secs : Sections) (ds : List Declared) (p : Place) (s : Sign) (a : List Item) → Stands (AfterStatic secs ds) a → IfSome (first_word StaticWord secs ds s) (λ next. Stands next (a ++ at p s ∷ []))
+static_keeps secs ds p signs.Int a r = λ w f k. moves a (at p signs.Int) w (r (at p signs.Int ∷ w) f (λ q. k (at q signs.Static ∷ at p signs.Int ∷ []) (static_word q (one_int p))))
+static_keeps secs ds p signs.Int32 a r = λ w f k. moves a (at p signs.Int32) w (r (at p signs.Int32 ∷ w) f (λ q. k (at q signs.Static ∷ at p signs.Int32 ∷ []) (static_word q (whole_type (int32 p)))))
+static_keeps secs ds p signs.Signed a r = λ w f k. moves a (at p signs.Signed) w (r (at p signs.Signed ∷ w) f (λ q. k (at q signs.Static ∷ at p signs.Signed ∷ []) (static_word q (one_signed p))))
 static_keeps secs ds p _ a r = tt
 
-pub extern_keeps : (secs : Sections) (ds : List Declared) (p : Place) (s : Sign) (a : List Item) → Stands (AfterExtern secs ds) a → IfSome (at_int (AfterExternInt secs ds) s) (λ next. Stands next (a ++ at p s ∷ []))
-extern_keeps secs ds p signs.Int a r = λ w f k. moves a (at p signs.Int) w (r (at p signs.Int ∷ w) f (λ q. k q p))
+pub extern_keeps : (secs : Sections) (ds : List Declared) (p : Place) (s : Sign) (a : List Item) → Stands (AfterExtern secs ds) a → IfSome (first_word ExternWord secs ds s) (λ next. Stands next (a ++ at p s ∷ []))
+extern_keeps secs ds p signs.Int a r = λ w f k. moves a (at p signs.Int) w (r (at p signs.Int ∷ w) f (λ q. k (at q signs.Extern ∷ at p signs.Int ∷ []) (extern_word q (one_int p))))
+extern_keeps secs ds p signs.Int32 a r = λ w f k. moves a (at p signs.Int32) w (r (at p signs.Int32 ∷ w) f (λ q. k (at q signs.Extern ∷ at p signs.Int32 ∷ []) (extern_word q (whole_type (int32 p)))))
+extern_keeps secs ds p signs.Signed a r = λ w f k. moves a (at p signs.Signed) w (r (at p signs.Signed ∷ w) f (λ q. k (at q signs.Extern ∷ at p signs.Signed ∷ []) (extern_word q (one_signed p))))
 extern_keeps secs ds p _ a r = tt
 
-pub extern_int_keeps : (secs : Sections) (ds : List Declared) (p : Place) (s : Sign) (a : List Item) → Stands (AfterExternInt secs ds) a → IfSome (at_input (Parameters (ToPrototype secs ds)) s) (λ next. Stands next (a ++ at p s ∷ []))
-extern_int_keeps secs ds p signs.Input a r = λ w f k. moves a (at p signs.Input) w (r (at p signs.Input ∷ w) f (λ q t. k t p (at q signs.Extern ∷ []) (present q signs.Extern)))
-extern_int_keeps secs ds p _ a r = tt
+main_keeps : (words : TypeWords) (secs : Sections) (ds : List Declared) (p : Place) (a : List Item) → Stands (AfterType NoWord words secs ds) a → IfSome (main_of secs ds) (λ next. Stands next (a ++ at p signs.Main ∷ []))
+main_keeps words Outermost ds p a r = λ w f k. moves a (at p signs.Main) w (r (at p signs.Main ∷ w) f (λ us h. k p us (led_typed h)))
+main_keeps words _ ds p a r = tt
 
-pub main_keeps : (secs : Sections) (ds : List Declared) (p : Place) (a : List Item) → Stands (AfterInt secs ds) a → IfSome (main_of secs ds) (λ next. Stands next (a ++ at p signs.Main ∷ []))
-main_keeps Outermost ds p a r = λ w f k. moves a (at p signs.Main) w (r (at p signs.Main ∷ w) f (λ q. k q p))
-main_keeps _ ds p a r = tt
+naming_keeps : (words : TypeWords) (secs : Sections) (ds : List Declared) (p : Place) (s : Sign) (a : List Item) → Stands (AfterType NoWord words secs ds) a → IfSome (naming secs ds s) (λ next. Stands next (a ++ at p s ∷ []))
+naming_keeps words secs ds p (signs.Name x) a r = λ w f k. moves a (at p (signs.Name x)) w (r (at p (signs.Name x) ∷ w) f (λ us h. vars_tail secs ds (at p (signs.Name x) ∷ w) f (led_alone signs.Static h) (k p)))
+naming_keeps words secs ds p signs.Input a r = λ w f k. moves a (at p signs.Input) w (r (at p signs.Input ∷ w) f (λ us h. k p us (led_alone signs.Extern h)))
+naming_keeps words secs ds p signs.Main a r = main_keeps words secs ds p a r
+naming_keeps words secs ds p _ a r = tt
 
-pub int_keeps : (secs : Sections) (ds : List Declared) (p : Place) (s : Sign) (a : List Item) → Stands (AfterInt secs ds) a → IfSome (after_int secs ds s) (λ next. Stands next (a ++ at p s ∷ []))
-int_keeps secs ds p (signs.Name x) a r = λ w f k. moves a (at p (signs.Name x)) w (r (at p (signs.Name x) ∷ w) f (λ q. vars_tail q secs ds (at p (signs.Name x) ∷ w) f (absent signs.Static) (k p)))
-int_keeps secs ds p signs.Input a r = λ w f k. moves a (at p signs.Input) w (r (at p signs.Input ∷ w) f (λ q. k q p [] (absent signs.Extern)))
-int_keeps secs ds p signs.Main a r = main_keeps secs ds p a r
-int_keeps secs ds p _ a r = tt
+static_name_keeps : (words : TypeWords) (secs : Sections) (ds : List Declared) (p : Place) (s : Sign) (a : List Item) → Stands (AfterType StaticWord words secs ds) a → IfSome (declaring secs ds s) (λ next. Stands next (a ++ at p s ∷ []))
+static_name_keeps words secs ds p (signs.Name x) a r = λ w f k. moves a (at p (signs.Name x)) w (r (at p (signs.Name x) ∷ w) f (λ us h. vars_tail secs ds (at p (signs.Name x) ∷ w) f (led_static h) (k p)))
+static_name_keeps words secs ds p _ a r = tt
+
+extern_name_keeps : (words : TypeWords) (secs : Sections) (ds : List Declared) (p : Place) (s : Sign) (a : List Item) → Stands (AfterType ExternWord words secs ds) a → IfSome (at_input (Parameters (ToPrototype secs ds)) s) (λ next. Stands next (a ++ at p s ∷ []))
+extern_name_keeps words secs ds p signs.Input a r = λ w f k. moves a (at p signs.Input) w (r (at p signs.Input ∷ w) f (λ us h. k p us (led_extern h)))
+extern_name_keeps words secs ds p _ a r = tt
+
+behind_type_keeps : (lead : Leading) (words : TypeWords) (secs : Sections) (ds : List Declared) (p : Place) (s : Sign) (a : List Item) → Stands (AfterType lead words secs ds) a → IfSome (behind_type lead secs ds s) (λ next. Stands next (a ++ at p s ∷ []))
+behind_type_keeps NoWord words secs ds p s a r = naming_keeps words secs ds p s a r
+behind_type_keeps StaticWord words secs ds p s a r = static_name_keeps words secs ds p s a r
+behind_type_keeps ExternWord words secs ds p s a r = extern_name_keeps words secs ds p s a r
+
+pub type_keeps : (lead : Leading) (secs : Sections) (ds : List Declared) (p : Place) (s : Sign) (words : TypeWords) (a : List Item) → Stands (AfterType lead words secs ds) a → IfSome (after_type lead secs ds s words) (λ next. Stands next (a ++ at p s ∷ []))
+type_keeps lead secs ds p signs.Signed OneInt a r = λ w f k. moves a (at p signs.Signed) w (r (at p signs.Signed ∷ w) f (λ us h. regrouped secs ds us (at p signs.Signed) w f (k (us ++ at p signs.Signed ∷ []) (then_signed p h))))
+type_keeps lead secs ds p signs.Int OneSigned a r = λ w f k. moves a (at p signs.Int) w (r (at p signs.Int ∷ w) f (λ us h. regrouped secs ds us (at p signs.Int) w f (k (us ++ at p signs.Int ∷ []) (then_int p h))))
+type_keeps lead secs ds p s words a r = behind_type_keeps lead words secs ds p s a r
 
 -- ---- parameters
 
@@ -137,18 +187,18 @@ void_keeps aim p signs.Close a r = λ w f k. moves a (at p signs.Close) w (r (at
 void_keeps aim p _ a r = tt
 
 pub after_parameters_keeps : (aim : Aim) (p : Place) (s : Sign) (a : List Item) → Stands (AfterParameters aim) a → IfSome (after_parameters aim s) (λ next. Stands next (a ++ at p s ∷ []))
-after_parameters_keeps (ToPrototype secs ds) p signs.Semicolon a r = λ w f t. moves a (at p signs.Semicolon) w (r (at p signs.Semicolon ∷ w) f (λ u s vs v q z us o. prototype_tail q z u s p secs ds w f o v t))
+after_parameters_keeps (ToPrototype secs ds) p signs.Semicolon a r = λ w f t. moves a (at p signs.Semicolon) w (r (at p signs.Semicolon ∷ w) f (λ u s vs v z us o. prototype_tail z u s p secs ds w f o v t))
 after_parameters_keeps (ToMain ds) p signs.LeftBrace a r = (
   a ++ at p signs.LeftBrace ∷ [],
   [],
-  λ us c q b. moves a (at p signs.LeftBrace) us (r (at p signs.LeftBrace ∷ us) (file_of ds c q) (λ u s vs v t z. (
+  λ us c q b. moves a (at p signs.LeftBrace) us (r (at p signs.LeftBrace ∷ us) (file_of ds c q) (λ u s vs v z ts y. (
     [],
-    at t signs.Int ∷ at z signs.Main ∷ at u signs.Open ∷ (vs ++ at s signs.Close ∷ at p signs.LeftBrace ∷ us),
+    ts ++ at z signs.Main ∷ at u signs.Open ∷ (vs ++ at s signs.Close ∷ at p signs.LeftBrace ∷ us),
     [],
     c,
     q,
     nothing [],
-    main t z u s p q v b,
+    main z u s p q y v b,
     refl,
     ap (λ (y : List Declared). file_of y c q) (sym (append-nil ds)),
   ))),
@@ -207,7 +257,9 @@ end_keeps (InLast gs outer) ds p a r = λ w f t. moves a (at p signs.GroupEnd) w
 pub outside_keeps : (secs : Sections) (ds : List Declared) (p : Place) (s : Sign) (a : List Item) → Stands (Outside secs ds) a → IfSome (outside secs ds s) (λ next. Stands next (a ++ at p s ∷ []))
 outside_keeps secs ds p signs.Static a r = λ w f k. moves a (at p signs.Static) w (r (at p signs.Static ∷ w) f (k p))
 outside_keeps secs ds p signs.Extern a r = λ w f k. moves a (at p signs.Extern) w (r (at p signs.Extern ∷ w) f (k p))
-outside_keeps secs ds p signs.Int a r = λ w f k. moves a (at p signs.Int) w (r (at p signs.Int ∷ w) f (k p))
+outside_keeps secs ds p signs.Int a r = λ w f k. moves a (at p signs.Int) w (r (at p signs.Int ∷ w) f (k (at p signs.Int ∷ []) (no_word (one_int p))))
+outside_keeps secs ds p signs.Int32 a r = λ w f k. moves a (at p signs.Int32) w (r (at p signs.Int32 ∷ w) f (k (at p signs.Int32 ∷ []) (no_word (whole_type (int32 p)))))
+outside_keeps secs ds p signs.Signed a r = λ w f k. moves a (at p signs.Signed) w (r (at p signs.Signed ∷ w) f (k (at p signs.Signed ∷ []) (no_word (one_signed p))))
 outside_keeps secs ds p (signs.GroupIf n) a r = λ w f t. moves a (at p (signs.GroupIf n)) w (r (at p (signs.GroupIf n) ∷ w) f (open_tail p n secs ds w f t))
 outside_keeps secs ds p (signs.GroupElif n) a r = condition_keeps n secs ds p a r
 outside_keeps secs ds p signs.GroupElse a r = last_keeps secs ds p a r

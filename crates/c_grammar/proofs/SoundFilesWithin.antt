@@ -14,7 +14,7 @@ use Rattle.c_grammar.specs.Deep.{tail_depth, guarded}
 use Rattle.c_grammar.specs.Within.{DeclaresIn, nothing, variables, prototype, section, last_var, next_var, end_part, else_part, elif_part, EmptyIn, no_more, empty_section, empty_end, empty_else, empty_elif, BodyWithin, body, MainWithin, main, FormsWithin, file}
 use Rattle.c_grammar.proofs.Files.{vars_first, return_no_else}
 use Rattle.c_grammar.proofs.StatesWithin.{token, opens_in, accepted_in}
-use Rattle.c_grammar.proofs.FilesWithin.{int_then, parameters, prototyped, guards_true, guards_false, goes_in, passes_in, ends_main, enters_main}
+use Rattle.c_grammar.proofs.FilesWithin.{begins_then, parameters, prototyped, guards_true, guards_false, goes_in, passes_in, ends_main, enters_main}
 use Rattle.c_grammar.proofs.SoundWithin.{opens_few, room_for, writes_back}
 
 -- ---- declarations
@@ -27,19 +27,19 @@ DeclaresBack (Later gs) ts ds = (k : ℕ) (hs : List Guard) (n : ℕ) (outer : S
 
 declares_back : {s : Part} {ts : List Item} {ds : List Declared} → Declares s ts ds → DeclaresBack s ts ds
 declares_back (plain.nothing gs) = λ k secs is e es w f h. nothing gs
-declares_back (plain.variables p gs {us} {vs} {ws} {ds} {es = fs} o v d) = λ k secs is e es w f h.
-    let re : (us ++ at p signs.Int ∷ (vs ++ ws)) ++ w ≡ us ++ at p signs.Int ∷ (vs ++ (ws ++ w)) = simp append_assoc in
+declares_back (plain.variables gs {us} {vs} {ws} {ds} {es = fs} o v d) = λ k secs is e es w f h.
+    let re : (us ++ (vs ++ ws)) ++ w ≡ us ++ (vs ++ (ws ++ w)) = simp append_assoc in
     let vars = declares_back v k in
-    let begins = ap (guarded (Outside secs es) 0) re ∙ int_then p secs es (vs ++ (ws ++ w)) o (vars_first v (ws ++ w)) ∙ goes_in vars secs is (omega (arith, e)) es (ws ++ w) in
-    variables p gs o vars (declares_back d k secs is e (es ++ ds) w f (sym begins ∙ h))
-declares_back (plain.prototype p q r s t gs {us} {vs} {ws} {es = fs} o v d) = λ k secs is e es w f h.
-    let re : (us ++ at p signs.Int ∷ at q signs.Input ∷ at r signs.Open ∷ (vs ++ at s signs.Close ∷ at t signs.Semicolon ∷ ws)) ++ w ≡ us ++ at p signs.Int ∷ at q signs.Input ∷ at r signs.Open ∷ (vs ++ at s signs.Close ∷ at t signs.Semicolon ∷ (ws ++ w)) = simp append_assoc in
+    let begins = ap (guarded (Outside secs es) 0) re ∙ begins_then secs es (vs ++ (ws ++ w)) o (vars_first v (ws ++ w)) ∙ goes_in vars secs is (omega (arith, e)) es (ws ++ w) in
+    variables gs o vars (declares_back d k secs is e (es ++ ds) w f (sym begins ∙ h))
+declares_back (plain.prototype q r s t gs {us} {vs} {ws} {es = fs} o v d) = λ k secs is e es w f h.
+    let re : (us ++ at q signs.Input ∷ at r signs.Open ∷ (vs ++ at s signs.Close ∷ at t signs.Semicolon ∷ ws)) ++ w ≡ us ++ at q signs.Input ∷ at r signs.Open ∷ (vs ++ at s signs.Close ∷ at t signs.Semicolon ∷ (ws ++ w)) = simp append_assoc in
     let begins =
     ap (guarded (Outside secs es) 0) re
-    ∙ prototyped p q secs es (at r signs.Open ∷ (vs ++ at s signs.Close ∷ at t signs.Semicolon ∷ (ws ++ w))) o
+    ∙ prototyped q secs es (at r signs.Open ∷ (vs ++ at s signs.Close ∷ at t signs.Semicolon ∷ (ws ++ w))) o
     ∙ parameters r s (ToPrototype secs es) (at t signs.Semicolon ∷ (ws ++ w)) v
     ∙ token (AfterParameters (ToPrototype secs es)) (Outside secs es) t signs.Semicolon 0 (ws ++ w) refl refl refl in
-    prototype p q r s t gs o v (declares_back d k secs is e es w f (sym begins ∙ h))
+    prototype q r s t gs o v (declares_back d k secs is e es w f (sym begins ∙ h))
 declares_back (plain.section p n gs {us} {vs} {ws} {cs} {ds} {es = fs} a b d) = λ k secs is e es w f h.
     let re : (us ++ (vs ++ ws)) ++ w ≡ us ++ (vs ++ (ws ++ w)) = simp append_assoc in
     let here : length (guards_of secs) ≡ length gs = ap length is in
@@ -127,7 +127,7 @@ body_back ds g (plain.body p {us} {vs} {ws} {c} {d} s r e) h =
     body p statements r (empty_back e 64 made [] (omega arith) [] g (ap (guarded (Over made []) 0) (append-nil ws) ∙ (sym ends ∙ h)))
 
 main_back : {ts : List Item} {c : Code} {p : Place} (ds : List Declared) (g : File) → Main ts c p → guarded (Outside Outermost ds) 0 ts ≡ Ok g → MainWithin ts c p
-main_back ds g (plain.main p q r s t u {us} {vs} o b) h = main p q r s t u o (body_back ds g b (sym (enters_main p q r s t ds vs o) ∙ h))
+main_back ds g (plain.main q r s t u {ts} {us} {vs} y o b) h = main q r s t u y o (body_back ds g b (sym (enters_main q r s t ds vs y o) ∙ h))
 
 pub forms_back : {ts : List Item} {f : File} (g : File) → Forms ts f → guarded start 0 ts ≡ Ok g → FormsWithin ts f
 forms_back g (plain.file {us} {vs} {ds} d m) h =

@@ -7,8 +7,8 @@ use Rattle.c_tree.specs.Tree.{Code, Done, Input, If, While, Block, Skip, Cond, f
 use Rattle.c_grammar.specs.declared.items.Sign.{Sign}
 use Rattle.c_grammar.specs.declared.items.Sign.TheVariants as signs
 use Rattle.c_grammar.specs.declared.items.Item.{Item}
-use Rattle.c_grammar.specs.Grammar.{at, Raise, Lower, Listed, Chained, Writes, none, choice, ends, otherwise, elif, input, count, skip, block, while, if_else, no_return, return, body, file_of, Forms}
-use Rattle.c_grammar.specs.Machine.{Stack, Top, Braces, Yes, No, ThenOf, ElseOf, LoopOf, Use, ToAssign, ToUpdate, ToAssert, ToChoose, ToLoop, Ended, Wants, Named, InputOpens, InputCloses, Finishing, folded, else_of, linked, opened, braced, returned, next_part, last_part, group_end, begin, on, named, at_open, at_close, at_semicolon}
+use Rattle.c_grammar.specs.Grammar.{at, Count, Raise, Lower, count_sign, Listed, Chained, Writes, none, choice, ends, otherwise, elif, input, count, prefix_count, skip, block, while, if_else, no_return, return, body, file_of, Forms}
+use Rattle.c_grammar.specs.Machine.{Stack, Top, Braces, Yes, No, ThenOf, ElseOf, LoopOf, Use, ToAssign, ToUpdate, ToAssert, ToChoose, ToLoop, Ended, Wants, Counting, Named, InputOpens, InputCloses, Finishing, folded, else_of, linked, opened, braced, returned, next_part, last_part, group_end, begin, on, named, counting, at_open, at_close, at_semicolon}
 use Rattle.c_grammar.proofs.Standing.{Begun, Read, Used, UsedAt, Piece, Stands}
 use Rattle.c_grammar.proofs.Complete.{followed-none}
 use Rattle.c_grammar.proofs.Pieces.{piece, listed, fold_is}
@@ -104,6 +104,8 @@ end_keeps _ p a r = tt
 pub begin_keeps : (outer : Stack) (p : Place) (s : Sign) (a : List Item) → Read outer a → IfSome (begin outer p s) (λ next. Stands next (a ++ at p s ∷ []))
 begin_keeps outer p (signs.Name x) a r = (a, r, refl)
 begin_keeps outer p signs.Semicolon a r = (a, at p signs.Semicolon ∷ [], r, piece false outer (at p signs.Semicolon ∷ []) (Skip p Done) (skip p), refl)
+begin_keeps outer p signs.PlusPlus a r = (a, r, refl)
+begin_keeps outer p signs.MinusMinus a r = (a, r, refl)
 begin_keeps outer p signs.LeftBrace a r = (a, [], r, none, refl)
 begin_keeps outer p signs.RightBrace a r = braced_keeps outer p a r
 begin_keeps outer p signs.Assert a r = (a, r, refl)
@@ -126,9 +128,16 @@ pub named_keeps : (q : Place) (x : ℕ) (outer : Stack) (p : Place) (s : Sign) (
 named_keeps q x outer p signs.Equals a r = (p, r.0, r.1, ap (λ (y : List Item). y ++ at p signs.Equals ∷ []) r.2 ∙ append_assoc r.0 (at q (signs.Name x) ∷ []) (at p signs.Equals ∷ []))
 named_keeps q x outer p signs.PlusEquals a r = (p, r.0, r.1, ap (λ (y : List Item). y ++ at p signs.PlusEquals ∷ []) r.2 ∙ append_assoc r.0 (at q (signs.Name x) ∷ []) (at p signs.PlusEquals ∷ []))
 named_keeps q x outer p signs.MinusEquals a r = (p, r.0, r.1, ap (λ (y : List Item). y ++ at p signs.MinusEquals ∷ []) r.2 ∙ append_assoc r.0 (at q (signs.Name x) ∷ []) (at p signs.MinusEquals ∷ []))
+named_keeps q x outer p signs.StarEquals a r = (p, r.0, r.1, ap (λ (y : List Item). y ++ at p signs.StarEquals ∷ []) r.2 ∙ append_assoc r.0 (at q (signs.Name x) ∷ []) (at p signs.StarEquals ∷ []))
+named_keeps q x outer p signs.SlashEquals a r = (p, r.0, r.1, ap (λ (y : List Item). y ++ at p signs.SlashEquals ∷ []) r.2 ∙ append_assoc r.0 (at q (signs.Name x) ∷ []) (at p signs.SlashEquals ∷ []))
+named_keeps q x outer p signs.PercentEquals a r = (p, r.0, r.1, ap (λ (y : List Item). y ++ at p signs.PercentEquals ∷ []) r.2 ∙ append_assoc r.0 (at q (signs.Name x) ∷ []) (at p signs.PercentEquals ∷ []))
 named_keeps q x outer p signs.PlusPlus a r = (r.0, at q (signs.Name x) ∷ at p signs.PlusPlus ∷ [], r.1, (λ s. count q p s x Raise), ap (λ (y : List Item). y ++ at p signs.PlusPlus ∷ []) r.2 ∙ append_assoc r.0 (at q (signs.Name x) ∷ []) (at p signs.PlusPlus ∷ []))
 named_keeps q x outer p signs.MinusMinus a r = (r.0, at q (signs.Name x) ∷ at p signs.MinusMinus ∷ [], r.1, (λ s. count q p s x Lower), ap (λ (y : List Item). y ++ at p signs.MinusMinus ∷ []) r.2 ∙ append_assoc r.0 (at q (signs.Name x) ∷ []) (at p signs.MinusMinus ∷ []))
 named_keeps q x outer p _ a r = tt
+
+pub counting_keeps : (q : Place) (u : Count) (outer : Stack) (p : Place) (s : Sign) (a : List Item) → Stands (Counting q u outer) a → IfSome (counting q u outer s) (λ next. Stands next (a ++ at p s ∷ []))
+counting_keeps q u outer p (signs.Name x) a r = (r.0, at q (count_sign u) ∷ at p (signs.Name x) ∷ [], r.1, (λ s. prefix_count q p s x u), ap (λ (y : List Item). y ++ at p (signs.Name x) ∷ []) r.2 ∙ append_assoc r.0 (at q (count_sign u) ∷ []) (at p (signs.Name x) ∷ []))
+counting_keeps q u outer p _ a r = tt
 
 opens_use : (u : Use) (p : Place) (a : List Item) → UsedAt u a → Used u (a ++ at p signs.Open ∷ [])
 opens_use (ToAssign q x outer) p a r = absurd r

@@ -11,7 +11,7 @@ use Rattle.c_grammar.specs.Grammar.{at, tighter, Prefix, Positive, Negative, Inv
 use Rattle.c_grammar.specs.Grammar as plain
 use Rattle.c_grammar.specs.Machine.{Frame, Paren, Pre, Left, room, Stack, Braces, Yes, No, ThenOf, ElseOf, LoopOf, Use, ToAssign, ToUpdate, ToAssert, ToChoose, ToLoop, ReadingState, Ready, Ended, Wants, Has, Named, Opens, folded, step}
 use Rattle.c_grammar.specs.Deep.{depth, opens_more, around, counted, is_deep, is_nested, is_long, Fault, went, guarded}
-use Rattle.c_grammar.specs.Within.{operators_in, more_by, Full, WritesIn, none, more, choice, ends, otherwise, elif, assign, input, update, count, assert, skip, block, while, if_then, if_else}
+use Rattle.c_grammar.specs.Within.{operators_in, more_by, Full, WritesIn, none, more, choice, ends, otherwise, elif, assign, input, update, count, prefix_count, assert, skip, block, while, if_then, if_else}
 use Rattle.c_grammar.proofs.Complete.{Free, free_of, no_else, chain_no_else, looser, settled, folded-list}
 use Rattle.c_grammar.proofs.CompleteWithin.{takes, prefix_takes, prefix_more, operators_both, expresses_within}
 use Rattle.c_grammar.proofs.StatesWithin.{token, opens_in, group_in, folds_in, depth_folded, full_in, last_token, updates_in, head_in, accepted_in}
@@ -156,6 +156,7 @@ writes_back (plain.update p q r x u {ts} {e} s) = λ k outer room_is m w f fr h.
     ∙ updates_in p q x u outer ((ts ++ at r signs.Semicolon ∷ []) ++ w) in
     update p q r x u (full_back s (ToUpdate p x u outer) (at r signs.Semicolon) [] w f tt (sym begins ∙ h))
 writes_back (plain.count p q r x u) = λ k outer e m w f fr h. count p q r x u
+writes_back (plain.prefix_count p q r x u) = λ k outer e m w f fr h. prefix_count p q r x u
 writes_back (plain.assert p q r z {ts} {e} s) = λ k outer room_is m w f fr h.
     let begins =
     token (Ready outer) (Opens (ToAssert p outer)) p signs.Assert m (at q signs.Open ∷ ((ts ++ at r signs.Close ∷ at z signs.Semicolon ∷ []) ++ w)) refl refl refl

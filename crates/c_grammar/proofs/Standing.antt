@@ -7,8 +7,8 @@ use Rattle.c_tree.specs.Tree.{Code, Done, Skip, followed}
 use Rattle.c_grammar.specs.declared.items.Sign.TheVariants as signs
 use Rattle.c_grammar.specs.declared.items.Item.{Item}
 use Rattle.c_grammar.specs.Ahead.{IsList}
-use Rattle.c_grammar.specs.Grammar.{at, tighter, prefix_sign, Expresses, update_sign, Listed, Stated, Writes, Optional, Declarator, with_true, with_false, Outer, Vars, Later, Declares, Gaps, GapRest, Empty, Body, Main, File, file_of, Forms}
-use Rattle.c_grammar.specs.Machine.{Tailing, Another, Final, Frame, Paren, Pre, Left, room, Stack, Top, Braces, Yes, No, ThenOf, ElseOf, LoopOf, Use, ToAssign, ToUpdate, ToAssert, ToChoose, ToLoop, Sections, Outermost, InPart, InLast, guards_of, Aim, ToPrototype, ToMain, ReadingState, Outside, AfterStatic, AfterExtern, AfterInt, AfterExternInt, Declaring, Bare, Starting, Negating, Started, Parameters, InParameters, AfterVoid, AfterParameters, Ready, Ended, Wants, Has, Named, Opens, InputOpens, InputCloses, Finishing, Returning, Returned, Closing, Over}
+use Rattle.c_grammar.specs.Grammar.{at, tighter, prefix_sign, Expresses, update_sign, count_sign, Listed, Stated, Writes, Optional, Typed, Begins, Declarator, with_true, with_false, Outer, Vars, Later, Declares, Gaps, GapRest, Empty, Body, Main, File, file_of, Forms}
+use Rattle.c_grammar.specs.Machine.{Tailing, Another, Final, Frame, Paren, Pre, Left, room, Stack, Top, Braces, Yes, No, ThenOf, ElseOf, LoopOf, Use, ToAssign, ToUpdate, ToAssert, ToChoose, ToLoop, Sections, Outermost, InPart, InLast, guards_of, Aim, ToPrototype, ToMain, ReadingState, Outside, AfterStatic, AfterExtern, AfterType, Leading, NoWord, StaticWord, ExternWord, TypeWords, OneInt, OneSigned, WholeType, Declaring, Bare, Starting, Negating, Started, Parameters, InParameters, AfterVoid, AfterParameters, Ready, Ended, Wants, Has, Counting, Named, Opens, InputOpens, InputCloses, Finishing, Returning, Returned, Closing, Over}
 
 -- the parts of a group before this one, and its directive
 abbrev pub Begun : List (ℕ × Code) → ℕ → List Item → Type 0
@@ -76,9 +76,21 @@ VarsTail secs ds w f = (ts us : List Item) × (es : List Declared) × Declares (
 abbrev pub StartedTail : ℕ → ℤ → Sections → List Declared → List Item → File → Type 0
 StartedTail x n secs ds w f = (us : List Item) → Declarator us x n → VarsTail secs ds (us ++ w) f
 
+-- the words of a type so far
+pub data Words : TypeWords → List Item → Type 0 where
+  one_int : (p : Place) → Words OneInt (at p signs.Int ∷ [])
+  one_signed : (p : Place) → Words OneSigned (at p signs.Signed ∷ [])
+  whole_type : {us : List Item} → Typed us → Words WholeType us
+
+-- the same, with what stands before them
+pub data Led : Leading → TypeWords → List Item → Type 0 where
+  no_word : {t : TypeWords} {us : List Item} → Words t us → Led NoWord t us
+  static_word : (p : Place) {t : TypeWords} {us : List Item} → Words t us → Led StaticWord t (at p signs.Static ∷ us)
+  extern_word : (p : Place) {t : TypeWords} {us : List Item} → Words t us → Led ExternWord t (at p signs.Extern ∷ us)
+
 abbrev pub ParametersTail : Aim → List Item → File → Type 0
-ParametersTail (ToPrototype secs ds) w f = (p q : Place) (us : List Item) → Optional signs.Extern us → Tail secs ds (us ++ at p signs.Int ∷ at q signs.Input ∷ w) f
-ParametersTail (ToMain ds) w f = (p q : Place) → Tail Outermost ds (at p signs.Int ∷ at q signs.Main ∷ w) f
+ParametersTail (ToPrototype secs ds) w f = (q : Place) (us : List Item) → Begins signs.Extern us → Tail secs ds (us ++ at q signs.Input ∷ w) f
+ParametersTail (ToMain ds) w f = (q : Place) (us : List Item) → Typed us → Tail Outermost ds (us ++ at q signs.Main ∷ w) f
 
 -- the rest of a file behind `main`
 abbrev pub Trailing : List Tailing → List Item → Type 0
@@ -92,8 +104,7 @@ abbrev pub Stands : ReadingState → List Item → Type 0
 Stands (Outside secs ds) a = Follows a (Tail secs ds)
 Stands (AfterStatic secs ds) a = Follows a (λ w f. (p : Place) → Tail secs ds (at p signs.Static ∷ w) f)
 Stands (AfterExtern secs ds) a = Follows a (λ w f. (p : Place) → Tail secs ds (at p signs.Extern ∷ w) f)
-Stands (AfterInt secs ds) a = Follows a (λ w f. (p : Place) → Tail secs ds (at p signs.Int ∷ w) f)
-Stands (AfterExternInt secs ds) a = Follows a (λ w f. (p q : Place) → Tail secs ds (at p signs.Extern ∷ at q signs.Int ∷ w) f)
+Stands (AfterType lead words secs ds) a = Follows a (λ w f. (us : List Item) → Led lead words us → Tail secs ds (us ++ w) f)
 Stands (Declaring secs ds) a = Follows a (VarsTail secs ds)
 Stands (Bare x secs ds) a = Follows a (λ w f. (p : Place) → VarsTail secs ds (at p (signs.Name x) ∷ w) f)
 Stands (Starting x secs ds) a = Follows a (λ w f. (p q : Place) → VarsTail secs ds (at p (signs.Name x) ∷ at q signs.Equals ∷ w) f)
@@ -107,6 +118,7 @@ Stands (Ready outer) a = Read outer a
 Stands (Ended outer c) a = (b ts : List Item) × Read outer b × Piece false outer ts c × (a ≡ b ++ ts)
 Stands (Wants fs u) a = Framed u fs a
 Stands (Has fs u e) a = (b ts : List Item) × Framed u fs b × Expresses 0 ts e × (a ≡ b ++ ts)
+Stands (Counting p u outer) a = (b : List Item) × Read outer b × (a ≡ b ++ at p (count_sign u) ∷ [])
 Stands (Named p x outer) a = (b : List Item) × Read outer b × (a ≡ b ++ at p (signs.Name x) ∷ [])
 Stands (Opens u) a = UsedAt u a
 Stands (InputOpens p x outer) a = (q r : Place) × (b : List Item) × Read outer b × (a ≡ b ++ (at p (signs.Name x) ∷ at q signs.Equals ∷ at r signs.Input ∷ []))

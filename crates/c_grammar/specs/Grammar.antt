@@ -60,26 +60,49 @@ pub data Expresses : ℕ → List Item → Term → Type 0 where
 
 -- ---- statements
 
--- `x += e;` and `x -= e;`, and `x++;` and `x--;`: the sign, and the operator that it means
+-- what a compound assignment (6.5.16.2), as `x += e;`, makes of the variable and the expression: the sign, and the operator
+-- that it means
 pub data Update : Type 0 where
-  Raise : Update
-  Lower : Update
+  Sum : Update
+  Difference : Update
+  Product : Update
+  Quotient : Update
+  Remainder : Update
 
 abbrev pub update_sign : Update → Sign
-update_sign Raise = signs.PlusEquals
-update_sign Lower = signs.MinusEquals
-
-abbrev pub count_sign : Update → Sign
-count_sign Raise = signs.PlusPlus
-count_sign Lower = signs.MinusMinus
+update_sign Sum = signs.PlusEquals
+update_sign Difference = signs.MinusEquals
+update_sign Product = signs.StarEquals
+update_sign Quotient = signs.SlashEquals
+update_sign Remainder = signs.PercentEquals
 
 abbrev pub update_op : Update → Op
-update_op Raise = Add
-update_op Lower = Sub
+update_op Sum = Add
+update_op Difference = Sub
+update_op Product = Mul
+update_op Quotient = Div
+update_op Remainder = Rem
 
 -- the variable, changed by an expression
 abbrev pub updated : Place → ℕ → Update → Term → Code
 updated p x u e = Assign p x (Binary (update_op u) (Var x) e) Done
+
+-- a step by one, behind the name (6.5.2.4) or before it (6.5.3.1): the sign
+pub data Count : Type 0 where
+  Raise : Count
+  Lower : Count
+
+abbrev pub count_sign : Count → Sign
+count_sign Raise = signs.PlusPlus
+count_sign Lower = signs.MinusMinus
+
+abbrev pub by_one : Count → Update
+by_one Raise = Sum
+by_one Lower = Difference
+
+-- the variable, one more or one less
+abbrev pub changed_by_one : Place → ℕ → Count → Code
+changed_by_one p x u = updated p x (by_one u) (Number (pos 1))
 
 -- a list; a statement, and whether it ends in an `if` without `else`; what closes a group, with its later parts
 pub data Shape : Type 0 where
@@ -98,7 +121,8 @@ pub data Writes : Shape → List Item → Code → Type 0 where
   assign : (p q r : Place) (x : ℕ) {ts : List Item} {e : Term} → Expresses 6 ts e → Writes (Stated false) (at p (signs.Name x) ∷ at q signs.Equals ∷ (ts ++ at r signs.Semicolon ∷ [])) (Assign p x e Done)
   input : (p q r s t u : Place) (x : ℕ) → Writes (Stated false) (at p (signs.Name x) ∷ at q signs.Equals ∷ at r signs.Input ∷ at s signs.Open ∷ at t signs.Close ∷ at u signs.Semicolon ∷ []) (Input p x Done)
   update : (p q r : Place) (x : ℕ) (u : Update) {ts : List Item} {e : Term} → Expresses 6 ts e → Writes (Stated false) (at p (signs.Name x) ∷ at q (update_sign u) ∷ (ts ++ at r signs.Semicolon ∷ [])) (updated p x u e)
-  count : (p q r : Place) (x : ℕ) (u : Update) → Writes (Stated false) (at p (signs.Name x) ∷ at q (count_sign u) ∷ at r signs.Semicolon ∷ []) (updated p x u (Number (pos 1)))
+  count : (p q r : Place) (x : ℕ) (u : Count) → Writes (Stated false) (at p (signs.Name x) ∷ at q (count_sign u) ∷ at r signs.Semicolon ∷ []) (changed_by_one p x u)
+  prefix_count : (p q r : Place) (x : ℕ) (u : Count) → Writes (Stated false) (at p (count_sign u) ∷ at q (signs.Name x) ∷ at r signs.Semicolon ∷ []) (changed_by_one p x u)
   assert : (p q r s : Place) {ts : List Item} {e : Term} → Expresses 6 ts e → Writes (Stated false) (at p signs.Assert ∷ at q signs.Open ∷ (ts ++ at r signs.Close ∷ at s signs.Semicolon ∷ [])) (Assert p e Done)
   skip : (p : Place) → Writes (Stated false) (at p signs.Semicolon ∷ []) (Skip p Done)
   block : (p q : Place) {ts : List Item} {c : Code} → Writes Listed ts c → Writes (Stated false) (at p signs.LeftBrace ∷ (ts ++ at q signs.RightBrace ∷ [])) (Block p c Done)
@@ -112,6 +136,19 @@ pub data Writes : Shape → List Item → Code → Type 0 where
 pub data Optional : Sign → List Item → Type 0 where
   absent : (s : Sign) → Optional s []
   present : (p : Place) (s : Sign) → Optional s (at p s ∷ [])
+
+-- the words of the type `int` (6.7.2), which is the same as `int32_t`
+pub data Typed : List Item → Type 0 where
+  int : (p : Place) → Typed (at p signs.Int ∷ [])
+  int32 : (p : Place) → Typed (at p signs.Int32 ∷ [])
+  signed : (p : Place) → Typed (at p signs.Signed ∷ [])
+  signed_int : (p q : Place) → Typed (at p signs.Signed ∷ at q signs.Int ∷ [])
+  int_signed : (p q : Place) → Typed (at p signs.Int ∷ at q signs.Signed ∷ [])
+
+-- what a declaration begins with: its type, and before it at most one item with this sign
+pub data Begins : Sign → List Item → Type 0 where
+  only_type : (s : Sign) {us : List Item} → Typed us → Begins s us
+  then_type : (p : Place) (s : Sign) {us : List Item} → Typed us → Begins s (at p s ∷ us)
 
 -- a variable with its start value, which is 0 where none stands
 pub data Declarator : List Item → ℕ → ℤ → Type 0 where
@@ -138,8 +175,8 @@ pub data Part : Type 0 where
 -- the declarators that a list of items declares, in its order; a declaration of `input` leaves nothing
 pub data Declares : Part → List Item → List Declared → Type 0 where
   nothing : (gs : List Guard) → Declares (Outer gs) [] []
-  variables : (p : Place) (gs : List Guard) {us vs ws : List Item} {ds es : List Declared} → Optional signs.Static us → Declares (Vars gs) vs ds → Declares (Outer gs) ws es → Declares (Outer gs) (us ++ at p signs.Int ∷ (vs ++ ws)) (ds ++ es)
-  prototype : (p q r s t : Place) (gs : List Guard) {us vs ws : List Item} {es : List Declared} → Optional signs.Extern us → Optional signs.Void vs → Declares (Outer gs) ws es → Declares (Outer gs) (us ++ at p signs.Int ∷ at q signs.Input ∷ at r signs.Open ∷ (vs ++ at s signs.Close ∷ at t signs.Semicolon ∷ ws)) es
+  variables : (gs : List Guard) {us vs ws : List Item} {ds es : List Declared} → Begins signs.Static us → Declares (Vars gs) vs ds → Declares (Outer gs) ws es → Declares (Outer gs) (us ++ (vs ++ ws)) (ds ++ es)
+  prototype : (q r s t : Place) (gs : List Guard) {us vs ws : List Item} {es : List Declared} → Begins signs.Extern us → Optional signs.Void vs → Declares (Outer gs) ws es → Declares (Outer gs) (us ++ at q signs.Input ∷ at r signs.Open ∷ (vs ++ at s signs.Close ∷ at t signs.Semicolon ∷ ws)) es
   section : (p : Place) (n : ℕ) (gs : List Guard) {us vs ws : List Item} {cs ds es : List Declared} → Declares (Outer (with_true gs n)) us cs → Declares (Later (with_false gs n)) vs ds → Declares (Outer gs) ws es → Declares (Outer gs) (at p (signs.GroupIf n) ∷ (us ++ (vs ++ ws))) (cs ++ (ds ++ es))
   last_var : (p : Place) (gs : List Guard) {us : List Item} {x : ℕ} {n : ℤ} → Declarator us x n → Declares (Vars gs) (us ++ at p signs.Semicolon ∷ []) (declared x n gs ∷ [])
   next_var : (p : Place) (gs : List Guard) {us vs : List Item} {x : ℕ} {n : ℤ} {ds : List Declared} → Declarator us x n → Declares (Vars gs) vs ds → Declares (Vars gs) (us ++ at p signs.Comma ∷ vs) (declared x n gs ∷ ds)
@@ -173,7 +210,7 @@ pub data Body : List Item → Code → Place → Type 0 where
 
 -- `main`
 pub data Main : List Item → Code → Place → Type 0 where
-  main : (p q r s t u : Place) {us vs : List Item} {c : Code} → Optional signs.Void us → Body vs c u → Main (at p signs.Int ∷ at q signs.Main ∷ at r signs.Open ∷ (us ++ at s signs.Close ∷ at t signs.LeftBrace ∷ vs)) c u
+  main : (q r s t u : Place) {ts us vs : List Item} {c : Code} → Typed ts → Optional signs.Void us → Body vs c u → Main (ts ++ at q signs.Main ∷ at r signs.Open ∷ (us ++ at s signs.Close ∷ at t signs.LeftBrace ∷ vs)) c u
 
 -- what a file has: its declarators in the order of the text, its statements, and the place of its last brace
 pub record File : Type 0 where

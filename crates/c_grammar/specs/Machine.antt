@@ -9,7 +9,7 @@ use Rattle.c_tree.specs.Tree.{Term, Number, Var, Binary, Code, Done, Assign, Inp
 use Rattle.c_grammar.specs.declared.items.Sign.{Sign}
 use Rattle.c_grammar.specs.declared.items.Sign.TheVariants as signs
 use Rattle.c_grammar.specs.declared.items.Item.{Item}
-use Rattle.c_grammar.specs.Grammar.{tighter, Prefix, Positive, Negative, Inverse, applied, Update, Raise, Lower, updated, with_true, with_false, declared, File, file_of}
+use Rattle.c_grammar.specs.Grammar.{tighter, Prefix, Positive, Negative, Inverse, applied, Update, Sum, Difference, Product, Quotient, Remainder, updated, Count, Raise, Lower, changed_by_one, with_true, with_false, declared, File, file_of}
 
 -- what waits for an operand
 pub data Frame : Type 0 where
@@ -55,6 +55,18 @@ guards_of Outermost = []
 guards_of (InPart gs n outer) = with_true gs n
 guards_of (InLast gs outer) = gs
 
+-- what stands before the type of a declaration
+pub data Leading : Type 0 where
+  NoWord : Leading
+  StaticWord : Leading
+  ExternWord : Leading
+
+-- the words of a type so far: another one may come behind the first two
+pub data TypeWords : Type 0 where
+  OneInt : TypeWords
+  OneSigned : TypeWords
+  WholeType : TypeWords
+
 -- what parentheses after a name of a function are for
 pub data Aim : Type 0 where
   ToPrototype : (secs : Sections) (ds : List Declared) → Aim
@@ -70,8 +82,7 @@ pub data ReadingState : Type 0 where
   Outside : (secs : Sections) (ds : List Declared) → ReadingState
   AfterStatic : (secs : Sections) (ds : List Declared) → ReadingState
   AfterExtern : (secs : Sections) (ds : List Declared) → ReadingState
-  AfterInt : (secs : Sections) (ds : List Declared) → ReadingState
-  AfterExternInt : (secs : Sections) (ds : List Declared) → ReadingState
+  AfterType : (lead : Leading) (words : TypeWords) (secs : Sections) (ds : List Declared) → ReadingState
   -- a declarator comes
   Declaring : (secs : Sections) (ds : List Declared) → ReadingState
   Bare : (x : ℕ) (secs : Sections) (ds : List Declared) → ReadingState
@@ -89,6 +100,8 @@ pub data ReadingState : Type 0 where
   Ended : (outer : Stack) (c : Code) → ReadingState
   Wants : (fs : List Frame) (u : Use) → ReadingState
   Has : (fs : List Frame) (u : Use) (e : Term) → ReadingState
+  -- the name of a variable comes, behind `++` or `--`
+  Counting : (p : Place) (u : Count) (outer : Stack) → ReadingState
   Named : (p : Place) (x : ℕ) (outer : Stack) → ReadingState
   Opens : (u : Use) → ReadingState
   InputOpens : (p : Place) (x : ℕ) (outer : Stack) → ReadingState
@@ -220,6 +233,8 @@ group_end _ = None
 abbrev pub begin : Stack → Place → Sign → Option ReadingState
 begin outer p (signs.Name x) = Some (Named p x outer)
 begin outer p signs.Semicolon = Some (Ended outer (Skip p Done))
+begin outer p signs.PlusPlus = Some (Counting p Raise outer)
+begin outer p signs.MinusMinus = Some (Counting p Lower outer)
 begin outer p signs.LeftBrace = Some (Ready (Braces p Done outer))
 begin outer p signs.RightBrace = braced outer p
 begin outer p signs.Assert = Some (Opens (ToAssert p outer))
@@ -238,11 +253,18 @@ on outer c p s = begin (folded outer c) p s
 
 abbrev pub named : Place → ℕ → Stack → Sign → Option ReadingState
 named p x outer signs.Equals = Some (Wants [] (ToAssign p x outer))
-named p x outer signs.PlusEquals = Some (Wants [] (ToUpdate p x Raise outer))
-named p x outer signs.MinusEquals = Some (Wants [] (ToUpdate p x Lower outer))
-named p x outer signs.PlusPlus = Some (Finishing outer (updated p x Raise (Number (pos 1))))
-named p x outer signs.MinusMinus = Some (Finishing outer (updated p x Lower (Number (pos 1))))
+named p x outer signs.PlusEquals = Some (Wants [] (ToUpdate p x Sum outer))
+named p x outer signs.MinusEquals = Some (Wants [] (ToUpdate p x Difference outer))
+named p x outer signs.StarEquals = Some (Wants [] (ToUpdate p x Product outer))
+named p x outer signs.SlashEquals = Some (Wants [] (ToUpdate p x Quotient outer))
+named p x outer signs.PercentEquals = Some (Wants [] (ToUpdate p x Remainder outer))
+named p x outer signs.PlusPlus = Some (Finishing outer (changed_by_one p x Raise))
+named p x outer signs.MinusMinus = Some (Finishing outer (changed_by_one p x Lower))
 named p x outer _ = None
+
+abbrev pub counting : Place → Count → Stack → Sign → Option ReadingState
+counting p u outer (signs.Name x) = Some (Finishing outer (changed_by_one p x u))
+counting p u outer _ = None
 
 -- the state, where it is this sign
 abbrev pub at_open : ReadingState → Sign → Option ReadingState
@@ -256,10 +278,6 @@ at_close next _ = None
 abbrev pub at_semicolon : ReadingState → Sign → Option ReadingState
 at_semicolon next signs.Semicolon = Some next
 at_semicolon next _ = None
-
-abbrev pub at_int : ReadingState → Sign → Option ReadingState
-at_int next signs.Int = Some next
-at_int next _ = None
 
 abbrev pub at_input : ReadingState → Sign → Option ReadingState
 at_input next signs.Input = Some next
@@ -282,15 +300,21 @@ section_end Outermost ds = None
 section_end (InPart gs n outer) ds = Some (Outside outer ds)
 section_end (InLast gs outer) ds = Some (Outside outer ds)
 
+-- the first word of a type
+abbrev pub first_word : Leading → Sections → List Declared → Sign → Option ReadingState
+first_word lead secs ds signs.Int = Some (AfterType lead OneInt secs ds)
+first_word lead secs ds signs.Int32 = Some (AfterType lead WholeType secs ds)
+first_word lead secs ds signs.Signed = Some (AfterType lead OneSigned secs ds)
+first_word lead secs ds _ = None
+
 abbrev pub outside : Sections → List Declared → Sign → Option ReadingState
 outside secs ds signs.Static = Some (AfterStatic secs ds)
 outside secs ds signs.Extern = Some (AfterExtern secs ds)
-outside secs ds signs.Int = Some (AfterInt secs ds)
 outside secs ds (signs.GroupIf n) = Some (Outside (InPart (guards_of secs) n secs) ds)
 outside secs ds (signs.GroupElif n) = next_condition n secs ds
 outside secs ds signs.GroupElse = last_section secs ds
 outside secs ds signs.GroupEnd = section_end secs ds
-outside secs ds _ = None
+outside secs ds s = first_word NoWord secs ds s
 
 abbrev pub declaring : Sections → List Declared → Sign → Option ReadingState
 declaring secs ds (signs.Name x) = Some (Bare x secs ds)
@@ -301,11 +325,23 @@ abbrev pub main_of : Sections → List Declared → Option ReadingState
 main_of Outermost ds = Some (Parameters (ToMain ds))
 main_of _ ds = None
 
-abbrev pub after_int : Sections → List Declared → Sign → Option ReadingState
-after_int secs ds (signs.Name x) = Some (Bare x secs ds)
-after_int secs ds signs.Input = Some (Parameters (ToPrototype secs ds))
-after_int secs ds signs.Main = main_of secs ds
-after_int secs ds _ = None
+-- the name of a variable or of a function
+abbrev pub naming : Sections → List Declared → Sign → Option ReadingState
+naming secs ds (signs.Name x) = Some (Bare x secs ds)
+naming secs ds signs.Input = Some (Parameters (ToPrototype secs ds))
+naming secs ds signs.Main = main_of secs ds
+naming secs ds _ = None
+
+abbrev pub behind_type : Leading → Sections → List Declared → Sign → Option ReadingState
+behind_type NoWord secs ds s = naming secs ds s
+behind_type StaticWord secs ds s = declaring secs ds s
+behind_type ExternWord secs ds s = at_input (Parameters (ToPrototype secs ds)) s
+
+-- another word of the type, or what follows it
+abbrev pub after_type : Leading → Sections → List Declared → Sign → TypeWords → Option ReadingState
+after_type lead secs ds signs.Signed OneInt = Some (AfterType lead WholeType secs ds)
+after_type lead secs ds signs.Int OneSigned = Some (AfterType lead WholeType secs ds)
+after_type lead secs ds s words = behind_type lead secs ds s
 
 -- the declarators with one more
 abbrev pub with_declared : Sections → List Declared → ℕ → ℤ → List Declared
@@ -361,10 +397,9 @@ over f _ _ = None
 -- what an item leads to, where the state can take it
 abbrev pub step : ReadingState → Place → Sign → Option ReadingState
 step (Outside secs ds) p s = outside secs ds s
-step (AfterStatic secs ds) p s = at_int (Declaring secs ds) s
-step (AfterExtern secs ds) p s = at_int (AfterExternInt secs ds) s
-step (AfterInt secs ds) p s = after_int secs ds s
-step (AfterExternInt secs ds) p s = at_input (Parameters (ToPrototype secs ds)) s
+step (AfterStatic secs ds) p s = first_word StaticWord secs ds s
+step (AfterExtern secs ds) p s = first_word ExternWord secs ds s
+step (AfterType lead words secs ds) p s = after_type lead secs ds s words
 step (Declaring secs ds) p s = declaring secs ds s
 step (Bare x secs ds) p s = is_bare x secs ds s
 step (Starting x secs ds) p s = starting x secs ds s
@@ -378,6 +413,7 @@ step (Ready outer) p s = begin outer p s
 step (Ended outer c) p s = on outer c p s
 step (Wants fs u) p s = want fs u s
 step (Has fs u e) p s = have fs u e s
+step (Counting q u outer) p s = counting q u outer s
 step (Named q x outer) p s = named q x outer s
 step (Opens u) p s = at_open (Wants [] u) s
 step (InputOpens q x outer) p s = at_open (InputCloses q x outer) s

@@ -4,15 +4,19 @@
 use c_tree::Op;
 use fam_outer::Place;
 
-/// What the grammar sees of an item: a number, the number of a name in a list of names, a keyword that the grammar
-/// uses, another reserved word, a mark that is no binary operator, a binary operator, or a group directive with the
-/// number of its condition. `#ifdef` and `#ifndef` are `GroupIf`. A reserved word stands nowhere in a file.
+/// What the grammar sees of an item: a number, the number of a name in a list of names, a word that the grammar
+/// uses (`Int32` is `int32_t`), another reserved word, a mark that is no binary operator, a binary operator, or a group
+/// directive with the number of its condition. `#ifdef` and `#ifndef` are `GroupIf`. A reserved word stands nowhere in a
+/// file.
 #[derive(Clone, Copy, Debug, PartialEq, Eq)]
 pub enum Sign {
     Number(i64),
     Name(u32),
     Static,
+    Const,
     Int,
+    Int32,
+    Signed,
     Extern,
     Input,
     Void,
@@ -35,6 +39,9 @@ pub enum Sign {
     MinusMinus,
     PlusEquals,
     MinusEquals,
+    StarEquals,
+    SlashEquals,
+    PercentEquals,
     Oper(Op),
     GroupIf(u32),
     GroupElif(u32),

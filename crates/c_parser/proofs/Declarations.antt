@@ -6,21 +6,28 @@ use Rattle.c_tree.specs.Tree.{Code}
 use Rattle.fam_outer.specs.declared.faults.Place.{Place}
 use Rattle.c_grammar.specs.declared.items.Item.{Item}
 use Rattle.c_grammar.specs.declared.items.Sign.TheVariants as signs
-use Rattle.c_grammar.specs.Grammar.{at, Optional, absent, present, Declarator, bare, positive, negative, Part, Declares, nothing, variables, prototype, section, last_var, next_var, end_part, else_part, elif_part, Main, main, File, Forms, file}
+use Rattle.c_grammar.specs.Grammar.{at, Optional, absent, present, Typed, int, int32, signed, signed_int, int_signed, Begins, only_type, then_type, Declarator, bare, positive, negative, Part, Declares, nothing, variables, prototype, section, last_var, next_var, end_part, else_part, elif_part, Main, main, File, Forms, file}
 use Rattle.c_parser.specs.Names.{declared_by, targets}
 
 targets-append : (ds es : List Declared) → targets (ds ++ es) ≡ targets ds ++ targets es
 targets-append [] es = refl
 targets-append (d ∷ ds) es = ap (λ (xs : List ℕ). d.target ∷ xs) (targets-append ds es)
 
--- an optional keyword declares nothing
-static_skipped : {us : List Item} (rest : List Item) → Optional signs.Static us → declared_by (us ++ rest) ≡ declared_by rest
-static_skipped rest (absent _) = refl
-static_skipped rest (present p _) = refl
+-- keywords declare nothing
+type_skipped : {us : List Item} (rest : List Item) → Typed us → declared_by (us ++ rest) ≡ declared_by rest
+type_skipped rest (int p) = refl
+type_skipped rest (int32 p) = refl
+type_skipped rest (signed p) = refl
+type_skipped rest (signed_int p q) = refl
+type_skipped rest (int_signed p q) = refl
 
-extern_skipped : {us : List Item} (rest : List Item) → Optional signs.Extern us → declared_by (us ++ rest) ≡ declared_by rest
-extern_skipped rest (absent _) = refl
-extern_skipped rest (present p _) = refl
+static_skipped : {us : List Item} (rest : List Item) → Begins signs.Static us → declared_by (us ++ rest) ≡ declared_by rest
+static_skipped rest (only_type _ y) = type_skipped rest y
+static_skipped rest (then_type p _ y) = type_skipped rest y
+
+extern_skipped : {us : List Item} (rest : List Item) → Begins signs.Extern us → declared_by (us ++ rest) ≡ declared_by rest
+extern_skipped rest (only_type _ y) = type_skipped rest y
+extern_skipped rest (then_type p _ y) = type_skipped rest y
 
 void_skipped : {us : List Item} (rest : List Item) → Optional signs.Void us → declared_by (us ++ rest) ≡ declared_by rest
 void_skipped rest (absent _) = refl
@@ -40,12 +47,12 @@ two_parts us ws rest ds es first second =
 
 declared_in : {part : Part} {us : List Item} {ds : List Declared} → Declares part us ds → (rest : List Item) → declared_by (us ++ rest) ≡ targets ds ++ declared_by rest
 declared_in (nothing gs) rest = refl
-declared_in (variables p gs {us} {vs} {ws} {ds} {es} o v d) rest =
-    ap declared_by (append_assoc us (at p signs.Int ∷ (vs ++ ws)) rest) ∙ static_skipped (at p signs.Int ∷ ((vs ++ ws) ++ rest)) o
+declared_in (variables gs {us} {vs} {ws} {ds} {es} o v d) rest =
+    ap declared_by (append_assoc us (vs ++ ws) rest) ∙ static_skipped ((vs ++ ws) ++ rest) o
     ∙ two_parts vs ws rest ds es (declared_in v (ws ++ rest)) (declared_in d rest)
-declared_in (prototype p q r s t gs {us} {vs} {ws} {es} o v d) rest =
-    ap declared_by (append_assoc us (at p signs.Int ∷ at q signs.Input ∷ at r signs.Open ∷ (vs ++ at s signs.Close ∷ at t signs.Semicolon ∷ ws)) rest)
-    ∙ extern_skipped (at p signs.Int ∷ at q signs.Input ∷ at r signs.Open ∷ ((vs ++ at s signs.Close ∷ at t signs.Semicolon ∷ ws) ++ rest)) o
+declared_in (prototype q r s t gs {us} {vs} {ws} {es} o v d) rest =
+    ap declared_by (append_assoc us (at q signs.Input ∷ at r signs.Open ∷ (vs ++ at s signs.Close ∷ at t signs.Semicolon ∷ ws)) rest)
+    ∙ extern_skipped (at q signs.Input ∷ at r signs.Open ∷ ((vs ++ at s signs.Close ∷ at t signs.Semicolon ∷ ws) ++ rest)) o
     ∙ ap declared_by (append_assoc vs (at s signs.Close ∷ at t signs.Semicolon ∷ ws) rest)
     ∙ void_skipped (at s signs.Close ∷ at t signs.Semicolon ∷ (ws ++ rest)) v ∙ declared_in d rest
 declared_in (section p n gs {us} {vs} {ws} {cs} {ds} {es} a b d) rest =
@@ -58,7 +65,7 @@ declared_in (else_part p q gs {us} {ds} d) rest = ap declared_by (append_assoc u
 declared_in (elif_part p n gs {us} {vs} {cs} {ds} a b) rest = two_parts us vs rest cs ds (declared_in a (vs ++ rest)) (declared_in b rest)
 
 none_in_main : {us : List Item} {c : Code} {p : Place} → Main us c p → declared_by us ≡ []
-none_in_main (main p q r s t u o b) = refl
+none_in_main (main q r s t u {ts} {us} {vs} y o b) = type_skipped (at q signs.Main ∷ at r signs.Open ∷ (us ++ at s signs.Close ∷ at t signs.LeftBrace ∷ vs)) y
 
 pub declared_forms : {items : List Item} {f : File} → Forms items f → declared_by items ≡ targets f.declared
 declared_forms (file {us} {vs} {ds} d m) = declared_in d vs ∙ ap (λ (xs : List ℕ). targets ds ++ xs) (none_in_main m) ∙ append-nil (targets ds)

@@ -1,5 +1,6 @@
 -- The items of a family line by line; each of its names occurs among them.
 use Rattle.std.proofs.Common.{◌≡◌, ℕ, ◌+◌, ◌<◌, true, List, [], ◌∷◌, length, map, Result, Ok, Err, refl, sym, ap, ◌∙◌, arith}
+use Rattle.fam_outer.specs.declared.dialect.Dialect.{Dialect}
 use Rattle.fam_outer.specs.declared.faults.Place.{Place}
 use Rattle.fam_outer.specs.declared.faults.FileCode.{FileCode}
 use Rattle.fam_outer.specs.Results.{and_then}
@@ -61,14 +62,14 @@ pub record AreByLine (told : Told) (blanked : List ℕ) (tokens : Listed) (items
   pub all : tokens.items ≡ by_piece tokens.names 0 (map code_piece (pieces blanked))
   pub are : items ≡ by_both tokens.names 0 told.lines (map code_piece (pieces blanked))
 
-pub by_line_of : TokenLaws → LinesApart → (model : Plain) (bytes : List ℕ) (told : Told) (l : Listed) → (h : HasItems model bytes told l) → AreByLine told h.blanked h.tokens l.items
+pub by_line_of : TokenLaws → LinesApart → (dialect : Dialect) (model : Plain) (bytes : List ℕ) (told : Told) (l : Listed) → (h : HasItems dialect model bytes told l) → AreByLine told h.blanked h.tokens l.items
 unfolding code_of
-by_line_of laws apart model bytes told l h =
+by_line_of laws apart dialect model bytes told l h =
     let names = h.tokens.names in
     let code = code_from (begins_directive h.blanked) h.blanked in
     let s = stands (code_from (begins_directive h.blanked) h.blanked) h.tokens (tokens_of (code_from (begins_directive h.blanked) h.blanked)) refl h.tokens_are in
     let cut : pieces (code_from (begins_directive h.blanked) h.blanked) ≡ map code_piece (pieces h.blanked) = code_pieces h.blanked (pieces h.blanked) refl in
-    let are = lines_are model h.blanked [] [] 0 (pieces h.blanked) (Ok told) h.read in
+    let are = lines_are dialect model h.blanked [] [] 0 (pieces h.blanked) (Ok told) h.read in
     let all : h.tokens.items ≡ by_piece h.tokens.names 0 (map code_piece (pieces h.blanked)) =
     s.items ∙ sym (not_below (items_over (names_from (code_from (begins_directive h.blanked) h.blanked) [] s.tokens) (code_from (begins_directive h.blanked) h.blanked) s.tokens))
     ∙ ap (λ (ns : List (List ℕ)). map (item_below 0) (items_over ns (code_from (begins_directive h.blanked) h.blanked) s.tokens)) (sym s.names)
@@ -80,13 +81,13 @@ by_line_of laws apart model bytes told l h =
       are =
           ap (λ (k : Listed). k.items) h.is ∙ ap (by_line told.lines) all
           ∙ line_by_line laws names 0 told.lines (map code_piece (pieces h.blanked)) (same_length 0 (pieces h.blanked) told.lines are)
-          (counted model h.blanked [] [] 0 h.blanked (pieces h.blanked) 1 (Ok told) refl refl refl h.read)
+          (counted dialect model h.blanked [] [] 0 h.blanked (pieces h.blanked) 1 (Ok told) refl refl refl h.read)
           (pieces_are_lines code (map code_piece (pieces h.blanked)) cut);
     }
 
-pub family_occurs : TokenLaws → LinesApart → OneReading → (model : Plain) (bytes : List ℕ) (told : Told) (l : Listed) (x : ℕ) → HasItems model bytes told l → x < length l.names → has x l.items ≡ true
-family_occurs laws apart one model bytes told l x h lt =
-    let b = by_line_of laws apart model bytes told l h in
+pub family_occurs : TokenLaws → LinesApart → OneReading → (dialect : Dialect) (model : Plain) (bytes : List ℕ) (told : Told) (l : Listed) (x : ℕ) → HasItems dialect model bytes told l → x < length l.names → has x l.items ≡ true
+family_occurs laws apart one dialect model bytes told l x h lt =
+    let b = by_line_of laws apart dialect model bytes told l h in
     let mine : has x h.tokens.items ≡ true = among_all (code_from (begins_directive h.blanked) h.blanked) h.tokens x b.stands (omega (arith, lt, ap (λ (k : Listed). length k.names) h.is)) in
     ap (has x) b.are
     ∙ family_has x 0 h.tokens.names told.lines (map code_piece (pieces h.blanked)) (same_length 0 (pieces h.blanked) told.lines b.lines) (lines_blank one h.tokens.names h.blanked (pieces h.blanked) 0 told.lines refl b.lines)

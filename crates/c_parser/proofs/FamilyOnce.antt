@@ -1,5 +1,6 @@
 -- A file is read as one family or has one refusal, over models with the same features and constraints.
 use Rattle.std.proofs.Common.{◌≡◌, ℕ, List, [], Option, Some, None, Result, Ok, Err, refl, sym, ap, subst, ◌∙◌, inl, inr, ◌⊎◌}
+use Rattle.fam_outer.specs.declared.dialect.Dialect.{Dialect}
 use Rattle.fam_outer.specs.declared.faults.FileCode.{FileCode}
 use Rattle.fam_outer.specs.declared.faults.Place.{Place}
 use Rattle.fam_outer.specs.Places.{end_place}
@@ -47,25 +48,25 @@ lined blanked (Ok told) = with_tokens (items_of_code [] (code_of blanked)) told
 lined blanked (Err fault) = Err fault
 
 -- what the lines of a file without its comments come to
-abbrev Comes : Plain → Result (List ℕ) (FileCode × Place) → Lined → Type 0
-Comes model (Ok blanked) x = (told : Result Told (FileCode × Place)) × TextIsRead model blanked told × (x ≡ lined blanked told)
-Comes model (Err fault) x = x ≡ Err fault
+abbrev Comes : Dialect → Plain → Result (List ℕ) (FileCode × Place) → Lined → Type 0
+Comes dialect model (Ok blanked) x = (told : Result Told (FileCode × Place)) × TextIsRead dialect model blanked told × (x ≡ lined blanked told)
+Comes dialect model (Err fault) x = x ≡ Err fault
 
-comes_once : TextsAreReadOnce → (model : Plain) (file : Result (List ℕ) (FileCode × Place)) (x y : Lined) → Comes model file x → Comes model file y → x ≡ y
-comes_once once model (Ok blanked) x y (s, h, i) (t, k, j) = i ∙ ap (lined blanked) (once model blanked s t h k) ∙ sym j
-comes_once once model (Err fault) x y h k = h ∙ sym k
+comes_once : TextsAreReadOnce → (dialect : Dialect) (model : Plain) (file : Result (List ℕ) (FileCode × Place)) (x y : Lined) → Comes dialect model file x → Comes dialect model file y → x ≡ y
+comes_once once dialect model (Ok blanked) x y (s, h, i) (t, k, j) = i ∙ ap (lined blanked) (once dialect model blanked s t h k) ∙ sym j
+comes_once once dialect model (Err fault) x y h k = h ∙ sym k
 
-early_comes : (model : Plain) (bytes : List ℕ) (fault : FileCode × Place) → HasEarlyFault model bytes fault → Comes model (blanked_file bytes) (Err fault)
-early_comes model bytes fault (inl e) = subst (λ (r : Result (List ℕ) (FileCode × Place)). Comes model r (Err fault)) (sym e) refl
-early_comes model bytes fault (inr (inl h)) = subst (λ (r : Result (List ℕ) (FileCode × Place)). Comes model r (Err fault)) (sym h.without_comments) (Err fault, h.read, refl)
-early_comes model bytes fault (inr (inr h)) =
-    subst (λ (r : Result (List ℕ) (FileCode × Place)). Comes model r (Err fault)) (sym h.without_comments)
+early_comes : (dialect : Dialect) (model : Plain) (bytes : List ℕ) (fault : FileCode × Place) → HasEarlyFault dialect model bytes fault → Comes dialect model (blanked_file bytes) (Err fault)
+early_comes dialect model bytes fault (inl e) = subst (λ (r : Result (List ℕ) (FileCode × Place)). Comes dialect model r (Err fault)) (sym e) refl
+early_comes dialect model bytes fault (inr (inl h)) = subst (λ (r : Result (List ℕ) (FileCode × Place)). Comes dialect model r (Err fault)) (sym h.without_comments) (Err fault, h.read, refl)
+early_comes dialect model bytes fault (inr (inr h)) =
+    subst (λ (r : Result (List ℕ) (FileCode × Place)). Comes dialect model r (Err fault)) (sym h.without_comments)
     (Ok h.told, h.read, sym (ap (λ (r : Result Listed (FileCode × Place)). with_tokens r h.told) h.token))
 
-items_come : (model : Plain) (bytes : List ℕ) (told : Told) (l : Listed) → HasItems model bytes told l → Comes model (blanked_file bytes) (Ok (told, l))
-items_come model bytes told l h =
+items_come : (dialect : Dialect) (model : Plain) (bytes : List ℕ) (told : Told) (l : Listed) → HasItems dialect model bytes told l → Comes dialect model (blanked_file bytes) (Ok (told, l))
+items_come dialect model bytes told l h =
     let is : lined h.blanked (Ok told) ≡ Ok (told, l) = ap (λ (r : Result Listed (FileCode × Place)). with_tokens r told) h.tokens_are ∙ ap (λ (k : Listed). Ok (told, k)) (sym h.is) in
-    subst (λ (r : Result (List ℕ) (FileCode × Place)). Comes model r (Ok (told, l))) (sym h.without_comments) (Ok told, h.read, sym is)
+    subst (λ (r : Result (List ℕ) (FileCode × Place)). Comes dialect model r (Ok (told, l))) (sym h.without_comments) (Ok told, h.read, sym is)
 
 -- ---- the grammar
 
@@ -95,16 +96,16 @@ ends_once : NamesAreJudgedOnce → (a b : Model) → plain a ≡ plain b → (to
 ends_once judged a b e told l (Ok p) r s (f, h, i) (g, k, j) = i ∙ ap (λ (o : Option (FileCode × Place)). with_names o p) (named_once judged a b e told l f g h k) ∙ sym j
 ends_once judged a b e told l (Err fault) r s h k = h ∙ sym k
 
-judged_ends : GrammarLaws → (model : Model) (bytes : List ℕ) (l : Listed) (known : Conditions) (end : Place) (p : Whole) (fault : Option (FileCode × Place)) → (are : IsListedFamily (plain model) bytes l known)
-    → SpellsWithin l.names p l.items → (families_over model).named l known fault → Ends model are.told l (spelled l end) (with_names fault p)
-judged_ends laws model bytes l known end p fault are s n =
+judged_ends : GrammarLaws → (dialect : Dialect) (model : Model) (bytes : List ℕ) (l : Listed) (known : Conditions) (end : Place) (p : Whole) (fault : Option (FileCode × Place)) → (are : IsListedFamily dialect (plain model) bytes l known)
+    → SpellsWithin l.names p l.items → (families_over dialect model).named l known fault → Ends model are.told l (spelled l end) (with_names fault p)
+judged_ends laws dialect model bytes l known end p fault are s n =
     subst (λ (x : Answer). Ends model are.told l x (with_names fault p)) (sym (program_spelled laws (wrong_code l.items) l end p s)) (fault, record { atoms = known.atoms; conditions = known.formulas; are = are.conditions; is = n }, refl)
 
-fault_ends : GrammarLaws → (model : Model) (bytes : List ℕ) (l : Listed) (known : Conditions) (end : Place) (fault : FileCode × Place) → (are : IsListedFamily (plain model) bytes l known)
-    → HasWrong l end fault ⊎ (HasDeep l end fault ⊎ HasNameFault (families_over model) l known fault) → Ends model are.told l (spelled l end) (Err fault)
-fault_ends laws model bytes l known end fault are (inl w) = subst (λ (x : Answer). Ends model are.told l x (Err fault)) (sym (wrong_spelled laws (wrong_code l.items) l end w.position w.wrong)) (ap (λ (f : FileCode × Place). Err f) w.is)
-fault_ends laws model bytes l known end fault are (inr (inl w)) = subst (λ (x : Answer). Ends model are.told l x (Err fault)) (sym (deep_spelled laws (wrong_code l.items) l end w.position w.deep)) (ap (λ (f : FileCode × Place). Err f) w.is)
-fault_ends laws model bytes l known end fault are (inr (inr n)) = judged_ends laws model bytes l known end n.program (Some fault) are n.spelled n.names
+fault_ends : GrammarLaws → (dialect : Dialect) (model : Model) (bytes : List ℕ) (l : Listed) (known : Conditions) (end : Place) (fault : FileCode × Place) → (are : IsListedFamily dialect (plain model) bytes l known)
+    → HasWrong l end fault ⊎ (HasDeep l end fault ⊎ HasNameFault (families_over dialect model) l known fault) → Ends model are.told l (spelled l end) (Err fault)
+fault_ends laws dialect model bytes l known end fault are (inl w) = subst (λ (x : Answer). Ends model are.told l x (Err fault)) (sym (wrong_spelled laws (wrong_code l.items) l end w.position w.wrong)) (ap (λ (f : FileCode × Place). Err f) w.is)
+fault_ends laws dialect model bytes l known end fault are (inr (inl w)) = subst (λ (x : Answer). Ends model are.told l x (Err fault)) (sym (deep_spelled laws (wrong_code l.items) l end w.position w.deep)) (ap (λ (f : FileCode × Place). Err f) w.is)
+fault_ends laws dialect model bytes l known end fault are (inr (inr n)) = judged_ends laws dialect model bytes l known end n.program (Some fault) are n.spelled n.names
 
 -- ---- all phases
 
@@ -113,36 +114,36 @@ EndsBehind model end (Ok x) r = Ends model x.0 x.1 (spelled x.1 end) r
 EndsBehind model end (Err fault) r = r ≡ Err fault
 
 -- the program of a family, or its refusal, by its phases
-record IsReached (model : Model) (bytes : List ℕ) (r : Answer) : Type 0 where
+record IsReached (dialect : Dialect) (model : Model) (bytes : List ℕ) (r : Answer) : Type 0 where
   lines : Lined
-  come : Comes (plain model) (blanked_file bytes) lines
+  come : Comes dialect (plain model) (blanked_file bytes) lines
   ends : EndsBehind model (end_place bytes) lines r
 
-family_reached : GrammarLaws → (model : Model) (bytes : List ℕ) (f : Family) → IsFamilyOf model bytes f → IsReached model bytes (Ok (whole f.code))
-family_reached laws model bytes f o = record {
+family_reached : GrammarLaws → (dialect : Dialect) (model : Model) (bytes : List ℕ) (f : Family) → IsFamilyOf dialect model bytes f → IsReached dialect model bytes (Ok (whole f.code))
+family_reached laws dialect model bytes f o = record {
   lines = Ok (o.are.told, o.listed);
-  come = items_come (plain model) bytes o.are.told o.listed o.are.items;
-  ends = judged_ends laws model bytes o.listed (conditions_of f) (end_place bytes) (whole f.code) None o.are o.spelled o.names;
+  come = items_come dialect (plain model) bytes o.are.told o.listed o.are.items;
+  ends = judged_ends laws dialect model bytes o.listed (conditions_of f) (end_place bytes) (whole f.code) None o.are o.spelled o.names;
 }
 
-refusal_reached : GrammarLaws → (model : Model) (bytes : List ℕ) (fault : FileCode × Place) → IsFamilyRefused model bytes fault → IsReached model bytes (Err fault)
-refusal_reached laws model bytes fault (inl h) = record { lines = Err fault; come = early_comes (plain model) bytes fault h; ends = refl }
-refusal_reached laws model bytes fault (inr h) = record {
+refusal_reached : GrammarLaws → (dialect : Dialect) (model : Model) (bytes : List ℕ) (fault : FileCode × Place) → IsFamilyRefused dialect model bytes fault → IsReached dialect model bytes (Err fault)
+refusal_reached laws dialect model bytes fault (inl h) = record { lines = Err fault; come = early_comes dialect (plain model) bytes fault h; ends = refl }
+refusal_reached laws dialect model bytes fault (inr h) = record {
   lines = Ok (h.are.told, h.listed);
-  come = items_come (plain model) bytes h.are.told h.listed h.are.items;
-  ends = fault_ends laws model bytes h.listed h.known (end_place bytes) fault h.are h.is;
+  come = items_come dialect (plain model) bytes h.are.told h.listed h.are.items;
+  ends = fault_ends laws dialect model bytes h.listed h.known (end_place bytes) fault h.are h.is;
 }
 
-same_lines : TextsAreReadOnce → (a b : Model) → plain a ≡ plain b → (bytes : List ℕ) (x y : Lined) → Comes (plain a) (blanked_file bytes) x → Comes (plain b) (blanked_file bytes) y → x ≡ y
-same_lines once a b e bytes x y h k = comes_once once (plain b) (blanked_file bytes) x y (subst (λ (m : Plain). Comes m (blanked_file bytes) x) e h) k
+same_lines : TextsAreReadOnce → (dialect : Dialect) (a b : Model) → plain a ≡ plain b → (bytes : List ℕ) (x y : Lined) → Comes dialect (plain a) (blanked_file bytes) x → Comes dialect (plain b) (blanked_file bytes) y → x ≡ y
+same_lines once dialect a b e bytes x y h k = comes_once once dialect (plain b) (blanked_file bytes) x y (subst (λ (m : Plain). Comes dialect m (blanked_file bytes) x) e h) k
 
 end_once : NamesAreJudgedOnce → (a b : Model) → plain a ≡ plain b → (end : Place) (x : Lined) (r s : Answer) → EndsBehind a end x r → EndsBehind b end x s → r ≡ s
 end_once judged a b e end (Ok x) r s h k = ends_once judged a b e x.0 x.1 (spelled x.1 end) r s h k
 end_once judged a b e end (Err fault) r s h k = h ∙ sym k
 
-reached_once : OnceLaws → (a b : Model) → plain a ≡ plain b → (bytes : List ℕ) (r s : Answer) → IsReached a bytes r → IsReached b bytes s → r ≡ s
-reached_once laws a b e bytes r s h k =
-    let same : h.lines ≡ k.lines = same_lines laws.texts a b e bytes h.lines k.lines h.come k.come in
+reached_once : OnceLaws → (dialect : Dialect) (a b : Model) → plain a ≡ plain b → (bytes : List ℕ) (r s : Answer) → IsReached dialect a bytes r → IsReached dialect b bytes s → r ≡ s
+reached_once laws dialect a b e bytes r s h k =
+    let same : h.lines ≡ k.lines = same_lines laws.texts dialect a b e bytes h.lines k.lines h.come k.come in
     end_once laws.names a b e (end_place bytes) k.lines r s (subst (λ (x : Lined). EndsBehind a (end_place bytes) x r) same h.ends) k.ends
 
 -- ---- the laws
@@ -169,18 +170,18 @@ same_told : (x y : Told × Listed) → told_ok x ≡ told_ok y → x.0 ≡ y.0
 same_told x y e = let k : told_ok x ≡ told_ok y = e in let i : x ≡ y = cc in ap (λ (z : Told × Listed). z.0) i
 
 pub families_once : OnceLaws → FamiliesAreReadOnce
-families_once laws a b bytes f g e o p =
+families_once laws dialect a b bytes f g e o p =
     let told : o.are.told ≡ p.are.told =
     same_told (o.are.told, o.listed) (p.are.told, p.listed)
-    (same_lines laws.texts a b e bytes (Ok (o.are.told, o.listed)) (Ok (p.are.told, p.listed)) (items_come (plain a) bytes o.are.told o.listed o.are.items) (items_come (plain b) bytes p.are.told p.listed p.are.items)) in
+    (same_lines laws.texts dialect a b e bytes (Ok (o.are.told, o.listed)) (Ok (p.are.told, p.listed)) (items_come dialect (plain a) bytes o.are.told o.listed o.are.items) (items_come dialect (plain b) bytes p.are.told p.listed p.are.items)) in
     record {
-      code = same_program (whole f.code) (whole g.code) (reached_once laws a b e bytes (Ok (whole f.code)) (Ok (whole g.code)) (family_reached laws.grammar a bytes f o) (family_reached laws.grammar b bytes g p));
+      code = same_program (whole f.code) (whole g.code) (reached_once laws dialect a b e bytes (Ok (whole f.code)) (Ok (whole g.code)) (family_reached laws.grammar dialect a bytes f o) (family_reached laws.grammar dialect b bytes g p));
       truths = λ values. o.are.conditions.truths values ∙ ap (λ (t : Told). truths_at values t.conditions) told ∙ sym (p.are.conditions.truths values);
     }
 
 pub not_refused : OnceLaws → FamiliesAreNotRefused
-not_refused laws a b bytes f fault e o h =
-    not_both (whole f.code) fault (reached_once laws a b e bytes (Ok (whole f.code)) (Err fault) (family_reached laws.grammar a bytes f o) (refusal_reached laws.grammar b bytes fault h))
+not_refused laws dialect a b bytes f fault e o h =
+    not_both (whole f.code) fault (reached_once laws dialect a b e bytes (Ok (whole f.code)) (Err fault) (family_reached laws.grammar dialect a bytes f o) (refusal_reached laws.grammar dialect b bytes fault h))
 
 pub refused_once : OnceLaws → FamiliesAreRefusedOnce
-refused_once laws a b bytes f g e h k = same_fault f g (reached_once laws a b e bytes (Err f) (Err g) (refusal_reached laws.grammar a bytes f h) (refusal_reached laws.grammar b bytes g k))
+refused_once laws dialect a b bytes f g e h k = same_fault f g (reached_once laws dialect a b e bytes (Err f) (Err g) (refusal_reached laws.grammar dialect a bytes f h) (refusal_reached laws.grammar dialect b bytes g k))

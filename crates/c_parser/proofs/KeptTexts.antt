@@ -1,5 +1,7 @@
 -- The text of a variant has the items of the family that stay.
 use Rattle.std.proofs.Common.{◌≡◌, ℕ, Bool, List, [], length, map, Result, Ok, refl, sym, ap, subst, ◌∙◌}
+use Rattle.fam_outer.specs.declared.dialect.Dialect.{Dialect}
+use Rattle.fam_outer.specs.declared.dialect.Includes.{Includes}
 use Rattle.fam_outer.specs.declared.faults.FileCode.{FileCode}
 use Rattle.fam_outer.specs.declared.faults.Place.{Place}
 use Rattle.fam_outer.specs.Results.{and_then}
@@ -31,7 +33,7 @@ use Rattle.c_parser.proofs.TokenLines.{LinesApart, lines_of_text}
 
 -- what a law says of texts with groups
 abbrev pub TextsAreReadOnce : Type 0
-TextsAreReadOnce = (model : Plain) (text : List ℕ) (r s : Result Told (FileCode × Place)) → TextIsRead model text r → TextIsRead model text s → r ≡ s
+TextsAreReadOnce = (dialect : Dialect) (model : Plain) (text : List ℕ) (r s : Result Told (FileCode × Place)) → TextIsRead dialect model text r → TextIsRead dialect model text s → r ≡ s
 
 -- what laws of lower crates say
 pub record TextLaws : Type 0 where
@@ -59,17 +61,17 @@ pub record AreSameTold (a b : List ℕ) (s t : Told) : Type 0 where
   pub blanked : a ≡ b
   pub told : s ≡ t
 
-pub same_told : TextLaws → (model : Plain) (bytes a b : List ℕ) (s t : Told) → blanked_file bytes ≡ Ok a → blanked_file bytes ≡ Ok b → TextIsRead model a (Ok s) → TextIsRead model b (Ok t) → AreSameTold a b s t
-same_told laws model bytes a b s t h k x y =
+pub same_told : TextLaws → (dialect : Dialect) (model : Plain) (bytes a b : List ℕ) (s t : Told) → blanked_file bytes ≡ Ok a → blanked_file bytes ≡ Ok b → TextIsRead dialect model a (Ok s) → TextIsRead dialect model b (Ok t) → AreSameTold a b s t
+same_told laws dialect model bytes a b s t h k x y =
     let e = same_blanked bytes a b h k in
-    record { blanked = e; told = same_ok s t (laws.told model b (Ok s) (Ok t) (subst (λ (z : List ℕ). TextIsRead model z (Ok s)) e x) y) }
+    record { blanked = e; told = same_ok s t (laws.told dialect model b (Ok s) (Ok t) (subst (λ (z : List ℕ). TextIsRead dialect model z (Ok s)) e x) y) }
 
 -- ---- the items of a family fit its names
 
-pub family_fit : TextLaws → (model : Plain) (bytes : List ℕ) (told : Told) (l : Listed) → HasItems model bytes told l → AreFit (length l.names) l.items
-family_fit laws model bytes told l h =
+pub family_fit : TextLaws → (dialect : Dialect) (model : Plain) (bytes : List ℕ) (told : Told) (l : Listed) → HasItems dialect model bytes told l → AreFit (length l.names) l.items
+family_fit laws dialect model bytes told l h =
     let code = code_from (begins_directive h.blanked) h.blanked in
-    let s = (by_line_of laws.tokens laws.apart model bytes told l h).stands in
+    let s = (by_line_of laws.tokens laws.apart dialect model bytes told l h).stands in
     let over : AreFit (length (names_from code [] s.tokens)) (items_over (names_from code [] s.tokens) code s.tokens) =
     subst (λ (xs : List Item). AreFit (length (names_from code [] s.tokens)) xs) (all_over code [] s.tokens) (items_fit laws.tokens code [] s.tokens s.read) in
     let fit : AreFit (length h.tokens.names) h.tokens.items =
@@ -78,11 +80,11 @@ family_fit laws model bytes told l h =
 
 -- ---- the items of a plain text
 
-plain_items : (names : List (List ℕ)) (text : List ℕ) (ts : List Token) → IsPlainText text → tokens_of text ≡ Ok ts → items_of names text ≡ Ok (listed names text ts)
+plain_items : (includes : Includes) (names : List (List ℕ)) (text : List ℕ) (ts : List Token) → IsPlainText text → tokens_of text ≡ Ok ts → items_of includes names text ≡ Ok (listed names text ts)
 unfolding items_of code_of_file
-plain_items names text ts h e =
-    ap (λ (r : Result (List ℕ) (FileCode × Place)). and_then (and_then r code_of_blanked) (items_of_code names)) h.blanked
-    ∙ ap (λ (r : Result (List Line) (FileCode × Place)). and_then (and_then r (λ lines. Ok (code_of text))) (items_of_code names)) h.lines_are
+plain_items includes names text ts h e =
+    ap (λ (r : Result (List ℕ) (FileCode × Place)). and_then (and_then r (code_of_blanked includes)) (items_of_code names)) h.blanked
+    ∙ ap (λ (r : Result (List Line) (FileCode × Place)). and_then (and_then r (λ lines. Ok (code_of text))) (items_of_code names)) (h.lines_are includes)
     ∙ ap (items_of_code names) h.code
     ∙ ap (λ (r : Result (List Token) (FileCode × Place)). and_then r (λ ts. Ok (listed names text ts))) e
 
@@ -94,12 +96,12 @@ list_stays names text ts items f e =
 
 -- ---- the text of a variant
 
-pub variant_items : TextLaws → (model : Plain) (bytes text : List ℕ) (told : Told) (l : Listed) (truths : List Bool) → HasItems model bytes told l → IsPreprocessed model (λ conditions. truths) bytes text → IsPlainText text
-    → items_of l.names text ≡ Ok (record { names = l.names; items = kept truths l.items })
+pub variant_items : TextLaws → (dialect : Dialect) (model : Plain) (bytes text : List ℕ) (told : Told) (l : Listed) (truths : List Bool) → HasItems dialect model bytes told l → IsPreprocessed dialect model (λ conditions. truths) bytes text → IsPlainText text
+    → (includes : Includes) → items_of includes l.names text ≡ Ok (record { names = l.names; items = kept truths l.items })
 unfolding preprocessed
-variant_items laws model bytes text told l truths h q plain =
-    let b = by_line_of laws.tokens laws.apart model bytes told l h in
-    let same = same_told laws model bytes q.blanked h.blanked q.told told q.without_comments h.without_comments q.read h.read in
+variant_items laws dialect model bytes text told l truths h q plain includes =
+    let b = by_line_of laws.tokens laws.apart dialect model bytes told l h in
+    let same = same_told laws dialect model bytes q.blanked h.blanked q.told told q.without_comments h.without_comments q.read h.read in
     let stays = with_newlines (kept_lines truths [] told.lines (pieces h.blanked)) in
     let is : text ≡ with_newlines (kept_lines truths [] told.lines (pieces h.blanked)) =
     q.is ∙ ap (λ (t : Told). with_newlines (kept_lines truths [] t.lines (pieces q.blanked))) same.told
@@ -115,5 +117,5 @@ variant_items laws model bytes text told l truths h q plain =
     ∙ sym (lines_kept laws.one truths [] h.tokens.names 0 0 told.lines (pieces h.blanked) b.lines (pieces_are_lines h.blanked (pieces h.blanked) refl))
     ∙ ap (kept truths) (sym b.are) in
     let over : items_over l.names text read.0 ≡ kept truths l.items = ap (λ (ns : List (List ℕ)). items_over ns text read.0) names ∙ are in
-    plain_items l.names text read.0 plain read.1
-    ∙ ap (λ (k : Listed). Ok k) (list_stays l.names text read.0 (kept truths l.items) (fit_kept (length l.names) truths [] l.items (family_fit laws model bytes told l h)) over)
+    plain_items includes l.names text read.0 plain read.1
+    ∙ ap (λ (k : Listed). Ok k) (list_stays l.names text read.0 (kept truths l.items) (fit_kept (length l.names) truths [] l.items (family_fit laws dialect model bytes told l h)) over)

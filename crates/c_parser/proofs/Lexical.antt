@@ -5,7 +5,6 @@ use Rattle.std.specs.List.{list_any}
 use Rattle.std.proofs.lemmas.List.{length-append}
 use Rattle.std.specs.Prelude.{ℤ, pos, not, IfSome, IsTrue, ◌||◌, ◌&&◌, if◌then◌else◌, unwrap_or, nat_lt, nat_eq}
 use Rattle.std.specs.Str.{bytes_eq}
-use Rattle.std.specs.Fmt.{decimal}
 use Rattle.std.proofs.lemmas.List.{length-drop}
 use Rattle.std.proofs.lemmas.Bool.{lt-ltb}
 use Rattle.std.proofs.lemmas.Int.{ints}
@@ -32,7 +31,7 @@ use Rattle.c_parser.proofs.Growing.{grows}
 -- the laws of tokens that are used here
 pub record TokenLaws : Type 0 where
   pub read : (text : List ℕ) → IsReading text (tokens_of text)
-  pub literal : (lexeme : List ℕ) (value : ℤ) → kind_of lexeme ≡ Some (kinds.Number value) → (n : ℕ) × (value ≡ pos n) × (n ≤ 2147483647) × (lexeme ≡ decimal n)
+  pub literal : (lexeme : List ℕ) (value : ℤ) → kind_of lexeme ≡ Some (kinds.Number value) → (n : ℕ) × (value ≡ pos n) × (n ≤ 2147483647)
   pub rise : (text : List ℕ) (i j : ℕ) → i < j → j ≤ length text → IsEarlier (place_at text i) (place_at text j)
 
 pub stand : TokenLaws → (text : List ℕ) (ts : List Token) → tokens_of text ≡ Ok ts → StandBetween text 0 ts (length text)
@@ -109,10 +108,10 @@ table_constant (e ∷ es) h w = elim (bytes_eq w e.0) as (λ b. IfSome (if b the
 ]
 
 used_constant : AreConstant used_words
-used_constant = ((λ _. tt, refl), ((λ _. tt, refl), ((λ _. tt, refl), ((λ _. tt, refl), ((λ _. tt, refl), ((λ _. tt, refl), ((λ _. tt, refl), ((λ _. tt, refl), ((λ _. tt, refl), ((λ _. tt, refl), ((λ _. tt, refl), tt)))))))))))
+used_constant = ((λ _. tt, refl), ((λ _. tt, refl), ((λ _. tt, refl), ((λ _. tt, refl), ((λ _. tt, refl), ((λ _. tt, refl), ((λ _. tt, refl), ((λ _. tt, refl), ((λ _. tt, refl), ((λ _. tt, refl), ((λ _. tt, refl), ((λ _. tt, refl), ((λ _. tt, refl), ((λ _. tt, refl), tt))))))))))))))
 
 pub marks_constant : AreConstant marks
-marks_constant = ((λ _. tt, refl), ((λ _. tt, refl), ((λ _. tt, refl), ((λ _. tt, refl), ((λ _. tt, refl), ((λ _. tt, refl), ((λ _. tt, refl), ((λ _. tt, refl), ((λ _. tt, refl), ((λ _. tt, refl), ((λ _. tt, refl), ((λ _. tt, refl), ((λ _. tt, refl), ((λ _. tt, refl), ((λ _. tt, refl), ((λ _. tt, refl), ((λ _. tt, refl), ((λ _. tt, refl), ((λ _. tt, refl), ((λ _. tt, refl), ((λ _. tt, refl), ((λ _. tt, refl), ((λ _. tt, refl), ((λ _. tt, refl), ((λ _. tt, refl), tt)))))))))))))))))))))))))
+marks_constant = ((λ _. tt, refl), ((λ _. tt, refl), ((λ _. tt, refl), ((λ _. tt, refl), ((λ _. tt, refl), ((λ _. tt, refl), ((λ _. tt, refl), ((λ _. tt, refl), ((λ _. tt, refl), ((λ _. tt, refl), ((λ _. tt, refl), ((λ _. tt, refl), ((λ _. tt, refl), ((λ _. tt, refl), ((λ _. tt, refl), ((λ _. tt, refl), ((λ _. tt, refl), ((λ _. tt, refl), ((λ _. tt, refl), ((λ _. tt, refl), ((λ _. tt, refl), ((λ _. tt, refl), ((λ _. tt, refl), ((λ _. tt, refl), ((λ _. tt, refl), ((λ _. tt, refl), ((λ _. tt, refl), ((λ _. tt, refl), tt))))))))))))))))))))))))))))
 
 keyword_or_constant : (o : Option Sign) (w : List ℕ) → IfSome o IsConstant → IfSome (keyword_or o w) IsConstant
 keyword_or_constant (Some s) w h = h

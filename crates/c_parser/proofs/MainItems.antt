@@ -9,8 +9,9 @@ use Rattle.cpp_groups.specs.Kept.{all_kept, sections_after}
 use Rattle.c_tree.specs.declared.lists.Declared.{Declared}
 use Rattle.c_tree.specs.Tree.{Code}
 use Rattle.c_grammar.specs.declared.items.Item.{Item}
+use Rattle.c_grammar.specs.declared.items.Sign.{Sign}
 use Rattle.c_grammar.specs.declared.items.Sign.TheVariants as signs
-use Rattle.c_grammar.specs.Grammar.{at, Optional, absent, present, Declarator, bare, positive, negative, Part, Outer, Declares, nothing, variables, prototype, section, last_var, next_var, end_part, else_part, elif_part, Main, main, File, Forms, file}
+use Rattle.c_grammar.specs.Grammar.{at, Optional, absent, present, Typed, int, int32, signed, signed_int, int_signed, Begins, only_type, then_type, Declarator, bare, positive, negative, Part, Outer, Declares, nothing, variables, prototype, section, last_var, next_var, end_part, else_part, elif_part, Main, main, File, Forms, file}
 use Rattle.c_grammar.specs.Kept.{directive_of, kept_from}
 use Rattle.c_grammar.proofs.Preprocess.{leaves}
 use Rattle.family_names.specs.Names.{is_main, has_main, sections_behind, IsEither}
@@ -20,13 +21,16 @@ use Rattle.c_parser.proofs.KeptNames.{MainStays, kept_more}
 none_both : (us vs : List Item) → has_main us ≡ false → has_main vs ≡ false → has_main (us ++ vs) ≡ false
 none_both us vs h k = list_any-append (λ (x : Item). is_main x.sign) us vs ∙ ap (λ (b : Bool). b || has_main vs) h ∙ k
 
-static_none : {us : List Item} → Optional signs.Static us → has_main us ≡ false
-static_none (absent _) = refl
-static_none (present p _) = refl
+type_none : {us : List Item} → Typed us → has_main us ≡ false
+type_none (int p) = refl
+type_none (int32 p) = refl
+type_none (signed p) = refl
+type_none (signed_int p q) = refl
+type_none (int_signed p q) = refl
 
-extern_none : {us : List Item} → Optional signs.Extern us → has_main us ≡ false
-extern_none (absent _) = refl
-extern_none (present p _) = refl
+begins_none : {s : Sign} {us : List Item} → is_main s ≡ false → Begins s us → has_main us ≡ false
+begins_none h (only_type s y) = type_none y
+begins_none h (then_type p s {us} y) = ap (λ (b : Bool). b || has_main us) h ∙ type_none y
 
 void_none : {us : List Item} → Optional signs.Void us → has_main us ≡ false
 void_none (absent _) = refl
@@ -40,9 +44,9 @@ declarator_none (negative p q r s x n) = refl
 -- no declaration has it
 no_main : {part : Part} {us : List Item} {ds : List Declared} → Declares part us ds → has_main us ≡ false
 no_main (nothing gs) = refl
-no_main (variables p gs {us} {vs} {ws} o v d) = none_both us (at p signs.Int ∷ (vs ++ ws)) (static_none o) (none_both vs ws (no_main v) (no_main d))
-no_main (prototype p q r s t gs {us} {vs} {ws} o v d) =
-    none_both us (at p signs.Int ∷ at q signs.Input ∷ at r signs.Open ∷ (vs ++ at s signs.Close ∷ at t signs.Semicolon ∷ ws)) (extern_none o)
+no_main (variables gs {us} {vs} {ws} o v d) = none_both us (vs ++ ws) (begins_none refl o) (none_both vs ws (no_main v) (no_main d))
+no_main (prototype q r s t gs {us} {vs} {ws} o v d) =
+    none_both us (at q signs.Input ∷ at r signs.Open ∷ (vs ++ at s signs.Close ∷ at t signs.Semicolon ∷ ws)) (begins_none refl o)
     (none_both vs (at s signs.Close ∷ at t signs.Semicolon ∷ ws) (void_none v) (no_main d))
 no_main (section p n gs {us} {vs} {ws} a b d) = none_both us (vs ++ ws) (no_main a) (none_both vs ws (no_main b) (no_main d))
 no_main (last_var p gs {us} d) = none_both us (at p signs.Semicolon ∷ []) (declarator_none d) refl
@@ -70,8 +74,16 @@ all_closed truths q {us} {ds} d =
     let same : kept_from truths [] us ≡ x.0 = ap (kept_from truths []) (sym (append-nil us)) ∙ x.2 [] ∙ append-nil x.0 in
     one_longer (kept_from truths [] us) x.0 it (all_kept (sections_behind truths [] us)) (ap length same) (sym (kept_more truths [] us (it ∷ [])) ∙ x.2 (it ∷ []))
 
+-- the words of the type change nothing
+main_typed : (truths : List Bool) (sections : List Section) (q : Place) {us : List Item} (vs : List Item) → Typed us → all_kept sections ≡ true → MainStays truths sections (us ++ at q signs.Main ∷ vs)
+main_typed truths sections q vs (int p) h = h
+main_typed truths sections q vs (int32 p) h = h
+main_typed truths sections q vs (signed p) h = h
+main_typed truths sections q vs (signed_int p t) h = h
+main_typed truths sections q vs (int_signed p t) h = h
+
 main_first : (truths : List Bool) (sections : List Section) {vs : List Item} {c : Code} {p : Place} → Main vs c p → all_kept sections ≡ true → MainStays truths sections vs
-main_first truths sections (main p q r s t u o b) h = h
+main_first truths sections (main q r s t u {ts} {us} {vs} y o b) h = main_typed truths sections q (at r signs.Open ∷ (us ++ at s signs.Close ∷ at t signs.LeftBrace ∷ vs)) y h
 
 pub main_stays : (truths : List Bool) {items : List Item} {f : File} → Forms items f → MainStays truths [] items
 main_stays truths (file {us} {vs} {ds} {c} {p} d m) = behind truths [] us vs (no_main d) (main_first truths (sections_behind truths [] us) m (all_closed truths p d))

@@ -6,6 +6,7 @@ use Rattle.fam_outer.specs.declared.faults.FileCode.{FileCode}
 use Rattle.fam_outer.specs.declared.faults.FileRefusal.{FileRefusal}
 use Rattle.fam_outer.specs.Results.{and_then}
 use Rattle.std.specs.List.{range_with_len}
+use Rattle.fam_outer.specs.declared.dialect.Includes.{Includes}
 use Rattle.c_tokens.specs.declared.token.Token.{Token}
 use Rattle.c_tokens.specs.Reading.{tokens_of}
 use Rattle.c_tree.specs.Tree.{Whole}
@@ -52,13 +53,13 @@ by_tokens : (given : List (List ℕ)) (code : List ℕ) (l : Listed) (x : Result
 by_tokens given code l (Ok ts) e h = record { code = code; tokens = ts; is = same_listed (listed given code ts) l (sym (ap (λ (x : Result (List Token) (FileCode × Place)). and_then x (λ ts. Ok (listed given code ts))) e) ∙ h) }
 by_tokens given code l (Err fault) e h = absurd (no_list fault l (items_of_code given code) (ap (λ (x : Result (List Token) (FileCode × Place)). and_then x (λ ts. Ok (listed given code ts))) e) h)
 
-by_code : (given : List (List ℕ)) (bytes : List ℕ) (l : Listed) (x : Result (List ℕ) (FileCode × Place)) → code_of_file bytes ≡ x → and_then (code_of_file bytes) (items_of_code given) ≡ Ok l → StandsFor given l
-by_code given bytes l (Ok code) e h = by_tokens given code l (tokens_of code) refl (sym (ap (λ (x : Result (List ℕ) (FileCode × Place)). and_then x (items_of_code given)) e) ∙ h)
-by_code given bytes l (Err fault) e h = absurd (no_list fault l (and_then (code_of_file bytes) (items_of_code given)) (ap (λ (x : Result (List ℕ) (FileCode × Place)). and_then x (items_of_code given)) e) h)
+by_code : (includes : Includes) (given : List (List ℕ)) (bytes : List ℕ) (l : Listed) (x : Result (List ℕ) (FileCode × Place)) → code_of_file includes bytes ≡ x → and_then (code_of_file includes bytes) (items_of_code given) ≡ Ok l → StandsFor given l
+by_code includes given bytes l (Ok code) e h = by_tokens given code l (tokens_of code) refl (sym (ap (λ (x : Result (List ℕ) (FileCode × Place)). and_then x (items_of_code given)) e) ∙ h)
+by_code includes given bytes l (Err fault) e h = absurd (no_list fault l (and_then (code_of_file includes bytes) (items_of_code given)) (ap (λ (x : Result (List ℕ) (FileCode × Place)). and_then x (items_of_code given)) e) h)
 
-pub stands_for : (given : List (List ℕ)) (bytes : List ℕ) (l : Listed) → items_of given bytes ≡ Ok l → StandsFor given l
+pub stands_for : (includes : Includes) (given : List (List ℕ)) (bytes : List ℕ) (l : Listed) → items_of includes given bytes ≡ Ok l → StandsFor given l
 unfolding items_of
-stands_for given bytes l is = by_code given bytes l (code_of_file bytes) refl is
+stands_for includes given bytes l is = by_code includes given bytes l (code_of_file includes bytes) refl is
 
 -- ---- the names
 
@@ -72,9 +73,9 @@ all_declared code ts none =
     (ap declared_by (sym (all_over code [] ts)) ∙ n.all, n.at_most)
 
 -- over no given names, a program has those that its file declares
-pub names_declared : (bytes : List ℕ) (p : Whole) → (a : IsPlainReadOver [] bytes (Ok p)) → AreAll a.listed
-names_declared bytes p a =
-    let s = stands_for [] bytes a.listed a.are in
+pub names_declared : (includes : Includes) (bytes : List ℕ) (p : Whole) → (a : IsPlainReadOver includes [] bytes (Ok p)) → AreAll a.listed
+names_declared includes bytes p a =
+    let s = stands_for includes [] bytes a.listed a.are in
     subst AreAll (sym s.is) (all_declared s.code s.tokens (subst (λ (m : Listed). first_name_fault m.items ≡ None) s.is a.names))
 
 given_stay : (code : List ℕ) (names : List (List ℕ)) (ts : List Token) → first_name_fault (listed names code ts).items ≡ None → AreAmong names (listed names code ts).items → names_from code names ts ≡ names
@@ -84,26 +85,26 @@ given_stay code names ts none among =
     (subst (AreAmong names) (sym (all_over code names ts)) among)
 
 -- over given names, among which are all that its file declares, a program has these
-pub names_given : (given : List (List ℕ)) (bytes : List ℕ) (p : Whole) → DeclaresAmong given bytes → (a : IsPlainReadOver given bytes (Ok p)) → a.listed.names ≡ given
-names_given given bytes p among a =
-    let s = stands_for given bytes a.listed a.are in
+pub names_given : (includes : Includes) (given : List (List ℕ)) (bytes : List ℕ) (p : Whole) → DeclaresAmong includes given bytes → (a : IsPlainReadOver includes given bytes (Ok p)) → a.listed.names ≡ given
+names_given includes given bytes p among a =
+    let s = stands_for includes given bytes a.listed a.are in
     subst (λ (m : Listed). m.names ≡ given) (sym s.is) (given_stay s.code given s.tokens (subst (λ (m : Listed). first_name_fault m.items ≡ None) s.is a.names) (subst (λ (m : Listed). AreAmong given m.items) s.is (among a.listed a.are)))
 
 -- ---- a program with at most 16 names is well formed
 
-pub few_declared : (bytes : List ℕ) (p : Whole) → IsPlainReadOver [] bytes (Ok p) → length p.names ≤ 16
-few_declared bytes p a = subst (λ (ns : List (List ℕ)). length ns ≤ 16) (sym (ap (λ (w : Whole). w.names) a.spelled.is)) (names_declared bytes p a).1
+pub few_declared : (includes : Includes) (bytes : List ℕ) (p : Whole) → IsPlainReadOver includes [] bytes (Ok p) → length p.names ≤ 16
+few_declared includes bytes p a = subst (λ (ns : List (List ℕ)). length ns ≤ 16) (sym (ap (λ (w : Whole). w.names) a.spelled.is)) (names_declared includes bytes p a).1
 
 abbrev FormedIfFew : Program → Type 0
 FormedIfFew p = length (whole p).names ≤ 16 → IsProgram (whole p)
 
-pub own_names : (bytes : List ℕ) (r : Result Program FileRefusal) → IsReadOver [] bytes r → IfOk r FormedIfFew → IfOk r (λ p. IsProgram (whole p))
-own_names bytes (Ok p) a formed = formed (few_declared bytes (whole p) a)
-own_names bytes (Err e) h formed = tt
+pub own_names : (includes : Includes) (bytes : List ℕ) (r : Result Program FileRefusal) → IsReadOver includes [] bytes r → IfOk r FormedIfFew → IfOk r (λ p. IsProgram (whole p))
+own_names includes bytes (Ok p) a formed = formed (few_declared includes bytes (whole p) a)
+own_names includes bytes (Err e) h formed = tt
 
-pub has_given : (given : List (List ℕ)) (bytes : List ℕ) (r : Result Program FileRefusal) → DeclaresAmong given bytes → IsReadOver given bytes r → IfOk r (λ p. (whole p).names ≡ given)
-has_given given bytes (Ok p) among a = ap (λ (w : Whole). w.names) a.spelled.is ∙ names_given given bytes (whole p) among a
-has_given given bytes (Err e) among h = tt
+pub has_given : (includes : Includes) (given : List (List ℕ)) (bytes : List ℕ) (r : Result Program FileRefusal) → DeclaresAmong includes given bytes → IsReadOver includes given bytes r → IfOk r (λ p. (whole p).names ≡ given)
+has_given includes given bytes (Ok p) among a = ap (λ (w : Whole). w.names) a.spelled.is ∙ names_given includes given bytes (whole p) among a
+has_given includes given bytes (Err e) among h = tt
 
 pub given_names : (given : List (List ℕ)) (bytes : List ℕ) (r : Result Program FileRefusal) → length given ≤ 16 → IfOk r (λ p. (whole p).names ≡ given) → IfOk r FormedIfFew → IfOk r (λ p. IsProgram (whole p))
 given_names given bytes (Ok p) few same formed = formed (subst (λ (ns : List (List ℕ)). length ns ≤ 16) (sym same) few)

@@ -15,6 +15,7 @@ use Rattle.c_tree.specs.Tree.{Whole}
 use Rattle.c_grammar.specs.declared.items.Sign.{Sign}
 use Rattle.c_grammar.specs.Within.{WithinIsFile}
 use Rattle.std.specs.Prelude.{Option, Some, None}
+use Rattle.fam_outer.specs.declared.dialect.Includes.{Includes}
 use Rattle.c_parser.specs.Signs.{keyword_of}
 use Rattle.c_parser.specs.Items.{Listed, with_name, names_with_word, names_with, names_from, lexeme_in, AreNewBehind, AreDistinct}
 use Rattle.c_parser.specs.Names.{targets, names_at, each_once}
@@ -67,14 +68,14 @@ all_at front (n ∷ ns) k e =
 abbrev IsDistinct : Listed → Type 0
 IsDistinct l = AreDistinct l.names
 
-pub own_declared : WithinIsFile → (bytes : List ℕ) (p : Whole) → IsPlainReadOver [] bytes (Ok p) → AreDeclaredNames [] bytes p.names
-own_declared is_file bytes p a =
+pub own_declared : WithinIsFile → (includes : Includes) (bytes : List ℕ) (p : Whole) → IsPlainReadOver includes [] bytes (Ok p) → AreDeclaredNames includes [] bytes p.names
+own_declared is_file includes bytes p a =
     let l = a.listed in
-    let s = stands_for [] bytes a.listed a.are in
+    let s = stands_for includes [] bytes a.listed a.are in
     let distinct : AreDistinct a.listed.names = subst IsDistinct (sym s.is) (distinct_from s.code [] s.tokens tt) in
     let spelled = is_file l.names l.items p a.spelled in
     let file = spelled.file in
-    let numbers : targets spelled.file.declared ≡ range_with_len 0 (length a.listed.names) = sym (declared_forms spelled.forms) ∙ (names_declared bytes p a).0 in
+    let numbers : targets spelled.file.declared ≡ range_with_len 0 (length a.listed.names) = sym (declared_forms spelled.forms) ∙ (names_declared includes bytes p a).0 in
     record {
       listed = l;
       items = a.are;
@@ -85,6 +86,6 @@ own_declared is_file bytes p a =
           ∙ sym (ap (λ (xs : List ℕ). each_once [] (names_at l.names xs)) numbers ∙ ap (each_once []) (all_at [] l.names 0 refl) ∙ all_new [] l.names distinct);
     }
 
-pub read_declared : WithinIsFile → (bytes : List ℕ) (r : Result Program FileRefusal) → IsReadOver [] bytes r → IfOk r (λ p. AreDeclaredNames [] bytes (whole p).names)
-read_declared is_file bytes (Ok p) a = own_declared is_file bytes (whole p) a
-read_declared is_file bytes (Err e) h = tt
+pub read_declared : WithinIsFile → (includes : Includes) (bytes : List ℕ) (r : Result Program FileRefusal) → IsReadOver includes [] bytes r → IfOk r (λ p. AreDeclaredNames includes [] bytes (whole p).names)
+read_declared is_file includes bytes (Ok p) a = own_declared is_file includes bytes (whole p) a
+read_declared is_file includes bytes (Err e) h = tt

@@ -1,6 +1,7 @@
 -- The items of a file without groups, and the codes of their wrong items.
 use Rattle.std.proofs.Common.{◌≡◌, ℕ, zero, suc, Bool, true, false, List, [], ◌∷◌, Ok, refl, sym, ap, subst, ◌∙◌}
 use Rattle.std.specs.Prelude.{◌||◌, ◌&&◌, if◌then◌else◌, slice_get}
+use Rattle.fam_outer.specs.declared.dialect.Includes.{Includes}
 use Rattle.fam_outer.specs.declared.faults.FileCode.{FileCode}
 use Rattle.fam_outer.specs.declared.faults.FileCode.TheVariants.{Syntax, GroupInsideStatement}
 use Rattle.c_tokens.specs.declared.token.Token.{Token}
@@ -17,9 +18,9 @@ over_plain names text [] = refl
 over_plain names text (t ∷ ts) = ap (λ (b : Bool). b || has_groups (items_over names text ts)) (sign_plain names t.kind (lexeme_in text t)) ∙ over_plain names text ts
 
 -- none of them is a group directive
-pub plain_items : (given : List (List ℕ)) (bytes : List ℕ) (l : Listed) → items_of given bytes ≡ Ok l → has_groups l.items ≡ false
-plain_items given bytes l is =
-    let s = stands_for given bytes l is in
+pub plain_items : (includes : Includes) (given : List (List ℕ)) (bytes : List ℕ) (l : Listed) → items_of includes given bytes ≡ Ok l → has_groups l.items ≡ false
+plain_items includes given bytes l is =
+    let s = stands_for includes given bytes l is in
     subst (λ (m : Listed). has_groups m.items ≡ false) (sym s.is) (over_plain _ s.code s.tokens)
 
 both_false : (b c : Bool) → (b || c) ≡ false → (b ≡ false) × (c ≡ false)

@@ -1,6 +1,8 @@
 -- Preprocessing and then reading is reading and then projecting: the laws of variants.
 use Rattle.std.proofs.Common.{◌≡◌, ℕ, ◌≤◌, ◌<◌, nat_eq, Bool, true, false, ◌||◌, cond, List, [], ◌∷◌, ◌++◌, length, Result, Ok, Err, inl, inr, refl, sym, ap, subst, ◌∙◌}
 use Rattle.std.specs.List.{list_any}
+use Rattle.fam_outer.specs.declared.dialect.Dialect.{Dialect}
+use Rattle.fam_outer.specs.declared.dialect.Includes.{Includes}
 use Rattle.fam_outer.specs.declared.faults.FileCode.{FileCode}
 use Rattle.fam_outer.specs.declared.faults.Place.{Place}
 use Rattle.linear_atoms.specs.declared.atoms.Atom.{Atom}
@@ -35,25 +37,25 @@ use Rattle.c_parser.proofs.OwnNames.{distinct_from}
 
 -- what a law of lines says of the text of a variant
 abbrev pub VariantsArePlain : Type 0
-VariantsArePlain = (model : Plain) (truths : List (Proposition Atom) → List Bool) (bytes text : List ℕ) → IsPreprocessed model truths bytes text → IsPlainText text
+VariantsArePlain = (dialect : Dialect) (model : Plain) (truths : List (Proposition Atom) → List Bool) (bytes text : List ℕ) → IsPreprocessed dialect model truths bytes text → IsPlainText text
 
-pub names_are : (model : Model) (bytes : List ℕ) (f : Family) → (o : IsFamilyOf model bytes f) → names_in f ≡ o.listed.names
-names_are model bytes f o = ap (λ (w : Whole). w.names) o.spelled.is
+pub names_are : (dialect : Dialect) (model : Model) (bytes : List ℕ) (f : Family) → (o : IsFamilyOf dialect model bytes f) → names_in f ≡ o.listed.names
+names_are dialect model bytes f o = ap (λ (w : Whole). w.names) o.spelled.is
 
 pub spelled : TextLaws → KeepsWithin → VariantsArePlain → TextsSpellProjections
-spelled laws keeps are_plain model bytes text f truths o q =
+spelled laws keeps are_plain dialect model bytes text f truths o q =
     let l = o.listed in
-    let same = names_are model bytes f o in
+    let same = names_are dialect model bytes f o in
     record {
       items = kept truths l.items;
-      are = subst (λ (ns : List (List ℕ)). items_of ns text ≡ Ok (record { names = ns; items = kept truths l.items })) (sym same)
-          (variant_items laws (plain model) bytes text o.are.told l truths o.are.items q (are_plain (plain model) (λ conditions. truths) bytes text q));
+      are = λ includes. subst (λ (ns : List (List ℕ)). items_of includes ns text ≡ Ok (record { names = ns; items = kept truths l.items })) (sym same)
+          (variant_items laws dialect (plain model) bytes text o.are.told l truths o.are.items q (are_plain dialect (plain model) (λ conditions. truths) bytes text q) includes);
       spelled = subst (λ (ns : List (List ℕ)). SpellsWithin ns (projection f truths) (kept truths l.items)) (sym same) (keeps l.names l.items (whole f.code) truths o.spelled);
     }
 
 pub texts : TextLaws → VariantsAreTexts
-texts laws model bytes text f values o q =
-    let same = same_told laws (plain model) bytes q.blanked o.are.items.blanked q.told o.are.told q.without_comments o.are.items.without_comments q.read o.are.items.read in
+texts laws dialect model bytes text f values o q =
+    let same = same_told laws dialect (plain model) bytes q.blanked o.are.items.blanked q.told o.are.told q.without_comments o.are.items.without_comments q.read o.are.items.read in
     let now : truths_at values q.told.conditions ≡ truths_in f values = ap (λ (t : Told). truths_at values t.conditions) same.told ∙ sym (o.are.conditions.truths values) in
     record {
       blanked = q.blanked;
@@ -66,12 +68,12 @@ texts laws model bytes text f values o q =
 -- ---- the names
 
 pub few : TextLaws → NamesOccur → FamilyNamesAreFew
-few laws occur model bytes f o =
+few laws occur dialect model bytes f o =
     let l = o.listed in
-    let same = names_are model bytes f o in
-    let s = (by_line_of laws.tokens laws.apart (plain model) bytes o.are.told l o.are.items).stands in
+    let same = names_are dialect model bytes f o in
+    let s = (by_line_of laws.tokens laws.apart dialect (plain model) bytes o.are.told l o.are.items).stands in
     let distinct : AreDistinct o.are.items.tokens.names = subst AreDistinct (sym s.names) (distinct_from _ [] s.tokens tt) in (
-      subst (λ (ns : List (List ℕ)). length ns ≤ 16) (sym same) (few_names _ l.items (length l.names) o.names (λ x lt. occur (plain model) bytes o.are.told l x o.are.items lt)),
+      subst (λ (ns : List (List ℕ)). length ns ≤ 16) (sym same) (few_names _ l.items (length l.names) o.names (λ x lt. occur dialect (plain model) bytes o.are.told l x o.are.items lt)),
       subst AreDistinct (sym (same ∙ ap (λ (k : Listed). k.names) o.are.items.is)) distinct,
     )
 
@@ -97,25 +99,25 @@ same_listed r l m h k = let e : listed_ok l ≡ listed_ok m = sym h ∙ k in cc
 
 pub declared : TextLaws → KeepsWithin → VariantsArePlain → VariantsDeclareAmong
 unfolding spelled
-declared laws keeps are_plain model bytes text f truths o q l is =
-    let t = spelled laws keeps are_plain model bytes text f truths o q in
-    let same = names_are model bytes f o in
-    let e : l ≡ record { names = names_in f; items = kept truths o.listed.items } = same_listed (items_of (names_in f) text) l (record { names = names_in f; items = kept truths o.listed.items }) is t.are in
+declared laws keeps are_plain dialect model bytes text f truths o q includes l is =
+    let t = spelled laws keeps are_plain dialect model bytes text f truths o q in
+    let same = names_are dialect model bytes f o in
+    let e : l ≡ record { names = names_in f; items = kept truths o.listed.items } = same_listed (items_of includes (names_in f) text) l (record { names = names_in f; items = kept truths o.listed.items }) is (t.are includes) in
     let fit : AreFit (length (names_in f)) (kept truths o.listed.items) =
-    subst (λ (ns : List (List ℕ)). AreFit (length ns) (kept truths o.listed.items)) (sym same) (fit_kept (length o.listed.names) truths [] o.listed.items (family_fit laws (plain model) bytes o.are.told o.listed o.are.items)) in
+    subst (λ (ns : List (List ℕ)). AreFit (length ns) (kept truths o.listed.items)) (sym same) (fit_kept (length o.listed.names) truths [] o.listed.items (family_fit laws dialect (plain model) bytes o.are.told o.listed o.are.items)) in
     subst (λ (k : Listed). AreAmong (names_in f) k.items) (sym e) (λ x h. declared_below (length (names_in f)) (kept truths o.listed.items) x fit h)
 
 -- ---- reading a variant
 
 pub read : TextLaws → KeepsWithin → VariantsArePlain → WithinIsFile → VariantsAreRead
 unfolding spelled
-read laws keeps are_plain is_file model bytes text f values o v q =
+read laws keeps are_plain is_file dialect model bytes text f values o v q includes =
     let l = o.listed in
-    let t = spelled laws keeps are_plain model bytes text f (truths_in f values) o (texts laws model bytes text f values o q) in
+    let t = spelled laws keeps are_plain dialect model bytes text f (truths_in f values) o (texts laws dialect model bytes text f values o q) in
     let forms = (is_file l.names l.items (whole f.code) o.spelled).forms in
     record {
       listed = record { names = names_in f; items = kept (truths_in f values) l.items };
-      are = t.are;
+      are = t.are includes;
       spelled = t.spelled;
       names = kept_fine (context_of model f.atoms f.conditions l.names) l.items values o.names v (main_stays (truths_in f values) forms);
     }
@@ -141,7 +143,7 @@ not_told : (t : Told) (f : FileCode × Place) → told_ok t ≡ told_err f → �
 not_told t f e = let k : told_ok t ≡ told_err f = e in cc
 
 pub accepted : TextsAreReadOnce → FamiliesHaveTexts
-accepted once model bytes f fault o (inl e) = not_both (blanked_file bytes) o.are.items.blanked fault o.are.items.without_comments e
-accepted once model bytes f fault o (inr h) =
+accepted once dialect model bytes f fault o (inl e) = not_both (blanked_file bytes) o.are.items.blanked fault o.are.items.without_comments e
+accepted once dialect model bytes f fault o (inr h) =
     let same = same_blanked bytes h.blanked o.are.items.blanked h.without_comments o.are.items.without_comments in
-    not_told o.are.told fault (once (plain model) o.are.items.blanked (Ok o.are.told) (Err fault) o.are.items.read (subst (λ (b : List ℕ). TextIsRead (plain model) b (Err fault)) same h.read))
+    not_told o.are.told fault (once dialect (plain model) o.are.items.blanked (Ok o.are.told) (Err fault) o.are.items.read (subst (λ (b : List ℕ). TextIsRead dialect (plain model) b (Err fault)) same h.read))

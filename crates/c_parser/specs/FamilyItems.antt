@@ -1,6 +1,7 @@
 -- The items of a file with groups: its tokens and its group directives, line by line (ISO/IEC 9899:2011, 5.1.1.2 and 6.10.1).
 use Rattle.std.specs.Prelude.{◌≡◌, ◌⊎◌, ℕ, nat_eq, nat_lt, Bool, false, List, [], ◌∷◌, ◌++◌, Option, Some, None, Ok, Err}
 use Rattle.std.specs.List.{filter, list_any}
+use Rattle.fam_outer.specs.declared.dialect.Dialect.{Dialect}
 use Rattle.fam_outer.specs.declared.faults.Place.{Place}
 use Rattle.fam_outer.specs.declared.faults.FileCode.{FileCode}
 use Rattle.cpp_conditions.specs.Validity.{Plain}
@@ -63,21 +64,21 @@ family_listed lines l = record { names = l.names; items = by_line lines l.items 
 -- ---- the phases before the grammar: the length, the comments, the lines with the conditions, and the tokens of the code
 
 -- the lines and conditions of a family, and its items
-pub record HasItems (model : Plain) (bytes : List ℕ) (told : Told) (l : Listed) : Type 0 where
+pub record HasItems (dialect : Dialect) (model : Plain) (bytes : List ℕ) (told : Told) (l : Listed) : Type 0 where
   pub blanked : List ℕ
   pub without_comments : blanked_file bytes ≡ Ok blanked
-  pub read : TextIsRead model blanked (Ok told)
+  pub read : TextIsRead dialect model blanked (Ok told)
   pub tokens : Listed
   pub tokens_are : items_of_code [] (code_of blanked) ≡ Ok tokens
   pub is : l ≡ family_listed told.lines tokens
 
 -- a token has this fault
-pub record HasTokenFault (model : Plain) (bytes : List ℕ) (fault : FileCode × Place) : Type 0 where
+pub record HasTokenFault (dialect : Dialect) (model : Plain) (bytes : List ℕ) (fault : FileCode × Place) : Type 0 where
   pub blanked : List ℕ
   pub told : Told
   pub without_comments : blanked_file bytes ≡ Ok blanked
-  pub read : TextIsRead model blanked (Ok told)
+  pub read : TextIsRead dialect model blanked (Ok told)
   pub token : items_of_code [] (code_of blanked) ≡ Err fault
 
-abbrev pub HasEarlyFault : Plain → List ℕ → FileCode × Place → Type 0
-HasEarlyFault model bytes fault = (blanked_file bytes ≡ Err fault) ⊎ (HasLineFault model bytes fault ⊎ HasTokenFault model bytes fault)
+abbrev pub HasEarlyFault : Dialect → Plain → List ℕ → FileCode × Place → Type 0
+HasEarlyFault dialect model bytes fault = (blanked_file bytes ≡ Err fault) ⊎ (HasLineFault dialect model bytes fault ⊎ HasTokenFault dialect model bytes fault)

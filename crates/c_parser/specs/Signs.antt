@@ -11,12 +11,13 @@ abbrev pub sign_in : List (List ℕ × Sign) → List ℕ → Option Sign
 sign_in [] word = None
 sign_in (entry ∷ entries) word = if bytes_eq word entry.0 then Some entry.1 else sign_in entries word
 
--- the keywords that the subset uses, and the words that it reserves besides
+-- the keywords that the subset uses, and the words that it reserves besides (`int32_t` is a name in models and conditions)
 abbrev pub used_words : List (List ℕ × Sign)
 used_words =
-    (codes "static", signs.Static) ∷ (codes "int", signs.Int) ∷ (codes "extern", signs.Extern) ∷ (codes "input", signs.Input)
-    ∷ (codes "void", signs.Void) ∷ (codes "main", signs.Main) ∷ (codes "return", signs.Return) ∷ (codes "assert", signs.Assert)
-    ∷ (codes "if", signs.If) ∷ (codes "else", signs.Else) ∷ (codes "while", signs.While) ∷ []
+    (codes "static", signs.Static) ∷ (codes "const", signs.Const) ∷ (codes "int", signs.Int) ∷ (codes "int32_t", signs.Int32)
+    ∷ (codes "signed", signs.Signed) ∷ (codes "extern", signs.Extern) ∷ (codes "input", signs.Input) ∷ (codes "void", signs.Void)
+    ∷ (codes "main", signs.Main) ∷ (codes "return", signs.Return) ∷ (codes "assert", signs.Assert) ∷ (codes "if", signs.If)
+    ∷ (codes "else", signs.Else) ∷ (codes "while", signs.While) ∷ []
 
 -- the sign that the subset gives a word; the other keywords of C have one sign
 abbrev pub keyword_or : Option Sign → List ℕ → Option Sign
@@ -34,7 +35,7 @@ marks =
     ∷ (codes "*", signs.Oper Mul) ∷ (codes "/", signs.Oper Div) ∷ (codes "%", signs.Oper Rem) ∷ (codes "<", signs.Oper Lt) ∷ (codes ">", signs.Oper Gt)
     ∷ (codes "<=", signs.Oper Le) ∷ (codes ">=", signs.Oper Ge) ∷ (codes "==", signs.Oper Eq) ∷ (codes "!=", signs.Oper Ne) ∷ (codes "&&", signs.Oper And)
     ∷ (codes "||", signs.Oper Or) ∷ (codes "++", signs.PlusPlus) ∷ (codes "--", signs.MinusMinus) ∷ (codes "+=", signs.PlusEquals)
-    ∷ (codes "-=", signs.MinusEquals) ∷ []
+    ∷ (codes "-=", signs.MinusEquals) ∷ (codes "*=", signs.StarEquals) ∷ (codes "/=", signs.SlashEquals) ∷ (codes "%=", signs.PercentEquals) ∷ []
 
 -- the sign of a mark; no token is a mark without one
 abbrev pub mark_of : List ℕ → Sign

@@ -1,5 +1,7 @@
 -- Preprocessing and then reading is reading and then projecting (ISO/IEC 9899:2011, 5.1.1.2 and 6.10.1).
 use Rattle.std.specs.Prelude.{◌≡◌, ◌⊎◌, ◌≤◌, ℕ, ℤ, Bool, List, length, Ok, Err}
+use Rattle.fam_outer.specs.declared.dialect.Dialect.{Dialect}
+use Rattle.fam_outer.specs.declared.dialect.Includes.{Includes}
 use Rattle.fam_outer.specs.declared.faults.FileCode.{FileCode}
 use Rattle.fam_outer.specs.declared.faults.Place.{Place}
 use Rattle.cpp_conditions.specs.declared.models.Model.{Model}
@@ -28,39 +30,39 @@ truths_in f values = truths_on f.atoms values f.conditions
 abbrev pub names_in : Family → List (List ℕ)
 names_in f = (whole f.code).names
 
--- a text has these names at most, and its items over them spell this program within the limits
+-- a text has these names at most, and its items over them spell this program within the limits, whichever includes a file may have
 pub record TextSpells (names : List (List ℕ)) (text : List ℕ) (p : Whole) : Type 0 where
   pub items : List Item
-  pub are : items_of names text ≡ Ok (record { names = names; items = items })
+  pub are : (includes : Includes) → items_of includes names text ≡ Ok (record { names = names; items = items })
   pub spelled : SpellsWithin names p items
 
 -- for every list of truths, what stays of a family's text spells the family's projection over its names
 abbrev pub TextsSpellProjections : Type 0
-TextsSpellProjections = (model : Model) (bytes text : List ℕ) (f : Family) (truths : List Bool) → IsFamilyOf model bytes f → IsPreprocessed (plain model) (λ conditions. truths) bytes text
+TextsSpellProjections = (dialect : Dialect) (model : Model) (bytes text : List ℕ) (f : Family) (truths : List Bool) → IsFamilyOf dialect model bytes f → IsPreprocessed dialect (plain model) (λ conditions. truths) bytes text
     → TextSpells (names_in f) text (projection f truths)
 
 -- what stays of it at the values of a configuration stays at the truths of the family's conditions there
 abbrev pub VariantsAreTexts : Type 0
-VariantsAreTexts = (model : Model) (bytes text : List ℕ) (f : Family) (values : List ℤ) → IsFamilyOf model bytes f → IsPreprocessed (plain model) (truths_at values) bytes text
-    → IsPreprocessed (plain model) (λ conditions. truths_in f values) bytes text
+VariantsAreTexts = (dialect : Dialect) (model : Model) (bytes text : List ℕ) (f : Family) (values : List ℤ) → IsFamilyOf dialect model bytes f → IsPreprocessed dialect (plain model) (truths_at values) bytes text
+    → IsPreprocessed dialect (plain model) (λ conditions. truths_in f values) bytes text
 
 -- at every valid configuration it is read as the family's projection over its names
 abbrev pub VariantsAreRead : Type 0
-VariantsAreRead = (model : Model) (bytes text : List ℕ) (f : Family) (values : List ℤ) → IsFamilyOf model bytes f → IsValid (plain model) values → IsPreprocessed (plain model) (truths_at values) bytes text
-    → IsPlainReadOver (names_in f) text (Ok (projection f (truths_in f values)))
+VariantsAreRead = (dialect : Dialect) (model : Model) (bytes text : List ℕ) (f : Family) (values : List ℤ) → IsFamilyOf dialect model bytes f → IsValid (plain model) values → IsPreprocessed dialect (plain model) (truths_at values) bytes text
+    → (includes : Includes) → IsPlainReadOver includes (names_in f) text (Ok (projection f (truths_in f values)))
 
 -- an accepted family has no fault of its length, its comments or its lines
 abbrev pub FamiliesHaveTexts : Type 0
-FamiliesHaveTexts = (model : Model) (bytes : List ℕ) (f : Family) (fault : FileCode × Place) → IsFamilyOf model bytes f → (blanked_file bytes ≡ Err fault) ⊎ HasLineFault (plain model) bytes fault → ⊥
+FamiliesHaveTexts = (dialect : Dialect) (model : Model) (bytes : List ℕ) (f : Family) (fault : FileCode × Place) → IsFamilyOf dialect model bytes f → (blanked_file bytes ≡ Err fault) ⊎ HasLineFault dialect (plain model) bytes fault → ⊥
 
 -- a family has at most 16 names, all distinct
 abbrev pub FamilyNamesAreFew : Type 0
-FamilyNamesAreFew = (model : Model) (bytes : List ℕ) (f : Family) → IsFamilyOf model bytes f → (length (names_in f) ≤ 16) × AreDistinct (names_in f)
+FamilyNamesAreFew = (dialect : Dialect) (model : Model) (bytes : List ℕ) (f : Family) → IsFamilyOf dialect model bytes f → (length (names_in f) ≤ 16) × AreDistinct (names_in f)
 
 -- among them are all names that a variant's text declares
 abbrev pub VariantsDeclareAmong : Type 0
-VariantsDeclareAmong = (model : Model) (bytes text : List ℕ) (f : Family) (truths : List Bool) → IsFamilyOf model bytes f → IsPreprocessed (plain model) (λ conditions. truths) bytes text
-    → DeclaresAmong (names_in f) text
+VariantsDeclareAmong = (dialect : Dialect) (model : Model) (bytes text : List ℕ) (f : Family) (truths : List Bool) → IsFamilyOf dialect model bytes f → IsPreprocessed dialect (plain model) (λ conditions. truths) bytes text
+    → (includes : Includes) → DeclaresAmong includes (names_in f) text
 
 -- two families that a file is read as have one program, and the same truths at each configuration
 pub record AreSameFamily (f g : Family) : Type 0 where
@@ -70,10 +72,10 @@ pub record AreSameFamily (f g : Family) : Type 0 where
 -- ---- one reading, over models with the same features, and constraints that mean the same
 
 abbrev pub FamiliesAreReadOnce : Type 0
-FamiliesAreReadOnce = (a b : Model) (bytes : List ℕ) (f g : Family) → plain a ≡ plain b → IsFamilyOf a bytes f → IsFamilyOf b bytes g → AreSameFamily f g
+FamiliesAreReadOnce = (dialect : Dialect) (a b : Model) (bytes : List ℕ) (f g : Family) → plain a ≡ plain b → IsFamilyOf dialect a bytes f → IsFamilyOf dialect b bytes g → AreSameFamily f g
 
 abbrev pub FamiliesAreNotRefused : Type 0
-FamiliesAreNotRefused = (a b : Model) (bytes : List ℕ) (f : Family) (fault : FileCode × Place) → plain a ≡ plain b → IsFamilyOf a bytes f → IsFamilyRefused b bytes fault → ⊥
+FamiliesAreNotRefused = (dialect : Dialect) (a b : Model) (bytes : List ℕ) (f : Family) (fault : FileCode × Place) → plain a ≡ plain b → IsFamilyOf dialect a bytes f → IsFamilyRefused dialect b bytes fault → ⊥
 
 abbrev pub FamiliesAreRefusedOnce : Type 0
-FamiliesAreRefusedOnce = (a b : Model) (bytes : List ℕ) (f g : FileCode × Place) → plain a ≡ plain b → IsFamilyRefused a bytes f → IsFamilyRefused b bytes g → f ≡ g
+FamiliesAreRefusedOnce = (dialect : Dialect) (a b : Model) (bytes : List ℕ) (f g : FileCode × Place) → plain a ≡ plain b → IsFamilyRefused dialect a bytes f → IsFamilyRefused dialect b bytes g → f ≡ g

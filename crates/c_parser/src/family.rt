@@ -25,7 +25,7 @@ use c_grammar::laws::{files_are_programs, spells_at_most_one, within_the_limits_
 use c_tree::{Names, Program};
 use cpp_conditions::Model;
 use cpp_lines::{Atoms, Formulas};
-use fam_outer::{FileCode, FileRefusal, NoMemory, Place};
+use fam_outer::{Dialect, FileCode, FileRefusal, NoMemory, Place};
 use family_names::{NameContext, first_name_fault};
 use std::alloc::Global;
 
@@ -41,6 +41,7 @@ pub struct Family {
 /// Files with groups over a model.
 #[derive(Drop)]
 struct FamilyFiles<'a> {
+    dialect: Dialect,
     model: &'a Model,
 }
 
@@ -54,7 +55,7 @@ impl FileKind for FamilyFiles<'_> {
 
     type Known = Conditions;
 
-    ghost meaning = { λ files. families_over files.model.now };
+    ghost meaning = { λ files. families_over files.dialect files.model.now };
 
     ghost is_ready = { λ files. AreFeatures files.model.now.features
         × AreFit (length files.model.now.features) files.model.now.constraints
@@ -63,7 +64,7 @@ impl FileKind for FamilyFiles<'_> {
     ghost has = { λ files l known. AreProperConditions (length files.model.now.features) l known };
 
     fn list(&self, alloc: Global, bytes: &[u8]) -> Result<(Numbered, Conditions), FileRefusal> {
-        list_family(alloc, self.model, bytes)
+        list_family(alloc, self.dialect, self.model, bytes)
     }
 
     fn name_fault(
@@ -100,11 +101,16 @@ impl FileKind for FamilyFiles<'_> {
 /// on, but none within the limits (`read_plain` has them; a group and each `#elif` count as well); and then the first
 /// fault of a name as `family_names::first_name_fault` has it, with the least valid configuration as its example.
 /// `NoMemory` is want of memory.
-pub fn read_family(alloc: Global, model: &Model, bytes: &[u8]) -> Result<Family, FileRefusal>
+pub fn read_family(
+    alloc: Global,
+    dialect: Dialect,
+    model: &Model,
+    bytes: &[u8],
+) -> Result<Family, FileRefusal>
     requires features { AreFeatures model.now.features }
     requires fit { AreFit (length model.now.features) model.now.constraints }
     requires few { HaveFewAtoms 64 (plain model.now).constraints }
-    ensures reads { IsFamilyRead model.now bytes.now result }
+    ensures reads { IsFamilyRead dialect model.now bytes.now result }
     ensures once { AtMostOne }
     ensures program { IfOk result (λ f. IsProgram (whole f.code)) }
     ensures conditioned { IfOk result (λ f. IsConditioned (length f.conditions) (whole f.code)) }
@@ -116,7 +122,11 @@ pub fn read_family(alloc: Global, model: &Model, bytes: &[u8]) -> Result<Family,
     within_the_limits_is_a_file();
     files_are_programs();
     family_names_occur();
-    let (code, Conditions { formulas, atoms }) = read_file(alloc, &FamilyFiles { model }, bytes)?;
+    let (code, Conditions { formulas, atoms }) = read_file(
+        alloc,
+        &FamilyFiles { dialect, model },
+        bytes,
+    )?;
     Ok(Family {
         code,
         conditions: formulas,

@@ -19,7 +19,7 @@ use c_grammar::{Item, Sign};
 use cpp_conditions::Model;
 use cpp_lines::laws::places_stay;
 use cpp_lines::{Atoms, Formulas, Line, LineKind, blanked_file, code_text, read_sections};
-use fam_outer::{FILE_BYTES, FileRefusal, NoMemory};
+use fam_outer::{Dialect, FILE_BYTES, FileRefusal, NoMemory};
 use std::alloc::Global;
 
 /// The sign of a line's group directive.
@@ -96,13 +96,14 @@ pub(crate) struct Conditions {
 /// The names and items of a file with groups, and its conditions.
 pub(crate) fn list_family(
     alloc: Global,
+    dialect: Dialect,
     model: &Model,
     bytes: &[u8],
 ) -> Result<(Numbered, Conditions), FileRefusal>
     requires features { AreFeatures model.now.features }
     requires fit { validity.AreFit (length model.now.features) model.now.constraints }
     requires few { HaveFewAtoms 64 (validity.plain model.now).constraints }
-    ensures listed { IsListedAs (families_over model.now) bytes.now result }
+    ensures listed { IsListedAs (families_over dialect model.now) bytes.now result }
     ensures fit { IfOk result (λ made. AreFit (length made.0.names) made.0.items.items) }
     ensures rising { IfOk result (λ made. AreRising made.0.items.items) }
     ensures proper { IfOk result (λ made.
@@ -111,7 +112,7 @@ pub(crate) fn list_family(
 {
     places_stay();
     let blanked = blanked_file(alloc, bytes)?;
-    let sections = read_sections(alloc, model, blanked.bytes())?;
+    let sections = read_sections(alloc, dialect, model, blanked.bytes())?;
     let code = code_text(alloc, blanked.bytes(), sections.lines.items())?;
     let Numbered { names, items } = number_code(alloc, &[], code.bytes())?;
     let items = by_line(alloc, sections.lines.items(), items.as_slice())?;

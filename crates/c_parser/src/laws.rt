@@ -2,6 +2,8 @@
 #![tactic(auto)]
 
 ghost use Rattle.std.specs.Prelude.{◌≡◌, ◌≤◌, ◌<◌, true, false, ℕ, List, [], length, Result, Ok};
+ghost use Rattle.fam_outer.specs.declared.dialect.Dialect.{Dialect};
+ghost use Rattle.fam_outer.specs.declared.dialect.Includes.{Includes};
 ghost use Rattle.fam_outer.specs.declared.faults.FileCode.{FileCode};
 ghost use Rattle.fam_outer.specs.declared.faults.FileCode.TheVariants.{Syntax};
 ghost use Rattle.fam_outer.specs.declared.faults.Place.{Place};
@@ -17,21 +19,21 @@ ghost use Rattle.c_parser.specs.Phases.{wrong_code};
 ghost use Rattle.c_parser.specs.Reading.{IsPlainRead, IsPlainReadOver, items_of, AreDeclaredNames};
 
 use c_grammar::laws::{reads_within_the_limits, within_the_limits_is_a_file};
-use c_tokens::laws::{lines_are_apart, literals_are_decimal, one_reading, reads_longest_lexemes};
+use c_tokens::laws::{lines_are_apart, literals_are_numbers, one_reading, reads_longest_lexemes};
 use fam_outer::places_rise;
 
 /// A file is read in one way.
 pub fn reads_at_most_once()
-    ensures { (given : List (List ℕ)) (bytes : List ℕ) (r s : Result Whole (FileCode × Place))
-        → IsPlainReadOver given bytes r → IsPlainReadOver given bytes s → r ≡ s }
+    ensures { (includes : Includes) (given : List (List ℕ)) (bytes : List ℕ) (r s : Result Whole (FileCode × Place))
+        → IsPlainReadOver includes given bytes r → IsPlainReadOver includes given bytes s → r ≡ s }
 {
     reads_within_the_limits();
 }
 
 /// Each file is read as a program, or has a refusal.
 pub fn reads_something()
-    ensures { (given : List (List ℕ)) (bytes : List ℕ)
-        → (r : Result Whole (FileCode × Place)) × IsPlainReadOver given bytes r }
+    ensures { (includes : Includes) (given : List (List ℕ)) (bytes : List ℕ)
+        → (r : Result Whole (FileCode × Place)) × IsPlainReadOver includes given bytes r }
 {
     reads_within_the_limits();
 }
@@ -39,8 +41,10 @@ pub fn reads_something()
 /// The names of a program that is read over no given names are those that its file declares, in the order of their
 /// declarations; there are at most 16.
 pub fn names_are_declared()
-    ensures names { (bytes : List ℕ) (p : Whole) → IsPlainRead bytes (Ok p) → AreDeclaredNames [] bytes p.names }
-    ensures few { (bytes : List ℕ) (p : Whole) → IsPlainRead bytes (Ok p) → length p.names ≤ 16 }
+    ensures names { (includes : Includes) (bytes : List ℕ) (p : Whole)
+        → IsPlainRead includes bytes (Ok p) → AreDeclaredNames includes [] bytes p.names }
+    ensures few { (includes : Includes) (bytes : List ℕ) (p : Whole)
+        → IsPlainRead includes bytes (Ok p) → length p.names ≤ 16 }
 {
     within_the_limits_is_a_file();
 }
@@ -53,11 +57,11 @@ pub fn declarations_are_those_of_the_grammar()
 
 /// Each name of a file with groups occurs among its items.
 pub fn family_names_occur()
-    ensures { (model : Plain) (bytes : List ℕ) (told : Told) (l : Listed) (x : ℕ)
-        → HasItems model bytes told l → x < length l.names → has x l.items ≡ true }
+    ensures { (dialect : Dialect) (model : Plain) (bytes : List ℕ) (told : Told) (l : Listed) (x : ℕ)
+        → HasItems dialect model bytes told l → x < length l.names → has x l.items ≡ true }
 {
     reads_longest_lexemes();
-    literals_are_decimal();
+    literals_are_numbers();
     places_rise();
     lines_are_apart();
     one_reading();
@@ -67,7 +71,7 @@ pub fn family_names_occur()
 /// `GroupInsideStatement` is a fault of families alone.
 #[tactic(auto, using(crate::proofs::PlainItems::plain_items, crate::proofs::PlainItems::plain_code))]
 pub fn plain_files_have_no_groups()
-    ensures items { (given : List (List ℕ)) (bytes : List ℕ) (l : Listed)
-        → items_of given bytes ≡ Ok l → has_groups l.items ≡ false }
+    ensures items { (includes : Includes) (given : List (List ℕ)) (bytes : List ℕ) (l : Listed)
+        → items_of includes given bytes ≡ Ok l → has_groups l.items ≡ false }
     ensures wrong { (items : List Item) (n : ℕ) → has_groups items ≡ false → wrong_code items n ≡ Syntax }
 {}

@@ -10,9 +10,12 @@ use c_tree::Op;
 use c_words::is_keyword;
 
 /// The keywords that the subset uses, and the words that it reserves besides.
-const USED_WORDS: [(&str, Sign); 11] = [
+const USED_WORDS: [(&str, Sign); 14] = [
     ("static", Sign::Static),
+    ("const", Sign::Const),
     ("int", Sign::Int),
+    ("int32_t", Sign::Int32),
+    ("signed", Sign::Signed),
     ("extern", Sign::Extern),
     ("input", Sign::Input),
     ("void", Sign::Void),
@@ -25,7 +28,7 @@ const USED_WORDS: [(&str, Sign); 11] = [
 ];
 
 /// The marks.
-const MARKS: [(&str, Sign); 25] = [
+const MARKS: [(&str, Sign); 28] = [
     ("(", Sign::Open),
     (")", Sign::Close),
     ("{", Sign::LeftBrace),
@@ -51,6 +54,9 @@ const MARKS: [(&str, Sign); 25] = [
     ("--", Sign::MinusMinus),
     ("+=", Sign::PlusEquals),
     ("-=", Sign::MinusEquals),
+    ("*=", Sign::StarEquals),
+    ("/=", Sign::SlashEquals),
+    ("%=", Sign::PercentEquals),
 ];
 
 /// Whether the lexeme is this text.

@@ -7,7 +7,7 @@ use crate::laws::family_names_occur;
 use c_grammar::laws::{
     leaving_out_makes_nothing_deeper, reads_within_the_limits, within_the_limits_is_a_file,
 };
-use c_tokens::laws::{lines_are_apart, literals_are_decimal, one_reading, reads_longest_lexemes};
+use c_tokens::laws::{lines_are_apart, literals_are_numbers, one_reading, reads_longest_lexemes};
 use cpp_lines::laws::{texts_are_read_once, variants_are_plain};
 use fam_outer::places_rise;
 use family_names::laws::names_are_judged_once;
@@ -29,7 +29,7 @@ pub fn family_names_are_few()
     ensures { FamilyNamesAreFew }
 {
     reads_longest_lexemes();
-    literals_are_decimal();
+    literals_are_numbers();
     places_rise();
     lines_are_apart();
     one_reading();
@@ -49,7 +49,7 @@ pub fn variants_are_projections()
     ensures accepted { FamiliesHaveTexts }
 {
     reads_longest_lexemes();
-    literals_are_decimal();
+    literals_are_numbers();
     places_rise();
     lines_are_apart();
     one_reading();

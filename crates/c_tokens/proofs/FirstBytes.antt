@@ -1,11 +1,11 @@
 -- The first byte of a lexeme is no white space.
-use Rattle.std.proofs.Common.{◌≡◌, ℕ, zero, suc, ◌<◌, ◌≤◌, inl, inr, true, false, eqb, leb, List, [], ◌∷◌, take, refl, arith}
+use Rattle.std.proofs.Common.{◌≡◌, ℕ, zero, suc, ◌<◌, ◌≤◌, inl, inr, Bool, true, false, cond, eqb, leb, List, [], ◌∷◌, take, refl, arith}
 use Rattle.std.specs.Prelude.{◌||◌, ◌&&◌, codes}
 use Rattle.std.specs.List.{list_all}
-use Rattle.std.proofs.lemmas.Bool.{and_parts, or_cases, eqb-true, leb-true, false_from_ne_true}
+use Rattle.std.proofs.lemmas.Bool.{and_parts, or_cases, or_right, eqb-true, leb-true, false_from_ne_true}
 use Rattle.c_words.specs.Bytes.{is_space, is_digit, is_nondigit, is_word_byte}
 use Rattle.c_tokens.specs.Lexemes.{is_one_of}
-use Rattle.c_tokens.specs.Lexemes.{is_lexeme, is_run, is_mark, is_pair}
+use Rattle.c_tokens.specs.Lexemes.{is_lexeme, is_run, is_mark, is_pair, is_quoted, is_empty, closes, is_number_behind}
 
 space_below : (b : ℕ) → is_space b ≡ true → b ≤ 32
 space_below b e = elim (or_cases (eqb b 32) (leb 9 b && leb b 13) e) [
@@ -32,8 +32,8 @@ one_above (m ∷ ms) b all e =
     elim (or_cases (eqb b m) (is_one_of ms b) e) [ inl h ↦ omega (arith, eqb-true b m h, leb-true 33 m p.0) | inr h ↦ one_above ms b p.1 h ]
 
 pair_above : (b c : ℕ) → is_pair b c ≡ true → 33 ≤ b
-pair_above b c e = elim (or_cases (is_one_of (codes "=!<>+-") b && eqb c 61) (is_one_of (codes "&|+-") b && eqb c b) e) [
-  | inl h ↦ one_above (codes "=!<>+-") b refl (and_parts (is_one_of (codes "=!<>+-") b) (eqb c 61) h).0
+pair_above b c e = elim (or_cases (is_one_of (codes "=!<>+-*/%") b && eqb c 61) (is_one_of (codes "&|+-") b && eqb c b) e) [
+  | inl h ↦ one_above (codes "=!<>+-*/%") b refl (and_parts (is_one_of (codes "=!<>+-*/%") b) (eqb c 61) h).0
   | inr h ↦ one_above (codes "&|+-") b refl (and_parts (is_one_of (codes "&|+-") b) (eqb c b) h).0
 ]
 
@@ -42,10 +42,17 @@ mark_above b [] e = one_above (codes "(){};,=<>+-*/%!") b refl e
 mark_above b (c ∷ []) e = pair_above b c e
 mark_above b (c ∷ d ∷ xs) e = absurd cc
 
+run_above : (b : ℕ) (xs : List ℕ) (v : Bool) → is_digit b ≡ v → cond v (is_number_behind b xs) (is_word_byte b && list_all is_word_byte xs) ≡ true → 33 ≤ b
+run_above b xs true d e = word_above b (or_right (is_nondigit b) (is_digit b) d)
+run_above b xs false d e = word_above b (and_parts (is_word_byte b) (list_all is_word_byte xs) e).0
+
 lexeme_above : (b : ℕ) (xs : List ℕ) → is_lexeme (b ∷ xs) ≡ true → 33 ≤ b
-lexeme_above b xs e = elim (or_cases (is_run (b ∷ xs)) (is_mark (b ∷ xs)) e) [
-  | inl h ↦ word_above b (and_parts (is_word_byte b) (list_all is_word_byte xs) h).0
-  | inr h ↦ mark_above b xs h
+lexeme_above b xs e = elim (or_cases (is_run (b ∷ xs)) (is_mark (b ∷ xs) || is_quoted (b ∷ xs)) e) [
+  | inl h ↦ run_above b xs (is_digit b) refl h
+  | inr h ↦ elim (or_cases (is_mark (b ∷ xs)) (is_quoted (b ∷ xs)) h) [
+    | inl k ↦ mark_above b xs k
+    | inr k ↦ omega (arith, eqb-true b 39 (and_parts (eqb b 39) (is_empty xs || closes false xs) k).0)
+  ]
 ]
 
 pub no_space : (b : ℕ) (xs : List ℕ) → is_lexeme (b ∷ xs) ≡ true → is_space b ≡ false

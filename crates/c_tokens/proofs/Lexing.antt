@@ -1,44 +1,14 @@
--- The longest lexeme from the longest run and the longest mark.
-use Rattle.std.proofs.Common.{◌≡◌, ℕ, zero, suc, ◌+◌, ◌<◌, ◌≤◌, true, false, not, cond, eqb, List, [], ◌∷◌, length, take, refl, ap, subst, arith}
-use Rattle.std.specs.Prelude.{◌&&◌, codes}
+-- The longest lexeme is the longest run, mark or quote, by the first byte.
+use Rattle.std.proofs.Common.{◌≡◌, ℕ, zero, suc, ◌+◌, ◌<◌, ◌≤◌, Bool, true, false, not, cond, eqb, List, [], ◌∷◌, length, take, refl, sym, ap, subst, ◌∙◌, arith}
+use Rattle.std.specs.Prelude.{◌&&◌, ◌||◌, codes, unwrap_or}
 use Rattle.std.specs.List.{list_all, prefix_len}
-use Rattle.std.proofs.lemmas.Bool.{and_parts, and_left, or_from, or_left, or_right, eqb-true, both_ways}
-use Rattle.std.proofs.Math.Numerals.{one-add}
-use Rattle.c_words.specs.Bytes.{is_word_byte}
+use Rattle.std.proofs.lemmas.Bool.{and_parts, and_left, or_from, or_right, eqb-true, ne_eqb, both_ways}
+use Rattle.c_words.specs.Bytes.{is_digit, is_nondigit, is_word_byte}
 use Rattle.c_tokens.specs.Lexemes.{is_one_of}
-use Rattle.c_tokens.specs.Lexemes.{IsLongest, is_mark, is_run, is_lexeme, lexeme_of}
+use Rattle.c_tokens.specs.Lexemes.{IsLongest, is_mark, is_run, is_quoted, is_lexeme, lexeme_of, is_number_behind, number_len, close_len}
 use Rattle.c_tokens.proofs.Longest.{is_longest, one_longest}
-
--- ---- runs
-
-all_taken : (bytes : List ℕ) → list_all is_word_byte (take (prefix_len is_word_byte bytes) bytes) ≡ true
-all_taken [] = refl
-all_taken (b ∷ bs) = elim (is_word_byte b) as (λ v. is_word_byte b ≡ v → list_all is_word_byte (take (cond v (1 + prefix_len is_word_byte bs) 0) (b ∷ bs)) ≡ true) [ true ↦ λ e. rw (one-add, e) (all_taken bs) | false ↦ λ e. refl ] refl
-
-not_all : (bytes : List ℕ) (m : ℕ) → prefix_len is_word_byte bytes < m → m ≤ length bytes → list_all is_word_byte (take m bytes) ≡ false
-not_all [] m lt le = absurd (omega arith)
-not_all (b ∷ bs) zero lt le = absurd (omega arith)
-not_all (b ∷ bs) (suc m) lt le = elim (is_word_byte b) as (λ v. is_word_byte b ≡ v → cond v (1 + prefix_len is_word_byte bs) 0 < suc m → (v && list_all is_word_byte (take m bs)) ≡ false) [ true ↦ λ e h. not_all bs m (omega arith) (omega arith) | false ↦ λ e h. refl ] refl lt
-
-prefix_fits : (bytes : List ℕ) → prefix_len is_word_byte bytes ≤ length bytes
-prefix_fits [] = omega arith
-prefix_fits (b ∷ bs) = let h = prefix_fits bs in elim (is_word_byte b) as (λ v. cond v (1 + prefix_len is_word_byte bs) 0 ≤ suc (length bs)) [ true ↦ omega arith | false ↦ omega arith ]
-
-run_is : (bytes : List ℕ) (m : ℕ) → 0 < m → list_all is_word_byte (take m bytes) ≡ true → m ≤ length bytes → is_run (take m bytes) ≡ true
-run_is bytes zero lt e le = absurd (omega arith)
-run_is [] (suc m) lt e le = absurd (omega arith)
-run_is (b ∷ bs) (suc m) lt e le = e
-
-run_not : (xs : List ℕ) → list_all is_word_byte xs ≡ false → is_run xs ≡ false
-run_not [] e = refl
-run_not (b ∷ bs) e = e
-
-pub run_longest : (bytes : List ℕ) → IsLongest is_run (prefix_len is_word_byte bytes) bytes
-run_longest bytes = record {
-  fits = prefix_fits bytes;
-  passes = λ lt. run_is bytes (prefix_len is_word_byte bytes) lt (all_taken bytes) (prefix_fits bytes);
-  longest = λ m lt le. run_not (take m bytes) (not_all bytes m lt le);
-}
+use Rattle.c_tokens.proofs.Runs.{number_longest, word_longest}
+use Rattle.c_tokens.proofs.Quotes.{quote_longest}
 
 -- ---- no mark begins with a word byte
 
@@ -53,32 +23,61 @@ not_one_of (m ∷ ms) b none w =
 
 mark_not : (b : ℕ) (xs : List ℕ) → is_word_byte b ≡ true → is_mark (b ∷ xs) ≡ false
 mark_not b [] w = not_one_of (codes "(){};,=<>+-*/%!") b refl w
-mark_not b (c ∷ []) w = or_from (is_one_of (codes "=!<>+-") b && eqb c 61) (is_one_of (codes "&|+-") b && eqb c b) (and_left _ _ (not_one_of (codes "=!<>+-") b refl w)) (and_left _ _ (not_one_of (codes "&|+-") b refl w))
+mark_not b (c ∷ []) w = or_from (is_one_of (codes "=!<>+-*/%") b && eqb c 61) (is_one_of (codes "&|+-") b && eqb c b) (and_left _ _ (not_one_of (codes "=!<>+-*/%") b refl w)) (and_left _ _ (not_one_of (codes "&|+-") b refl w))
 mark_not b (c ∷ d ∷ xs) w = refl
 
--- a front of one byte and more has the first byte
-no_mark_at_word : (bytes : List ℕ) (n m : ℕ) → 0 < n → n ≤ length bytes → is_run (take n bytes) ≡ true → n < m → is_mark (take m bytes) ≡ false
-no_mark_at_word bytes zero m lt le r lm = absurd (omega arith)
-no_mark_at_word [] (suc n) m lt le r lm = absurd (omega arith)
-no_mark_at_word (b ∷ bs) (suc n) zero lt le r lm = absurd (omega arith)
-no_mark_at_word (b ∷ bs) (suc n) (suc m) lt le r lm = mark_not b (take m bs) (and_parts (is_word_byte b) (list_all is_word_byte (take n bs)) r).0
+-- ---- which bytes begin what
 
-by_run : (bytes : List ℕ) (n : ℕ) → 0 < n → IsLongest is_run n bytes → IsLongest is_lexeme n bytes
-by_run bytes n lt r = record {
-  fits = r.fits;
-  passes = λ h. or_left (is_run (take n bytes)) (is_mark (take n bytes)) (r.passes h);
-  longest = λ m lm le. or_from (is_run (take m bytes)) (is_mark (take m bytes)) (r.longest m lm le) (no_mark_at_word bytes n m lt r.fits (r.passes lt) lm);
-}
+or_nothing : (v : Bool) → (v || false) ≡ v
+or_nothing true = refl
+or_nothing false = refl
 
-by_mark : (bytes : List ℕ) (n : ℕ) → IsLongest is_run 0 bytes → IsLongest is_mark n bytes → IsLongest is_lexeme n bytes
-by_mark bytes n r k = record {
-  fits = k.fits;
-  passes = λ h. or_right (is_run (take n bytes)) (is_mark (take n bytes)) (k.passes h);
-  longest = λ m lm le. or_from (is_run (take m bytes)) (is_mark (take m bytes)) (r.longest m (omega arith) le) (k.longest m lm le);
-}
+quoted_not : (b : ℕ) (xs : List ℕ) → eqb b 39 ≡ false → is_quoted (b ∷ xs) ≡ false
+quoted_not b xs e = and_left _ _ e
 
-pub run_is_lexeme : (bytes : List ℕ) (n : ℕ) → 0 < n → IsLongest is_run n bytes → n ≡ lexeme_of bytes
-run_is_lexeme bytes n lt r = one_longest is_lexeme bytes n (lexeme_of bytes) (by_run bytes n lt r) (is_longest is_lexeme bytes)
+no_quote : (b : ℕ) → is_word_byte b ≡ true → eqb b 39 ≡ false
+no_quote b w = ne_eqb b 39 (λ e. both_ways (is_word_byte 39) refl (subst (λ (i : ℕ). is_word_byte i ≡ true) e w))
 
-pub mark_is_lexeme : (bytes : List ℕ) (run n : ℕ) → run ≤ 0 → IsLongest is_run run bytes → IsLongest is_mark n bytes → n ≡ lexeme_of bytes
-mark_is_lexeme bytes run n none r k = one_longest is_lexeme bytes n (lexeme_of bytes) (by_mark bytes n (subst (λ (i : ℕ). IsLongest is_run i bytes) (omega arith) r) k) (is_longest is_lexeme bytes)
+no_digit : (b : ℕ) → is_word_byte b ≡ false → is_digit b ≡ false
+no_digit b w = elim (is_digit b) as (λ v. is_digit b ≡ v → v ≡ false) [ true ↦ λ e. absurd (both_ways (is_word_byte b) w (or_right (is_nondigit b) (is_digit b) e)) | false ↦ λ e. refl ] refl
+
+run_not : (b : ℕ) (xs : List ℕ) → is_word_byte b ≡ false → is_run (b ∷ xs) ≡ false
+run_not b xs w = subst (λ (v : Bool). cond v (is_number_behind b xs) (is_word_byte b && list_all is_word_byte xs) ≡ false) (sym (no_digit b w)) (and_left (is_word_byte b) (list_all is_word_byte xs) w)
+
+run_same : (b : ℕ) → is_word_byte b ≡ true → (xs : List ℕ) → is_lexeme (b ∷ xs) ≡ is_run (b ∷ xs)
+run_same b w xs = ap (λ v. is_run (b ∷ xs) || v) (or_from (is_mark (b ∷ xs)) (is_quoted (b ∷ xs)) (mark_not b xs w) (quoted_not b xs (no_quote b w))) ∙ or_nothing (is_run (b ∷ xs))
+
+mark_same : (b : ℕ) → is_word_byte b ≡ false → eqb b 39 ≡ false → (xs : List ℕ) → is_lexeme (b ∷ xs) ≡ is_mark (b ∷ xs)
+mark_same b w q xs = rw (run_not b xs w, quoted_not b xs q) (or_nothing (is_mark (b ∷ xs)))
+
+quote_same : (xs : List ℕ) → is_lexeme (39 ∷ xs) ≡ is_quoted (39 ∷ xs)
+quote_same [] = refl
+quote_same (c ∷ []) = refl
+quote_same (c ∷ d ∷ xs) = refl
+
+-- ---- where the lexemes that begin with a byte are of one kind
+
+at_front : (test : List ℕ → Bool) (b : ℕ) → ((xs : List ℕ) → is_lexeme (b ∷ xs) ≡ test (b ∷ xs)) → (bs : List ℕ) (m : ℕ) → 0 < m → is_lexeme (take m (b ∷ bs)) ≡ test (take m (b ∷ bs))
+at_front test b same bs zero lt = absurd (omega arith)
+at_front test b same bs (suc m) lt = same (take m bs)
+
+only : (test : List ℕ → Bool) (b : ℕ) → ((xs : List ℕ) → is_lexeme (b ∷ xs) ≡ test (b ∷ xs)) → (bs : List ℕ) (n : ℕ) → IsLongest test n (b ∷ bs) → n ≡ lexeme_of (b ∷ bs)
+only test b same bs n h =
+    let longest : IsLongest is_lexeme n (b ∷ bs) = record {
+      fits = h.fits;
+      passes = λ lt. at_front test b same bs n lt ∙ h.passes lt;
+      longest = λ m lt le. at_front test b same bs m (omega arith) ∙ h.longest m lt le;
+    } in
+    one_longest is_lexeme (b ∷ bs) n (lexeme_of (b ∷ bs)) longest (is_longest is_lexeme (b ∷ bs))
+
+pub number_lexeme : (b : ℕ) (bs : List ℕ) → is_digit b ≡ true → suc (number_len b bs) ≡ lexeme_of (b ∷ bs)
+number_lexeme b bs d = only is_run b (run_same b (or_right (is_nondigit b) (is_digit b) d)) bs (suc (number_len b bs)) (number_longest b bs d)
+
+pub word_lexeme : (b : ℕ) (bs : List ℕ) → is_digit b ≡ false → is_word_byte b ≡ true → prefix_len is_word_byte (b ∷ bs) ≡ lexeme_of (b ∷ bs)
+word_lexeme b bs d w = only is_run b (run_same b w) bs (prefix_len is_word_byte (b ∷ bs)) (word_longest b bs d)
+
+pub quote_lexeme : (b : ℕ) (bs : List ℕ) → eqb b 39 ≡ true → suc (unwrap_or (close_len false bs) 0) ≡ lexeme_of (b ∷ bs)
+quote_lexeme b bs e = subst (λ (i : ℕ). suc (unwrap_or (close_len false bs) 0) ≡ lexeme_of (i ∷ bs)) (sym (eqb-true b 39 e)) (only is_quoted 39 quote_same bs (suc (unwrap_or (close_len false bs) 0)) (quote_longest bs))
+
+pub mark_lexeme : (b : ℕ) (bs : List ℕ) (n : ℕ) → is_word_byte b ≡ false → eqb b 39 ≡ false → IsLongest is_mark n (b ∷ bs) → n ≡ lexeme_of (b ∷ bs)
+mark_lexeme b bs n w q h = only is_mark b (mark_same b w q) bs n h

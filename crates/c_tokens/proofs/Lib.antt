@@ -1,8 +1,9 @@
 pub mod Newlines
 pub mod Longest
 pub mod Marks
+pub mod Runs
+pub mod Quotes
 pub mod Lexing
-pub mod Literals
 pub mod Scan
 pub mod FirstBytes
 pub mod Readings

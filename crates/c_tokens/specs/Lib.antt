@@ -1,3 +1,4 @@
+pub mod Characters
 pub mod Lexemes
 pub mod Lines
 pub mod Reading

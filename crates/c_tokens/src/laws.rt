@@ -1,7 +1,7 @@
 //! Laws of reading tokens, for the crates above: each function does nothing, and its contract is the law.
 #![tactic(auto)]
 
-ghost use Rattle.std.specs.Prelude.{◌≡◌, ℕ, ℤ, ◌≤◌, pos, List, ◌∷◌, ◌++◌, Some, Result};
+ghost use Rattle.std.specs.Prelude.{◌≡◌, ℕ, ℤ, ◌≤◌, pos, List, ◌∷◌, ◌++◌, ◌<◌, Some, Result};
 ghost use Rattle.std.specs.Fmt.{decimal};
 ghost use Rattle.fam_outer.specs.declared.faults.FileCode.{FileCode};
 ghost use Rattle.fam_outer.specs.declared.faults.Place as outer;
@@ -22,11 +22,14 @@ pub fn one_reading()
         → IsReading text answer → answer ≡ tokens_of text }
 {}
 
-/// The numbers are exactly what `decimal` writes of the numbers from 0 to 2147483647.
-pub fn literals_are_decimal()
+/// What `decimal` writes of a number from 0 to 2147483647 is read as this number; the numbers are of these, and one that
+/// begins with no quote and no `0` is so written.
+pub fn literals_are_numbers()
     ensures read { (n : ℕ) → n ≤ 2147483647 → kind_of (decimal n) ≡ Some (Number (pos n)) }
-    ensures written { (lexeme : List ℕ) (value : ℤ) → kind_of lexeme ≡ Some (Number value)
-        → (n : ℕ) × (value ≡ pos n) × (n ≤ 2147483647) × (lexeme ≡ decimal n) }
+    ensures small { (lexeme : List ℕ) (value : ℤ) → kind_of lexeme ≡ Some (Number value)
+        → (n : ℕ) × (value ≡ pos n) × (n ≤ 2147483647) }
+    ensures written { (first : ℕ) (digits : List ℕ) (value : ℤ) → 48 < first → kind_of (first ∷ digits) ≡ Some (Number value)
+        → (n : ℕ) × (value ≡ pos n) × (first ∷ digits ≡ decimal n) }
 {}
 
 /// Lines are read one by one: a line and what stands behind its newline have the tokens that each has alone.

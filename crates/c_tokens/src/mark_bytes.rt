@@ -32,7 +32,7 @@ pub(crate) fn is_pair(b: u8, c: u8) -> bool
     ensures { result ≡ marks.is_pair b c }
 {
     match b {
-        b'=' | b'!' | b'<' | b'>' => c == b'=',
+        b'=' | b'!' | b'<' | b'>' | b'*' | b'/' | b'%' => c == b'=',
         b'+' | b'-' => c == b'=' || c == b,
         b'&' | b'|' => c == b,
         _ => false,

@@ -6,7 +6,7 @@ ghost use Rattle.std.specs.Prelude.{◌≡◌};
 use fam_outer::Place;
 use std::marker::Model;
 
-/// The kind of a token: an identifier or keyword, a decimal number, or a mark.
+/// The kind of a token: an identifier or keyword, a number, or a mark.
 #[derive(Clone, Copy, Debug, PartialEq, Eq)]
 pub enum TokenKind {
     Word,

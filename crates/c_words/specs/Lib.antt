@@ -1,2 +1,3 @@
 pub mod Bytes
 pub mod Keywords
+pub mod Numbers

@@ -3,6 +3,7 @@ use Rattle.std.proofs.Common.{ℕ, Bool, true, false, List, [], ◌∷◌, map, 
 use Rattle.std.specs.Prelude.{if◌then◌else◌}
 use Rattle.std.specs.List.{AllByRecursion}
 use Rattle.std.proofs.lemmas.List.Elements.{recursion_from_All, All-from_recursion}
+use Rattle.fam_outer.specs.declared.dialect.Dialect.{Dialect}
 use Rattle.fam_outer.specs.declared.faults.Place.{Place}
 use Rattle.c_tree.specs.declared.tree.Kind.{Kind}
 use Rattle.c_tree.specs.declared.tree.Mode.{Mode}
@@ -38,7 +39,7 @@ some_trees P (q ∷ qs) (t ∷ ts) h = either (some_trees P qs ts h.1) (some_tre
     either next same true = (h.0, next)
     either next same false = same
 
-module _ (A : (m : Mode) → TransferAnswers intervals m) (model : Model) (text : List ℕ) (f : Family) (over : IsFamilyOver model text f) (o : Options) (plausible : Formula) where
+module _ (A : (m : Mode) → TransferAnswers intervals m) (dialect : Dialect) (model : Model) (text : List ℕ) (f : Family) (over : IsFamilyOver dialect model text f) (o : Options) (plausible : Formula) where
   loop_trees : (ts : List LeafTree) → AllByRecursion IsPlace (map (λ (t : LeafTree). t.place) ts) → AllByRecursion (IsLeafTree o f plausible) ts → AllByRecursion (IsLoopTree intervals (length f.atoms) (whole f.code).names) ts
   loop_trees [] h k = tt
   loop_trees (t ∷ ts) h k = (
@@ -63,13 +64,13 @@ kinds_placed (p ∷ places) h = (h.0, (h.0, (h.0, kinds_placed places h.1)))
 -- ---- certificates
 
 pub families_are_read_back : ((m : Mode) → TransferAnswers intervals m) → FamilyCertificatesAreReadBack
-families_are_read_back A regions model text f o loops mode is alarms bytes result over a text_is short answers =
-    let told = family_told model text f over.spelled in
+families_are_read_back A regions dialect model text f o loops mode is alarms bytes result over a text_is short answers =
+    let told = family_told dialect model text f over.spelled in
     let placed = recursion_from_All IsPlace (program_places (whole f.code)) told.placed in
-    let leaves = loop_trees A model text f over o a.plausible a.places (subst (AllByRecursion IsPlace) (sym a.places_are) placed) (recursion_from_All (IsLeafTree o f a.plausible) a.places a.leaf_trees) in
+    let leaves = loop_trees A dialect model text f over o a.plausible a.places (subst (AllByRecursion IsPlace) (sym a.places_are) placed) (recursion_from_All (IsLeafTree o f a.plausible) a.places a.leaf_trees) in
     let own = IsLoopTree intervals (length f.atoms) (whole f.code).names in
     let kinds = subst (AllByRecursion (λ (k : Place × Kind). IsPlace k.0)) (sym a.stops_are) (kinds_placed (program_places (whole f.code)) placed) in
-    let stops = alarm_trees A model text f over o a.plausible a.stops kinds (recursion_from_All (IsAlarmTreeOf o f a.plausible) a.stops a.stop_trees) in
+    let stops = alarm_trees A dialect model text f over o a.plausible a.stops kinds (recursion_from_All (IsAlarmTreeOf o f a.plausible) a.stops a.stop_trees) in
     intervals_are_read_back regions model f.atoms (whole f.code).names mode is alarms bytes result
     (record { named = over.named; distinct = over.distinct; well = over.atoms; lines = told.lines })
     (record {

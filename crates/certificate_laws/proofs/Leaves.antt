@@ -1,5 +1,5 @@
 -- The texts of leaves whose forms tell nothing.
-use Rattle.std.proofs.Common.{◌≡◌, ℕ, zero, suc, ◌+◌, ◌<◌, ◌≤◌, pos, negsuc, Bool, true, false, ◌||◌, true≢false, List, [], ◌∷◌, ◌++◌, codes, ◌⊎◌, inl, inr, length, take, get_or, refl, sym, ap, ap₂, ◌∙◌, arith, append_assoc, append-nil}
+use Rattle.std.proofs.Common.{◌≡◌, ℕ, zero, suc, ◌+◌, ◌<◌, ◌≤◌, ◌≤ℤ◌, pos, negsuc, Bool, true, false, ◌||◌, true≢false, List, [], ◌∷◌, ◌++◌, codes, ◌⊎◌, inl, inr, length, take, get_or, refl, sym, ap, ap₂, ◌∙◌, arith, append_assoc, append-nil}
 use Rattle.std.specs.Prelude.{if◌then◌else◌, nat_eq, Option, Some, None}
 use Rattle.std.specs.List.{All, list_any}
 use Rattle.std.proofs.lemmas.Int.{ints}
@@ -8,7 +8,7 @@ use Rattle.std.proofs.lemmas.List.Elements.{All-cons, All-nil}
 use Rattle.c_tree.specs.declared.tree.Op.TheVariants.{Add, Sub}
 use Rattle.leaf_domain.specs.declared.range.Range.{Range}
 use Rattle.leaf_domain.specs.Leaves.{LeafValue, LeafMeaning, LeafLaws, is_nothing_of}
-use Rattle.leaf_domain.specs.Ranges.{arithmetic_range}
+use Rattle.leaf_domain.specs.Ranges.{arithmetic_range, is_empty_range}
 use Rattle.alarm_report.specs.Texts.{joined}
 use Rattle.alarm_report.specs.LeafTexts.{within_text, variable_items, new_range, item_of, pair_form, pair_items, items_with, all_pairs, items_text, leaf_text}
 use Rattle.certificate_format.specs.Bounds.{items, bounds_text, IsIntRange, AreIntBounds}
@@ -17,6 +17,10 @@ use Rattle.certificate_format.proofs.Ranging.{one_item, bounds_cons, further_con
 use Rattle.certificate_laws.specs.ReadBack.{bounds_from, IsBoundsOf}
 use Rattle.certificate_laws.proofs.Writable.{TellsNoForm}
 use Rattle.certificate_laws.proofs.Literals.{by_truth}
+
+-- a range that is not empty has its low at most at its high
+ordered : (r : Range) → is_empty_range r ≡ false → r.low ≤ℤ r.high
+ordered r e = grind (arith, ints)
 
 -- ---- the text of a leaf
 
@@ -51,11 +55,9 @@ module _ (M : LeafMeaning) (none : TellsNoForm M) (v : LeafValue) where
   module _ (laws : LeafLaws M) (valid : M.valid v) (some : is_nothing_of v ≡ false) where
     range_fits : (x : ℕ) → x < v.variables → IsIntRange (M.bounds_of v x)
     range_fits x h =
-        let store = laws.some_holds v valid some in
-        let within = laws.bounds_hold v x store.0 valid h store.1 in
         record {
           int = laws.bounds_in_int v x valid h;
-          some = omega (arith, ints, within.low, within.high);
+          some = ordered (M.bounds_of v x) (laws.bounds_some v x valid h some);
         }
 
     ranges_fit : (x : ℕ) (names : List (List ℕ)) → x + length names ≤ v.variables → All IsIntRange (bounds_from M v x names)

@@ -5,6 +5,7 @@ use Rattle.std.specs.List.{AllByRecursion, filter, prefix_len}
 use Rattle.std.proofs.lemmas.Bool.Decides.{nat_tests}
 use Rattle.std.proofs.lemmas.List.Elements.{All-from_recursion}
 use Rattle.std.proofs.lemmas.List.Sums.{prefix_len-le-length}
+use Rattle.fam_outer.specs.declared.dialect.Dialect.{Dialect}
 use Rattle.fam_outer.specs.declared.faults.Place.{Place}
 use Rattle.fam_outer.specs.declared.faults.FileCode.{FileCode}
 use Rattle.fam_outer.specs.declared.faults.FileCode.TheVariants.{TooLong}
@@ -108,14 +109,14 @@ one_more : (l : Line) (qs : List (Proposition Atom)) (r : Result Told (FileCode 
 one_more l qs (Ok told) h k = (h, k)
 one_more l qs (Err fault) h k = tt
 
-lines_placed : (m : Plain) (text : List ℕ) (opens : List Bool) (ps : List (Proposition Atom)) (start : ℕ) (lines : List (List ℕ)) (r : Result Told (FileCode × Place)) → length text ≤ file_bytes → AreShort file_bytes lines
-    → sections.AreRead m text opens ps start lines r → LinesPlaced r
-lines_placed m text opens ps start [] r short fit (sections.none o q s) = tt
-lines_placed m text opens ps start (line ∷ lines) r short fit (sections.unclosed o q s l ls u) = tt
-lines_placed m text opens ps start (line ∷ lines) r short fit (sections.faulty o q s l ls code u f) = tt
-lines_placed m text opens ps start (line ∷ lines) r short fit (sections.goes_on o q s l ls qs x u i k) =
+lines_placed : (dialect : Dialect) (m : Plain) (text : List ℕ) (opens : List Bool) (ps : List (Proposition Atom)) (start : ℕ) (lines : List (List ℕ)) (r : Result Told (FileCode × Place)) → length text ≤ file_bytes → AreShort file_bytes lines
+    → sections.AreRead dialect m text opens ps start lines r → LinesPlaced r
+lines_placed dialect m text opens ps start [] r short fit (sections.none o q s) = tt
+lines_placed dialect m text opens ps start (line ∷ lines) r short fit (sections.unclosed o q s l ls u) = tt
+lines_placed dialect m text opens ps start (line ∷ lines) r short fit (sections.faulty o q s l ls code u f) = tt
+lines_placed dialect m text opens ps start (line ∷ lines) r short fit (sections.goes_on o q s l ls qs x u i k) =
     one_more (line_at (length ps) start (place_at text start) line) qs x (line_placed (place_at text start) line (near_at text start short) fit.0)
-    (lines_placed m text (opened_by (named_in line) opens) (ps ++ qs) (start + length line + 1) lines x short fit.1 k)
+    (lines_placed dialect m text (opened_by (named_in line) opens) (ps ++ qs) (start + length line + 1) lines x short fit.1 k)
 
 -- ---- items, line by line
 
@@ -145,10 +146,10 @@ part_placed (keep x part) h = (h.0, part_placed part h.1)
 part_placed (pass x part) h = part_placed part h.1
 
 pub family_told : FamiliesAreOfFiles
-family_told model bytes f h =
+family_told dialect model bytes f h =
     let items = h.are.items in
     let short = limited bytes items.blanked items.without_comments in
-    let lines : LinesPlaced (Ok h.are.told) = lines_placed _ items.blanked [] [] 0 (pieces items.blanked) (Ok h.are.told) short (longer (length items.blanked) file_bytes (pieces items.blanked) short (pieces_short items.blanked)) items.read in
+    let lines : LinesPlaced (Ok h.are.told) = lines_placed dialect _ items.blanked [] [] 0 (pieces items.blanked) (Ok h.are.told) short (longer (length items.blanked) file_bytes (pieces items.blanked) short (pieces_short items.blanked)) items.read in
     let code = items_read (code_of items.blanked) items.tokens (subst (λ n. n ≤ file_bytes) (sym (length-code_of items.blanked)) short) items.tokens_are in
     let spelled = within_is_file_law h.listed.names h.listed.items (whole f.code) h.spelled in
     let own : HavePlaces h.listed.items = subst (λ (l : Listed). HavePlaces l.items) (sym items.is) (by_line_placed h.are.told.lines items.tokens.items lines code.places) in

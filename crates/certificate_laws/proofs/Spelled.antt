@@ -1,26 +1,24 @@
 -- The places and the names of a family's program.
 use Rattle.std.proofs.Common.{◌≡◌, ◌≢◌, ◌⊎◌, inl, inr, ℕ, zero, suc, ◌≤◌, Bool, true, false, ◌&&◌, ◌||◌, true≢false, List, [], ◌∷◌, ◌++◌, codes, length, take, refl, sym, ap, subst, ◌∙◌, arith}
 use Rattle.std.specs.Prelude.{if◌then◌else◌, ◌==◌, Option, Some, None, Result, Ok, Err}
-use Rattle.std.specs.List.{AllByRecursion, list_any, list_all}
+use Rattle.std.specs.List.{AllByRecursion, list_any}
 use Rattle.std.specs.Str.{bytes_eq}
 use Rattle.std.proofs.lemmas.List.Sums.{count_by-le-length}
-use Rattle.std.proofs.lemmas.Bool.Decides.{nat_tests}
 use Rattle.fam_outer.specs.declared.faults.Place.{Place}
 use Rattle.fam_outer.specs.declared.faults.FileCode.{FileCode}
 use Rattle.fam_outer.specs.Limits.{file_bytes}
 use Rattle.fam_outer.specs.Places.{is_newline, last_line, place_at}
 use Rattle.fam_outer.specs.Results.{and_then}
-use Rattle.c_words.specs.Bytes.{is_word_byte}
 use Rattle.c_tokens.specs.declared.token.Token.{Token}
 use Rattle.c_tokens.specs.declared.token.TokenKind.{TokenKind}
 use Rattle.c_tokens.specs.declared.token.TokenKind.TheVariants as kinds
-use Rattle.c_tokens.specs.Lexemes.{is_one_of, is_single, is_pair, is_mark, is_run, is_lexeme}
 use Rattle.c_tokens.specs.Reading.{StandBetween, IsReading, tokens_of}
 use Rattle.c_grammar.specs.declared.items.Item.{Item}
 use Rattle.c_grammar.specs.declared.items.Sign.{Sign}
 use Rattle.c_parser.specs.Items.{Listed, with_name, names_with_word, names_with, lexeme_in, names_from, items_over, listed}
 use Rattle.c_parser.specs.Reading.{items_of_code}
 use Rattle.c_parser.specs.Signs.{keyword_of}
+use Rattle.c_tokens.proofs.Newlines.{in_lexeme}
 use Rattle.c_tokens.proofs.Readings.{is_reading}
 use Rattle.certificate_format.specs.Lines.{IsPlace}
 use Rattle.certificate_laws.specs.Written.{IsOneLine}
@@ -64,41 +62,13 @@ near_at text i h =
 
 -- ---- lexemes
 
-either_true : (a b : Bool) → (a || b) ≡ true → (a ≡ true) ⊎ (b ≡ true)
-either_true true b e = inl refl
-either_true false b e = inr e
-
-both_true : (a b : Bool) → (a && b) ≡ true → (a ≡ true) × (b ≡ true)
-both_true true b e = (refl, e)
-both_true false b e = absurd (true≢false (sym e))
-
--- a byte that passes a test which the newline fails
-no_end : (test : ℕ → Bool) → test 10 ≡ false → (b : ℕ) → test b ≡ true → b ≢ 10
-no_end test none b h e = true≢false (sym h ∙ ap test e ∙ none)
-
-run_line : (bs : List ℕ) → list_all is_word_byte bs ≡ true → IsOneLine bs
-run_line [] h = tt
-run_line (b ∷ bs) h = let parts = both_true (is_word_byte b) (list_all is_word_byte bs) h in (no_end is_word_byte refl b parts.0, run_line bs parts.1)
-
-pair_line : (b c : ℕ) → is_pair b c ≡ true → IsOneLine (b ∷ c ∷ [])
-pair_line b c h = elim (either_true _ _ h) [
-  | inl p ↦ let parts = both_true _ _ p in (no_end (is_one_of (codes "=!<>+-")) refl b parts.0, (no_end (λ n. n == 61) refl c parts.1, tt))
-  | inr p ↦
-      let parts = both_true _ _ p in
-      let first = no_end (is_one_of (codes "&|+-")) refl b parts.0 in
-      let same : c ≡ b = grind (arith, nat_tests) in
-      (first, (subst (λ n. n ≢ 10) (sym same) first, tt))
-]
-
-mark_line : (bs : List ℕ) → is_mark bs ≡ true → IsOneLine bs
-mark_line [] h = tt
-mark_line (b ∷ []) h = (no_end is_single refl b h, tt)
-mark_line (b ∷ c ∷ []) h = pair_line b c h
-mark_line (b ∷ c ∷ d ∷ bs) h = absurd (true≢false (sym h))
-
-lexeme_line : (bs : List ℕ) → is_lexeme bs ≡ true → IsOneLine bs
-lexeme_line [] h = tt
-lexeme_line (b ∷ bs) h = elim (either_true (is_run (b ∷ bs)) (is_mark (b ∷ bs)) h) [ inl run ↦ run_line (b ∷ bs) run | inr mark ↦ mark_line (b ∷ bs) mark ]
+one_line : (bs : List ℕ) → list_any is_newline bs ≡ false → IsOneLine bs
+one_line [] h = tt
+one_line (b ∷ bs) h = by_test (is_newline b) refl h (λ k. one_line bs k)
+  where
+    by_test : (t : Bool) → is_newline b ≡ t → (t || list_any is_newline bs) ≡ false → (list_any is_newline bs ≡ false → IsOneLine bs) → IsOneLine (b ∷ bs)
+    by_test true e k rest = absurd (true≢false k)
+    by_test false e k rest = ((λ same. true≢false (sym (ap is_newline same) ∙ e)), rest k)
 
 -- ---- tokens
 
@@ -112,7 +82,7 @@ tokens_kept text short start [] end h = tt
 tokens_kept text short start (t ∷ ts) end h = (
   record {
     place = subst IsPlace (sym h.1.0.place) (near_place (place_at text t.start) (near_at text t.start short));
-    line = lexeme_line (lexeme_in text t) (h.1.0.longest.passes (omega (arith, h.1.0.begins)));
+    line = one_line (lexeme_in text t) (in_lexeme (lexeme_in text t) (h.1.0.longest.passes (omega (arith, h.1.0.begins))));
   },
   tokens_kept text short t.end ts end h.1.1,
 )

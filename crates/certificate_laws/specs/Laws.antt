@@ -1,6 +1,7 @@
 -- What holds of certificates.
 use Rattle.std.specs.Prelude.{◌≡◌, ⊤, ℕ, ◌≤◌, List, length, map, Result, Ok, Err}
 use Rattle.std.specs.List.{All}
+use Rattle.fam_outer.specs.declared.dialect.Dialect.{Dialect}
 use Rattle.fam_outer.specs.declared.faults.Place.{Place}
 use Rattle.fam_outer.specs.declared.refusal.Refusal.{Refusal}
 use Rattle.fam_outer.specs.declared.refusal.Refusal.TheVariants.{NoMemory, Fault}
@@ -53,7 +54,7 @@ pub record AreOfFile (places : List Place) (names : List (List ℕ)) : Type 0 wh
 
 -- so are those of the program of each family
 abbrev pub FamiliesAreOfFiles : Type 0
-FamiliesAreOfFiles = (model : Model) (text : List ℕ) (f : Family) → IsFamilyOf model text f → AreOfFile (program_places (whole f.code)) (whole f.code).names
+FamiliesAreOfFiles = (dialect : Dialect) (model : Model) (text : List ℕ) (f : Family) → IsFamilyOf dialect model text f → AreOfFile (program_places (whole f.code)) (whole f.code).names
 
 -- ---- certificates of trees
 
@@ -83,12 +84,12 @@ CertificatesAreReadBack =
 -- ---- certificates of families
 
 -- a model and a family over it
-pub record IsFamilyOver (model : Model) (text : List ℕ) (f : Family) : Type 0 where
+pub record IsFamilyOver (dialect : Dialect) (model : Model) (text : List ℕ) (f : Family) : Type 0 where
   pub named : AreNamed model.features
   pub distinct : AreDistinct model.features
   pub atoms : AreAtoms (length model.features) f.atoms
   pub program : IsProgram (whole f.code)
-  pub spelled : IsFamilyOf model text f
+  pub spelled : IsFamilyOf dialect model text f
 
 -- the tree has the leaf at its place in the analysis of each plausible vector's program
 abbrev pub IsLeafTree : Options → Family → Formula → LeafTree → Type 0
@@ -113,6 +114,6 @@ pub record AreOfAnalysis (model : Model) (o : Options) (f : Family) (loops : Lis
 -- the certificate of a family is read back
 abbrev pub FamilyCertificatesAreReadBack : Type 0
 FamilyCertificatesAreReadBack =
-    (regions : Regions) (model : Model) (text : List ℕ) (f : Family) (o : Options) (loops : List Place) (mode : Mode) (is : List Invariant) (alarms : List FamilyAlarm) (bytes : List ℕ) (result : Result Certificate (Refusal CertificateFault))
-    → IsFamilyOver model text f → AreOfAnalysis model o f loops is alarms → bytes ≡ certificate_text regions intervals model.features (whole f.code).names mode is alarms → length bytes ≤ certificate_bytes
+    (regions : Regions) (dialect : Dialect) (model : Model) (text : List ℕ) (f : Family) (o : Options) (loops : List Place) (mode : Mode) (is : List Invariant) (alarms : List FamilyAlarm) (bytes : List ℕ) (result : Result Certificate (Refusal CertificateFault))
+    → IsFamilyOver dialect model text f → AreOfAnalysis model o f loops is alarms → bytes ≡ certificate_text regions intervals model.features (whole f.code).names mode is alarms → length bytes ≤ certificate_bytes
     → IsCertificateRead (piece_of model.features f.atoms) (whole f.code).names bytes result → AnswersBack intervals model f.atoms (whole f.code).names mode is alarms result

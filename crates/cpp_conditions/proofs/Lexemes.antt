@@ -3,9 +3,11 @@ use Rattle.std.proofs.Common.{◌≡◌, ℕ, suc, ◌<◌, ◌≤◌, ◌+◌, 
 use Rattle.std.proofs.lemmas.Bool.{false≢true, eqb-true}
 use Rattle.std.proofs.lemmas.List.{append-nil, map-append}
 use Rattle.std.specs.List.{list_all, prefix_len}
-use Rattle.cpp_conditions.specs.Tokens.{Token, Digits, is_space, is_digit, is_alphabetic, is_alphanumeric, is_first, is_word, StopsAt, is_number, number_from, is_identifier, word_token, pair_of, single_of, NoPair, SpellsTokens, none, space, number, word, pair, single}
+use Rattle.cpp_conditions.specs.Tokens.{Token, Digits, is_space, is_digit, is_alphabetic, is_alphanumeric, is_first, is_word, StopsAt, is_identifier, word_token, pair_of, single_of, NoPair, SpellsTokens, none, space, number, word, pair, single}
 use Rattle.cpp_conditions.specs.declared.tokens.Token as coded
-use Rattle.cpp_conditions.specs.Scanning.{token, run, behind, number_by, number_at, word_at, mark_by, mark_at, lexeme_at}
+use Rattle.cpp_conditions.specs.Integers.{is_integer, integer_value, goes_on_behind}
+use Rattle.cpp_conditions.proofs.IntegerWords.{integer_letters, integer_digit}
+use Rattle.cpp_conditions.specs.Scanning.{token, run, behind, is_whole, number_by, number_at, word_at, mark_by, mark_at, lexeme_at}
 
 -- ---- runs
 
@@ -73,12 +75,13 @@ or_right : (a b : Bool) → b ≡ true → (a || b) ≡ true
 or_right true b e = refl
 or_right false b e = e
 
+not_true : (a : Bool) → not a ≡ true → a ≡ false
+not_true true e = absurd (false≢true e)
+not_true false e = refl
+
 or_left : (a b : Bool) → a ≡ true → (a || b) ≡ true
 or_left true b e = refl
 or_left false b e = absurd (false≢true e)
-
-digit_all : (bs : List ℕ) → list_all is_digit bs ≡ true → list_all is_alphanumeric bs ≡ true
-digit_all = weaker_all is_digit is_alphanumeric (λ b e. or_right (is_alphabetic b) (is_digit b) e)
 
 digit_space : (b : ℕ) → is_digit b ≡ true → is_space b ≡ false
 digit_space b h = grind arith
@@ -88,10 +91,6 @@ first_space b h = grind arith
 
 first_digit : (b : ℕ) → is_first b ≡ true → is_digit b ≡ false
 first_digit b h = grind arith
-
-number_digits : (d : ℕ) (ds : List ℕ) → is_number (d ∷ ds) ≡ true → list_all is_digit (d ∷ ds) ≡ true
-number_digits d [] h = rw h refl
-number_digits d (e ∷ ds) h = and_right (not (nat_eq d 48)) (list_all is_digit (d ∷ e ∷ ds)) h
 
 -- ---- marks
 
@@ -134,16 +133,17 @@ pair_other b c t h =
 
 -- ---- the token at the front
 
-lexeme_number : (d : ℕ) (ds bs : List ℕ) → is_number (d ∷ ds) ≡ true → StopsAt is_alphanumeric bs → lexeme_at d (ds ++ bs) ≡ Some (Digits (number_from 0 (d ∷ ds)), bs)
-lexeme_number d ds bs h s =
-    let all = number_digits d ds h in
-    let digit = and_left (is_digit d) (list_all is_digit ds) all in
-    let is = whole_run is_alphanumeric (d ∷ ds) bs (digit_all (d ∷ ds) all) s in
-    let rest = behind_run is_alphanumeric (d ∷ ds) bs (digit_all (d ∷ ds) all) s in
+lexeme_number : (d : ℕ) (ds bs : List ℕ) → is_integer (d ∷ ds) ≡ true → StopsAt is_alphanumeric bs → goes_on_behind (d ∷ ds) bs ≡ false → lexeme_at d (ds ++ bs) ≡ Some (Digits (integer_value (d ∷ ds)), bs)
+lexeme_number d ds bs h s n =
+    let all = integer_letters (d ∷ ds) h in
+    let digit = integer_digit d ds h in
+    let is = whole_run is_alphanumeric (d ∷ ds) bs all s in
+    let rest = behind_run is_alphanumeric (d ∷ ds) bs all s in
     ap (λ (x : Bool). if x then number_at (d ∷ (ds ++ bs)) else (if is_first d then word_at (d ∷ (ds ++ bs)) else mark_at d (ds ++ bs))) digit
-    ∙ ap (λ (xs : List ℕ). number_by (is_number xs) xs (behind is_alphanumeric (d ∷ (ds ++ bs)))) is
-    ∙ ap (λ (xs : List ℕ). number_by (is_number (d ∷ ds)) (d ∷ ds) xs) rest
-    ∙ ap (λ (x : Bool). number_by x (d ∷ ds) bs) h
+    ∙ ap (λ (xs : List ℕ). number_by (is_whole xs (behind is_alphanumeric (d ∷ (ds ++ bs)))) xs (behind is_alphanumeric (d ∷ (ds ++ bs)))) is
+    ∙ ap (λ (xs : List ℕ). number_by (is_whole (d ∷ ds) xs) (d ∷ ds) xs) rest
+    ∙ ap (λ (x : Bool). number_by (x && not (goes_on_behind (d ∷ ds) bs)) (d ∷ ds) bs) h
+    ∙ ap (λ (x : Bool). number_by (not x) (d ∷ ds) bs) n
 
 lexeme_word : (d : ℕ) (ds bs : List ℕ) → is_identifier (d ∷ ds) ≡ true → StopsAt is_word bs → lexeme_at d (ds ++ bs) ≡ Some (word_token (d ∷ ds), bs)
 lexeme_word d ds bs h s =
@@ -190,8 +190,8 @@ followed b bs rest t ts h e s = subst (λ (x : Bool). NextBy x (lexeme_at b bs) 
 steps : {bytes : List ℕ} {ts : List Token} → SpellsTokens bytes ts → Next bytes ts
 steps none = refl
 steps (space b {bs} {ts} h s) = subst (λ (x : Bool). NextBy x (lexeme_at b bs) bs ts) (sym h) s
-steps (number [] h n s) = absurd (false≢true h)
-steps (number (d ∷ ds) {bs} {ts} h n s) = followed d (ds ++ bs) bs _ ts (digit_space d (and_left (is_digit d) (list_all is_digit ds) (number_digits d ds h))) (lexeme_number d ds bs h n) s
+steps (number [] h n o s) = absurd (false≢true h)
+steps (number (d ∷ ds) {bs} {ts} h n o s) = followed d (ds ++ bs) bs _ ts (digit_space d (integer_digit d ds h)) (lexeme_number d ds bs h n o) s
 steps (word [] h n s) = absurd (false≢true h)
 steps (word (d ∷ ds) {bs} {ts} h n s) = followed d (ds ++ bs) bs _ ts (first_space d (and_left (is_first d) (list_all is_word ds) h)) (lexeme_word d ds bs h n) s
 steps (pair b c t {bs} {ts} h s) = followed b (c ∷ bs) bs t ts (pair_other b c t h).no_space (lexeme_pair b c t bs h) s
@@ -210,8 +210,8 @@ same_rest b bs rest t ts us h e same s =
 pub one_list : {bytes : List ℕ} {ts : List Token} → SpellsTokens bytes ts → (us : List Token) → SpellsTokens bytes us → ts ≡ us
 one_list none us t = sym (steps t)
 one_list (space b {bs} {ts} h s) us t = one_list s us (spaced b bs us h t)
-one_list (number [] h n s) us t = absurd (false≢true h)
-one_list (number (d ∷ ds) {bs} {ts} h n s) us t = same_rest d (ds ++ bs) bs _ ts us (digit_space d (and_left (is_digit d) (list_all is_digit ds) (number_digits d ds h))) (lexeme_number d ds bs h n) (one_list s) t
+one_list (number [] h n o s) us t = absurd (false≢true h)
+one_list (number (d ∷ ds) {bs} {ts} h n o s) us t = same_rest d (ds ++ bs) bs _ ts us (digit_space d (integer_digit d ds h)) (lexeme_number d ds bs h n o) (one_list s) t
 one_list (word [] h n s) us t = absurd (false≢true h)
 one_list (word (d ∷ ds) {bs} {ts} h n s) us t = same_rest d (ds ++ bs) bs _ ts us (first_space d (and_left (is_first d) (list_all is_word ds) h)) (lexeme_word d ds bs h n) (one_list s) t
 one_list (pair b c p {bs} {ts} h s) us t = same_rest b (c ∷ bs) bs p ts us (pair_other b c p h).no_space (lexeme_pair b c p bs h) (one_list s) t
@@ -219,11 +219,15 @@ one_list (single b p {bs} {ts} h n s) us t = same_rest b bs bs p ts us (single_o
 
 -- ---- what the scanner takes is spelled
 
-made_number : (b : ℕ) (bs : List ℕ) (ts : List Token) (v : Bool) → is_number (run is_alphanumeric (b ∷ bs)) ≡ v → Follows (number_by v (run is_alphanumeric (b ∷ bs)) (behind is_alphanumeric (b ∷ bs))) ts → SpellsTokens (b ∷ bs) ts
+made_number : (b : ℕ) (bs : List ℕ) (ts : List Token) (v : Bool) → is_whole (run is_alphanumeric (b ∷ bs)) (behind is_alphanumeric (b ∷ bs)) ≡ v
+    → Follows (number_by v (run is_alphanumeric (b ∷ bs)) (behind is_alphanumeric (b ∷ bs))) ts → SpellsTokens (b ∷ bs) ts
 made_number b bs ts false e f = absurd f
 made_number b bs ts true e f =
-    subst (λ (us : List Token). SpellsTokens (b ∷ bs) us) (sym f.1) (subst (λ (xs : List ℕ). SpellsTokens xs (Digits (number_from 0 (run is_alphanumeric (b ∷ bs))) ∷ f.0)) (run_parts is_alphanumeric (b ∷ bs))
-    (number (run is_alphanumeric (b ∷ bs)) e (run_stops is_alphanumeric (b ∷ bs)) f.2))
+    let word = run is_alphanumeric (b ∷ bs) in
+    let rest = behind is_alphanumeric (b ∷ bs) in
+    subst (λ (us : List Token). SpellsTokens (b ∷ bs) us) (sym f.1) (subst (λ (xs : List ℕ). SpellsTokens xs (Digits (integer_value (run is_alphanumeric (b ∷ bs))) ∷ f.0)) (run_parts is_alphanumeric (b ∷ bs))
+    (number (run is_alphanumeric (b ∷ bs)) (and_left (is_integer word) (not (goes_on_behind word rest)) e) (run_stops is_alphanumeric (b ∷ bs))
+    (not_true (goes_on_behind word rest) (and_right (is_integer word) (not (goes_on_behind word rest)) e)) f.2))
 
 identifies : (b : ℕ) (bs : List ℕ) → is_first b ≡ true → is_identifier (run is_word (b ∷ bs)) ≡ true
 identifies b bs h = rw (or_left (is_first b) (is_digit b) h) (rw h (run_passes is_word bs))
@@ -250,7 +254,7 @@ made_other b bs ts true e f = made_word b bs ts e f
 made_other b bs ts false e f = made_mark b bs ts f
 
 made_by : (b : ℕ) (bs : List ℕ) (ts : List Token) (v : Bool) → is_digit b ≡ v → Follows (if v then number_at (b ∷ bs) else (if is_first b then word_at (b ∷ bs) else mark_at b bs)) ts → SpellsTokens (b ∷ bs) ts
-made_by b bs ts true e f = made_number b bs ts (is_number (run is_alphanumeric (b ∷ bs))) refl f
+made_by b bs ts true e f = made_number b bs ts (is_whole (run is_alphanumeric (b ∷ bs)) (behind is_alphanumeric (b ∷ bs))) refl f
 made_by b bs ts false e f = made_other b bs ts (is_first b) refl f
 
 pub made : (b : ℕ) (bs : List ℕ) (ts : List Token) → Follows (lexeme_at b bs) ts → SpellsTokens (b ∷ bs) ts
@@ -288,7 +292,7 @@ shorter_other true b bs e = behind_first is_word b bs (or_left (is_first b) (is_
 shorter_other false b bs e = shorter_mark b bs
 
 shorter_by : (v : Bool) (b : ℕ) (bs : List ℕ) → is_digit b ≡ v → Shortens (length bs) (if v then number_at (b ∷ bs) else (if is_first b then word_at (b ∷ bs) else mark_at b bs))
-shorter_by true b bs e = shorter_number (is_number (run is_alphanumeric (b ∷ bs))) (run is_alphanumeric (b ∷ bs)) (behind is_alphanumeric (b ∷ bs)) (length bs) (behind_first is_alphanumeric b bs (or_right (is_alphabetic b) (is_digit b) e))
+shorter_by true b bs e = shorter_number (is_whole (run is_alphanumeric (b ∷ bs)) (behind is_alphanumeric (b ∷ bs))) (run is_alphanumeric (b ∷ bs)) (behind is_alphanumeric (b ∷ bs)) (length bs) (behind_first is_alphanumeric b bs (or_right (is_alphabetic b) (is_digit b) e))
 shorter_by false b bs e = shorter_other (is_first b) b bs refl
 
 pub shorter : (b : ℕ) (bs after rest : List ℕ) (t : Token) → rest ≡ b ∷ bs → Some (t, after) ≡ lexeme_at b bs → length after < length rest
@@ -336,23 +340,14 @@ scanning_pushed bytes after list pushed t e so_far = subst (λ (xs : List Token)
 
 -- ---- parts of the scanner
 
-pub number_taken : (bytes ds rest : List ℕ) (n : ℕ) → n ≡ prefix_len is_alphanumeric bytes → ds ≡ take n bytes → rest ≡ drop n bytes → number_by (is_number ds) ds rest ≡ number_at bytes
+pub number_taken : (bytes ds rest : List ℕ) (n : ℕ) → n ≡ prefix_len is_alphanumeric bytes → ds ≡ take n bytes → rest ≡ drop n bytes → number_by (is_whole ds rest) ds rest ≡ number_at bytes
 number_taken bytes ds rest n e f g =
     let p : ds ≡ run is_alphanumeric bytes = f ∙ ap (λ (i : ℕ). take i bytes) e ∙ take_run is_alphanumeric bytes in
     let q : rest ≡ behind is_alphanumeric bytes = g ∙ ap (λ (i : ℕ). drop i bytes) e ∙ drop_run is_alphanumeric bytes in
-    ap (λ (xs : List ℕ). number_by (is_number xs) xs rest) p ∙ ap (λ (xs : List ℕ). number_by (is_number (run is_alphanumeric bytes)) (run is_alphanumeric bytes) xs) q
+    ap (λ (xs : List ℕ). number_by (is_whole xs rest) xs rest) p ∙ ap (λ (xs : List ℕ). number_by (is_whole (run is_alphanumeric bytes) xs) (run is_alphanumeric bytes) xs) q
 
 pub word_taken : (bytes name rest : List ℕ) (n : ℕ) (t : Token) → t ≡ word_token name → n ≡ prefix_len is_word bytes → name ≡ take n bytes → rest ≡ drop n bytes → Some (t, rest) ≡ word_at bytes
 word_taken bytes name rest n t h e f g =
     let p : name ≡ run is_word bytes = f ∙ ap (λ (i : ℕ). take i bytes) e ∙ take_run is_word bytes in
     let q : rest ≡ behind is_word bytes = g ∙ ap (λ (i : ℕ). drop i bytes) e ∙ drop_run is_word bytes in
     ap (λ (u : Token). Some (u, rest)) h ∙ ap (λ (xs : List ℕ). Some (word_token xs, rest)) p ∙ ap (λ (xs : List ℕ). Some (word_token (run is_word bytes), xs)) q
-
-long_by : (v : Bool) (b : ℕ) (d : Bool) → nat_eq b 48 ≡ v → (b ≡ 48 → ⊥) → d ≡ (not v && d)
-long_by true b d e n = absurd (n (eqb-true b 48 e))
-long_by false b d e n = refl
-
-pub long_number : (run : List ℕ) → 2 ≤ length run → (get_or run 0 0 ≡ 48 → ⊥) → list_all is_digit run ≡ is_number run
-long_number [] h n = absurd (omega arith)
-long_number (b ∷ []) h n = absurd (omega arith)
-long_number (b ∷ c ∷ bs) h n = long_by (nat_eq b 48) b (list_all is_digit (b ∷ c ∷ bs)) refl n

@@ -3,6 +3,7 @@ pub mod Compared
 pub mod Complete
 pub mod Descending
 pub mod Formed
+pub mod IntegerWords
 pub mod Joined
 pub mod Lexemes
 pub mod Meanings

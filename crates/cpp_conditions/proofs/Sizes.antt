@@ -14,52 +14,7 @@ use Rattle.linear_terms.proofs.Sums.{is_zero, terms_sum_rises, terms_by_rises}
 use Rattle.cpp_conditions.specs.Expressions.{found}
 use Rattle.cpp_conditions.specs.Forming.{IsOver, IsSmallOver}
 use Rattle.cpp_conditions.specs.Meaning.{difference}
-use Rattle.cpp_conditions.specs.Tokens.{number_from}
 use Rattle.cpp_conditions.proofs.Signs.{minus_one}
-
--- ---- numbers of digits
-
-pub record Capped (value : ℕ) (rest whole : List ℕ) : Type 0 where
-  pub small : value ≤ 2147483649
-  pub exact : value ≤ 2147483648 → number_from value rest ≡ number_from 0 whole
-  pub large : 2147483648 < value → 2147483648 < number_from 0 whole
-
-number_grows : (n : ℕ) (bs : List ℕ) → n ≤ number_from n bs
-number_grows n [] = omega arith
-number_grows n (b ∷ bs) = let h = number_grows (n * 10 + (b - 48)) bs in omega arith
-
-step_exact : (value next b : ℕ) (behind rest whole : List ℕ) → Capped value rest whole → rest ≡ b ∷ behind → next ≡ value * 10 + (b - 48) → value ≤ 2147483648 → number_from next behind ≡ number_from 0 whole
-step_exact value next b behind rest whole c cut is le = ap (λ (n : ℕ). number_from n behind) is ∙ ap (number_from value) (sym cut) ∙ c.exact le
-
-capped_kept : (value next b : ℕ) (behind rest whole : List ℕ) → Capped value rest whole → rest ≡ b ∷ behind → next ≡ value * 10 + (b - 48) → next < 2147483649 → Capped next behind whole
-capped_kept value next b behind rest whole c cut is lt = record {
-  small = omega arith;
-  exact = λ le. step_exact value next b behind rest whole c cut is (omega arith);
-  large = λ gt. absurd (omega arith);
-}
-
-passes : (value next b : ℕ) (behind rest whole : List ℕ) → Capped value rest whole → rest ≡ b ∷ behind → next ≡ value * 10 + (b - 48) → 2147483649 ≤ next → 2147483648 < number_from 0 whole
-passes value next b behind rest whole c cut is le = elim (cases_lt 2147483648 value) [
-  | inl gt ↦ c.large gt
-  | inr small ↦ (
-      let e : number_from next behind ≡ number_from 0 whole = step_exact value next b behind rest whole c cut is small in
-      let g : next ≤ number_from next behind = number_grows next behind in
-      omega arith
-      )
-]
-
-capped_cut : (value next b : ℕ) (behind rest whole : List ℕ) → Capped value rest whole → rest ≡ b ∷ behind → next ≡ value * 10 + (b - 48) → 2147483649 ≤ next → Capped 2147483649 behind whole
-capped_cut value next b behind rest whole c cut is le = record {
-  small = omega arith;
-  exact = λ h. absurd (omega arith);
-  large = λ gt. passes value next b behind rest whole c cut is le;
-}
-
-pub capped_more : (value next b : ℕ) (behind rest whole : List ℕ) → Capped value rest whole → rest ≡ b ∷ behind → next ≡ value * 10 + (b - 48) → Capped (min next 2147483649) behind whole
-capped_more value next b behind rest whole c cut is = elim (cases_lt next 2147483649) [
-  | inl lt ↦ (let e : next ≡ min next 2147483649 = omega arith in subst (λ (n : ℕ). Capped n behind whole) e (capped_kept value next b behind rest whole c cut is lt))
-  | inr le ↦ (let e : 2147483649 ≡ min next 2147483649 = omega arith in subst (λ (n : ℕ). Capped n behind whole) e (capped_cut value next b behind rest whole c cut is le))
-]
 
 -- ---- truth values
 

@@ -10,11 +10,12 @@ use Rattle.cpp_conditions.specs.Expressions.{Expression, Number, Name, IsDefined
 use Rattle.cpp_conditions.specs.Grammar.{tighter}
 use Rattle.cpp_conditions.specs.Machine.{Frame, room, Wants, Has, Asks, prefix_of, read}
 use Rattle.cpp_conditions.specs.Scanning.{token}
-use Rattle.cpp_conditions.specs.Tokens.{Token, Open, Close, Bang, Oper, number_from}
+use Rattle.cpp_conditions.specs.Integers.{integer_value}
+use Rattle.cpp_conditions.specs.Tokens.{Token, Open, Close, Bang, Oper}
 
 -- an expression that was read as a plain one
 abbrev pub expression : trees.Expression → Expression
-expression (variants.Number ds) = Number (number_from 0 ds.now)
+expression (variants.Number ds) = Number (integer_value ds.now)
 expression (variants.Name name) = Name name.now
 expression (variants.IsDefined name) = IsDefined name.now
 expression (variants.Unary' u p e) = Unary u (expression e)

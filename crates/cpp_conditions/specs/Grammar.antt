@@ -1,5 +1,7 @@
 -- Which bytes spell a condition, and which refusal the others have.
-use Rattle.std.specs.Prelude.{ℕ, suc, ◌≤◌, ◌<◌, nat_eq, pos, negsuc, Bool, true, false, ◌&&◌, ◌||◌, if◌then◌else◌, List, [], ◌∷◌, ◌++◌, Result, Ok, Err}
+use Rattle.std.specs.Prelude.{ℕ, suc, ◌≤◌, ◌<◌, nat_eq, pos, negsuc, Bool, true, false, ◌&&◌, ◌||◌, if◌then◌else◌, List, [], ◌∷◌, ◌++◌, is_none, Result, Ok, Err}
+use Rattle.fam_outer.specs.declared.dialect.Unknown.{Unknown}
+use Rattle.fam_outer.specs.declared.dialect.Unknown.TheVariants.{Zero, Refuse}
 use Rattle.fam_outer.specs.declared.faults.ConditionFault.{ConditionFault}
 use Rattle.fam_outer.specs.declared.faults.ConditionFault.TheVariants as faults
 use Rattle.linear_atoms.specs.declared.atoms.Atom.{Atom}
@@ -11,7 +13,7 @@ use Rattle.cpp_conditions.specs.declared.operators.Operator.{Operator}
 use Rattle.cpp_conditions.specs.declared.operators.Operator.TheVariants.{Times, Plus, Minus, Less, AtMost, Greater, AtLeast, Equal, Differs, Both, Either}
 use Rattle.cpp_conditions.specs.declared.operators.Prefix.{Prefix}
 use Rattle.cpp_conditions.specs.declared.operators.Prefix.TheVariants.{Positive, Negative, Inverse}
-use Rattle.cpp_conditions.specs.Expressions.{Expression, Number, Name, IsDefined, Unary, Binary}
+use Rattle.cpp_conditions.specs.Expressions.{Expression, Number, Name, IsDefined, Unary, Binary, found}
 use Rattle.cpp_conditions.specs.Meaning.{is_truth, is_linear, form, difference, less_one, cond}
 use Rattle.cpp_conditions.specs.Tokens.{Token, Digits, Word, Defined, Open, Close, Bang, Oper, SpellsTokens, weight_behind}
 
@@ -64,6 +66,20 @@ has_reserved (IsDefined x) = is_reserved x
 has_reserved (Unary u e) = has_reserved e
 has_reserved (Binary op a b) = has_reserved a || has_reserved b
 
+-- ---- names that no feature has
+
+abbrev pub has_unknown : List Feature → Expression → Bool
+has_unknown features (Number n) = false
+has_unknown features (Name x) = is_none (found x features)
+has_unknown features (IsDefined x) = is_none (found x features)
+has_unknown features (Unary u e) = has_unknown features e
+has_unknown features (Binary op a b) = has_unknown features a || has_unknown features b
+
+-- a name that no feature has refuses it
+abbrev pub unknown_refuses : Unknown → List Feature → Expression → Bool
+unknown_refuses Zero features e = false
+unknown_refuses Refuse features e = has_unknown features e
+
 -- ---- sizes
 
 -- a form and the form less one, as a number is used as a truth value
@@ -104,13 +120,17 @@ is_small_condition features e = are_small_forms features e && is_small_truth fea
 
 -- ---- what bytes are read as, the refusals in their order
 
-abbrev pub judged : List Feature → Expression → Result (Proposition Atom) ConditionFault
-judged features e =
-    if has_reserved e then Err faults.ReservedName
-    else (if is_linear features e then (if is_small_condition features e then Ok (cond features e) else Err faults.TooLarge) else Err faults.NonLinear)
+-- what an expression means without a look at its names
+abbrev pub judged_form : List Feature → Expression → Result (Proposition Atom) ConditionFault
+judged_form features e = if is_linear features e then (if is_small_condition features e then Ok (cond features e) else Err faults.TooLarge) else Err faults.NonLinear
 
-pub data ReadsAs (features : List Feature) (bytes : List ℕ) : Result (Proposition Atom) ConditionFault → Type 0 where
-  no_tokens : ((ts : List Token) → SpellsTokens bytes ts → ⊥) → ReadsAs features bytes (Err faults.Syntax)
-  too_deep : (ts : List Token) → SpellsTokens bytes ts → 64 < weight_behind false ts → ReadsAs features bytes (Err faults.TooDeep)
-  no_condition : (ts : List Token) → SpellsTokens bytes ts → weight_behind false ts ≤ 64 → ((e : Expression) → Spells 6 ts e → ⊥) → ReadsAs features bytes (Err faults.Syntax)
-  read : (ts : List Token) (e : Expression) → SpellsTokens bytes ts → weight_behind false ts ≤ 64 → Spells 6 ts e → ReadsAs features bytes (judged features e)
+abbrev pub judged : Unknown → List Feature → Expression → Result (Proposition Atom) ConditionFault
+judged unknown features e =
+    if has_reserved e then Err faults.ReservedName
+    else (if unknown_refuses unknown features e then Err faults.UnknownName else judged_form features e)
+
+pub data ReadsAs (unknown : Unknown) (features : List Feature) (bytes : List ℕ) : Result (Proposition Atom) ConditionFault → Type 0 where
+  no_tokens : ((ts : List Token) → SpellsTokens bytes ts → ⊥) → ReadsAs unknown features bytes (Err faults.Syntax)
+  too_deep : (ts : List Token) → SpellsTokens bytes ts → 64 < weight_behind false ts → ReadsAs unknown features bytes (Err faults.TooDeep)
+  no_condition : (ts : List Token) → SpellsTokens bytes ts → weight_behind false ts ≤ 64 → ((e : Expression) → Spells 6 ts e → ⊥) → ReadsAs unknown features bytes (Err faults.Syntax)
+  read : (ts : List Token) (e : Expression) → SpellsTokens bytes ts → weight_behind false ts ≤ 64 → Spells 6 ts e → ReadsAs unknown features bytes (judged unknown features e)

@@ -3,6 +3,7 @@ pub mod Distinct
 pub mod Expressions
 pub mod Forming
 pub mod Grammar
+pub mod Integers
 pub mod Judged
 pub mod Machine
 pub mod Meaning

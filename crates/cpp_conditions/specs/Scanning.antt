@@ -1,16 +1,17 @@
 -- The token at the front of a list of bytes, and what `scan` answers.
-use Rattle.std.specs.Prelude.{⊤, ℕ, Bool, true, false, if◌then◌else◌, List, [], ◌∷◌, map, Option, Some, None, option_map, Result, Ok, Err}
+use Rattle.std.specs.Prelude.{⊤, ℕ, Bool, true, false, not, ◌&&◌, if◌then◌else◌, List, [], ◌∷◌, map, Option, Some, None, option_map, Result, Ok, Err}
 use Rattle.std.specs.Borrow.{Bor}
 use Rattle.std.specs.Global.{Vec}
 use Rattle.cpp_conditions.specs.declared.expression_refusal.ExpressionRefusal.{ExpressionRefusal}
 use Rattle.cpp_conditions.specs.declared.expression_refusal.ExpressionRefusal.TheVariants as stops
 use Rattle.cpp_conditions.specs.declared.tokens.Token as coded
 use Rattle.cpp_conditions.specs.declared.tokens.Token.TheVariants as tokens
-use Rattle.cpp_conditions.specs.Tokens.{Token, Digits, Word, Defined, Open, Close, Bang, Oper, Twice, is_digit, is_alphanumeric, is_first, is_word, is_number, number_from, word_token, pair_of, single_of, SpellsTokens}
+use Rattle.cpp_conditions.specs.Integers.{is_integer, integer_value, goes_on_behind}
+use Rattle.cpp_conditions.specs.Tokens.{Token, Digits, Word, Defined, Open, Close, Bang, Oper, Twice, is_digit, is_alphanumeric, is_first, is_word, word_token, pair_of, single_of, SpellsTokens}
 
 -- a token of the scanner as a plain one
 abbrev pub token : coded.Token → Token
-token (tokens.Digits ds) = Digits (number_from 0 ds.now)
+token (tokens.Digits ds) = Digits (integer_value ds.now)
 token (tokens.Word name) = Word name.now
 token tokens.Defined = Defined
 token tokens.Open = Open
@@ -28,13 +29,17 @@ abbrev pub behind : (ℕ → Bool) → List ℕ → List ℕ
 behind test [] = []
 behind test (b ∷ bs) = if test b then behind test bs else b ∷ bs
 
+-- an integer constant with nothing behind that goes on with it
+abbrev pub is_whole : List ℕ → List ℕ → Bool
+is_whole ds rest = is_integer ds && not (goes_on_behind ds rest)
+
 abbrev pub number_by : Bool → List ℕ → List ℕ → Option (Token × List ℕ)
-number_by true ds bytes = Some (Digits (number_from 0 ds), bytes)
+number_by true ds bytes = Some (Digits (integer_value ds), bytes)
 number_by false ds bytes = None
 
 -- the number of all digits and letters at the front
 abbrev pub number_at : List ℕ → Option (Token × List ℕ)
-number_at bytes = number_by (is_number (run is_alphanumeric bytes)) (run is_alphanumeric bytes) (behind is_alphanumeric bytes)
+number_at bytes = number_by (is_whole (run is_alphanumeric bytes) (behind is_alphanumeric bytes)) (run is_alphanumeric bytes) (behind is_alphanumeric bytes)
 
 abbrev pub word_at : List ℕ → Option (Token × List ℕ)
 word_at bytes = Some (word_token (run is_word bytes), behind is_word bytes)

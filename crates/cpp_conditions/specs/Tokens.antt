@@ -1,7 +1,8 @@
 -- Tokens of conditions, by longest match (ISO/IEC 9899:2011, 6.4, paragraph 4).
-use Rattle.std.specs.Prelude.{◌≡◌, ℕ, ◌+◌, ◌*◌, ◌-◌, nat_le, nat_eq, Bool, true, false, not, ◌&&◌, ◌||◌, if◌then◌else◌, List, [], ◌∷◌, ◌++◌, codes, Option, Some, None}
+use Rattle.std.specs.Prelude.{◌≡◌, ℕ, ◌+◌, nat_le, nat_eq, Bool, true, false, ◌&&◌, ◌||◌, if◌then◌else◌, List, [], ◌∷◌, ◌++◌, codes, Option, Some, None}
 use Rattle.std.specs.Str.{bytes_eq}
 use Rattle.std.specs.List.{list_all}
+use Rattle.cpp_conditions.specs.Integers.{is_integer, integer_value, goes_on_behind}
 use Rattle.cpp_conditions.specs.declared.operators.Operator.{Operator}
 use Rattle.cpp_conditions.specs.declared.operators.Operator.TheVariants.{Times, Plus, Minus, Less, AtMost, Greater, AtLeast, Equal, Differs, Both, Either}
 
@@ -40,16 +41,6 @@ is_space b = (nat_eq b 32 || nat_eq b 9) || (nat_eq b 11 || (nat_eq b 12 || nat_
 abbrev pub StopsAt : (ℕ → Bool) → List ℕ → Type 0
 StopsAt test [] = Unit {0}
 StopsAt test (b ∷ bs) = test b ≡ false
-
--- `0`, or digits without a leading zero
-abbrev pub is_number : List ℕ → Bool
-is_number [] = false
-is_number (b ∷ []) = is_digit b
-is_number (b ∷ c ∷ bs) = not (nat_eq b 48) && list_all is_digit (b ∷ c ∷ bs)
-
-abbrev pub number_from : ℕ → List ℕ → ℕ
-number_from n [] = n
-number_from n (b ∷ bs) = number_from (n * 10 + (b - 48)) bs
 
 abbrev pub is_identifier : List ℕ → Bool
 is_identifier [] = false
@@ -91,11 +82,11 @@ abbrev pub NoPair : ℕ → List ℕ → Type 0
 NoPair b [] = Unit {0}
 NoPair b (c ∷ bs) = pair_of b c ≡ None
 
--- the tokens of the bytes; none where a byte begins no token, or a run of digits and letters is no decimal number
+-- the tokens of the bytes; none where a byte begins no token, or a run of digits and letters is no integer constant
 pub data SpellsTokens : List ℕ → List Token → Type 0 where
   none : SpellsTokens [] []
   space : (b : ℕ) {bs : List ℕ} {ts : List Token} → is_space b ≡ true → SpellsTokens bs ts → SpellsTokens (b ∷ bs) ts
-  number : (ds : List ℕ) {bs : List ℕ} {ts : List Token} → is_number ds ≡ true → StopsAt is_alphanumeric bs → SpellsTokens bs ts → SpellsTokens (ds ++ bs) (Digits (number_from 0 ds) ∷ ts)
+  number : (ds : List ℕ) {bs : List ℕ} {ts : List Token} → is_integer ds ≡ true → StopsAt is_alphanumeric bs → goes_on_behind ds bs ≡ false → SpellsTokens bs ts → SpellsTokens (ds ++ bs) (Digits (integer_value ds) ∷ ts)
   word : (name : List ℕ) {bs : List ℕ} {ts : List Token} → is_identifier name ≡ true → StopsAt is_word bs → SpellsTokens bs ts → SpellsTokens (name ++ bs) (word_token name ∷ ts)
   pair : (b c : ℕ) (t : Token) {bs : List ℕ} {ts : List Token} → pair_of b c ≡ Some t → SpellsTokens bs ts → SpellsTokens (b ∷ c ∷ bs) (t ∷ ts)
   single : (b : ℕ) (t : Token) {bs : List ℕ} {ts : List Token} → single_of b ≡ Some t → NoPair b bs → SpellsTokens bs ts → SpellsTokens (b ∷ bs) (t ∷ ts)

@@ -9,36 +9,33 @@ ghost use Rattle.cpp_conditions.specs.Expressions.{found};
 ghost use Rattle.cpp_conditions.specs.Forming.{IsNumber, IsSmallOver, Forms, combined};
 ghost use Rattle.cpp_conditions.specs.Grammar.{are_small_forms};
 ghost use Rattle.cpp_conditions.specs.Meaning as meaning;
-ghost use Rattle.cpp_conditions.specs.Tokens.{number_from};
+ghost use Rattle.cpp_conditions.specs.Integers as specs;
 
 use crate::expressions::Expression;
+use crate::integers::integer_value;
 use crate::names::Names;
 use crate::operators::{Operator, Prefix};
-use fam_outer::cut;
 use linear_atoms::{Linear, LinearFault};
 use std::alloc::Global;
 
-/// The least number that is too large for a form.
-const TOO_LARGE: u64 = 2_147_483_649;
+/// The greatest number of a form.
+const GREATEST: u32 = 2_147_483_648;
 
-/// The number that digits write, and that which is too large for each that is.
+/// The number of an integer constant, and that which is too large for each that is.
 fn number(digits: &[u8]) -> u64
-    ensures exact { number_from 0 digits.now ≤ 2147483648 → result ≡ number_from 0 digits.now }
-    ensures large { 2147483648 < number_from 0 digits.now → result ≡ 2147483649 }
+    ensures exact { specs.integer_value digits.now ≤ 2147483648 → result ≡ specs.integer_value digits.now }
+    ensures large { 2147483648 < specs.integer_value digits.now → result ≡ 2147483649 }
 {
-    let mut value: u64 = 0;
-    let mut rest = digits;
-    'digits: while let Some((digit, behind)) = cut(rest) {
-        value = (value * 10 + digit.saturating_sub(b'0') as u64).min(TOO_LARGE);
-        rest = behind;
+    match integer_value(digits, GREATEST) {
+        Some(value) => value as u64,
+        None => GREATEST as u64 + 1,
     }
-    value
 }
 
 /// The form of a number.
 fn literal(alloc: Global, names: &Names<'_>, digits: &[u8]) -> Result<Linear, LinearFault>
-    ensures { Forms names.now result (forms.constant_form (pos (number_from 0 digits.now)))
-        (forms.is_small (pos (number_from 0 digits.now))) }
+    ensures { Forms names.now result (forms.constant_form (pos (specs.integer_value digits.now)))
+        (forms.is_small (pos (specs.integer_value digits.now))) }
 {
     Linear::constant(alloc, number(digits) as i64)
 }

@@ -14,6 +14,7 @@ use crate::expressions::Expression;
 use crate::names::Names;
 use crate::operators::{Operator, Prefix};
 use crate::tokens::Token;
+use fam_outer::Unknown;
 
 /// 1 for an operator or an opening parenthesis that is not that of `defined`, else 0.
 fn weight(token: Token<'_>, is_behind_defined: bool) -> usize
@@ -66,6 +67,28 @@ pub(crate) fn has_reserved(tree: &Expression<'_>) -> bool
         Expression::Name(name) | Expression::IsDefined(name) => is_reserved(name),
         Expression::Unary(_, operand) => has_reserved(operand),
         Expression::Binary(_, left, right) => has_reserved(left) || has_reserved(right),
+    }
+}
+
+/// Whether a name in the expression is that of no feature.
+fn has_unknown(names: &Names<'_>, tree: &Expression<'_>) -> bool
+    ensures { result ≡ grammar.has_unknown names.now (expression tree.now) }
+{
+    match tree {
+        Expression::Number(_) => false,
+        Expression::Name(name) | Expression::IsDefined(name) => names.number(name).is_none(),
+        Expression::Unary(_, operand) => has_unknown(names, operand),
+        Expression::Binary(_, left, right) => has_unknown(names, left) || has_unknown(names, right),
+    }
+}
+
+/// Whether a name that no feature has refuses the expression.
+pub(crate) fn unknown_refuses(unknown: Unknown, names: &Names<'_>, tree: &Expression<'_>) -> bool
+    ensures { result ≡ grammar.unknown_refuses unknown names.now (expression tree.now) }
+{
+    match unknown {
+        Unknown::Zero => false,
+        Unknown::Refuse => has_unknown(names, tree),
     }
 }
 

@@ -1,8 +1,10 @@
 //! What holds of the definitions alone.
 #![tactic(auto)]
 
-ghost use Rattle.std.specs.Prelude.{◌≡◌, ℕ, ℤ, List, Result, true};
+ghost use Rattle.std.specs.Prelude.{◌≡◌, ℕ, ℤ, List, Result, Ok, true};
 ghost use Rattle.fam_outer.specs.declared.faults.ConditionFault.{ConditionFault};
+ghost use Rattle.fam_outer.specs.declared.dialect.Unknown.{Unknown};
+ghost use Rattle.fam_outer.specs.declared.dialect.Unknown.TheVariants.{Zero, Refuse};
 ghost use Rattle.linear_atoms.specs.declared.atoms.Atom.{Atom};
 ghost use Rattle.linear_atoms.specs.declared.atoms.Feature.{Feature};
 ghost use Rattle.linear_atoms.specs.Atoms.{IsWithin};
@@ -29,8 +31,14 @@ pub fn bytes_spell_one_expression()
 
 /// Bytes are read in one way: as a condition, or with one fault.
 pub fn bytes_have_one_reading()
-    ensures { (features : List Feature) (bytes : List ℕ) (r s : Result (Proposition Atom) ConditionFault)
-        → ReadsAs features bytes r → ReadsAs features bytes s → r ≡ s }
+    ensures { (unknown : Unknown) (features : List Feature) (bytes : List ℕ) (r s : Result (Proposition Atom) ConditionFault)
+        → ReadsAs unknown features bytes r → ReadsAs unknown features bytes s → r ≡ s }
+{}
+
+/// What is read where unknown names are refused is read in the same way where they are 0.
+pub fn known_names_have_one_meaning()
+    ensures { (features : List Feature) (bytes : List ℕ) (p : Proposition Atom)
+        → ReadsAs Refuse features bytes (Ok p) → ReadsAs Zero features bytes (Ok p) }
 {}
 
 #[tactic(auto, using(crate::proofs::Collected::one_list))]
@@ -55,6 +63,6 @@ pub fn valid_configurations_are_within()
 
 /// Bytes are always read in some way.
 pub fn bytes_have_a_reading()
-    ensures { (features : List Feature) (bytes : List ℕ)
-        → (r : Result (Proposition Atom) ConditionFault) × ReadsAs features bytes r }
+    ensures { (unknown : Unknown) (features : List Feature) (bytes : List ℕ)
+        → (r : Result (Proposition Atom) ConditionFault) × ReadsAs unknown features bytes r }
 {}

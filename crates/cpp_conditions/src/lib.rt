@@ -9,6 +9,7 @@ mod expression_refusal;
 mod expressions;
 mod forming;
 pub mod formulas;
+mod integers;
 mod judging;
 pub mod laws;
 pub mod models;

@@ -15,11 +15,11 @@ ghost use Rattle.cpp_conditions.specs.View.{proposition};
 use crate::conditions::Condition;
 use crate::expression_refusal::ExpressionRefusal;
 use crate::expressions::{Expression, parse};
-use crate::judging::{count_deep, has_reserved, named};
+use crate::judging::{count_deep, has_reserved, named, unknown_refuses};
 use crate::names::Names;
 use crate::tokens::scan;
 use crate::truths::condition;
-use fam_outer::{ConditionFault, MOST_OPERATORS, NoMemory};
+use fam_outer::{ConditionFault, MOST_OPERATORS, NoMemory, Unknown};
 use linear_atoms::{Feature, LinearFault};
 use std::alloc::Global;
 
@@ -69,18 +69,22 @@ impl From<LinearFault> for ConditionRefusal {
     }
 }
 
-/// The condition that an expression means, or what refuses it: a reserved name before a truth value that is used as
-/// a number or a product of features, and this before a number that is too large.
+/// The condition that an expression means, or what refuses it: a reserved name before one that no feature has, this
+/// before a truth value that is used as a number or a product of features, and this before a number that is too large.
 fn judge(
     alloc: Global,
+    unknown: Unknown,
     names: &Names<'_>,
     tree: &Expression<'_>,
 ) -> Result<Condition, ConditionRefusal>
-    ensures is { Judges result (judged names.now (expression tree.now)) }
+    ensures is { Judges result (judged unknown names.now (expression tree.now)) }
     ensures over { IfOk result (λ made. IsOverFeatures names.now (proposition made)) }
 {
     if has_reserved(tree) {
         return Err(ConditionRefusal::Fault(ConditionFault::ReservedName));
+    }
+    if unknown_refuses(unknown, names, tree) {
+        return Err(ConditionRefusal::Fault(ConditionFault::UnknownName));
     }
     match named(names, tree) {
         None => Err(ConditionRefusal::Fault(ConditionFault::NonLinear)),
@@ -102,6 +106,7 @@ fn judge(
 /// - `TooDeep`, where more than 64 tokens are operators or opening parentheses, not counting those of `defined`;
 /// - `Syntax`, where the tokens are no expression;
 /// - `ReservedName`, where a name begins with two underscores;
+/// - `UnknownName`, under `Unknown::Refuse` where a name is that of no feature, under `defined` too;
 /// - `NonLinear`, where a truth value (what `!`, a comparison, `&&` or `||` gives) is used as a number, or both sides
 ///   of a product name a feature, integer features under `defined` aside;
 /// - `TooLarge`, where a literal, a number of a subexpression's linear form, or one of a form that is put in normal
@@ -110,11 +115,12 @@ fn judge(
 /// It answers `NoMemory` for want of memory.
 pub fn read_condition(
     alloc: Global,
+    unknown: Unknown,
     features: &[Feature],
     bytes: &[u8],
 ) -> Result<Condition, ConditionRefusal>
     requires { AreFeatures features.now }
-    ensures read { IsConditionRead features.now bytes.now result }
+    ensures read { IsConditionRead unknown features.now bytes.now result }
     ensures value { IfOk result (λ made. (e : expressions.Expression) (values : List ℤ) → CSpells e bytes.now
         → IsWithin features.now values
         → true_at values (proposition made) ≡ expressions.is_nonzero (expressions.value features.now values e)) }
@@ -127,5 +133,5 @@ pub fn read_condition(
     }
     let tree = parse(alloc, &tokens)?;
     let names = Names::of(alloc, features)?;
-    judge(alloc, &names, &tree)
+    judge(alloc, unknown, &names, &tree)
 }

@@ -2,11 +2,13 @@
 #![tactic(auto)]
 
 ghost use Rattle.std.specs.Prelude.{◌≡◌, ◌≤◌, [], ◌∷◌, length, option_map};
-ghost use Rattle.std.specs.List.{list_all, prefix_len};
+ghost use Rattle.std.specs.List.{prefix_len};
 ghost use Rattle.cpp_conditions.specs.Tokens as kinds;
+ghost use Rattle.cpp_conditions.specs.Scanning as scanning;
 ghost use Rattle.cpp_conditions.specs.Scanning.{token, number_at, word_at, mark_at, lexeme_at, plainly, Scans};
 
 use crate::expression_refusal::ExpressionRefusal;
+use crate::integers::{goes_on_behind, is_integer};
 use crate::operators::Operator;
 use fam_outer::cut;
 use std::alloc::Global;
@@ -92,24 +94,6 @@ fn single<'a>(byte: u8) -> Option<Token<'a>>
     }
 }
 
-/// Whether all bytes are digits.
-fn all_digits(run: &[u8]) -> bool
-    ensures { result ≡ list_all kinds.is_digit run.now }
-{
-    run.iter().all(|b| is_digit(*b))
-}
-
-/// `0`, or digits without a leading zero.
-fn is_number(run: &[u8]) -> bool
-    ensures { result ≡ kinds.is_number run.now }
-{
-    match run {
-        [] => false,
-        [b] => is_digit(*b),
-        [b, ..] => *b != b'0' && all_digits(run),
-    }
-}
-
 /// How many bytes at the front are letters and digits.
 fn alphanumeric_len(bytes: &[u8]) -> usize
     ensures value { result ≡ prefix_len kinds.is_alphanumeric bytes.now }
@@ -126,12 +110,20 @@ fn word_len(bytes: &[u8]) -> usize
     bytes.iter().take_while(|b| is_word(**b)).count()
 }
 
-/// The number of all digits and letters at the front, and what is behind it.
+/// Whether these letters and digits are an integer constant with which no sign behind them goes on.
+fn is_whole(word: &[u8], rest: &[u8]) -> bool
+    ensures { result ≡ scanning.is_whole word.now rest.now }
+{
+    is_integer(word) && !goes_on_behind(word, rest)
+}
+
+/// The number of all digits and letters at the front, and what is behind it; none where they are no integer constant, or
+/// a sign goes on with them.
 fn number(bytes: &[u8]) -> Option<(Token<'_>, &[u8])>
     ensures { plainly result ≡ number_at bytes.now }
 {
     let (digits, behind) = bytes.split_at(alphanumeric_len(bytes));
-    if is_number(digits) {
+    if is_whole(digits, behind) {
         Some((Token::Digits(digits), behind))
     } else {
         None
@@ -187,7 +179,7 @@ fn lexeme<'a>(bytes: &'a [u8], first: u8, behind: &'a [u8]) -> Option<(Token<'a>
 }
 
 /// The tokens of the bytes. It answers `Wrong` where a byte begins no token, or a run of digits and letters is no
-/// decimal number.
+/// integer constant.
 pub(crate) fn scan(alloc: Global, bytes: &[u8]) -> Result<Vec<Token<'_>>, ExpressionRefusal>
     ensures { Scans result bytes.now }
 {

@@ -2,6 +2,8 @@
 use Rattle.std.proofs.Common.{◌≡◌, ℕ, suc, ◌+◌, Bool, true, false, not, cond, List, [], ◌∷◌, ◌++◌, length, take, drop, Option, Some, None, Result, Ok, Err, refl, sym, ap, subst, ◌∙◌, append_assoc, arith}
 use Rattle.std.specs.List.{list_any}
 use Rattle.std.proofs.lemmas.List.{append-nil}
+use Rattle.fam_outer.specs.declared.dialect.Includes.TheVariants.{Assert, Skip}
+use Rattle.fam_outer.specs.declared.dialect.Includes.{Includes}
 use Rattle.fam_outer.specs.declared.faults.Place.{Place}
 use Rattle.fam_outer.specs.declared.faults.FileCode.{FileCode}
 use Rattle.fam_outer.specs.declared.faults.FileRefusal.{FileRefusal}
@@ -14,7 +16,7 @@ use Rattle.cpp_lines.specs.declared.line.LineKind.{LineKind}
 use Rattle.cpp_lines.specs.declared.directives.Directive.{Directive}
 use Rattle.cpp_lines.specs.declared.directives.Directive.TheVariants as named
 use Rattle.cpp_lines.specs.declared.line.LineKind.TheVariants.{Code}
-use Rattle.cpp_lines.specs.Directives.{begins_directive, behind_hash, directive_of, plain_directive, plain_kind}
+use Rattle.cpp_lines.specs.Directives.{begins_directive, behind_hash, directive_of, include_fault, include_unless, plain_directive, plain_kind}
 use Rattle.cpp_lines.specs.Lines.{line_with, plain_line, before, plain_lines_from, is_code, IsLineAt, AreLinesFrom}
 use Rattle.cpp_lines.proofs.Faulting.{front_more}
 
@@ -31,30 +33,30 @@ pub none_yet : (r : Result (List Line) (FileCode × Place)) → prepended [] r �
 none_yet (Ok ls) = refl
 none_yet (Err fault) = refl
 
-pub line_on : (list : List Line) (text : List ℕ) (start next : ℕ) (first : Place) (line : Line) (p : List ℕ) (ps qs : List (List ℕ)) (total : Result (List Line) (FileCode × Place)) → ps ≡ p ∷ qs → first ≡ place_at text start
-    → next ≡ start + length p + 1 → plain_line start first p ≡ Ok line → prepended list (plain_lines_from text start ps) ≡ total
-    → prepended (list ++ line ∷ []) (plain_lines_from text next qs) ≡ total
-line_on list text start next first line p ps qs total cut ef en e h =
-    ap (λ (i : ℕ). prepended (list ++ line ∷ []) (plain_lines_from text i qs)) en
-    ∙ one_more list line (plain_lines_from text (start + length p + 1) qs)
-    ∙ ap (λ (r : Result Line (FileCode × Place)). prepended list (before r (plain_lines_from text (start + length p + 1) qs))) (sym e ∙ ap (λ (f : Place). plain_line start f p) ef)
-    ∙ ap (λ (xs : List (List ℕ)). prepended list (plain_lines_from text start xs)) (sym cut) ∙ h
+pub line_on : (includes : Includes) (list : List Line) (text : List ℕ) (start next : ℕ) (first : Place) (line : Line) (p : List ℕ) (ps qs : List (List ℕ)) (total : Result (List Line) (FileCode × Place)) → ps ≡ p ∷ qs → first ≡ place_at text start
+    → next ≡ start + length p + 1 → plain_line includes start first p ≡ Ok line → prepended list (plain_lines_from includes text start ps) ≡ total
+    → prepended (list ++ line ∷ []) (plain_lines_from includes text next qs) ≡ total
+line_on includes list text start next first line p ps qs total cut ef en e h =
+    ap (λ (i : ℕ). prepended (list ++ line ∷ []) (plain_lines_from includes text i qs)) en
+    ∙ one_more list line (plain_lines_from includes text (start + length p + 1) qs)
+    ∙ ap (λ (r : Result Line (FileCode × Place)). prepended list (before r (plain_lines_from includes text (start + length p + 1) qs))) (sym e ∙ ap (λ (f : Place). plain_line includes start f p) ef)
+    ∙ ap (λ (xs : List (List ℕ)). prepended list (plain_lines_from includes text start xs)) (sym cut) ∙ h
 
-pub fault_on : (list : List Line) (text : List ℕ) (start : ℕ) (first : Place) (fault : FileCode × Place) (p : List ℕ) (ps qs : List (List ℕ)) (total : Result (List Line) (FileCode × Place)) → ps ≡ p ∷ qs → first ≡ place_at text start
-    → plain_line start first p ≡ Err fault → prepended list (plain_lines_from text start ps) ≡ total → total ≡ Err fault
-fault_on list text start first fault p ps qs total cut ef e h =
-    sym h ∙ ap (λ (xs : List (List ℕ)). prepended list (plain_lines_from text start xs)) cut
-    ∙ ap (λ (r : Result Line (FileCode × Place)). prepended list (before r (plain_lines_from text (start + length p + 1) qs))) (ap (λ (f : Place). plain_line start f p) (sym ef) ∙ e)
+pub fault_on : (includes : Includes) (list : List Line) (text : List ℕ) (start : ℕ) (first : Place) (fault : FileCode × Place) (p : List ℕ) (ps qs : List (List ℕ)) (total : Result (List Line) (FileCode × Place)) → ps ≡ p ∷ qs → first ≡ place_at text start
+    → plain_line includes start first p ≡ Err fault → prepended list (plain_lines_from includes text start ps) ≡ total → total ≡ Err fault
+fault_on includes list text start first fault p ps qs total cut ef e h =
+    sym h ∙ ap (λ (xs : List (List ℕ)). prepended list (plain_lines_from includes text start xs)) cut
+    ∙ ap (λ (r : Result Line (FileCode × Place)). prepended list (before r (plain_lines_from includes text (start + length p + 1) qs))) (ap (λ (f : Place). plain_line includes start f p) (sym ef) ∙ e)
 
-pub last_on : (list : List Line) (text : List ℕ) (start : ℕ) (first : Place) (line : Line) (p : List ℕ) (ps : List (List ℕ)) (total : Result (List Line) (FileCode × Place)) → ps ≡ p ∷ [] → first ≡ place_at text start
-    → plain_line start first p ≡ Ok line → prepended list (plain_lines_from text start ps) ≡ total → total ≡ Ok (list ++ line ∷ [])
-last_on list text start first line p ps total cut ef e h =
-    sym (line_on list text start (start + length p + 1) first line p ps [] total cut ef refl e h) ∙ ap (λ (xs : List Line). Ok xs) (append-nil (list ++ line ∷ []))
+pub last_on : (includes : Includes) (list : List Line) (text : List ℕ) (start : ℕ) (first : Place) (line : Line) (p : List ℕ) (ps : List (List ℕ)) (total : Result (List Line) (FileCode × Place)) → ps ≡ p ∷ [] → first ≡ place_at text start
+    → plain_line includes start first p ≡ Ok line → prepended list (plain_lines_from includes text start ps) ≡ total → total ≡ Ok (list ++ line ∷ [])
+last_on includes list text start first line p ps total cut ef e h =
+    sym (line_on includes list text start (start + length p + 1) first line p ps [] total cut ef refl e h) ∙ ap (λ (xs : List Line). Ok xs) (append-nil (list ++ line ∷ []))
 
-pub fault_gives : (list : List Line) (text : List ℕ) (start : ℕ) (first : Place) (r : FileRefusal) (p : List ℕ) (ps qs : List (List ℕ)) (total : Result (List Line) (FileCode × Place)) → ps ≡ p ∷ qs → first ≡ place_at text start
-    → Gives (λ (l : Line). l) (Err r) (plain_line start first p) → prepended list (plain_lines_from text start ps) ≡ total → Gives (λ (ls : List Line). ls) (Err r) total
-fault_gives list text start first NoMemory p ps qs total cut ef e h = tt
-fault_gives list text start first (Fault code place) p ps qs total cut ef e h = fault_on list text start first (code, place) p ps qs total cut ef e h
+pub fault_gives : (includes : Includes) (list : List Line) (text : List ℕ) (start : ℕ) (first : Place) (r : FileRefusal) (p : List ℕ) (ps qs : List (List ℕ)) (total : Result (List Line) (FileCode × Place)) → ps ≡ p ∷ qs → first ≡ place_at text start
+    → Gives (λ (l : Line). l) (Err r) (plain_line includes start first p) → prepended list (plain_lines_from includes text start ps) ≡ total → Gives (λ (ls : List Line). ls) (Err r) total
+fault_gives includes list text start first NoMemory p ps qs total cut ef e h = tt
+fault_gives includes list text start first (Fault code place) p ps qs total cut ef e h = fault_on includes list text start first (code, place) p ps qs total cut ef e h
 
 -- ---- the next line
 
@@ -83,38 +85,43 @@ abbrev pub IsCodeOr : Bool → Result LineKind FileCode → Type 0
 IsCodeOr directive (Ok kind) = is_code kind ≡ not directive
 IsCodeOr directive (Err code) = Unit
 
-no_code : (d : Option Directive) → IsCodeOr true (plain_directive d)
-no_code None = tt
-no_code (Some named.Include) = refl
-no_code (Some named.If) = tt
-no_code (Some named.Ifdef) = tt
-no_code (Some named.Ifndef) = tt
-no_code (Some named.Elif) = tt
-no_code (Some named.Else) = tt
-no_code (Some named.Endif) = tt
+other_include : (includes : Includes) → IsCodeOr true (include_unless (include_fault includes))
+other_include Assert = tt
+other_include Skip = refl
 
-pub kind_is : (line : List ℕ) → IsCodeOr (begins_directive line) (plain_kind line)
-kind_is line = elim (begins_directive line) as (λ t. IsCodeOr t (cond t (plain_directive (directive_of (behind_hash line))) (Ok Code))) [ true ↦ no_code (directive_of (behind_hash line)) | false ↦ refl ]
+no_code : (includes : Includes) (d : Option Directive) → IsCodeOr true (plain_directive includes d)
+no_code includes None = tt
+no_code includes (Some named.Include) = refl
+no_code includes (Some named.OtherInclude) = other_include includes
+no_code includes (Some named.If) = tt
+no_code includes (Some named.Ifdef) = tt
+no_code includes (Some named.Ifndef) = tt
+no_code includes (Some named.Elif) = tt
+no_code includes (Some named.Else) = tt
+no_code includes (Some named.Endif) = tt
+
+pub kind_is : (includes : Includes) (line : List ℕ) → IsCodeOr (begins_directive line) (plain_kind includes line)
+kind_is includes line = elim (begins_directive line) as (λ t. IsCodeOr t (cond t (plain_directive includes (directive_of (behind_hash line))) (Ok Code))) [ true ↦ no_code includes (directive_of (behind_hash line)) | false ↦ refl ]
 
 -- the value of an `Ok`
 abbrev pub got : {X Y : Type 0} → X → Result X Y → X
 got x (Ok y) = y
 got x (Err e) = x
 
-line_is : (start : ℕ) (first : Place) (p : List ℕ) (l : Line) → plain_line start first p ≡ Ok l → IsLineAt start p l
-line_is start first p l e = elim (plain_kind p) as (λ r. IsCodeOr (begins_directive p) r → line_with r start first p ≡ Ok l → IsLineAt start p l) [
+line_is : (includes : Includes) (start : ℕ) (first : Place) (p : List ℕ) (l : Line) → plain_line includes start first p ≡ Ok l → IsLineAt start p l
+line_is includes start first p l e = elim (plain_kind includes p) as (λ r. IsCodeOr (begins_directive p) r → line_with r start first p ≡ Ok l → IsLineAt start p l) [
   | Ok kind ↦ λ k h. subst (λ (x : Line). IsLineAt start p x) (ap (got l) h) (record { starts = refl; ends = refl; kind = k })
   | Err code ↦ λ k h. absurd cc
-] (kind_is p) e
+] (kind_is includes p) e
 
 pub both : (r : Result Line (FileCode × Place)) (q : Result (List Line) (FileCode × Place)) (ls : List Line) → before r q ≡ Ok ls → (l : Line) × (ks : List Line) × (r ≡ Ok l) × (q ≡ Ok ks) × ((l ∷ ks) ≡ ls)
 both (Ok l) (Ok ks) ls e = (l, ks, refl, refl, ap (got ls) e)
 both (Ok l) (Err f) ls e = absurd cc
 both (Err f) q ls e = absurd cc
 
-pub are_lines : (text : List ℕ) (start : ℕ) (ps : List (List ℕ)) (ls : List Line) → plain_lines_from text start ps ≡ Ok ls → AreLinesFrom start ps ls
-are_lines text start [] [] e = tt
-are_lines text start [] (l ∷ ls) e = absurd cc
-are_lines text start (p ∷ ps) ls e =
-    let b = both (plain_line start (place_at text start) p) (plain_lines_from text (start + length p + 1) ps) ls e in
-    subst (λ (xs : List Line). AreLinesFrom start (p ∷ ps) xs) b.4 (line_is start (place_at text start) p b.0 b.2, are_lines text (start + length p + 1) ps b.1 b.3)
+pub are_lines : (includes : Includes) (text : List ℕ) (start : ℕ) (ps : List (List ℕ)) (ls : List Line) → plain_lines_from includes text start ps ≡ Ok ls → AreLinesFrom start ps ls
+are_lines includes text start [] [] e = tt
+are_lines includes text start [] (l ∷ ls) e = absurd cc
+are_lines includes text start (p ∷ ps) ls e =
+    let b = both (plain_line includes start (place_at text start) p) (plain_lines_from includes text (start + length p + 1) ps) ls e in
+    subst (λ (xs : List Line). AreLinesFrom start (p ∷ ps) xs) b.4 (line_is includes start (place_at text start) p b.0 b.2, are_lines includes text (start + length p + 1) ps b.1 b.3)

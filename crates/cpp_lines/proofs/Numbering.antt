@@ -1,6 +1,8 @@
 -- Formulas of conditions, one after another; lines, and the numbers of their conditions.
 use Rattle.std.proofs.Common.{◌≡◌, ℕ, suc, ◌+◌, ◌<◌, Bool, true, false, not, List, [], ◌∷◌, ◌++◌, length, Option, Some, None, Result, Ok, Err, refl, sym, ap, ◌∙◌, arith, cond, append_assoc}
 use Rattle.std.proofs.lemmas.List.{length-append}
+use Rattle.fam_outer.specs.declared.dialect.Includes.{Includes}
+use Rattle.fam_outer.specs.declared.dialect.Dialect.{Dialect}
 use Rattle.fam_outer.specs.declared.faults.FileCode.{FileCode}
 use Rattle.fam_outer.specs.declared.faults.Place.{Place}
 use Rattle.fam_outer.specs.Places.{place_at}
@@ -34,30 +36,31 @@ numbered_more atoms (q ∷ ps) (g ∷ fs) p f h k = (h.0, numbered_more atoms ps
 abbrev HasKind : ℕ → Bool → Option Directive → Type 0
 HasKind n b d = is_code (cond b (kind_of n d) kinds.Code) ≡ not b
 
-known : (n : ℕ) (opens : List Bool) (d : Option Directive) → directive_fault opens d ≡ None → HasKind n true d
-known n opens None e = absurd cc
-known n opens (Some named.Include) e = refl
-known n opens (Some named.If) e = refl
-known n opens (Some named.Ifdef) e = refl
-known n opens (Some named.Ifndef) e = refl
-known n opens (Some named.Elif) e = refl
-known n opens (Some named.Else) e = refl
-known n opens (Some named.Endif) e = refl
+known : (includes : Includes) (n : ℕ) (opens : List Bool) (d : Option Directive) → directive_fault includes opens d ≡ None → HasKind n true d
+known includes n opens None e = absurd cc
+known includes n opens (Some named.Include) e = refl
+known includes n opens (Some named.OtherInclude) e = refl
+known includes n opens (Some named.If) e = refl
+known includes n opens (Some named.Ifdef) e = refl
+known includes n opens (Some named.Ifndef) e = refl
+known includes n opens (Some named.Elif) e = refl
+known includes n opens (Some named.Else) e = refl
+known includes n opens (Some named.Endif) e = refl
 
-has_kind : (n : ℕ) (opens : List Bool) (b : Bool) (d : Option Directive) → cond b (directive_fault opens d) None ≡ None → HasKind n b d
-has_kind n opens true d e = known n opens d e
-has_kind n opens false d e = refl
+has_kind : (includes : Includes) (n : ℕ) (opens : List Bool) (b : Bool) (d : Option Directive) → cond b (directive_fault includes opens d) None ≡ None → HasKind n b d
+has_kind includes n opens true d e = known includes n opens d e
+has_kind includes n opens false d e = refl
 
-fine : (m : Plain) (opens : List Bool) (ps qs : List (Proposition Atom)) (line : List ℕ) → IsRead m opens ps line qs → line_fault opens line ≡ None
-fine m opens ps [] line (sections.untested f e) = f
-fine m opens ps (q ∷ []) line (sections.tested text p f e h k) = f
-fine m opens ps (q ∷ (_ ∷ _)) line x5 = elim x5 [ ]
+fine : (dialect : Dialect) (m : Plain) (opens : List Bool) (ps qs : List (Proposition Atom)) (line : List ℕ) → IsRead dialect m opens ps line qs → line_fault dialect.includes opens line ≡ None
+fine dialect m opens ps [] line (sections.untested f e) = f
+fine dialect m opens ps (q ∷ []) line (sections.tested text p f e h k) = f
+fine dialect m opens ps (q ∷ (_ ∷ _)) line x5 = elim x5 [ ]
 
-line_is : (m : Plain) (opens : List Bool) (ps qs : List (Proposition Atom)) (start : ℕ) (first : Place) (line : List ℕ) → IsRead m opens ps line qs → IsLineAt start line (line_at (length ps) start first line)
-line_is m opens ps qs start first line h = record {
+line_is : (dialect : Dialect) (m : Plain) (opens : List Bool) (ps qs : List (Proposition Atom)) (start : ℕ) (first : Place) (line : List ℕ) → IsRead dialect m opens ps line qs → IsLineAt start line (line_at (length ps) start first line)
+line_is dialect m opens ps qs start first line h = record {
   starts = refl;
   ends = refl;
-  kind = has_kind (length ps) opens (begins_directive line) (directive_of (behind_hash line)) (fine m opens ps qs line h);
+  kind = has_kind dialect.includes (length ps) opens (begins_directive line) (directive_of (behind_hash line)) (fine dialect m opens ps qs line h);
 }
 
 abbrev LinesAre : ℕ → List (List ℕ) → Result Told (FileCode × Place) → Type 0
@@ -69,13 +72,13 @@ one_more_line : (start : ℕ) (line : List ℕ) (lines : List (List ℕ)) (l : L
 one_more_line start line lines l qs (Ok told) h k = (h, k)
 one_more_line start line lines l qs (Err fault) h k = tt
 
-pub lines_are : (m : Plain) (text : List ℕ) (opens : List Bool) (ps : List (Proposition Atom)) (start : ℕ) (lines : List (List ℕ)) (r : Result Told (FileCode × Place)) → AreRead m text opens ps start lines r → LinesAre start lines r
-lines_are m text opens ps start [] r (sections.none o q s) = tt
-lines_are m text opens ps start (line ∷ lines) r (sections.unclosed o q s l ls u) = tt
-lines_are m text opens ps start (line ∷ lines) r (sections.faulty o q s l ls code u f) = tt
-lines_are m text opens ps start (line ∷ lines) r (sections.goes_on o q s l ls qs x u h k) =
-    one_more_line start line lines (line_at (length ps) start (place_at text start) line) qs x (line_is m opens ps qs start (place_at text start) line h)
-    (lines_are m text (opened_by (named_in line) opens) (ps ++ qs) (start + length line + 1) lines x k)
+pub lines_are : (dialect : Dialect) (m : Plain) (text : List ℕ) (opens : List Bool) (ps : List (Proposition Atom)) (start : ℕ) (lines : List (List ℕ)) (r : Result Told (FileCode × Place)) → AreRead dialect m text opens ps start lines r → LinesAre start lines r
+lines_are dialect m text opens ps start [] r (sections.none o q s) = tt
+lines_are dialect m text opens ps start (line ∷ lines) r (sections.unclosed o q s l ls u) = tt
+lines_are dialect m text opens ps start (line ∷ lines) r (sections.faulty o q s l ls code u f) = tt
+lines_are dialect m text opens ps start (line ∷ lines) r (sections.goes_on o q s l ls qs x u h k) =
+    one_more_line start line lines (line_at (length ps) start (place_at text start) line) qs x (line_is dialect m opens ps qs start (place_at text start) line h)
+    (lines_are dialect m text (opened_by (named_in line) opens) (ps ++ qs) (start + length line + 1) lines x k)
 
 -- ---- the numbers of conditions
 
@@ -90,6 +93,7 @@ below_any n count (Some named.Elif) k = k
 below_any n count (Some named.Ifdef) k = k
 below_any n count (Some named.Ifndef) k = k
 below_any n count (Some named.Include) k = tt
+below_any n count (Some named.OtherInclude) k = tt
 below_any n count (Some named.Else) k = tt
 below_any n count (Some named.Endif) k = tt
 
@@ -100,6 +104,7 @@ asks_not n count (Some named.Elif) rest h = absurd cc
 asks_not n count (Some named.Ifdef) rest h = absurd cc
 asks_not n count (Some named.Ifndef) rest h = absurd cc
 asks_not n count (Some named.Include) rest h = tt
+asks_not n count (Some named.OtherInclude) rest h = tt
 asks_not n count (Some named.Else) rest h = tt
 asks_not n count (Some named.Endif) rest h = tt
 
@@ -111,25 +116,25 @@ kind_below : (n count : ℕ) (b : Bool) (d : Option Directive) → n < count →
 kind_below n count true d k = below_any n count d k
 kind_below n count false d k = tt
 
-line_below : (m : Plain) (opens : List Bool) (ps qs more : List (Proposition Atom)) (line : List ℕ) (n : ℕ) → IsRead m opens ps line qs → n ≡ length (ps ++ (qs ++ more))
+line_below : (dialect : Dialect) (m : Plain) (opens : List Bool) (ps qs more : List (Proposition Atom)) (line : List ℕ) (n : ℕ) → IsRead dialect m opens ps line qs → n ≡ length (ps ++ (qs ++ more))
     → IsNumberedBelow n (cond (begins_directive line) (kind_of (length ps) (directive_of (behind_hash line))) kinds.Code)
-line_below m opens ps [] more line n (sections.untested f e) k = kind_not (length ps) n (begins_directive line) (directive_of (behind_hash line)) (behind_word (behind_hash line)) e
-line_below m opens ps (q ∷ []) more line n (sections.tested text p f e h j) k =
+line_below dialect m opens ps [] more line n (sections.untested f e) k = kind_not (length ps) n (begins_directive line) (directive_of (behind_hash line)) (behind_word (behind_hash line)) e
+line_below dialect m opens ps (q ∷ []) more line n (sections.tested text p f e h j) k =
     kind_below (length ps) n (begins_directive line) (directive_of (behind_hash line)) (omega (arith, length-append ps (q ∷ more)))
-line_below m opens ps (q ∷ (_ ∷ _)) more line n x6 k = elim x6 [ ]
+line_below dialect m opens ps (q ∷ (_ ∷ _)) more line n x6 k = elim x6 [ ]
 
-one_more_number : (m : Plain) (opens : List Bool) (ps qs : List (Proposition Atom)) (start : ℕ) (first : Place) (line : List ℕ) (r : Result Told (FileCode × Place)) → IsRead m opens ps line qs → NumbersBelow (ps ++ qs) r
+one_more_number : (dialect : Dialect) (m : Plain) (opens : List Bool) (ps qs : List (Proposition Atom)) (start : ℕ) (first : Place) (line : List ℕ) (r : Result Told (FileCode × Place)) → IsRead dialect m opens ps line qs → NumbersBelow (ps ++ qs) r
     → NumbersBelow ps (in_front (line_at (length ps) start first line ∷ []) qs r)
-one_more_number m opens ps qs start first line (Ok told) h k = λ n e.
-    (line_below m opens ps qs told.conditions line n h e, k n (e ∙ ap length (sym (append_assoc ps qs told.conditions))))
-one_more_number m opens ps qs start first line (Err fault) h k = tt
+one_more_number dialect m opens ps qs start first line (Ok told) h k = λ n e.
+    (line_below dialect m opens ps qs told.conditions line n h e, k n (e ∙ ap length (sym (append_assoc ps qs told.conditions))))
+one_more_number dialect m opens ps qs start first line (Err fault) h k = tt
 
-pub numbers_are : (m : Plain) (text : List ℕ) (opens : List Bool) (ps : List (Proposition Atom)) (start : ℕ) (lines : List (List ℕ)) (r : Result Told (FileCode × Place)) → AreRead m text opens ps start lines r → NumbersBelow ps r
-numbers_are m text opens ps start [] r (sections.none o q s) = λ n e. tt
-numbers_are m text opens ps start (line ∷ lines) r (sections.unclosed o q s l ls u) = tt
-numbers_are m text opens ps start (line ∷ lines) r (sections.faulty o q s l ls code u f) = tt
-numbers_are m text opens ps start (line ∷ lines) r (sections.goes_on o q s l ls qs x u h k) =
-    one_more_number m opens ps qs start (place_at text start) line x h (numbers_are m text (opened_by (named_in line) opens) (ps ++ qs) (start + length line + 1) lines x k)
+pub numbers_are : (dialect : Dialect) (m : Plain) (text : List ℕ) (opens : List Bool) (ps : List (Proposition Atom)) (start : ℕ) (lines : List (List ℕ)) (r : Result Told (FileCode × Place)) → AreRead dialect m text opens ps start lines r → NumbersBelow ps r
+numbers_are dialect m text opens ps start [] r (sections.none o q s) = λ n e. tt
+numbers_are dialect m text opens ps start (line ∷ lines) r (sections.unclosed o q s l ls u) = tt
+numbers_are dialect m text opens ps start (line ∷ lines) r (sections.faulty o q s l ls code u f) = tt
+numbers_are dialect m text opens ps start (line ∷ lines) r (sections.goes_on o q s l ls qs x u h k) =
+    one_more_number dialect m opens ps qs start (place_at text start) line x h (numbers_are dialect m text (opened_by (named_in line) opens) (ps ++ qs) (start + length line + 1) lines x k)
 
 pub same_count : (atoms : List Atom) (ps : List (Proposition Atom)) (fs : List Formula) → AreNumbered atoms ps fs → length ps ≡ length fs
 same_count atoms [] [] h = refl

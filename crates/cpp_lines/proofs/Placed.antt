@@ -5,6 +5,7 @@ use Rattle.std.proofs.lemmas.Bool.{or_from, or_parts}
 use Rattle.std.proofs.lemmas.List.{append-nil, length-drop, length-append, length-take-le, drop-drop, take-append-le}
 use Rattle.std.proofs.lemmas.List.Sums.{prefix_len-le-length}
 use Rattle.std.proofs.Math.Seq.{take-add}
+use Rattle.fam_outer.specs.declared.dialect.Includes.{Includes}
 use Rattle.fam_outer.specs.Places.{is_newline, end_place, place_at}
 use Rattle.fam_outer.proofs.Placing.{spot, behind_bytes}
 use Rattle.cpp_lines.specs.declared.line.Line.{Line}
@@ -52,23 +53,23 @@ line_placed text p rest start kind cut same none k =
     ]
     ∙ ap (λ (v : Bool). place_at text (cond v start (start + gap_of (drop start text)))) (sym k)
 
-one_placed : (text p rest : List ℕ) (start : ℕ) (l : Line) → drop start text ≡ p ++ rest → gap_of (p ++ rest) ≡ gap_of p → list_any is_newline p ≡ false → plain_line start (place_at text start) p ≡ Ok l → IsPlaced text l
-one_placed text p rest start l cut same none e = elim (plain_kind p) as (λ r. IsCodeOr (begins_directive p) r → line_with r start (place_at text start) p ≡ Ok l → IsPlaced text l) [
+one_placed : (includes : Includes) (text p rest : List ℕ) (start : ℕ) (l : Line) → drop start text ≡ p ++ rest → gap_of (p ++ rest) ≡ gap_of p → list_any is_newline p ≡ false → plain_line includes start (place_at text start) p ≡ Ok l → IsPlaced text l
+one_placed includes text p rest start l cut same none e = elim (plain_kind includes p) as (λ r. IsCodeOr (begins_directive p) r → line_with r start (place_at text start) p ≡ Ok l → IsPlaced text l) [
   | Ok kind ↦ λ k h. subst (λ (x : Line). IsPlaced text x) (ap (got l) h) (line_placed text p rest start kind cut same none k)
   | Err code ↦ λ k h. absurd cc
-] (kind_is p) e
+] (kind_is includes p) e
 
-pub all_placed : (text : List ℕ) (start : ℕ) (ps : List (List ℕ)) (ls : List Line) → plain_lines_from text start ps ≡ Ok ls → pieces (drop start text) ≡ ps → start ≤ length text → ArePlaced text ls
-all_placed text start [] ls h e le = absurd (not_none (drop start text) e)
-all_placed text start (p ∷ []) ls h e le =
+pub all_placed : (includes : Includes) (text : List ℕ) (start : ℕ) (ps : List (List ℕ)) (ls : List Line) → plain_lines_from includes text start ps ≡ Ok ls → pieces (drop start text) ≡ ps → start ≤ length text → ArePlaced text ls
+all_placed includes text start [] ls h e le = absurd (not_none (drop start text) e)
+all_placed includes text start (p ∷ []) ls h e le =
     let k = last_piece (drop start text) p e in
-    let b = both (plain_line start (place_at text start) p) (Ok []) ls h in
+    let b = both (plain_line includes start (place_at text start) p) (Ok []) ls h in
     subst (λ (xs : List Line). ArePlaced text xs) (ap (λ (ks : List Line). b.0 ∷ ks) (ap (got []) b.3) ∙ b.4)
-    (one_placed text p [] start b.0 (k.0 ∙ sym (append-nil p)) (ap gap_of (append-nil p)) k.1 b.2, tt)
-all_placed text start (p ∷ q ∷ qs) ls h e le =
+    (one_placed includes text p [] start b.0 (k.0 ∙ sym (append-nil p)) (ap gap_of (append-nil p)) k.1 b.2, tt)
+all_placed includes text start (p ∷ q ∷ qs) ls h e le =
     let k = next_piece (drop start text) p q qs e in
     let n : start + (length p + (length k.0 + 1)) ≡ length text = omega (arith, ap length k.1, length-drop start text, length-append p (10 ∷ k.0)) in
     let after : drop (start + length p + 1) text ≡ k.0 = ap (λ (i : ℕ). drop i text) (let j : start + length p + 1 ≡ start + (length p + 1) = omega arith in j) ∙ sym (drop-drop (length p + 1) start text) ∙ ap (drop (length p + 1)) k.1 ∙ behind_line p k.0 in
-    let b = both (plain_line start (place_at text start) p) (plain_lines_from text (start + length p + 1) (q ∷ qs)) ls h in
+    let b = both (plain_line includes start (place_at text start) p) (plain_lines_from includes text (start + length p + 1) (q ∷ qs)) ls h in
     subst (λ (xs : List Line). ArePlaced text xs) b.4
-    (one_placed text p (10 ∷ k.0) start b.0 k.1 (gap_in_line p k.0) k.2 b.2, all_placed text (start + length p + 1) (q ∷ qs) b.1 b.3 (ap pieces after ∙ k.3) (omega arith))
+    (one_placed includes text p (10 ∷ k.0) start b.0 k.1 (gap_in_line p k.0) k.2 b.2, all_placed includes text (start + length p + 1) (q ∷ qs) b.1 b.3 (ap pieces after ∙ k.3) (omega arith))

@@ -2,6 +2,7 @@
 use Rattle.std.proofs.Common.{◌≡◌, ◌⊎◌, inl, inr, ℕ, zero, suc, ◌+◌, ◌-◌, ◌≤◌, ◌<◌, ◌==◌, ◌&&◌, nat_lt, Bool, true, false, cond, List, [], ◌∷◌, ◌++◌, length, map, Option, Some, None, Result, Ok, Err, refl, sym, ap, subst, ◌∙◌, append_assoc, arith}
 use Rattle.std.proofs.lemmas.List.{append-nil, length-append, length-map}
 use Rattle.std.proofs.lemmas.Bool.Decides.{nat_tests}
+use Rattle.fam_outer.specs.declared.dialect.Dialect.{Dialect}
 use Rattle.fam_outer.specs.declared.faults.Place.{Place}
 use Rattle.fam_outer.specs.declared.faults.FileCode.{FileCode}
 use Rattle.fam_outer.specs.declared.faults.FileCode.TheVariants.{NoEndif}
@@ -51,6 +52,7 @@ nest_on (Some named.If) opens n h = opened_on opens n h
 nest_on (Some named.Ifdef) opens n h = opened_on opens n h
 nest_on (Some named.Ifndef) opens n h = opened_on opens n h
 nest_on (Some named.Include) opens n h = (h, refl)
+nest_on (Some named.OtherInclude) opens n h = (h, refl)
 nest_on (Some named.Elif) opens n h = (h, refl)
 nest_on (Some named.Else) opens n h = (else_on opens n h, refl)
 nest_on (Some named.Endif) opens n h = (ended_on opens n h, refl)
@@ -76,6 +78,7 @@ nest_off (Some named.If) opens n h = opened_off opens n h
 nest_off (Some named.Ifdef) opens n h = opened_off opens n h
 nest_off (Some named.Ifndef) opens n h = opened_off opens n h
 nest_off (Some named.Include) opens n h = inl h
+nest_off (Some named.OtherInclude) opens n h = inl h
 nest_off (Some named.Elif) opens n h = inl h
 nest_off (Some named.Else) opens n h = inl (else_off opens n h)
 nest_off (Some named.Endif) opens n h = inl (ended_off opens n h)
@@ -99,50 +102,50 @@ in_front_on xs ys ps qs (Err fault) = refl
 
 -- where as many sections are ended as are open, the text is read as what is read so far and then the rest; where fewer are, the
 -- outermost open section has no end
-pub record Stands (m : Plain) (text : List ℕ) (start : ℕ) (now : Reading) (lines : List (List ℕ)) : Type 0 where
-  pub goes_on : (r : Result Told (FileCode × Place)) → length (flags now.opens) ≤ ends_of lines → AreRead m text (flags now.opens) (meant now) start lines r → TextIsRead m text (in_front now.lines.items (meant now) r)
-  pub unclosed : ends_of lines < length (flags now.opens) → TextIsRead m text (Err (NoEndif, now.opens.first))
+pub record Stands (dialect : Dialect) (m : Plain) (text : List ℕ) (start : ℕ) (now : Reading) (lines : List (List ℕ)) : Type 0 where
+  pub goes_on : (r : Result Told (FileCode × Place)) → length (flags now.opens) ≤ ends_of lines → AreRead dialect m text (flags now.opens) (meant now) start lines r → TextIsRead dialect m text (in_front now.lines.items (meant now) r)
+  pub unclosed : ends_of lines < length (flags now.opens) → TextIsRead dialect m text (Err (NoEndif, now.opens.first))
 
-pub unclosed_on : (m : Plain) (text : List ℕ) (start : ℕ) (first : Place) (line : List ℕ) (lines : List (List ℕ)) (old new : Reading) → first ≡ place_at text start → Stands m text start old (line ∷ lines)
-    → IsFollowed (line_place first line) line old new → ends_of lines < length (flags new.opens) → TextIsRead m text (Err (NoEndif, new.opens.first))
-unclosed_on m text start first line lines old new ef s f h =
+pub unclosed_on : (dialect : Dialect) (m : Plain) (text : List ℕ) (start : ℕ) (first : Place) (line : List ℕ) (lines : List (List ℕ)) (old new : Reading) → first ≡ place_at text start → Stands dialect m text start old (line ∷ lines)
+    → IsFollowed (line_place first line) line old new → ends_of lines < length (flags new.opens) → TextIsRead dialect m text (Err (NoEndif, new.opens.first))
+unclosed_on dialect m text start first line lines old new ef s f h =
     let k : ends_of lines < length (opened_by (named_in line) (flags old.opens)) = subst (λ (os : List Bool). ends_of lines < length os) f.opened h in
     elim (nest_off (named_in line) (flags old.opens) (ends_of lines) k) [
-      | inl o ↦ subst (λ (p : Place). TextIsRead m text (Err (NoEndif, p))) (sym (f.first ∙ same_first (named_in line) (line_place first line) (flags old.opens) old.opens.first (ends_of (line ∷ lines)) o)) (s.unclosed o)
-      | inr o ↦ subst (λ (p : Place). TextIsRead m text (Err (NoEndif, p)))
+      | inl o ↦ subst (λ (p : Place). TextIsRead dialect m text (Err (NoEndif, p))) (sym (f.first ∙ same_first (named_in line) (line_place first line) (flags old.opens) old.opens.first (ends_of (line ∷ lines)) o)) (s.unclosed o)
+      | inr o ↦ subst (λ (p : Place). TextIsRead dialect m text (Err (NoEndif, p)))
           (sym (f.first ∙ new_first (named_in line) (line_place first line) (flags old.opens) old.opens.first o.0 o.1 ∙ ap (λ (p : Place). line_place p line) ef))
           (s.goes_on (Err (NoEndif, line_place (place_at text start) line)) (subst (λ (os : List Bool). length os ≤ ends_of (line ∷ lines)) (sym o.0) (omega arith))
           (sections.unclosed (flags old.opens) (meant old) start line lines o.2))
     ]
 
-goes_on_read : (m : Plain) (text : List ℕ) (start : ℕ) (first : Place) (line : List ℕ) (lines : List (List ℕ)) (old new : Reading) → first ≡ place_at text start → Stands m text start old (line ∷ lines) → (t : IsTaken m start first line old new)
-    → (r : Result Told (FileCode × Place)) → length (flags new.opens) ≤ ends_of lines → AreRead m text (flags new.opens) (meant new) (start + length line + 1) lines r
-    → TextIsRead m text (in_front old.lines.items (meant old) (in_front (line_at (length (meant old)) start (place_at text start) line ∷ []) t.judged.conditions r))
-goes_on_read m text start first line lines old new ef s t r h k =
+goes_on_read : (dialect : Dialect) (m : Plain) (text : List ℕ) (start : ℕ) (first : Place) (line : List ℕ) (lines : List (List ℕ)) (old new : Reading) → first ≡ place_at text start → Stands dialect m text start old (line ∷ lines) → (t : IsTaken dialect m start first line old new)
+    → (r : Result Told (FileCode × Place)) → length (flags new.opens) ≤ ends_of lines → AreRead dialect m text (flags new.opens) (meant new) (start + length line + 1) lines r
+    → TextIsRead dialect m text (in_front old.lines.items (meant old) (in_front (line_at (length (meant old)) start (place_at text start) line ∷ []) t.judged.conditions r))
+goes_on_read dialect m text start first line lines old new ef s t r h k =
     let n = nest_on (named_in line) (flags old.opens) (ends_of lines) (subst (λ (os : List Bool). length os ≤ ends_of lines) t.followed.opened h) in
     s.goes_on (in_front (line_at (length (meant old)) start (place_at text start) line ∷ []) t.judged.conditions r) n.0
     (sections.goes_on (flags old.opens) (meant old) start line lines t.judged.conditions r n.1 t.judged.is_read
-    (subst (λ (os : List Bool). AreRead m text os (meant old ++ t.judged.conditions) (start + length line + 1) lines r) t.followed.opened
-    (subst (λ (ps : List (Proposition Atom)). AreRead m text (flags new.opens) ps (start + length line + 1) lines r) t.judged.meant_now k)))
+    (subst (λ (os : List Bool). AreRead dialect m text os (meant old ++ t.judged.conditions) (start + length line + 1) lines r) t.followed.opened
+    (subst (λ (ps : List (Proposition Atom)). AreRead dialect m text (flags new.opens) ps (start + length line + 1) lines r) t.judged.meant_now k)))
 
-pub stands_on : (m : Plain) (text : List ℕ) (start : ℕ) (first : Place) (line : List ℕ) (lines : List (List ℕ)) (old new : Reading) → first ≡ place_at text start → Stands m text start old (line ∷ lines)
-    → IsTaken m start first line old new → Stands m text (start + length line + 1) new lines
-stands_on m text start first line lines old new ef s t = record {
-  goes_on = λ r h k. subst (λ (x : Result Told (FileCode × Place)). TextIsRead m text x)
+pub stands_on : (dialect : Dialect) (m : Plain) (text : List ℕ) (start : ℕ) (first : Place) (line : List ℕ) (lines : List (List ℕ)) (old new : Reading) → first ≡ place_at text start → Stands dialect m text start old (line ∷ lines)
+    → IsTaken dialect m start first line old new → Stands dialect m text (start + length line + 1) new lines
+stands_on dialect m text start first line lines old new ef s t = record {
+  goes_on = λ r h k. subst (λ (x : Result Told (FileCode × Place)). TextIsRead dialect m text x)
       (in_front_on old.lines.items (line_at (length (meant old)) start (place_at text start) line ∷ []) (meant old) t.judged.conditions r
       ∙ ap (λ (p : Place). in_front (old.lines.items ++ line_at (length (meant old)) start p line ∷ []) (meant old ++ t.judged.conditions) r) (sym ef)
       ∙ ap (λ (ls : List Line). in_front ls (meant old ++ t.judged.conditions) r) (sym t.lines)
       ∙ ap (λ (ps : List (Proposition Atom)). in_front new.lines.items ps r) (sym t.judged.meant_now))
-      (goes_on_read m text start first line lines old new ef s t r h k);
-  unclosed = unclosed_on m text start first line lines old new ef s t.followed;
+      (goes_on_read dialect m text start first line lines old new ef s t r h k);
+  unclosed = unclosed_on dialect m text start first line lines old new ef s t.followed;
 }
 
 -- a line with a fault
-fault_on : (m : Plain) (text : List ℕ) (start : ℕ) (first : Place) (line : List ℕ) (lines : List (List ℕ)) (old new : Reading) (code : FileCode) (place : Place) → first ≡ place_at text start → Stands m text start old (line ∷ lines)
-    → IsFaulty m first line old new code place → length (flags new.opens) ≤ ends_of lines → TextIsRead m text (Err (code, place))
-fault_on m text start first line lines old new code place ef s f h =
+fault_on : (dialect : Dialect) (m : Plain) (text : List ℕ) (start : ℕ) (first : Place) (line : List ℕ) (lines : List (List ℕ)) (old new : Reading) (code : FileCode) (place : Place) → first ≡ place_at text start → Stands dialect m text start old (line ∷ lines)
+    → IsFaulty dialect m first line old new code place → length (flags new.opens) ≤ ends_of lines → TextIsRead dialect m text (Err (code, place))
+fault_on dialect m text start first line lines old new code place ef s f h =
     let n = nest_on (named_in line) (flags old.opens) (ends_of lines) (subst (λ (os : List Bool). length os ≤ ends_of lines) f.followed.opened h) in
-    subst (λ (p : Place). TextIsRead m text (Err (code, p))) (sym (f.place_is ∙ ap (λ (p : Place). line_place p line) ef))
+    subst (λ (p : Place). TextIsRead dialect m text (Err (code, p))) (sym (f.place_is ∙ ap (λ (p : Place). line_place p line) ef))
     (s.goes_on (Err (code, line_place (place_at text start) line)) n.0 (sections.faulty (flags old.opens) (meant old) start line lines code n.1 f.fault))
 
 fewer : (a b : ℕ) → nat_lt a b ≡ true → a < b
@@ -151,26 +154,26 @@ fewer a b e = grind (arith, nat_tests)
 not_fewer : (a b : ℕ) → nat_lt a b ≡ false → b ≤ a
 not_fewer a b e = grind (arith, nat_tests)
 
-pub fault_read : (m : Plain) (text : List ℕ) (start : ℕ) (first : Place) (line : List ℕ) (lines : List (List ℕ)) (old new : Reading) (refusal : FileRefusal) → first ≡ place_at text start → Stands m text start old (line ∷ lines)
-    → Takes m start first line old new (Err refusal) → ReadsLines m text (Err (earlier refusal (is_short (ends_of lines) new.opens) new.opens.first))
-fault_read m text start first line lines old new NoMemory ef s f = tt
-fault_read m text start first line lines old new (Fault code place) ef s f =
-    elim (nat_lt (ends_of lines) (length (flags new.opens))) as (λ t. nat_lt (ends_of lines) (length (flags new.opens)) ≡ t → ReadsLines m text (Err (cond t (Fault NoEndif new.opens.first) (Fault code place)))) [
-      | true ↦ λ e. unclosed_on m text start first line lines old new ef s f.followed (fewer (ends_of lines) (length (flags new.opens)) e)
-      | false ↦ λ e. fault_on m text start first line lines old new code place ef s f (not_fewer (ends_of lines) (length (flags new.opens)) e)
+pub fault_read : (dialect : Dialect) (m : Plain) (text : List ℕ) (start : ℕ) (first : Place) (line : List ℕ) (lines : List (List ℕ)) (old new : Reading) (refusal : FileRefusal) → first ≡ place_at text start → Stands dialect m text start old (line ∷ lines)
+    → Takes dialect m start first line old new (Err refusal) → ReadsLines dialect m text (Err (earlier refusal (is_short (ends_of lines) new.opens) new.opens.first))
+fault_read dialect m text start first line lines old new NoMemory ef s f = tt
+fault_read dialect m text start first line lines old new (Fault code place) ef s f =
+    elim (nat_lt (ends_of lines) (length (flags new.opens))) as (λ t. nat_lt (ends_of lines) (length (flags new.opens)) ≡ t → ReadsLines dialect m text (Err (cond t (Fault NoEndif new.opens.first) (Fault code place)))) [
+      | true ↦ λ e. unclosed_on dialect m text start first line lines old new ef s f.followed (fewer (ends_of lines) (length (flags new.opens)) e)
+      | false ↦ λ e. fault_on dialect m text start first line lines old new code place ef s f (not_fewer (ends_of lines) (length (flags new.opens)) e)
     ] refl
 
-one_at_most : (m : Plain) (opens : List Bool) (ps : List (Proposition Atom)) (line : List ℕ) (qs : List (Proposition Atom)) → IsRead m opens ps line qs → length qs ≤ 1
-one_at_most m opens ps line [] (sections.untested f e) = omega arith
-one_at_most m opens ps line (q ∷ []) (sections.tested text p f e h k) = omega arith
-one_at_most m opens ps line (q ∷ (_ ∷ _)) x5 = elim x5 [ ]
+one_at_most : (dialect : Dialect) (m : Plain) (opens : List Bool) (ps : List (Proposition Atom)) (line : List ℕ) (qs : List (Proposition Atom)) → IsRead dialect m opens ps line qs → length qs ≤ 1
+one_at_most dialect m opens ps line [] (sections.untested f e) = omega arith
+one_at_most dialect m opens ps line (q ∷ []) (sections.tested text p f e h k) = omega arith
+one_at_most dialect m opens ps line (q ∷ (_ ∷ _)) x5 = elim x5 [ ]
 
 -- at most one more condition
-pub one_more_at_most : (m : Plain) (start : ℕ) (first : Place) (line : List ℕ) (old new : Reading) → IsTaken m start first line old new → length new.conditions.items ≤ length old.conditions.items + 1
-one_more_at_most m start first line old new t =
+pub one_more_at_most : (dialect : Dialect) (m : Plain) (start : ℕ) (first : Place) (line : List ℕ) (old new : Reading) → IsTaken dialect m start first line old new → length new.conditions.items ≤ length old.conditions.items + 1
+one_more_at_most dialect m start first line old new t =
     omega (
       arith,
-      one_at_most m (flags old.opens) (meant old) line t.judged.conditions t.judged.is_read,
+      one_at_most dialect m (flags old.opens) (meant old) line t.judged.conditions t.judged.is_read,
       ap length t.judged.meant_now,
       length-append (meant old) t.judged.conditions,
       length-map new.conditions.items proposition,
@@ -183,21 +186,21 @@ nothing_in_front : (r : Result Told (FileCode × Place)) → in_front [] [] r �
 nothing_in_front (Ok told) = refl
 nothing_in_front (Err fault) = refl
 
-pub begun : (m : Plain) (text : List ℕ) (now : Reading) (lines : List (List ℕ)) → now.lines.items ≡ [] → now.conditions.items ≡ [] → flags now.opens ≡ []
-    → ((r : Result Told (FileCode × Place)) → AreRead m text [] [] 0 lines r → TextIsRead m text r) → Stands m text 0 now lines
-begun m text now lines el ec eo all =
+pub begun : (dialect : Dialect) (m : Plain) (text : List ℕ) (now : Reading) (lines : List (List ℕ)) → now.lines.items ≡ [] → now.conditions.items ≡ [] → flags now.opens ≡ []
+    → ((r : Result Told (FileCode × Place)) → AreRead dialect m text [] [] 0 lines r → TextIsRead dialect m text r) → Stands dialect m text 0 now lines
+begun dialect m text now lines el ec eo all =
     let em : meant now ≡ [] = ap (map proposition) ec in
     record {
-      goes_on = λ r h k. subst (λ (x : Result Told (FileCode × Place)). TextIsRead m text x)
+      goes_on = λ r h k. subst (λ (x : Result Told (FileCode × Place)). TextIsRead dialect m text x)
           (sym (ap (λ (ls : List Line). in_front ls (meant now) r) el ∙ ap (λ (ps : List (Proposition Atom)). in_front [] ps r) em ∙ nothing_in_front r))
-          (all r (subst (λ (os : List Bool). AreRead m text os [] 0 lines r) eo (subst (λ (ps : List (Proposition Atom)). AreRead m text (flags now.opens) ps 0 lines r) em k)));
+          (all r (subst (λ (os : List Bool). AreRead dialect m text os [] 0 lines r) eo (subst (λ (ps : List (Proposition Atom)). AreRead dialect m text (flags now.opens) ps 0 lines r) em k)));
       unclosed = λ h. absurd (let z : ends_of lines < 0 = subst (λ (os : List Bool). ends_of lines < length os) eo h in omega arith);
     }
 
-pub ended : (m : Plain) (text : List ℕ) (start : ℕ) (now : Reading) → Stands m text start now [] → length (flags now.opens) ≡ 0
-    → TextIsRead m text (Ok (record { lines = now.lines.items; conditions = meant now }))
-ended m text start now s e =
-    subst (λ (x : Result Told (FileCode × Place)). TextIsRead m text x)
+pub ended : (dialect : Dialect) (m : Plain) (text : List ℕ) (start : ℕ) (now : Reading) → Stands dialect m text start now [] → length (flags now.opens) ≡ 0
+    → TextIsRead dialect m text (Ok (record { lines = now.lines.items; conditions = meant now }))
+ended dialect m text start now s e =
+    subst (λ (x : Result Told (FileCode × Place)). TextIsRead dialect m text x)
     (ap (λ (ls : List Line). Ok (record { lines = ls; conditions = meant now ++ [] })) (append-nil now.lines.items)
     ∙ ap (λ (ps : List (Proposition Atom)). Ok (record { lines = now.lines.items; conditions = ps })) (append-nil (meant now)))
     (s.goes_on (Ok (record { lines = []; conditions = [] })) (omega arith) (sections.none (flags now.opens) (meant now) start))

@@ -3,6 +3,8 @@ use Rattle.std.proofs.Common.{◌≡◌, ℕ, ◌+◌, ◌≤◌, nat_lt, Bool, 
 use Rattle.std.specs.List.{list_any}
 use Rattle.std.proofs.lemmas.List.{length-append}
 use Rattle.std.proofs.lemmas.Bool.Decides.{nat_tests}
+use Rattle.fam_outer.specs.declared.dialect.Dialect.{Dialect}
+use Rattle.fam_outer.specs.declared.dialect.Includes.{Includes}
 use Rattle.fam_outer.specs.declared.faults.Place.{Place}
 use Rattle.fam_outer.specs.declared.faults.FileCode.{FileCode}
 use Rattle.fam_outer.specs.declared.faults.FileCode.TheVariants.{TooLong}
@@ -127,15 +129,17 @@ kept_no_longer truths sections start (l ∷ m ∷ ls) text (p ∷ q ∷ qs) e h 
 
 -- ---- no directive line
 
-pub all_plain : (text : List ℕ) (start : ℕ) (ps : List (List ℕ)) → AreCode ps → (ls : List Line) × (plain_lines_from text start ps ≡ Ok ls)
-all_plain text start [] h = ([], refl)
-all_plain text start (p ∷ ps) h =
-    let more = all_plain text (start + length p + 1) ps h.1 in
-    let here : Line = record { kind = Code; start = start; end = start + length p; place = line_place (place_at text start) p } in (
-      here ∷ more.0,
-      ap (λ (t : Bool). before (line_with (cond t (plain_directive (directive_of (behind_hash p))) (Ok Code)) start (place_at text start) p) (plain_lines_from text (start + length p + 1) ps)) h.0
-          ∙ ap (λ (r : Result (List Line) (FileCode × Place)). before (Ok here) r) more.1,
-    )
+-- the lines of code, the first at this offset of the text
+abbrev pub code_lines : List ℕ → ℕ → List (List ℕ) → List Line
+code_lines text start [] = []
+code_lines text start (p ∷ ps) = record { kind = Code; start = start; end = start + length p; place = line_place (place_at text start) p } ∷ code_lines text (start + length p + 1) ps
+
+pub all_plain : (includes : Includes) (text : List ℕ) (start : ℕ) (ps : List (List ℕ)) → AreCode ps → plain_lines_from includes text start ps ≡ Ok (code_lines text start ps)
+all_plain includes text start [] h = refl
+all_plain includes text start (p ∷ ps) h =
+    let here : Line = record { kind = Code; start = start; end = start + length p; place = line_place (place_at text start) p } in
+    ap (λ (t : Bool). before (line_with (cond t (plain_directive includes (directive_of (behind_hash p))) (Ok Code)) start (place_at text start) p) (plain_lines_from includes text (start + length p + 1) ps)) h.0
+    ∙ ap (λ (r : Result (List Line) (FileCode × Place)). before (Ok here) r) (all_plain includes text (start + length p + 1) ps h.1)
 
 pub bytes_stay : (p : List ℕ) → code_bytes false p ≡ p
 bytes_stay [] = refl
@@ -188,20 +192,19 @@ clean_blanked text c e =
     ap (λ (t : Bool). and_then (cond t (Err (TooLong, file_place)) (Ok text)) without_comments) e
     ∙ ap (blanked_or text) (clean_without_fault text 0 text c) ∙ ap (λ (xs : List ℕ). Ok xs) (blank_clean text c)
 
-pub variant_plain : (model : Plain) (truths : List (Proposition Atom) → List Bool) (bytes text : List ℕ) → IsPreprocessed model truths bytes text → IsPlainText text
+pub variant_plain : (dialect : Dialect) (model : Plain) (truths : List (Proposition Atom) → List Bool) (bytes text : List ℕ) → IsPreprocessed dialect model truths bytes text → IsPlainText text
 unfolding preprocessed plain_lines_of code_of
-variant_plain model truths bytes text h =
+variant_plain dialect model truths bytes text h =
     let ts = truths h.told.conditions in
     let b = is_blanked bytes h.blanked h.without_comments in
-    let are = lines_are model h.blanked [] [] 0 (pieces h.blanked) (Ok h.told) h.read in
+    let are = lines_are dialect model h.blanked [] [] 0 (pieces h.blanked) (Ok h.told) h.read in
     let stays = with_newlines (kept_lines ts [] h.told.lines (pieces h.blanked)) in
     let short = kept_no_longer ts [] 0 h.told.lines h.blanked (pieces h.blanked) refl are in
     let cut = kept_pieces ts [] 0 h.told.lines h.blanked (pieces h.blanked) refl are in
     let codes = subst AreCode (sym cut) (kept_are_code ts [] 0 h.told.lines (pieces h.blanked) are) in
-    let lines = all_plain stays 0 (pieces stays) codes in
     subst IsPlainText (sym h.is) (record {
-      lines = lines.0;
+      lines = code_lines stays 0 (pieces stays);
       blanked = clean_blanked stays (kept_clean ts [] 0 h.told.lines h.blanked (pieces h.blanked) refl are b.clean) (still_short file_bytes (length stays) (length bytes) (omega (arith, short, b.same_len)) b.short);
-      lines_are = lines.1;
+      lines_are = λ includes. all_plain includes stays 0 (pieces stays) codes;
       code = code_stays stays (pieces stays) refl codes;
     })

@@ -1,7 +1,9 @@
 -- Directive lines, and which directives are known (ISO/IEC 9899:2011, 6.10).
-use Rattle.std.specs.Prelude.{ℕ, Bool, true, ◌&&◌, List, [], ◌∷◌, take, drop, codes, Option, Some, None, Result, Ok, Err, if◌then◌else◌}
+use Rattle.std.specs.Prelude.{ℕ, Bool, ◌&&◌, List, [], ◌∷◌, take, drop, codes, Option, Some, None, Result, Ok, Err, if◌then◌else◌}
 use Rattle.std.specs.List.{list_all, prefix_len}
 use Rattle.std.specs.Str.{bytes_eq}
+use Rattle.fam_outer.specs.declared.dialect.Includes.{Includes}
+use Rattle.fam_outer.specs.declared.dialect.Includes.TheVariants.{Assert, Skip}
 use Rattle.fam_outer.specs.declared.faults.FileCode.{FileCode}
 use Rattle.fam_outer.specs.declared.faults.FileCode.TheVariants as codes_of
 use Rattle.cpp_lines.specs.declared.directives.Directive.{Directive}
@@ -43,30 +45,49 @@ is_gap_only bytes = list_all is_gap bytes
 abbrev pub is_assert_header : List ℕ → Bool
 is_assert_header bytes = bytes_eq (take 10 (behind_gap bytes)) (codes "<assert.h>") && is_gap_only (drop 10 (behind_gap bytes))
 
--- what may stand behind the name
-abbrev pub may_stand_behind : Directive → List ℕ → Bool
-may_stand_behind named.Include rest = is_assert_header rest
-may_stand_behind named.Else rest = is_gap_only rest
-may_stand_behind named.Endif rest = is_gap_only rest
-may_stand_behind named.If rest = true
-may_stand_behind named.Ifdef rest = true
-may_stand_behind named.Ifndef rest = true
-may_stand_behind named.Elif rest = true
+-- an include with this behind its name: of `<assert.h>`, or of anything else
+abbrev pub include_of : List ℕ → Directive
+include_of rest = if is_assert_header rest then named.Include else named.OtherInclude
+
+-- the directive, where nothing but white space stands behind its name
+abbrev pub alone : Directive → List ℕ → Option Directive
+alone directive rest = if is_gap_only rest then Some directive else None
+
+-- the directive of this name with this behind it; none, where this may not stand there
+abbrev pub with_rest : Directive → List ℕ → Option Directive
+with_rest named.Include rest = Some (include_of rest)
+with_rest named.OtherInclude rest = Some named.OtherInclude
+with_rest named.Else rest = alone named.Else rest
+with_rest named.Endif rest = alone named.Endif rest
+with_rest named.If rest = Some named.If
+with_rest named.Ifdef rest = Some named.Ifdef
+with_rest named.Ifndef rest = Some named.Ifndef
+with_rest named.Elif rest = Some named.Elif
 
 abbrev pub checked : Option Directive → List ℕ → Option Directive
 checked None rest = None
-checked (Some directive) rest = if may_stand_behind directive rest then Some directive else None
+checked (Some directive) rest = with_rest directive rest
 
 -- the directive of what stands behind `#`; none, where it is no known one or what stands behind its name may not
 abbrev pub directive_of : List ℕ → Option Directive
 directive_of bytes = checked (directive_named (word_of bytes)) (behind_word bytes)
 
--- without a model a group directive is refused, and the include of `assert.h` stands alone
-abbrev pub plain_directive : Option Directive → Result LineKind FileCode
-plain_directive None = Err codes_of.Directive
-plain_directive (Some named.Include) = Ok kinds.Include
-plain_directive (Some other) = Err codes_of.GroupHere
+-- the fault of an include of anything but `<assert.h>`: none where includes are skipped
+abbrev pub include_fault : Includes → Option FileCode
+include_fault Assert = Some codes_of.Directive
+include_fault Skip = None
+
+abbrev pub include_unless : Option FileCode → Result LineKind FileCode
+include_unless None = Ok kinds.Include
+include_unless (Some code) = Err code
+
+-- without a model a group directive is refused
+abbrev pub plain_directive : Includes → Option Directive → Result LineKind FileCode
+plain_directive includes None = Err codes_of.Directive
+plain_directive includes (Some named.Include) = Ok kinds.Include
+plain_directive includes (Some named.OtherInclude) = include_unless (include_fault includes)
+plain_directive includes (Some other) = Err codes_of.GroupHere
 
 -- the kind of a line without a model
-abbrev pub plain_kind : List ℕ → Result LineKind FileCode
-plain_kind line = if begins_directive line then plain_directive (directive_of (behind_hash line)) else Ok kinds.Code
+abbrev pub plain_kind : Includes → List ℕ → Result LineKind FileCode
+plain_kind includes line = if begins_directive line then plain_directive includes (directive_of (behind_hash line)) else Ok kinds.Code

@@ -1,6 +1,7 @@
 -- The conditions of group directives (ISO/IEC 9899:2011, 6.10.1).
 use Rattle.std.specs.Prelude.{◌≡◌, ℕ, Bool, false, not, ◌&&◌, if◌then◌else◌, List, [], ◌∷◌, ◌++◌, codes, Option, Some, None, Result, Ok, Err}
 use Rattle.std.specs.Str.{bytes_eq}
+use Rattle.fam_outer.specs.declared.dialect.Unknown.{Unknown}
 use Rattle.fam_outer.specs.declared.faults.ConditionFault.{ConditionFault}
 use Rattle.fam_outer.specs.declared.faults.ConditionFault.TheVariants as faults
 use Rattle.linear_atoms.specs.declared.atoms.Atom.{Atom}
@@ -37,6 +38,7 @@ condition_text (Some named.Elif) rest = Some (Ok rest)
 condition_text (Some named.Ifdef) rest = Some (behind_prefix (codes "defined ") (name_in rest))
 condition_text (Some named.Ifndef) rest = Some (behind_prefix (codes "!defined ") (name_in rest))
 condition_text (Some named.Include) rest = None
+condition_text (Some named.OtherInclude) rest = None
 condition_text (Some named.Else) rest = None
 condition_text (Some named.Endif) rest = None
 
@@ -45,6 +47,6 @@ abbrev pub condition_in : List ℕ → Option (Result (List ℕ) ConditionFault)
 condition_in line = if begins_directive line then condition_text (directive_of (behind_hash line)) (behind_word (behind_hash line)) else None
 
 -- what a condition is read as
-abbrev pub IsGroupCondition : List Feature → Result (List ℕ) ConditionFault → Result (Proposition Atom) ConditionFault → Type 0
-IsGroupCondition features (Ok bytes) r = ReadsAs features bytes r
-IsGroupCondition features (Err fault) r = r ≡ Err fault
+abbrev pub IsGroupCondition : Unknown → List Feature → Result (List ℕ) ConditionFault → Result (Proposition Atom) ConditionFault → Type 0
+IsGroupCondition unknown features (Ok bytes) r = ReadsAs unknown features bytes r
+IsGroupCondition unknown features (Err fault) r = r ≡ Err fault

@@ -1,6 +1,7 @@
 -- The lines of a blanked text.
 use Rattle.std.specs.Prelude.{◌≡◌, ⊤, ℕ, ◌+◌, Bool, true, false, not, List, [], ◌∷◌, length, drop, Result, Ok, Err, if◌then◌else◌}
 use Rattle.std.specs.List.{prefix_len}
+use Rattle.fam_outer.specs.declared.dialect.Includes.{Includes}
 use Rattle.fam_outer.specs.declared.faults.Place.{Place}
 use Rattle.fam_outer.specs.declared.faults.FileCode.{FileCode}
 use Rattle.fam_outer.specs.Places.{is_newline, place_at}
@@ -30,8 +31,8 @@ line_with (Ok kind) start first line = Ok (record { kind = kind; start = start; 
 line_with (Err code) start first line = Err (code, line_place first line)
 
 -- a line without a model, whose first byte stands at this offset and place
-abbrev pub plain_line : ℕ → Place → List ℕ → Result Line (FileCode × Place)
-plain_line start first line = line_with (plain_kind line) start first line
+abbrev pub plain_line : Includes → ℕ → Place → List ℕ → Result Line (FileCode × Place)
+plain_line includes start first line = line_with (plain_kind includes line) start first line
 
 -- a line before others; the first fault decides
 abbrev pub before : Result Line (FileCode × Place) → Result (List Line) (FileCode × Place) → Result (List Line) (FileCode × Place)
@@ -40,13 +41,13 @@ before (Ok line) (Err fault) = Err fault
 before (Err fault) lines = Err fault
 
 -- the lines of these pieces, the first at this offset of the text
-abbrev pub plain_lines_from : List ℕ → ℕ → List (List ℕ) → Result (List Line) (FileCode × Place)
-plain_lines_from text start [] = Ok []
-plain_lines_from text start (p ∷ ps) = before (plain_line start (place_at text start) p) (plain_lines_from text (start + length p + 1) ps)
+abbrev pub plain_lines_from : Includes → List ℕ → ℕ → List (List ℕ) → Result (List Line) (FileCode × Place)
+plain_lines_from includes text start [] = Ok []
+plain_lines_from includes text start (p ∷ ps) = before (plain_line includes start (place_at text start) p) (plain_lines_from includes text (start + length p + 1) ps)
 
 -- the lines of a text without a model, or the first fault
-unfoldable pub plain_lines_of : List ℕ → Result (List Line) (FileCode × Place)
-plain_lines_of text = plain_lines_from text 0 (pieces text)
+unfoldable pub plain_lines_of : Includes → List ℕ → Result (List Line) (FileCode × Place)
+plain_lines_of includes text = plain_lines_from includes text 0 (pieces text)
 
 abbrev pub is_code : LineKind → Bool
 is_code Code = true

@@ -1,10 +1,11 @@
 -- How group directives nest (ISO/IEC 9899:2011, 6.10.1): sections are matched by the names of directives alone.
 use Rattle.std.specs.Prelude.{ℕ, ◌+◌, ◌-◌, ◌==◌, ◌&&◌, Bool, true, false, if◌then◌else◌, List, [], ◌∷◌, Option, Some, None}
+use Rattle.fam_outer.specs.declared.dialect.Includes.{Includes}
 use Rattle.fam_outer.specs.declared.faults.FileCode.{FileCode}
 use Rattle.fam_outer.specs.declared.faults.FileCode.TheVariants as codes_of
 use Rattle.cpp_lines.specs.declared.directives.Directive.{Directive}
 use Rattle.cpp_lines.specs.declared.directives.Directive.TheVariants as named
-use Rattle.cpp_lines.specs.Directives.{begins_directive, behind_hash, word_of, directive_named, directive_of}
+use Rattle.cpp_lines.specs.Directives.{begins_directive, behind_hash, word_of, directive_named, directive_of, include_fault}
 
 -- the directive that a line names, whatever stands behind the name
 abbrev pub named_in : List ℕ → Option Directive
@@ -17,6 +18,7 @@ opens_section (Some named.If) = true
 opens_section (Some named.Ifdef) = true
 opens_section (Some named.Ifndef) = true
 opens_section (Some named.Include) = false
+opens_section (Some named.OtherInclude) = false
 opens_section (Some named.Elif) = false
 opens_section (Some named.Else) = false
 opens_section (Some named.Endif) = false
@@ -28,6 +30,7 @@ ends_section (Some named.If) = false
 ends_section (Some named.Ifdef) = false
 ends_section (Some named.Ifndef) = false
 ends_section (Some named.Include) = false
+ends_section (Some named.OtherInclude) = false
 ends_section (Some named.Elif) = false
 ends_section (Some named.Else) = false
 ends_section (Some named.Endif) = true
@@ -63,6 +66,7 @@ opened_by (Some named.If) opens = false ∷ opens
 opened_by (Some named.Ifdef) opens = false ∷ opens
 opened_by (Some named.Ifndef) opens = false ∷ opens
 opened_by (Some named.Include) opens = opens
+opened_by (Some named.OtherInclude) opens = opens
 opened_by (Some named.Elif) opens = opens
 opened_by (Some named.Else) opens = with_else opens
 opened_by (Some named.Endif) opens = without_inner opens
@@ -80,16 +84,17 @@ end_fault [] = Some codes_of.NoIf
 end_fault (b ∷ opens) = None
 
 -- a directive that is none of the known ones, or has what may not stand behind its name; or where it may not stand
-abbrev pub directive_fault : List Bool → Option Directive → Option FileCode
-directive_fault opens None = Some codes_of.Directive
-directive_fault opens (Some named.If) = None
-directive_fault opens (Some named.Ifdef) = None
-directive_fault opens (Some named.Ifndef) = None
-directive_fault opens (Some named.Include) = None
-directive_fault opens (Some named.Elif) = later_fault opens
-directive_fault opens (Some named.Else) = later_fault opens
-directive_fault opens (Some named.Endif) = end_fault opens
+abbrev pub directive_fault : Includes → List Bool → Option Directive → Option FileCode
+directive_fault includes opens None = Some codes_of.Directive
+directive_fault includes opens (Some named.If) = None
+directive_fault includes opens (Some named.Ifdef) = None
+directive_fault includes opens (Some named.Ifndef) = None
+directive_fault includes opens (Some named.Include) = None
+directive_fault includes opens (Some named.OtherInclude) = include_fault includes
+directive_fault includes opens (Some named.Elif) = later_fault opens
+directive_fault includes opens (Some named.Else) = later_fault opens
+directive_fault includes opens (Some named.Endif) = end_fault opens
 
 -- the fault of a line behind these open sections
-abbrev pub line_fault : List Bool → List ℕ → Option FileCode
-line_fault opens line = if begins_directive line then directive_fault opens (directive_of (behind_hash line)) else None
+abbrev pub line_fault : Includes → List Bool → List ℕ → Option FileCode
+line_fault includes opens line = if begins_directive line then directive_fault includes opens (directive_of (behind_hash line)) else None

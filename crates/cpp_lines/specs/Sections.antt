@@ -1,5 +1,6 @@
 -- The lines of a blanked text with groups, and its first fault (ISO/IEC 9899:2011, 6.10.1).
 use Rattle.std.specs.Prelude.{◌≡◌, ⊤, ℕ, ℤ, ◌+◌, ◌<◌, Bool, true, false, if◌then◌else◌, List, [], ◌∷◌, ◌++◌, length, map, Option, Some, None, Result, Ok, Err}
+use Rattle.fam_outer.specs.declared.dialect.Dialect.{Dialect}
 use Rattle.fam_outer.specs.declared.faults.Place.{Place}
 use Rattle.fam_outer.specs.declared.faults.ConditionFault.{ConditionFault}
 use Rattle.fam_outer.specs.declared.faults.FileCode.{FileCode}
@@ -29,6 +30,7 @@ use Rattle.cpp_lines.specs.Nesting.{named_in, opened_by, is_unclosed, line_fault
 abbrev pub kind_of : ℕ → Option Directive → LineKind
 kind_of n None = kinds.Code
 kind_of n (Some named.Include) = kinds.Include
+kind_of n (Some named.OtherInclude) = kinds.Include
 kind_of n (Some named.If) = kinds.If n
 kind_of n (Some named.Ifdef) = kinds.If n
 kind_of n (Some named.Ifndef) = kinds.If n
@@ -48,18 +50,18 @@ line_at n start first line = record {
 -- ---- one line, behind these open sections and conditions
 
 -- the line has this fault; that nothing ends its section is a matter of the lines behind it
-pub data HasFault (model : Plain) (opens : List Bool) (ps : List (Proposition Atom)) (line : List ℕ) : FileCode → Type 0 where
-  misplaced : (code : FileCode) → line_fault opens line ≡ Some code → HasFault model opens ps line code
-  refused : (text : Result (List ℕ) ConditionFault) (fault : ConditionFault) → line_fault opens line ≡ None → condition_in line ≡ Some text
-      → IsGroupCondition model.features text (Err fault) → HasFault model opens ps line (codes_of.Condition fault)
-  crowded : (text : Result (List ℕ) ConditionFault) (p : Proposition Atom) → line_fault opens line ≡ None → condition_in line ≡ Some text
-      → IsGroupCondition model.features text (Ok p) → HaveMoreAtoms 64 (model.constraints ++ (ps ++ p ∷ [])) → HasFault model opens ps line codes_of.TooManyTests
+pub data HasFault (dialect : Dialect) (model : Plain) (opens : List Bool) (ps : List (Proposition Atom)) (line : List ℕ) : FileCode → Type 0 where
+  misplaced : (code : FileCode) → line_fault dialect.includes opens line ≡ Some code → HasFault dialect model opens ps line code
+  refused : (text : Result (List ℕ) ConditionFault) (fault : ConditionFault) → line_fault dialect.includes opens line ≡ None → condition_in line ≡ Some text
+      → IsGroupCondition dialect.unknown model.features text (Err fault) → HasFault dialect model opens ps line (codes_of.Condition fault)
+  crowded : (text : Result (List ℕ) ConditionFault) (p : Proposition Atom) → line_fault dialect.includes opens line ≡ None → condition_in line ≡ Some text
+      → IsGroupCondition dialect.unknown model.features text (Ok p) → HaveMoreAtoms 64 (model.constraints ++ (ps ++ p ∷ [])) → HasFault dialect model opens ps line codes_of.TooManyTests
 
 -- the line has no fault, and this condition or none
-pub data IsRead (model : Plain) (opens : List Bool) (ps : List (Proposition Atom)) (line : List ℕ) : List (Proposition Atom) → Type 0 where
-  untested : line_fault opens line ≡ None → condition_in line ≡ None → IsRead model opens ps line []
-  tested : (text : Result (List ℕ) ConditionFault) (p : Proposition Atom) → line_fault opens line ≡ None → condition_in line ≡ Some text
-      → IsGroupCondition model.features text (Ok p) → HaveFewAtoms 64 (model.constraints ++ (ps ++ p ∷ [])) → IsRead model opens ps line (p ∷ [])
+pub data IsRead (dialect : Dialect) (model : Plain) (opens : List Bool) (ps : List (Proposition Atom)) (line : List ℕ) : List (Proposition Atom) → Type 0 where
+  untested : line_fault dialect.includes opens line ≡ None → condition_in line ≡ None → IsRead dialect model opens ps line []
+  tested : (text : Result (List ℕ) ConditionFault) (p : Proposition Atom) → line_fault dialect.includes opens line ≡ None → condition_in line ≡ Some text
+      → IsGroupCondition dialect.unknown model.features text (Ok p) → HaveFewAtoms 64 (model.constraints ++ (ps ++ p ∷ [])) → IsRead dialect model opens ps line (p ∷ [])
 
 -- ---- all lines
 
@@ -74,19 +76,19 @@ in_front lines ps (Ok told) = Ok (record { lines = lines ++ told.lines; conditio
 in_front lines ps (Err fault) = Err fault
 
 -- what the lines from an offset on are read as: the first line with a fault decides, and in it the lowest code
-pub data AreRead (model : Plain) (text : List ℕ) : List Bool → List (Proposition Atom) → ℕ → List (List ℕ) → Result Told (FileCode × Place) → Type 0 where
-  none : (opens : List Bool) (ps : List (Proposition Atom)) (start : ℕ) → AreRead model text opens ps start [] (Ok (record { lines = []; conditions = [] }))
+pub data AreRead (dialect : Dialect) (model : Plain) (text : List ℕ) : List Bool → List (Proposition Atom) → ℕ → List (List ℕ) → Result Told (FileCode × Place) → Type 0 where
+  none : (opens : List Bool) (ps : List (Proposition Atom)) (start : ℕ) → AreRead dialect model text opens ps start [] (Ok (record { lines = []; conditions = [] }))
   unclosed : (opens : List Bool) (ps : List (Proposition Atom)) (start : ℕ) (line : List ℕ) (lines : List (List ℕ)) → is_unclosed line lines ≡ true
-      → AreRead model text opens ps start (line ∷ lines) (Err (codes_of.NoEndif, line_place (place_at text start) line))
+      → AreRead dialect model text opens ps start (line ∷ lines) (Err (codes_of.NoEndif, line_place (place_at text start) line))
   faulty : (opens : List Bool) (ps : List (Proposition Atom)) (start : ℕ) (line : List ℕ) (lines : List (List ℕ)) (code : FileCode) → is_unclosed line lines ≡ false
-      → HasFault model opens ps line code → AreRead model text opens ps start (line ∷ lines) (Err (code, line_place (place_at text start) line))
+      → HasFault dialect model opens ps line code → AreRead dialect model text opens ps start (line ∷ lines) (Err (code, line_place (place_at text start) line))
   goes_on : (opens : List Bool) (ps : List (Proposition Atom)) (start : ℕ) (line : List ℕ) (lines : List (List ℕ)) (qs : List (Proposition Atom)) (r : Result Told (FileCode × Place)) → is_unclosed line lines ≡ false
-      → IsRead model opens ps line qs → AreRead model text (opened_by (named_in line) opens) (ps ++ qs) (start + length line + 1) lines r
-      → AreRead model text opens ps start (line ∷ lines) (in_front (line_at (length ps) start (place_at text start) line ∷ []) qs r)
+      → IsRead dialect model opens ps line qs → AreRead dialect model text (opened_by (named_in line) opens) (ps ++ qs) (start + length line + 1) lines r
+      → AreRead dialect model text opens ps start (line ∷ lines) (in_front (line_at (length ps) start (place_at text start) line ∷ []) qs r)
 
 -- what a text is read as
-abbrev pub TextIsRead : Plain → List ℕ → Result Told (FileCode × Place) → Type 0
-TextIsRead model text r = AreRead model text [] [] 0 (pieces text) r
+abbrev pub TextIsRead : Dialect → Plain → List ℕ → Result Told (FileCode × Place) → Type 0
+TextIsRead dialect model text r = AreRead dialect model text [] [] 0 (pieces text) r
 
 -- each formula is its condition with the numbers of its atoms
 abbrev pub AreNumbered : List Atom → List (Proposition Atom) → List Formula → Type 0
@@ -109,9 +111,9 @@ pub record AreConditionsOf (model : Plain) (conditions : List (Proposition Atom)
   pub truths : (values : List ℤ) → truths_on atoms values formulas ≡ truths_at values conditions
 
 -- the text is read as these lines, and these conditions
-pub record AreSectionsOf (model : Plain) (text : List ℕ) (s : Sections) : Type 0 where
+pub record AreSectionsOf (dialect : Dialect) (model : Plain) (text : List ℕ) (s : Sections) : Type 0 where
   pub conditions : List (Proposition Atom)
-  pub read : TextIsRead model text (Ok (record { lines = s.lines; conditions = conditions }))
+  pub read : TextIsRead dialect model text (Ok (record { lines = s.lines; conditions = conditions }))
   pub are : AreConditionsOf model conditions s.atoms s.conditions
 
 -- each condition that a line names is one of so many
@@ -125,7 +127,7 @@ AreNumberedBelow count [] = ⊤
 AreNumberedBelow count (l ∷ ls) = IsNumberedBelow count l.kind × AreNumberedBelow count ls
 
 -- what a call that reads sections answers; want of memory is free
-abbrev pub ReadsSections : Plain → List ℕ → Result Sections FileRefusal → Type 0
-ReadsSections model text (Ok s) = AreSectionsOf model text s
-ReadsSections model text (Err (refusals.Fault code place)) = TextIsRead model text (Err (code, place))
-ReadsSections model text (Err refusals.NoMemory) = ⊤
+abbrev pub ReadsSections : Dialect → Plain → List ℕ → Result Sections FileRefusal → Type 0
+ReadsSections dialect model text (Ok s) = AreSectionsOf dialect model text s
+ReadsSections dialect model text (Err (refusals.Fault code place)) = TextIsRead dialect model text (Err (code, place))
+ReadsSections dialect model text (Err refusals.NoMemory) = ⊤

@@ -1,5 +1,7 @@
 -- What the code makes of one line, and how it keeps what is read so far.
 use Rattle.std.specs.Prelude.{◌≡◌, ⊤, ℕ, nat_lt, ◌≤◌, Bool, if◌then◌else◌, List, [], ◌∷◌, ◌++◌, length, map, Result, Ok, Err}
+use Rattle.fam_outer.specs.declared.dialect.Dialect.{Dialect}
+use Rattle.fam_outer.specs.declared.dialect.Unknown.{Unknown}
 use Rattle.fam_outer.specs.declared.faults.Place.{Place}
 use Rattle.fam_outer.specs.declared.faults.ConditionFault.{ConditionFault}
 use Rattle.fam_outer.specs.declared.faults.FileCode.{FileCode}
@@ -26,10 +28,10 @@ use Rattle.cpp_lines.specs.Opens.{flags, first_after}
 use Rattle.cpp_lines.specs.Sections.{HasFault, IsRead, TextIsRead, line_at}
 
 -- what the text of a condition is read as; want of memory is free
-abbrev pub ReadsText : List Feature → Result (List ℕ) ConditionFault → Result Condition ConditionRefusal → Type 0
-ReadsText features text (Ok made) = IsGroupCondition features text (Ok (proposition made)) × IsFit (length features) (proposition made)
-ReadsText features text (Err (conditions.Fault fault)) = IsGroupCondition features text (Err fault)
-ReadsText features text (Err conditions.NoMemory) = ⊤
+abbrev pub ReadsText : Unknown → List Feature → Result (List ℕ) ConditionFault → Result Condition ConditionRefusal → Type 0
+ReadsText unknown features text (Ok made) = IsGroupCondition unknown features text (Ok (proposition made)) × IsFit (length features) (proposition made)
+ReadsText unknown features text (Err (conditions.Fault fault)) = IsGroupCondition unknown features text (Err fault)
+ReadsText unknown features text (Err conditions.NoMemory) = ⊤
 
 -- the code of a refused condition
 abbrev pub condition_refusal : ConditionRefusal → Refusal FileCode
@@ -52,34 +54,34 @@ pub record IsKept (model : Plain) (reading : Reading) : Type 0 where
   pub fit : AreFit (length model.features) reading.conditions.items
 
 -- a condition that is added
-pub record IsAdded (model : Plain) (text : Result (List ℕ) ConditionFault) (old new : Reading) : Type 0 where
+pub record IsAdded (dialect : Dialect) (model : Plain) (text : Result (List ℕ) ConditionFault) (old new : Reading) : Type 0 where
   pub added : Proposition Atom
-  pub is_read : IsGroupCondition model.features text (Ok added)
+  pub is_read : IsGroupCondition dialect.unknown model.features text (Ok added)
   pub few : HaveFewAtoms 64 (model.constraints ++ (meant old ++ added ∷ []))
   pub meant_now : meant new ≡ meant old ++ added ∷ []
   pub kept : IsKept model new
 
 -- why a condition is not added
-pub data IsConditionRefused (model : Plain) (text : Result (List ℕ) ConditionFault) (old : Reading) : FileCode → Type 0 where
-  unread : (fault : ConditionFault) → IsGroupCondition model.features text (Err fault) → IsConditionRefused model text old (codes_of.Condition fault)
-  crowded : (p : Proposition Atom) → IsGroupCondition model.features text (Ok p) → HaveMoreAtoms 64 (model.constraints ++ (meant old ++ p ∷ [])) → IsConditionRefused model text old codes_of.TooManyTests
+pub data IsConditionRefused (dialect : Dialect) (model : Plain) (text : Result (List ℕ) ConditionFault) (old : Reading) : FileCode → Type 0 where
+  unread : (fault : ConditionFault) → IsGroupCondition dialect.unknown model.features text (Err fault) → IsConditionRefused dialect model text old (codes_of.Condition fault)
+  crowded : (p : Proposition Atom) → IsGroupCondition dialect.unknown model.features text (Ok p) → HaveMoreAtoms 64 (model.constraints ++ (meant old ++ p ∷ [])) → IsConditionRefused dialect model text old codes_of.TooManyTests
 
-abbrev pub Adds : Plain → Result (List ℕ) ConditionFault → Reading → Reading → Result ⊤ (Refusal FileCode) → Type 0
-Adds model text old new (Ok _) = IsAdded model text old new
-Adds model text old new (Err (refusals.Fault code)) = IsConditionRefused model text old code
-Adds model text old new (Err refusals.NoMemory) = ⊤
+abbrev pub Adds : Dialect → Plain → Result (List ℕ) ConditionFault → Reading → Reading → Result ⊤ (Refusal FileCode) → Type 0
+Adds dialect model text old new (Ok _) = IsAdded dialect model text old new
+Adds dialect model text old new (Err (refusals.Fault code)) = IsConditionRefused dialect model text old code
+Adds dialect model text old new (Err refusals.NoMemory) = ⊤
 
 -- a line without a fault, with its condition added
-pub record IsJudged (model : Plain) (line : List ℕ) (old new : Reading) : Type 0 where
+pub record IsJudged (dialect : Dialect) (model : Plain) (line : List ℕ) (old new : Reading) : Type 0 where
   pub conditions : List (Proposition Atom)
-  pub is_read : IsRead model (flags old.opens) (meant old) line conditions
+  pub is_read : IsRead dialect model (flags old.opens) (meant old) line conditions
   pub meant_now : meant new ≡ meant old ++ conditions
   pub kept : IsKept model new
 
-abbrev pub Judges : Plain → List ℕ → Reading → Reading → Result ⊤ (Refusal FileCode) → Type 0
-Judges model line old new (Ok _) = IsJudged model line old new
-Judges model line old new (Err (refusals.Fault code)) = HasFault model (flags old.opens) (meant old) line code
-Judges model line old new (Err refusals.NoMemory) = ⊤
+abbrev pub Judges : Dialect → Plain → List ℕ → Reading → Reading → Result ⊤ (Refusal FileCode) → Type 0
+Judges dialect model line old new (Ok _) = IsJudged dialect model line old new
+Judges dialect model line old new (Err (refusals.Fault code)) = HasFault dialect model (flags old.opens) (meant old) line code
+Judges dialect model line old new (Err refusals.NoMemory) = ⊤
 
 -- the sections that are open behind the line, whose directive stands at this place
 pub record IsFollowed (place : Place) (line : List ℕ) (old new : Reading) : Type 0 where
@@ -87,21 +89,21 @@ pub record IsFollowed (place : Place) (line : List ℕ) (old new : Reading) : Ty
   pub first : new.opens.first ≡ first_after (named_in line) place (flags old.opens) old.opens.first
 
 -- a line that is added
-pub record IsTaken (model : Plain) (start : ℕ) (first : Place) (line : List ℕ) (old new : Reading) : Type 0 where
-  pub judged : IsJudged model line old new
+pub record IsTaken (dialect : Dialect) (model : Plain) (start : ℕ) (first : Place) (line : List ℕ) (old new : Reading) : Type 0 where
+  pub judged : IsJudged dialect model line old new
   pub lines : new.lines.items ≡ old.lines.items ++ line_at (length (meant old)) start first line ∷ []
   pub followed : IsFollowed (line_place first line) line old new
 
 -- a line that has this fault
-pub record IsFaulty (model : Plain) (first : Place) (line : List ℕ) (old new : Reading) (code : FileCode) (place : Place) : Type 0 where
-  pub fault : HasFault model (flags old.opens) (meant old) line code
+pub record IsFaulty (dialect : Dialect) (model : Plain) (first : Place) (line : List ℕ) (old new : Reading) (code : FileCode) (place : Place) : Type 0 where
+  pub fault : HasFault dialect model (flags old.opens) (meant old) line code
   pub place_is : place ≡ line_place first line
   pub followed : IsFollowed (line_place first line) line old new
 
-abbrev pub Takes : Plain → ℕ → Place → List ℕ → Reading → Reading → Result ⊤ FileRefusal → Type 0
-Takes model start first line old new (Ok _) = IsTaken model start first line old new
-Takes model start first line old new (Err (files.Fault code place)) = IsFaulty model first line old new code place
-Takes model start first line old new (Err files.NoMemory) = ⊤
+abbrev pub Takes : Dialect → Plain → ℕ → Place → List ℕ → Reading → Reading → Result ⊤ FileRefusal → Type 0
+Takes dialect model start first line old new (Ok _) = IsTaken dialect model start first line old new
+Takes dialect model start first line old new (Err (files.Fault code place)) = IsFaulty dialect model first line old new code place
+Takes dialect model start first line old new (Err files.NoMemory) = ⊤
 
 -- nothing is read yet
 pub record IsBegun (reading : Reading) : Type 0 where
@@ -119,7 +121,7 @@ earlier files.NoMemory b first = files.NoMemory
 earlier (files.Fault code place) b first = if b then files.Fault codes_of.NoEndif first else files.Fault code place
 
 -- what the lines of a text are read as
-abbrev pub ReadsLines : Plain → List ℕ → Result Reading FileRefusal → Type 0
-ReadsLines model text (Ok reading) = TextIsRead model text (Ok (record { lines = reading.lines.items; conditions = meant reading }))
-ReadsLines model text (Err (files.Fault code place)) = TextIsRead model text (Err (code, place))
-ReadsLines model text (Err files.NoMemory) = ⊤
+abbrev pub ReadsLines : Dialect → Plain → List ℕ → Result Reading FileRefusal → Type 0
+ReadsLines dialect model text (Ok reading) = TextIsRead dialect model text (Ok (record { lines = reading.lines.items; conditions = meant reading }))
+ReadsLines dialect model text (Err (files.Fault code place)) = TextIsRead dialect model text (Err (code, place))
+ReadsLines dialect model text (Err files.NoMemory) = ⊤

@@ -1,5 +1,7 @@
 -- A whole file without its comments, or its first fault before its lines are read.
 use Rattle.std.specs.Prelude.{◌≡◌, ℕ, nat_lt, Bool, List, length, Result, Ok, Err, if◌then◌else◌}
+use Rattle.fam_outer.specs.declared.dialect.Dialect.{Dialect}
+use Rattle.fam_outer.specs.declared.dialect.Includes.{Includes}
 use Rattle.fam_outer.specs.declared.faults.Place.{Place}
 use Rattle.fam_outer.specs.declared.faults.FileCode.{FileCode}
 use Rattle.fam_outer.specs.declared.faults.FileCode.TheVariants.{TooLong}
@@ -27,22 +29,22 @@ abbrev pub blanked_file : List ℕ → Result (List ℕ) (FileCode × Place)
 blanked_file bytes = and_then (within_limit bytes) without_comments
 
 -- a line has this fault, the first of the file
-pub record HasLineFault (model : Plain) (bytes : List ℕ) (fault : FileCode × Place) : Type 0 where
+pub record HasLineFault (dialect : Dialect) (model : Plain) (bytes : List ℕ) (fault : FileCode × Place) : Type 0 where
   pub blanked : List ℕ
   pub without_comments : blanked_file bytes ≡ Ok blanked
-  pub read : TextIsRead model blanked (Err fault)
+  pub read : TextIsRead dialect model blanked (Err fault)
 
 -- the file is read as these lines and conditions, and this is the text that stays of it where the conditions have these truths
-pub record IsPreprocessed (model : Plain) (truths : List (Proposition Atom) → List Bool) (bytes text : List ℕ) : Type 0 where
+pub record IsPreprocessed (dialect : Dialect) (model : Plain) (truths : List (Proposition Atom) → List Bool) (bytes text : List ℕ) : Type 0 where
   pub blanked : List ℕ
   pub told : Told
   pub without_comments : blanked_file bytes ≡ Ok blanked
-  pub read : TextIsRead model blanked (Ok told)
+  pub read : TextIsRead dialect model blanked (Ok told)
   pub is : text ≡ preprocessed (truths told.conditions) told.lines blanked
 
--- a text without comments, splices and directive lines: it is its own blanked text, and its own code
+-- a text without comments, splices and directive lines: it is its own blanked text, and its own code, whichever includes a file may have
 pub record IsPlainText (text : List ℕ) : Type 0 where
   pub lines : List Line
   pub blanked : blanked_file text ≡ Ok text
-  pub lines_are : plain_lines_of text ≡ Ok lines
+  pub lines_are : (includes : Includes) → plain_lines_of includes text ≡ Ok lines
   pub code : code_of text ≡ text

@@ -8,12 +8,13 @@ ghost use Rattle.cpp_lines.specs.Directives as specs;
 use crate::bytes::{behind_gap, has_first, split_word};
 use crate::line::LineKind;
 use c_words::is_gap;
-use fam_outer::FileCode;
+use fam_outer::{FileCode, Includes};
 
-/// A known directive.
+/// A known directive. `Include` is that of `<assert.h>`, and the name of all includes.
 #[derive(Clone, Copy, Debug, PartialEq, Eq)]
 pub(crate) enum Directive {
     Include,
+    OtherInclude,
     If,
     Ifdef,
     Ifndef,
@@ -82,36 +83,62 @@ fn is_assert_header(bytes: &[u8]) -> bool
     is(front, "<assert.h>") && is_gap_only(behind)
 }
 
-/// Whether this may stand behind the directive's name.
-fn may_stand_behind(directive: Directive, rest: &[u8]) -> bool
-    ensures { result ≡ specs.may_stand_behind directive rest.now }
+/// The include with this behind its name: of `<assert.h>`, or of anything else.
+fn include_of(rest: &[u8]) -> Directive
+    ensures { result ≡ specs.include_of rest.now }
 {
-    match directive {
-        Directive::Include => is_assert_header(rest),
-        Directive::Else => is_gap_only(rest),
-        Directive::Endif => is_gap_only(rest),
-        Directive::If => true,
-        Directive::Ifdef => true,
-        Directive::Ifndef => true,
-        Directive::Elif => true,
+    if is_assert_header(rest) {
+        Directive::Include
+    } else {
+        Directive::OtherInclude
     }
 }
 
-/// The directive of what stands behind `#`; none, where it is no known one, an include of another header, or `else` or
-/// `endif` with text behind it.
+/// The directive, where nothing but white space stands behind its name.
+fn alone(directive: Directive, rest: &[u8]) -> Option<Directive>
+    ensures { result ≡ specs.alone directive rest.now }
+{
+    if is_gap_only(rest) {
+        Some(directive)
+    } else {
+        None
+    }
+}
+
+/// The directive of this name with this behind it; none, where this may not stand there.
+fn with_rest(directive: Directive, rest: &[u8]) -> Option<Directive>
+    ensures { result ≡ specs.with_rest directive rest.now }
+{
+    match directive {
+        Directive::Include => Some(include_of(rest)),
+        Directive::OtherInclude => Some(Directive::OtherInclude),
+        Directive::Else => alone(Directive::Else, rest),
+        Directive::Endif => alone(Directive::Endif, rest),
+        Directive::If => Some(Directive::If),
+        Directive::Ifdef => Some(Directive::Ifdef),
+        Directive::Ifndef => Some(Directive::Ifndef),
+        Directive::Elif => Some(Directive::Elif),
+    }
+}
+
+/// The directive of what stands behind `#`; none, where it is no known one, or `else` or `endif` with text behind it.
 pub(crate) fn directive_of(bytes: &[u8]) -> Option<Directive>
     ensures { result ≡ specs.directive_of bytes.now }
 {
     let (word, rest) = split_word(bytes);
     match directive_named(word) {
         None => None,
-        Some(directive) => {
-            if may_stand_behind(directive, rest) {
-                Some(directive)
-            } else {
-                None
-            }
-        }
+        Some(directive) => with_rest(directive, rest),
+    }
+}
+
+/// The fault of an include of anything but `<assert.h>`.
+pub(crate) fn include_fault(includes: Includes) -> Option<FileCode>
+    ensures { result ≡ specs.include_fault includes }
+{
+    match includes {
+        Includes::Assert => Some(FileCode::Directive),
+        Includes::Skip => None,
     }
 }
 
@@ -124,8 +151,8 @@ pub(crate) fn behind_hash(line: &[u8]) -> &[u8]
 }
 
 /// The kind of a line without a model.
-pub(crate) fn plain_kind(line: &[u8]) -> Result<LineKind, FileCode>
-    ensures { result ≡ specs.plain_kind line.now }
+pub(crate) fn plain_kind(includes: Includes, line: &[u8]) -> Result<LineKind, FileCode>
+    ensures { result ≡ specs.plain_kind includes line.now }
 {
     if !begins_directive(line) {
         return Ok(LineKind::Code);
@@ -133,6 +160,10 @@ pub(crate) fn plain_kind(line: &[u8]) -> Result<LineKind, FileCode>
     match directive_of(behind_hash(line)) {
         None => Err(FileCode::Directive),
         Some(Directive::Include) => Ok(LineKind::Include),
+        Some(Directive::OtherInclude) => match include_fault(includes) {
+            None => Ok(LineKind::Include),
+            Some(code) => Err(code),
+        },
         Some(_) => Err(FileCode::GroupHere),
     }
 }

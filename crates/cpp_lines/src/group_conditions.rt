@@ -10,7 +10,7 @@ use crate::bytes::{behind_gap, split_word};
 use crate::directives::{Directive, begins_directive, behind_hash, directive_of, is, is_gap_only};
 use c_words::is_digit;
 use cpp_conditions::{Condition, ConditionRefusal, read_condition};
-use fam_outer::{ConditionFault, NoMemory, Text, cut};
+use fam_outer::{ConditionFault, NoMemory, Text, Unknown, cut};
 use linear_atoms::Feature;
 use std::alloc::Global;
 
@@ -73,6 +73,7 @@ fn condition_text(
         Some(Directive::Ifdef) => Ok(Some(behind_prefix(alloc, "defined ", rest)?)),
         Some(Directive::Ifndef) => Ok(Some(behind_prefix(alloc, "!defined ", rest)?)),
         Some(Directive::Include) => Ok(None),
+        Some(Directive::OtherInclude) => Ok(None),
         Some(Directive::Else) => Ok(None),
         Some(Directive::Endif) => Ok(None),
     }
@@ -93,14 +94,15 @@ pub(crate) fn condition_in(alloc: Global, line: &[u8]) -> Result<Option<Conditio
 /// The condition that a text spells, or its fault.
 pub(crate) fn read_text(
     alloc: Global,
+    unknown: Unknown,
     features: &[Feature],
     text: &ConditionText,
 ) -> Result<Condition, ConditionRefusal>
     requires { AreFeatures features.now }
-    ensures { taking.ReadsText features.now text.now result }
+    ensures { taking.ReadsText unknown features.now text.now result }
 {
     match text {
-        Ok(bytes) => read_condition(alloc, features, bytes.bytes()),
+        Ok(bytes) => read_condition(alloc, unknown, features, bytes.bytes()),
         Err(fault) => Err(ConditionRefusal::Fault(*fault)),
     }
 }

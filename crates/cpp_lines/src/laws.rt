@@ -2,6 +2,8 @@
 #![tactic(auto)]
 
 ghost use Rattle.std.specs.Prelude.{◌≡◌, ◌↔◌, ◌<◌, ℕ, Bool, List, length, Result, Ok, Some};
+ghost use Rattle.fam_outer.specs.declared.dialect.Dialect.{Dialect};
+ghost use Rattle.fam_outer.specs.declared.dialect.Includes.{Includes};
 ghost use Rattle.fam_outer.specs.declared.faults.Place.{Place};
 ghost use Rattle.fam_outer.specs.Places.{place_at};
 ghost use Rattle.fam_outer.specs.declared.faults.FileCode.{FileCode};
@@ -34,8 +36,8 @@ pub fn first_fault_decides()
 
 /// The places of the lines that `plain_lines` answers are places of the text.
 pub fn lines_are_placed()
-    ensures { (text : List ℕ) (lines : List declared.Line) → plain_lines_of text ≡ Ok lines
-        → ArePlaced text lines }
+    ensures { (includes : Includes) (text : List ℕ) (lines : List declared.Line)
+        → plain_lines_of includes text ≡ Ok lines → ArePlaced text lines }
 {}
 
 /// Each text is in exactly one way bytes of code and comments, one behind another, and then nothing or a comment without
@@ -58,8 +60,8 @@ pub fn faults_are_of_pieces()
 
 /// A text is read in one way: as one list of lines and conditions, or with one fault.
 pub fn texts_are_read_once()
-    ensures { (model : Plain) (text : List ℕ) (r s : Result Told (FileCode × Place))
-        → TextIsRead model text r → TextIsRead model text s → r ≡ s }
+    ensures { (dialect : Dialect) (model : Plain) (text : List ℕ) (r s : Result Told (FileCode × Place))
+        → TextIsRead dialect model text r → TextIsRead dialect model text s → r ≡ s }
 {
     bytes_have_one_reading();
     few_atoms_are_not_more();
@@ -67,8 +69,9 @@ pub fn texts_are_read_once()
 
 /// At the truths of its conditions one text stays of a file.
 pub fn variants_have_one_text()
-    ensures { (model : Plain) (truths : List (Proposition Atom) → List Bool) (bytes s t : List ℕ)
-        → IsPreprocessed model truths bytes s → IsPreprocessed model truths bytes t → s ≡ t }
+    ensures { (dialect : Dialect) (model : Plain) (truths : List (Proposition Atom) → List Bool)
+        (bytes s t : List ℕ) → IsPreprocessed dialect model truths bytes s
+        → IsPreprocessed dialect model truths bytes t → s ≡ t }
 {
     texts_are_read_once();
 }
@@ -76,6 +79,6 @@ pub fn variants_have_one_text()
 /// The text of a variant has no comment, no splice and no directive line, and no more bytes than a file may have: it is its
 /// own blanked text and its own code, and a file without groups.
 pub fn variants_are_plain()
-    ensures { (model : Plain) (truths : List (Proposition Atom) → List Bool) (bytes text : List ℕ)
-        → IsPreprocessed model truths bytes text → IsPlainText text }
+    ensures { (dialect : Dialect) (model : Plain) (truths : List (Proposition Atom) → List Bool)
+        (bytes text : List ℕ) → IsPreprocessed dialect model truths bytes text → IsPlainText text }
 {}

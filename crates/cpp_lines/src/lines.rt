@@ -10,7 +10,7 @@ ghost use Rattle.cpp_lines.specs.Lines as specs;
 use crate::bytes::{gap_len, line_len};
 use crate::directives::{begins_directive, plain_kind};
 use crate::line::{Line, Lines};
-use fam_outer::{FILE_BYTES, FileRefusal, Place, cut};
+use fam_outer::{FILE_BYTES, FileRefusal, Includes, Place, cut};
 use std::alloc::Global;
 
 /// The first line, and what stands behind its newline; none where no newline comes.
@@ -42,13 +42,18 @@ pub(crate) fn line_place(first: Place, line: &[u8]) -> Place
 }
 
 /// A line whose first byte stands at this offset and place, or its fault.
-fn plain_line(start: u32, first: Place, line: &[u8]) -> Result<Line, FileRefusal>
+fn plain_line(
+    includes: Includes,
+    start: u32,
+    first: Place,
+    line: &[u8],
+) -> Result<Line, FileRefusal>
     requires short { start + length line.now ≤ FILE_BYTES }
     requires column { first.column ≤ 1 }
-    ensures { Gives (λ line. line) result (specs.plain_line start first line.now) }
+    ensures { Gives (λ line. line) result (specs.plain_line includes start first line.now) }
 {
     let place = line_place(first, line);
-    match plain_kind(line) {
+    match plain_kind(includes, line) {
         Ok(kind) => Ok(Line {
             kind,
             start,
@@ -63,12 +68,12 @@ fn plain_line(start: u32, first: Place, line: &[u8]) -> Result<Line, FileRefusal
 ///
 /// Its lines are the pieces between its newlines, so there is one more than there are newlines, and each is code or an
 /// include. It answers `Directive` at the `#` of a directive that is none of the six group directives `if`, `ifdef`,
-/// `ifndef`, `elif`, `else` and `endif`, nor `include` with exactly `<assert.h>`, and of `else` or `endif` with text behind
-/// it; and `GroupHere` at the `#` of any other group directive. The first place decides. It answers `NoMemory` for want of
-/// memory.
-pub fn plain_lines(alloc: Global, blanked: &[u8]) -> Result<Lines, FileRefusal>
+/// `ifndef`, `elif`, `else` and `endif`, nor `include` with exactly `<assert.h>`, or where includes are skipped with
+/// anything, and of `else` or `endif` with text behind it; and `GroupHere` at the `#` of any other group directive. The
+/// first place decides. It answers `NoMemory` for want of memory.
+pub fn plain_lines(alloc: Global, includes: Includes, blanked: &[u8]) -> Result<Lines, FileRefusal>
     requires { length blanked.now ≤ FILE_BYTES }
-    ensures value { Gives (λ lines. lines) result (specs.plain_lines_of blanked.now) }
+    ensures value { Gives (λ lines. lines) result (specs.plain_lines_of includes blanked.now) }
     ensures lines { IfOk result (λ lines. specs.AreLinesOf blanked.now lines) }
 {
     let mut list = Vec::new(alloc);
@@ -76,11 +81,11 @@ pub fn plain_lines(alloc: Global, blanked: &[u8]) -> Result<Lines, FileRefusal>
     let mut start: u32 = 0;
     let mut rest = blanked;
     'lines: while let Some((line, behind)) = cut_line(rest) {
-        list.push(plain_line(start, first, line)?)?;
+        list.push(plain_line(includes, start, first, line)?)?;
         first.line += 1;
         start += line.len() as u32 + 1;
         rest = behind;
     }
-    list.push(plain_line(start, first, rest)?)?;
+    list.push(plain_line(includes, start, first, rest)?)?;
     Ok(Lines::from_vec(list))
 }

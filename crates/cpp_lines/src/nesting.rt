@@ -7,10 +7,12 @@ ghost use Rattle.cpp_lines.specs.Nesting as nesting;
 ghost use Rattle.cpp_lines.specs.Opens as opens;
 
 use crate::bytes::split_word;
-use crate::directives::{Directive, begins_directive, behind_hash, directive_named, directive_of};
+use crate::directives::{
+    Directive, begins_directive, behind_hash, directive_named, directive_of, include_fault,
+};
 use crate::lines::cut_line;
 use crate::open_sections::Opens;
-use fam_outer::{FILE_BYTES, FileCode, NoMemory, Place};
+use fam_outer::{FILE_BYTES, FileCode, Includes, NoMemory, Place};
 use std::alloc::Global;
 
 /// The directive that a line names, whatever stands behind the name.
@@ -140,8 +142,8 @@ impl Opens {
 
     /// The fault of a directive here, where it is none of the known ones, or has what may not stand behind its name, or may
     /// not stand here.
-    fn directive_fault(&self, directive: Option<Directive>) -> Option<FileCode>
-        ensures { result ≡ nesting.directive_fault (opens.flags self.now) directive }
+    fn directive_fault(&self, includes: Includes, directive: Option<Directive>) -> Option<FileCode>
+        ensures { result ≡ nesting.directive_fault includes (opens.flags self.now) directive }
     {
         match directive {
             None => Some(FileCode::Directive),
@@ -149,6 +151,7 @@ impl Opens {
             Some(Directive::Ifdef) => None,
             Some(Directive::Ifndef) => None,
             Some(Directive::Include) => None,
+            Some(Directive::OtherInclude) => include_fault(includes),
             Some(Directive::Elif) => self.later_fault(),
             Some(Directive::Else) => self.later_fault(),
             Some(Directive::Endif) => self.end_fault(),
@@ -156,13 +159,13 @@ impl Opens {
     }
 
     /// The fault of a line here, but for those of its condition, and for a section that nothing ends.
-    pub(crate) fn line_fault(&self, line: &[u8]) -> Option<FileCode>
-        ensures { result ≡ nesting.line_fault (opens.flags self.now) line.now }
+    pub(crate) fn line_fault(&self, includes: Includes, line: &[u8]) -> Option<FileCode>
+        ensures { result ≡ nesting.line_fault includes (opens.flags self.now) line.now }
     {
         if !begins_directive(line) {
             return None;
         }
-        self.directive_fault(directive_of(behind_hash(line)))
+        self.directive_fault(includes, directive_of(behind_hash(line)))
     }
 
     /// Goes on behind a line, whose `#` stands at this place where it is a directive line. It answers an error only for

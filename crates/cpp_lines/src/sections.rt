@@ -22,7 +22,7 @@ use crate::lists::{Atoms, Formulas};
 use crate::nesting::ends_of;
 use crate::open_sections::Opens;
 use cpp_conditions::{Condition, ConditionRefusal, Formula, Model, add_atoms, number};
-use fam_outer::{FILE_BYTES, FileCode, FileRefusal, MOST_ATOMS, NoMemory, Place, Refusal};
+use fam_outer::{Dialect, FILE_BYTES, FileCode, FileRefusal, MOST_ATOMS, NoMemory, Place, Refusal};
 use linear_atoms::Atom;
 use std::alloc::Global;
 
@@ -57,17 +57,18 @@ fn condition_refusal(refusal: ConditionRefusal) -> Refusal<FileCode>
 /// Adds the condition that a text spells, and its atoms.
 fn add_condition(
     alloc: Global,
+    dialect: Dialect,
     model: &Model,
     reading: &mut Reading,
     text: &ConditionText,
 ) -> Result<(), Refusal<FileCode>>
     requires features { AreFeatures model.now.features }
     requires kept { taking.IsKept (plain model.now) reading.old }
-    ensures adds { taking.Adds (plain model.now) text.now reading.old reading.new result }
+    ensures adds { taking.Adds dialect (plain model.now) text.now reading.old reading.new result }
     ensures lines { reading.new.lines ≡ reading.old.lines }
     ensures opens { reading.new.opens ≡ reading.old.opens }
 {
-    let condition = match read_text(alloc, model.features.items(), text) {
+    let condition = match read_text(alloc, dialect.unknown, model.features.items(), text) {
         Ok(condition) => condition,
         Err(refusal) => return Err(condition_refusal(refusal)),
     };
@@ -86,6 +87,7 @@ fn kind_of(number: u32, directive: Option<Directive>) -> LineKind
     match directive {
         None => LineKind::Code,
         Some(Directive::Include) => LineKind::Include,
+        Some(Directive::OtherInclude) => LineKind::Include,
         Some(Directive::If) => LineKind::If(number),
         Some(Directive::Ifdef) => LineKind::If(number),
         Some(Directive::Ifndef) => LineKind::If(number),
@@ -118,22 +120,23 @@ fn line_at(number: u32, start: u32, first: Place, line: &[u8]) -> Line
 /// ends.
 fn judge_line(
     alloc: Global,
+    dialect: Dialect,
     model: &Model,
     reading: &mut Reading,
     line: &[u8],
 ) -> Result<(), Refusal<FileCode>>
     requires features { AreFeatures model.now.features }
     requires kept { taking.IsKept (plain model.now) reading.old }
-    ensures judges { taking.Judges (plain model.now) line.now reading.old reading.new result }
+    ensures judges { taking.Judges dialect (plain model.now) line.now reading.old reading.new result }
     ensures lines { reading.new.lines ≡ reading.old.lines }
     ensures opens { reading.new.opens ≡ reading.old.opens }
 {
-    if let Some(code) = reading.opens.line_fault(line) {
+    if let Some(code) = reading.opens.line_fault(dialect.includes, line) {
         return Err(Refusal::Fault(code));
     }
     match condition_in(alloc, line)? {
         None => Ok(()),
-        Some(text) => add_condition(alloc, model, reading, &text),
+        Some(text) => add_condition(alloc, dialect, model, reading, &text),
     }
 }
 
@@ -151,6 +154,7 @@ fn at_place(refusal: Refusal<FileCode>, place: Place) -> FileRefusal
 /// all but that of a section that nothing ends.
 fn take_line(
     alloc: Global,
+    dialect: Dialect,
     model: &Model,
     reading: &mut Reading,
     start: u32,
@@ -162,11 +166,11 @@ fn take_line(
     requires short { start + length line.now ≤ FILE_BYTES }
     requires column { first.column ≤ 1 }
     requires few { length reading.old.conditions.items ≤ start }
-    ensures { taking.Takes (plain model.now) start first line.now reading.old reading.new result }
+    ensures { taking.Takes dialect (plain model.now) start first line.now reading.old reading.new result }
 {
     let place = line_place(first, line);
     let made = line_at(reading.conditions.len() as u32, start, first, line);
-    let judged = judge_line(alloc, model, reading, line);
+    let judged = judge_line(alloc, dialect, model, reading, line);
     reading.opens.follow(line, place)?;
     if let Err(refusal) = judged {
         return Err(at_place(refusal, place));
@@ -214,11 +218,16 @@ fn earlier(refusal: FileRefusal, opens: &Opens, ends: usize) -> FileRefusal
 }
 
 /// The lines of a text and their conditions.
-fn read_lines(alloc: Global, model: &Model, blanked: &[u8]) -> Result<Reading, FileRefusal>
+fn read_lines(
+    alloc: Global,
+    dialect: Dialect,
+    model: &Model,
+    blanked: &[u8],
+) -> Result<Reading, FileRefusal>
     requires short { length blanked.now ≤ FILE_BYTES }
     requires features { AreFeatures model.now.features }
     requires few { HaveFewAtoms 64 (plain model.now).constraints }
-    ensures read { taking.ReadsLines (plain model.now) blanked.now result }
+    ensures read { taking.ReadsLines dialect (plain model.now) blanked.now result }
     ensures kept { IfOk result (λ reading. taking.IsKept (plain model.now) reading) }
 {
     let mut reading = begin(alloc, model)?;
@@ -226,14 +235,14 @@ fn read_lines(alloc: Global, model: &Model, blanked: &[u8]) -> Result<Reading, F
     let mut start: u32 = 0;
     let mut rest = blanked;
     'lines: while let Some((line, behind)) = cut_line(rest) {
-        if let Err(refusal) = take_line(alloc, model, &mut reading, start, first, line) {
+        if let Err(refusal) = take_line(alloc, dialect, model, &mut reading, start, first, line) {
             return Err(earlier(refusal, &reading.opens, ends_of(behind)));
         }
         first.line += 1;
         start += line.len() as u32 + 1;
         rest = behind;
     }
-    if let Err(refusal) = take_line(alloc, model, &mut reading, start, first, rest) {
+    if let Err(refusal) = take_line(alloc, dialect, model, &mut reading, start, first, rest) {
         return Err(earlier(refusal, &reading.opens, 0));
     }
     if reading.opens.depth() > 0 {
@@ -276,7 +285,7 @@ fn formulas_of(
 ///
 /// Its faults, each at the `#` of its line; the first line with one decides, and in a line the lowest code:
 /// - `Directive`, where the directive is none of the six group directives `if`, `ifdef`, `ifndef`, `elif`, `else` and
-///   `endif`, nor `include` with exactly `<assert.h>`, and at `else` or `endif` with text behind it. Sections are
+///   `endif`, nor `include` with exactly `<assert.h>` (where includes are skipped, with anything), and at `else` or `endif` with text behind it. Sections are
 ///   matched by the names of directives alone, so such a line still ends its section, or is its `#else`;
 /// - `NoIf`, at `#elif`, `#else` or `#endif` outside every section;
 /// - `NoEndif`, at the directive that opens a section without its end;
@@ -286,12 +295,17 @@ fn formulas_of(
 /// - `TooManyTests`, at the condition with which the atoms of the model and of the conditions so far pass 64.
 ///
 /// It answers `NoMemory` for want of memory.
-pub fn read_sections(alloc: Global, model: &Model, blanked: &[u8]) -> Result<Sections, FileRefusal>
+pub fn read_sections(
+    alloc: Global,
+    dialect: Dialect,
+    model: &Model,
+    blanked: &[u8],
+) -> Result<Sections, FileRefusal>
     requires short { length blanked.now ≤ FILE_BYTES }
     requires features { AreFeatures model.now.features }
     requires fit { AreFit (length model.now.features) model.now.constraints }
     requires few { HaveFewAtoms 64 (plain model.now).constraints }
-    ensures read { sections.ReadsSections (plain model.now) blanked.now result }
+    ensures read { sections.ReadsSections dialect (plain model.now) blanked.now result }
     ensures lines { IfOk result (λ made. lists.AreLinesOf blanked.now made.lines) }
     ensures numbers { IfOk result (λ made. lists.AreCounted 1 made.lines) }
     ensures few { IfOk result (λ made. length made.atoms ≤ 64) }
@@ -299,7 +313,7 @@ pub fn read_sections(alloc: Global, model: &Model, blanked: &[u8]) -> Result<Sec
     ensures below { IfOk result (λ made. All (λ f. IsBelow (length made.atoms) (formula f)) made.conditions) }
     ensures numbered { IfOk result (λ made. sections.AreNumberedBelow (length made.conditions) made.lines) }
 {
-    let reading = read_lines(alloc, model, blanked)?;
+    let reading = read_lines(alloc, dialect, model, blanked)?;
     let conditions = formulas_of(alloc, &reading.conditions, &reading.atoms)?;
     Ok(Sections {
         lines: Lines::from_vec(reading.lines),

@@ -36,7 +36,7 @@ use Rattle.c_parser.proofs.KeptItems.{text_read}
 use Rattle.c_parser.proofs.KeptTexts.{TextLaws, same_blanked, same_told, family_fit}
 use Rattle.c_parser.proofs.LineItems.{by_both}
 use Rattle.family_names.specs.Names.{IsFirstNameFault}
-use Rattle.family_generator.specs.Features.{generated_features}
+use Rattle.family_generator.specs.Features.{generated_dialect, generated_features}
 use Rattle.family_generator.specs.Texts.{generated_text}
 use Rattle.family_generator.proofs.BlockTexts.{Block, AreBlocks, generated_blocks, are_blocks}
 use Rattle.family_generator.proofs.BlockLines.{file_lines, file_ended, file_pieces, generated_ended}
@@ -111,7 +111,7 @@ pub record Accepts (laws : Laws) (model : Model) (text : List ℕ) (bs : List Bl
   cut : pieces text ≡ file_lines bs
   blanked : blanked_file text ≡ Ok text
   told : Told
-  read : TextIsRead (plain model) text (Ok told)
+  read : TextIsRead generated_dialect (plain model) text (Ok told)
   sorts : map kind_in told.lines ≡ file_kinds bs
 
 -- the code has tokens
@@ -123,11 +123,11 @@ code_read laws model text bs a =
 
 -- ---- no phase before the grammar has a fault
 
-no_early : (laws : Laws) (model : Model) (text : List ℕ) (bs : List Block) (fault : FileCode × Place) → Accepts laws model text bs → HasEarlyFault (plain model) text fault → ⊥
+no_early : (laws : Laws) (model : Model) (text : List ℕ) (bs : List Block) (fault : FileCode × Place) → Accepts laws model text bs → HasEarlyFault generated_dialect (plain model) text fault → ⊥
 no_early laws model text bs fault a (inl e) = text_not_both (blanked_file text) text fault a.blanked e
 no_early laws model text bs fault a (inr (inl h)) =
     let same : h.blanked ≡ text = same_blanked text h.blanked text h.without_comments a.blanked in
-    told_not_both a.told fault (laws.texts.told (plain model) text (Ok a.told) (Err fault) a.read (subst (λ (t : List ℕ). TextIsRead (plain model) t (Err fault)) same h.read))
+    told_not_both a.told fault (laws.texts.told generated_dialect (plain model) text (Ok a.told) (Err fault) a.read (subst (λ (t : List ℕ). TextIsRead generated_dialect (plain model) t (Err fault)) same h.read))
 no_early laws model text bs fault a (inr (inr h)) =
     let same : h.blanked ≡ text = same_blanked text h.blanked text h.without_comments a.blanked in
     let ts = code_read laws model text bs a in
@@ -136,11 +136,11 @@ no_early laws model text bs fault a (inr (inr h)) =
 
 -- ---- the items of the family
 
-signs_are : (laws : Laws) (model : Model) (text : List ℕ) (bs : List Block) (told : Told) (l : Listed) → Accepts laws model text bs → HasItems (plain model) text told l
+signs_are : (laws : Laws) (model : Model) (text : List ℕ) (bs : List Block) (told : Told) (l : Listed) → Accepts laws model text bs → HasItems generated_dialect (plain model) text told l
     → map sign_in l.items ≡ file_signs (first_in l.names) (second_in l.names) bs
 signs_are laws model text bs told l a h =
-    let by = by_line_of laws.texts.tokens laws.texts.apart (plain model) text told l h in
-    let same = same_told laws.texts (plain model) text h.blanked text told a.told h.without_comments a.blanked h.read a.read in
+    let by = by_line_of laws.texts.tokens laws.texts.apart generated_dialect (plain model) text told l h in
+    let same = same_told laws.texts generated_dialect (plain model) text h.blanked text told a.told h.without_comments a.blanked h.read a.read in
     let mine : l.names ≡ h.tokens.names = ap (λ (k : Listed). k.names) h.is in
     let x = first_in h.tokens.names in
     let y = second_in h.tokens.names in
@@ -167,7 +167,7 @@ nowhere = record { line = 0; column = 0 }
 items_laid : (x y : ℕ) (bs : List Block) (xs : List Item) → map sign_in xs ≡ file_signs x y bs → xs ≡ laid (place_in nowhere xs) 0 (file_signs x y bs)
 items_laid x y bs xs e = sym (laid_again nowhere xs) ∙ ap (laid (place_in nowhere xs) 0) e
 
-no_name : (laws : Laws) (model : Model) (text : List ℕ) (bs : List Block) (told : Told) (l : Listed) (atoms : List Atom) (formulas : List Formula) (fault : FileCode × Place) → Accepts laws model text bs → HasItems (plain model) text told l
+no_name : (laws : Laws) (model : Model) (text : List ℕ) (bs : List Block) (told : Told) (l : Listed) (atoms : List Atom) (formulas : List Formula) (fault : FileCode × Place) → Accepts laws model text bs → HasItems generated_dialect (plain model) text told l
     → IsFirstNameFault (context_of model atoms formulas l.names) l.items (Some fault) → ⊥
 no_name laws model text bs told l atoms formulas fault a h n =
     let context = context_of model atoms formulas l.names in
@@ -175,11 +175,11 @@ no_name laws model text bs told l atoms formulas fault a h n =
     let y = second_in l.names in
     let f = place_in nowhere l.items in
     let are = signs_are laws model text bs told l a h in
-    let free = names_free (context_of model atoms formulas l.names) bs l.items a.features (family_fit laws.texts (plain model) text told l h) are in
+    let free = names_free (context_of model atoms formulas l.names) bs l.items a.features (family_fit laws.texts generated_dialect (plain model) text told l h) are in
     not_none fault (no_fault context f x y (laid f 12 (blocks_signs x y 0 bs ++ signs.RightBrace ∷ [])) (Some fault) free (statements_own f x y bs)
     (subst (λ (xs : List Item). IsFirstNameFault (context_of model atoms formulas l.names) xs (Some fault)) (items_laid x y bs l.items are) n))
 
-no_item : (laws : Laws) (model : Model) (text : List ℕ) (bs : List Block) (fault : FileCode × Place) → Accepts laws model text bs → HasItemFault (families_over model) text fault → ⊥
+no_item : (laws : Laws) (model : Model) (text : List ℕ) (bs : List Block) (fault : FileCode × Place) → Accepts laws model text bs → HasItemFault (families_over generated_dialect model) text fault → ⊥
 no_item laws model text bs fault a h =
     let formed = signs_formed (first_in h.listed.names) (second_in h.listed.names) bs h.listed.items (signs_are laws model text bs h.are.told h.listed a h.are.items) in
     elim h.is [
@@ -190,7 +190,7 @@ no_item laws model text bs fault a h =
       ]
     ]
 
-not_refused : (laws : Laws) (model : Model) (text : List ℕ) (bs : List Block) (fault : FileCode × Place) → Accepts laws model text bs → IsFamilyRefused model text fault → ⊥
+not_refused : (laws : Laws) (model : Model) (text : List ℕ) (bs : List Block) (fault : FileCode × Place) → Accepts laws model text bs → IsFamilyRefused generated_dialect model text fault → ⊥
 not_refused laws model text bs fault a (inl e) = no_early laws model text bs fault a e
 not_refused laws model text bs fault a (inr i) = no_item laws model text bs fault a i
 
@@ -218,13 +218,13 @@ accepts laws model number f c le =
       cut = file_pieces bs all;
       blanked = file_blanked bs all few;
       told = reads.told;
-      read = subst (λ (m : Plain). TextIsRead m (file_ended (generated_blocks number 0 number)) (Ok reads.told)) (sym (same_plain model f c))
-          (subst (λ (ps : List (List ℕ)). AreRead plain_model (file_ended (generated_blocks number 0 number)) [] [] 0 ps (Ok reads.told)) (sym (file_pieces bs all)) reads.read);
+      read = subst (λ (m : Plain). TextIsRead generated_dialect m (file_ended (generated_blocks number 0 number)) (Ok reads.told)) (sym (same_plain model f c))
+          (subst (λ (ps : List (List ℕ)). AreRead generated_dialect plain_model (file_ended (generated_blocks number 0 number)) [] [] 0 ps (Ok reads.told)) (sym (file_pieces bs all)) reads.read);
       sorts = reads.sorts_are;
     }
 
 -- reading a generated family has no refusal but want of memory
-pub generated_not_refused : Laws → (model : Model) (number : ℕ) (fault : FileCode × Place) → model.features ≡ generated_features → model.constraints ≡ [] → number ≤ 2000 → IsFamilyRefused model (generated_text number) fault → ⊥
+pub generated_not_refused : Laws → (model : Model) (number : ℕ) (fault : FileCode × Place) → model.features ≡ generated_features → model.constraints ≡ [] → number ≤ 2000 → IsFamilyRefused generated_dialect model (generated_text number) fault → ⊥
 generated_not_refused laws model number fault f c le h =
     not_refused laws model (file_ended (generated_blocks number 0 number)) (generated_blocks number 0 number) fault (accepts laws model number f c le)
-    (subst (λ (t : List ℕ). IsFamilyRefused model t fault) (generated_ended number) h)
+    (subst (λ (t : List ℕ). IsFamilyRefused generated_dialect model t fault) (generated_ended number) h)

@@ -7,7 +7,7 @@ use Rattle.c_tree.specs.declared.tree.Op.TheVariants.{Add, Lt, Gt, Ge}
 use Rattle.c_grammar.specs.declared.items.Item.{Item}
 use Rattle.c_grammar.specs.declared.items.Sign.TheVariants as signs
 use Rattle.c_grammar.specs.Grammar as grammar
-use Rattle.c_grammar.specs.Grammar.{at, Expresses, number, name, loose, binary, Listed, Raise, Outer, File, absent, present, bare, no_return}
+use Rattle.c_grammar.specs.Grammar.{at, Expresses, number, name, loose, binary, Listed, Raise, Outer, File, present, int, only_type, bare, no_return}
 use Rattle.c_grammar.specs.Within.{Full, WritesIn, none, more, choice, ends, otherwise, assign, input, count, assert, while, if_else, DeclaresIn, nothing, variables, last_var, no_more, body, main, FormsWithin, file}
 use Rattle.family_generator.proofs.BlockTexts.{Block, Switched, Bounded, Checked}
 use Rattle.family_generator.proofs.Signs.{laid, laid_joined, laid_again, sign_in, place_in, block_signs, condition_count, blocks_signs, header_signs, file_signs}
@@ -127,9 +127,9 @@ pub record IsFormed (xs : List Item) : Type 0 where
 
 declares : (p q r s t u : Place) (x y : ℕ) → DeclaresIn 64 (Outer []) (at p signs.Int ∷ at q (signs.Name x) ∷ at r signs.Semicolon ∷ at s signs.Int ∷ at t (signs.Name y) ∷ at u signs.Semicolon ∷ []) (grammar.declared x (pos 0) [] ∷ grammar.declared y (pos 0) [] ∷ [])
 declares p q r s t u x y =
-    variables p [] {us = []} {vs = at q (signs.Name x) ∷ at r signs.Semicolon ∷ []} {ws = at s signs.Int ∷ at t (signs.Name y) ∷ at u signs.Semicolon ∷ []}
-    (absent signs.Static) (last_var r [] {us = at q (signs.Name x) ∷ []} (bare q x))
-    (variables s [] {us = []} {vs = at t (signs.Name y) ∷ at u signs.Semicolon ∷ []} {ws = []} (absent signs.Static) (last_var u [] {us = at t (signs.Name y) ∷ []} (bare t y)) (nothing []))
+    variables [] {us = at p signs.Int ∷ []} {vs = at q (signs.Name x) ∷ at r signs.Semicolon ∷ []} {ws = at s signs.Int ∷ at t (signs.Name y) ∷ at u signs.Semicolon ∷ []}
+    (only_type signs.Static (int p)) (last_var r [] {us = at q (signs.Name x) ∷ []} (bare q x))
+    (variables [] {us = at s signs.Int ∷ []} {vs = at t (signs.Name y) ∷ at u signs.Semicolon ∷ []} {ws = []} (only_type signs.Static (int s)) (last_var u [] {us = at t (signs.Name y) ∷ []} (bare t y)) (nothing []))
 
 header_formed : (a b c d e g p q r v s t z : Place) (x y : ℕ) (statements : List Item) → Lists 64 statements
     → IsFormed (at a signs.Int ∷ at b (signs.Name x) ∷ at c signs.Semicolon ∷ at d signs.Int ∷ at e (signs.Name y) ∷ at g signs.Semicolon
@@ -139,7 +139,7 @@ header_formed a b c d e g p q r v s t z x y statements h = record {
   formed = file {us = at a signs.Int ∷ at b (signs.Name x) ∷ at c signs.Semicolon ∷ at d signs.Int ∷ at e (signs.Name y) ∷ at g signs.Semicolon ∷ []}
       {vs = at p signs.Int ∷ at q signs.Main ∷ at r signs.Open ∷ at v signs.Void ∷ at s signs.Close ∷ at t signs.LeftBrace ∷ (statements ++ at z signs.RightBrace ∷ [])}
       (declares a b c d e g x y)
-      (main p q r s t z {us = at v signs.Void ∷ []} {vs = statements ++ at z signs.RightBrace ∷ []} (present v signs.Void) (body z {us = statements} {vs = []} {ws = []} h.written no_return no_more));
+      (main q r s t z {ts = at p signs.Int ∷ []} {us = at v signs.Void ∷ []} {vs = statements ++ at z signs.RightBrace ∷ []} (int p) (present v signs.Void) (body z {us = statements} {vs = []} {ws = []} h.written no_return no_more));
 }
 
 laid_formed : (f : ℕ → Place) (x y : ℕ) (bs : List Block) → IsFormed (laid f 0 (file_signs x y bs))

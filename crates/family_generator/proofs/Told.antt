@@ -12,7 +12,7 @@ use Rattle.cpp_lines.specs.declared.line.LineKind.TheVariants as kinds
 use Rattle.cpp_lines.specs.GroupConditions.{condition_in, name_in, behind_prefix, IsGroupCondition}
 use Rattle.cpp_lines.specs.Nesting.{named_in, opened_by, ends_of, is_unclosed, line_fault}
 use Rattle.cpp_lines.specs.Sections.{AreRead, none, goes_on, untested, tested, Told, line_at}
-use Rattle.family_generator.specs.Features.{generated_features}
+use Rattle.family_generator.specs.Features.{generated_dialect, generated_features}
 use Rattle.family_generator.proofs.Cases.{each_below}
 use Rattle.family_generator.proofs.BlockTexts.{Block, Switched, Bounded, Checked, IsBlock, AreBlocks}
 use Rattle.family_generator.proofs.BlockLines.{digit, switch_line, bound_line, count_line, block_lines, blocks_lines, file_lines}
@@ -42,7 +42,7 @@ file_kinds bs = kinds.Code ∷ kinds.Code ∷ kinds.Code ∷ blocks_kinds 0 bs
 -- lines are read, and have these kinds
 pub record Reads (text : List ℕ) (opens : List Bool) (ps : List (Proposition Atom)) (start : ℕ) (lines : List (List ℕ)) (sorts : List LineKind) : Type 0 where
   pub told : Told
-  pub read : AreRead plain_model text opens ps start lines (Ok told)
+  pub read : AreRead generated_dialect plain_model text opens ps start lines (Ok told)
   pub sorts_are : map kind_in told.lines ≡ sorts
 
 -- ---- one line before others
@@ -53,24 +53,24 @@ kind_of_line n line = (line_at n 0 (record { line = 1; column = 1 }) line).kind
 
 -- a line without a condition
 untested_line : (text : List ℕ) (opens next : List Bool) (ps : List (Proposition Atom)) (start : ℕ) (line : List ℕ) (lines : List (List ℕ)) (sorts : List LineKind) → is_unclosed line lines ≡ false
-    → line_fault opens line ≡ None → condition_in line ≡ None → opened_by (named_in line) opens ≡ next → Reads text next ps (start + length line + 1) lines sorts
+    → line_fault generated_dialect.includes opens line ≡ None → condition_in line ≡ None → opened_by (named_in line) opens ≡ next → Reads text next ps (start + length line + 1) lines sorts
     → Reads text opens ps start (line ∷ lines) (kind_of_line (length ps) line ∷ sorts)
 untested_line text opens next ps start line lines sorts unclosed fault condition opened r = record {
   told = record { lines = line_at (length ps) start (place_at text start) line ∷ r.told.lines; conditions = r.told.conditions };
   read = goes_on opens ps start line lines [] (Ok r.told) unclosed (untested fault condition)
-      (subst (λ (o : List Bool). AreRead plain_model text o (ps ++ []) (start + length line + 1) lines (Ok r.told)) (sym opened)
-      (subst (λ (qs : List (Proposition Atom)). AreRead plain_model text next qs (start + length line + 1) lines (Ok r.told)) (sym (append-nil ps)) r.read));
+      (subst (λ (o : List Bool). AreRead generated_dialect plain_model text o (ps ++ []) (start + length line + 1) lines (Ok r.told)) (sym opened)
+      (subst (λ (qs : List (Proposition Atom)). AreRead generated_dialect plain_model text next qs (start + length line + 1) lines (Ok r.told)) (sym (append-nil ps)) r.read));
   sorts_are = ap (λ (ks : List LineKind). kind_of_line (length ps) line ∷ ks) r.sorts_are;
 }
 
 -- a line with a condition
 tested_line : (text : List ℕ) (opens next : List Bool) (ps : List (Proposition Atom)) (start : ℕ) (line : List ℕ) (lines : List (List ℕ)) (sorts : List LineKind) (bytes : List ℕ) (p : Proposition Atom)
-    → is_unclosed line lines ≡ false → line_fault opens line ≡ None → condition_in line ≡ Some (Ok bytes) → IsGroupCondition generated_features (Ok bytes) (Ok p) → AreTests (ps ++ p ∷ []) → opened_by (named_in line) opens ≡ next
+    → is_unclosed line lines ≡ false → line_fault generated_dialect.includes opens line ≡ None → condition_in line ≡ Some (Ok bytes) → IsGroupCondition generated_dialect.unknown generated_features (Ok bytes) (Ok p) → AreTests (ps ++ p ∷ []) → opened_by (named_in line) opens ≡ next
     → Reads text next (ps ++ p ∷ []) (start + length line + 1) lines sorts → Reads text opens ps start (line ∷ lines) (kind_of_line (length ps) line ∷ sorts)
 tested_line text opens next ps start line lines sorts bytes p unclosed fault condition means tests opened r = record {
   told = record { lines = line_at (length ps) start (place_at text start) line ∷ r.told.lines; conditions = p ∷ r.told.conditions };
   read = goes_on opens ps start line lines (p ∷ []) (Ok r.told) unclosed (tested (Ok bytes) p fault condition means (tests_have_few (ps ++ p ∷ []) tests))
-      (subst (λ (o : List Bool). AreRead plain_model text o (ps ++ p ∷ []) (start + length line + 1) lines (Ok r.told)) (sym opened) r.read);
+      (subst (λ (o : List Bool). AreRead generated_dialect plain_model text o (ps ++ p ∷ []) (start + length line + 1) lines (Ok r.told)) (sym opened) r.read);
   sorts_are = ap (λ (ks : List LineKind). kind_of_line (length ps) line ∷ ks) r.sorts_are;
 }
 

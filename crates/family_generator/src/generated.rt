@@ -13,7 +13,7 @@ ghost use Rattle.c_tree.specs.Project.{IsConditioned};
 ghost use Rattle.c_tree.specs.View.{whole};
 ghost use Rattle.c_tree.specs.Whole.{IsProgram};
 ghost use Rattle.c_parser.specs.FamilyReading.{IsFamilyOf};
-ghost use Rattle.family_generator.specs.Features.{generated_features};
+ghost use Rattle.family_generator.specs.Features.{generated_dialect, generated_features};
 ghost use Rattle.family_generator.specs.Texts.{generated_text};
 
 use crate::laws::generated_families_are_accepted;
@@ -21,19 +21,28 @@ use crate::models::generated_model;
 use crate::texts::generated_text;
 use c_parser::{Family, read_family};
 use cpp_conditions::Model;
-use fam_outer::{FileRefusal, NoMemory, Text};
+use fam_outer::{Dialect, FileRefusal, Includes, NoMemory, Text, Unknown};
 use std::alloc::Global;
 
-/// A generated family: its model, its text, and the family that the text is read as.
+/// A generated family: its model, its text, and the family that the text is read as; and how names and includes were read, as
+/// those of any file without the options for it.
 #[derive(Drop)]
 pub struct GeneratedFamily {
+    pub dialect: Dialect,
     pub model: Model,
     pub text: Text,
     pub family: Family,
 }
 
 /// The family that a generated text is read as over the generated model.
-fn family_of(alloc: Global, model: &Model, text: &Text, number: u32) -> Result<Family, NoMemory>
+fn family_of(
+    alloc: Global,
+    dialect: Dialect,
+    model: &Model,
+    text: &Text,
+    number: u32,
+) -> Result<Family, NoMemory>
+    requires dialect { dialect ≡ generated_dialect }
     requires number { number ≤ 2000 }
     requires features_are { model.now.features ≡ generated_features }
     requires constraints_are { model.now.constraints ≡ [] }
@@ -41,7 +50,7 @@ fn family_of(alloc: Global, model: &Model, text: &Text, number: u32) -> Result<F
     requires features { AreFeatures model.now.features }
     requires fit { AreFit (length model.now.features) model.now.constraints }
     requires few { HaveFewAtoms 64 (plain model.now).constraints }
-    ensures spelled { IfOk result (λ f. IsFamilyOf model.now text.now f) }
+    ensures spelled { IfOk result (λ f. IsFamilyOf dialect model.now text.now f) }
     ensures program { IfOk result (λ f. IsProgram (whole f.code)) }
     ensures conditioned { IfOk result (λ f. IsConditioned (length f.conditions) (whole f.code)) }
     ensures few { IfOk result (λ f. length f.atoms ≤ 64) }
@@ -49,7 +58,7 @@ fn family_of(alloc: Global, model: &Model, text: &Text, number: u32) -> Result<F
     ensures below { IfOk result (λ f. All (λ c. IsBelow (length f.atoms) (formula c)) f.conditions) }
 {
     generated_families_are_accepted();
-    match read_family(alloc, model, text.bytes()) {
+    match read_family(alloc, dialect, model, text.bytes()) {
         Ok(family) => Ok(family),
         Err(FileRefusal::NoMemory) => Err(NoMemory),
         Err(FileRefusal::Fault { code: _, place: _ }) => unreachable!(),
@@ -60,10 +69,11 @@ fn family_of(alloc: Global, model: &Model, text: &Text, number: u32) -> Result<F
 /// is want of memory, since such a text is accepted.
 pub fn generated_family(alloc: Global, number: u32) -> Result<GeneratedFamily, NoMemory>
     requires { number ≤ 2000 }
+    ensures dialect_is { IfOk result (λ made. made.dialect ≡ generated_dialect) }
     ensures features_are { IfOk result (λ made. made.model.features ≡ generated_features) }
     ensures constraints_are { IfOk result (λ made. made.model.constraints ≡ []) }
     ensures text_is { IfOk result (λ made. made.text ≡ generated_text number) }
-    ensures spelled { IfOk result (λ made. IsFamilyOf made.model made.text made.family) }
+    ensures spelled { IfOk result (λ made. IsFamilyOf made.dialect made.model made.text made.family) }
     ensures features { IfOk result (λ made. AreFeatures made.model.features) }
     ensures fit { IfOk result (λ made. AreFit (length made.model.features) made.model.constraints) }
     ensures few_constraints { IfOk result (λ made. HaveFewAtoms 64 (plain made.model).constraints) }
@@ -78,8 +88,13 @@ pub fn generated_family(alloc: Global, number: u32) -> Result<GeneratedFamily, N
 {
     let model = generated_model(alloc)?;
     let text = generated_text(alloc, number)?;
-    let family = family_of(alloc, &model, &text, number)?;
+    let dialect = Dialect {
+        unknown: Unknown::Zero,
+        includes: Includes::Assert,
+    };
+    let family = family_of(alloc, dialect, &model, &text, number)?;
     Ok(GeneratedFamily {
+        dialect,
         model,
         text,
         family,

@@ -4,7 +4,7 @@
 ghost use Rattle.family_generator.specs.Laws.{GeneratedFamiliesAreAccepted};
 
 use c_grammar::laws::reads_within_the_limits;
-use c_tokens::laws::{lines_are_apart, literals_are_decimal, one_reading, reads_longest_lexemes};
+use c_tokens::laws::{lines_are_apart, literals_are_numbers, one_reading, reads_longest_lexemes};
 use cpp_lines::laws::texts_are_read_once;
 use fam_outer::places_rise;
 
@@ -15,7 +15,7 @@ pub fn generated_families_are_accepted()
     ensures { GeneratedFamiliesAreAccepted }
 {
     reads_longest_lexemes();
-    literals_are_decimal();
+    literals_are_numbers();
     places_rise();
     lines_are_apart();
     one_reading();

@@ -2,7 +2,7 @@
 use Rattle.std.proofs.Common.{◌≡◌, ℕ, zero, suc, ◌+◌, ◌*◌, ◌-◌, ◌≤◌, ◌<◌, ℤ, pos, ◌≤ℤ◌, int_le, unsigned_abs, FitsSigned, to_z, of_z, w64, Bool, true, false, ◌&&◌, List, [], ◌∷◌, ◌++◌, length, set, Option, Some, None, refl, sym, ap, subst, ◌∙◌, arith}
 use Rattle.std.proofs.lemmas.Int.{ints, to_z-of_z}
 use Rattle.linear_atoms.specs.declared.atoms.Feature.{Feature}
-use Rattle.cpp_conditions.specs.Tokens.{number_from}
+use Rattle.feature_model.specs.Settings.{number_from}
 use Rattle.std.specs.Prelude.{IfSome, Result, Ok, Err, cond, ⊤}
 use Rattle.std.specs.Str.{bytes_eq}
 use Rattle.linear_atoms.specs.Atoms.{AreRanges, AreValues}

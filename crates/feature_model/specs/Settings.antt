@@ -1,10 +1,10 @@
 -- Settings of features, word by word, and the configuration that they give.
-use Rattle.std.specs.Prelude.{◌≡◌, ⊤, ℕ, ◌+◌, ◌≤◌, ◌<◌, ◌==◌, nat_lt, ℤ, pos, neg_ℤ, unsigned_abs, Bool, false, not, ◌&&◌, if◌then◌else◌, List, [], ◌∷◌, ◌++◌, map, length, slice_index_or, slice_set, Option, Some, None, is_some, Result, Ok, Err}
-use Rattle.std.specs.List.{before_first, after_first, position_or_len}
+use Rattle.std.specs.Prelude.{◌≡◌, ⊤, ℕ, ◌+◌, ◌-◌, ◌*◌, ◌≤◌, ◌<◌, ◌==◌, nat_lt, nat_eq, ℤ, pos, neg_ℤ, unsigned_abs, Bool, false, not, ◌&&◌, if◌then◌else◌, List, [], ◌∷◌, ◌++◌, map, length, slice_index_or, slice_set, Option, Some, None, is_some, Result, Ok, Err}
+use Rattle.std.specs.List.{before_first, after_first, list_all, position_or_len}
 use Rattle.std.specs.Str.{bytes_eq}
 use Rattle.linear_atoms.specs.declared.atoms.Feature.{Feature}
 use Rattle.cpp_conditions.specs.declared.models.Model.{Model}
-use Rattle.cpp_conditions.specs.Tokens.{is_number, number_from}
+use Rattle.cpp_conditions.specs.Tokens.{is_digit}
 use Rattle.cpp_conditions.specs.Validity.{plain, is_in_range, is_valid}
 use Rattle.feature_model.specs.declared.faults.ConfigFault.{ConfigFault}
 use Rattle.feature_model.specs.declared.faults.ConfigFault.TheVariants as faults
@@ -27,6 +27,16 @@ parts word =
 abbrev pub begins_with_zero : List ℕ → Bool
 begins_with_zero [] = false
 begins_with_zero (b ∷ bs) = b == 48
+
+-- `0`, or digits without a leading zero
+abbrev pub is_number : List ℕ → Bool
+is_number [] = false
+is_number (b ∷ []) = is_digit b
+is_number (b ∷ c ∷ bs) = not (nat_eq b 48) && list_all is_digit (b ∷ c ∷ bs)
+
+abbrev pub number_from : ℕ → List ℕ → ℕ
+number_from n [] = n
+number_from n (b ∷ bs) = number_from (n * 10 + (b - 48)) bs
 
 -- `0`, or digits that do not begin with 0
 abbrev pub positive : List ℕ → Option ℤ

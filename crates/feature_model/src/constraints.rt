@@ -10,7 +10,7 @@ ghost use Rattle.feature_model.specs.Constraints as constraints;
 
 use crate::faults::{ModelFault, ModelRefusal};
 use cpp_conditions::{Condition, ConditionRefusal, distinct_atoms, read_condition};
-use fam_outer::{MOST_ATOMS, NoMemory, Text};
+use fam_outer::{MOST_ATOMS, NoMemory, Text, Unknown};
 use linear_atoms::Feature;
 use linear_atoms::slices::cut;
 use std::alloc::Global;
@@ -30,6 +30,7 @@ fn numbered(number: u32, refusal: ConditionRefusal) -> ModelRefusal
 /// Puts the constraints that the texts spell behind others. The number is that of the first text.
 pub(crate) fn add_constraints(
     alloc: Global,
+    unknown: Unknown,
     features: &[Feature],
     texts: &[Text],
     number: u32,
@@ -37,18 +38,18 @@ pub(crate) fn add_constraints(
 ) -> Result<(), ModelRefusal>
     requires features { AreFeatures features.now }
     requires few { number + length texts.now < 2 ^ 32 }
-    ensures read { constraints.Adds features.now number texts.now made.old.items made.new.items result }
+    ensures read { constraints.Adds unknown features.now number texts.now made.old.items made.new.items result }
     ensures fit { AreFit (length features.now) made.old.items → AreFit (length features.now) made.new.items }
     ensures undecided { AreOpen features.now made.old.items → AreOpen features.now made.new.items }
 {
     let Some((text, behind)) = cut(texts) else {
         return Ok(());
     };
-    match read_condition(alloc, features, text.bytes()) {
+    match read_condition(alloc, unknown, features, text.bytes()) {
         Ok(condition) => made.push(condition)?,
         Err(refusal) => return Err(numbered(number, refusal)),
     }
-    add_constraints(alloc, features, behind, number + 1, made)
+    add_constraints(alloc, unknown, features, behind, number + 1, made)
 }
 
 /// Whether at most 64 different atoms stand in the conditions.

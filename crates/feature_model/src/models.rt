@@ -18,7 +18,7 @@ use crate::features::{fault_of, features as features_of};
 use crate::shapes::{Outline, outline_of};
 use atom_solver::least;
 use cpp_conditions::{Conditions, Features, Model};
-use fam_outer::{MODEL_BYTES, MOST_CONSTRAINTS, MOST_FEATURES, Text};
+use fam_outer::{MODEL_BYTES, MOST_CONSTRAINTS, MOST_FEATURES, Text, Unknown};
 use linear_atoms::Feature;
 use serde_json::Value;
 use std::alloc::Global;
@@ -127,8 +127,8 @@ fn judged(alloc: Global, model: Model) -> Result<Model, ModelRefusal>
 ///
 /// The atoms of its constraints are well formed over its features, and the ranges decide none of them. It answers
 /// `NoMemory` for want of memory.
-pub fn read_model(alloc: Global, bytes: &[u8]) -> Result<Model, ModelRefusal>
-    ensures read { IsModelRead bytes.now result }
+pub fn read_model(alloc: Global, unknown: Unknown, bytes: &[u8]) -> Result<Model, ModelRefusal>
+    ensures read { IsModelRead unknown bytes.now result }
     ensures features { IfOk result (λ made. AreFeatures made.features) }
     ensures distinct { IfOk result (λ made. AreDistinct made.features) }
     ensures named { IfOk result (λ made. AreNamed made.features) }
@@ -140,7 +140,7 @@ pub fn read_model(alloc: Global, bytes: &[u8]) -> Result<Model, ModelRefusal>
 {
     let (features, texts) = told_of(alloc, bytes)?;
     let mut constraints = Vec::new(alloc);
-    add_constraints(alloc, &features, &texts, 1, &mut constraints)?;
+    add_constraints(alloc, unknown, &features, &texts, 1, &mut constraints)?;
     judged(
         alloc,
         Model {

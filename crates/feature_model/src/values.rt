@@ -3,7 +3,8 @@
 
 ghost use Rattle.std.specs.Prelude.{◌≡◌, ◌≤◌, ◌<◌, true, [], option_map, MatchOption};
 ghost use Rattle.std.specs.List.{list_all};
-ghost use Rattle.cpp_conditions.specs.Tokens.{is_digit, is_number, number_from};
+ghost use Rattle.cpp_conditions.specs.Tokens.{is_digit};
+ghost use Rattle.feature_model.specs.Settings.{is_number, number_from};
 ghost use Rattle.feature_model.specs.Settings as settings;
 
 use fam_outer::{MOST_VALUE, cut};

@@ -10,6 +10,8 @@ use Rattle.item_reader.specs.declared.states.Prefix.{Prefix}
 use Rattle.item_reader.specs.declared.states.Prefix.TheVariants as prefixes
 use Rattle.item_reader.specs.declared.states.Update.{Update}
 use Rattle.item_reader.specs.declared.states.Update.TheVariants as updates
+use Rattle.item_reader.specs.declared.states.Count.{Count}
+use Rattle.item_reader.specs.declared.states.Count.TheVariants as counts
 use Rattle.item_reader.specs.declared.states.Frame.{Frame}
 use Rattle.item_reader.specs.declared.states.Frame.TheVariants as frames
 use Rattle.item_reader.specs.declared.states.Link.{Link}
@@ -19,6 +21,10 @@ use Rattle.item_reader.specs.declared.states.Purpose.{Purpose}
 use Rattle.item_reader.specs.declared.states.Purpose.TheVariants as purposes
 use Rattle.item_reader.specs.declared.states.Sections.{Sections}
 use Rattle.item_reader.specs.declared.states.Sections.TheVariants as sections
+use Rattle.item_reader.specs.declared.states.Leading.{Leading}
+use Rattle.item_reader.specs.declared.states.Leading.TheVariants as leadings
+use Rattle.item_reader.specs.declared.states.TypeWords.{TypeWords}
+use Rattle.item_reader.specs.declared.states.TypeWords.TheVariants as type_words
 use Rattle.item_reader.specs.declared.states.Aim.{Aim}
 use Rattle.item_reader.specs.declared.states.Aim.TheVariants as aims
 use Rattle.item_reader.specs.declared.states.Tailing.{Tailing}
@@ -33,8 +39,15 @@ as_prefix prefixes.Negative = grammar.Negative
 as_prefix prefixes.Inverse = grammar.Inverse
 
 abbrev pub as_update : Update → grammar.Update
-as_update updates.Raise = grammar.Raise
-as_update updates.Lower = grammar.Lower
+as_update updates.Sum = grammar.Sum
+as_update updates.Difference = grammar.Difference
+as_update updates.Product = grammar.Product
+as_update updates.Quotient = grammar.Quotient
+as_update updates.Remainder = grammar.Remainder
+
+abbrev pub as_count : Count → grammar.Count
+as_count counts.Raise = grammar.Raise
+as_count counts.Lower = grammar.Lower
 
 abbrev pub as_frame : Frame → machine.Frame
 as_frame frames.Paren = machine.Paren
@@ -71,6 +84,16 @@ as_sections sections.Outermost = machine.Outermost
 as_sections (sections.InPart' guards number q outer) = machine.InPart guards.items number (as_sections outer)
 as_sections (sections.InLast' guards q outer) = machine.InLast guards.items (as_sections outer)
 
+abbrev pub as_leading : Leading → machine.Leading
+as_leading leadings.NoWord = machine.NoWord
+as_leading leadings.StaticWord = machine.StaticWord
+as_leading leadings.ExternWord = machine.ExternWord
+
+abbrev pub as_words : TypeWords → machine.TypeWords
+as_words type_words.OneInt = machine.OneInt
+as_words type_words.OneSigned = machine.OneSigned
+as_words type_words.WholeType = machine.WholeType
+
 abbrev pub as_aim : Aim → machine.Aim
 as_aim (aims.ToPrototype secs declared) = machine.ToPrototype (as_sections secs) declared.items
 as_aim (aims.ToMain declared) = machine.ToMain declared.items
@@ -89,8 +112,7 @@ abbrev pub as_state : ReadingState → machine.ReadingState
 as_state (states.Outside secs ds) = machine.Outside (as_sections secs) ds.items
 as_state (states.AfterStatic secs ds) = machine.AfterStatic (as_sections secs) ds.items
 as_state (states.AfterExtern secs ds) = machine.AfterExtern (as_sections secs) ds.items
-as_state (states.AfterInt secs ds) = machine.AfterInt (as_sections secs) ds.items
-as_state (states.AfterExternInt secs ds) = machine.AfterExternInt (as_sections secs) ds.items
+as_state (states.AfterType leading words secs ds) = machine.AfterType (as_leading leading) (as_words words) (as_sections secs) ds.items
 as_state (states.Declaring secs ds) = machine.Declaring (as_sections secs) ds.items
 as_state (states.Bare x secs ds) = machine.Bare x (as_sections secs) ds.items
 as_state (states.Starting x secs ds) = machine.Starting x (as_sections secs) ds.items
@@ -104,6 +126,7 @@ as_state (states.Ready outer) = machine.Ready (as_stack outer)
 as_state (states.Ended outer statement) = machine.Ended (as_stack outer) (front statement Done)
 as_state (states.Wants fs purpose) = machine.Wants (as_frames fs.items) (as_purpose purpose)
 as_state (states.Has fs purpose operand) = machine.Has (as_frames fs.items) (as_purpose purpose) (term operand)
+as_state (states.Counting place count outer) = machine.Counting place (as_count count) (as_stack outer)
 as_state (states.Named place target outer) = machine.Named place target (as_stack outer)
 as_state (states.Opens purpose) = machine.Opens (as_purpose purpose)
 as_state (states.InputOpens place target outer) = machine.InputOpens place target (as_stack outer)

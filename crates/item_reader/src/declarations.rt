@@ -1,4 +1,4 @@
-//! Declarations of variables, and the heads of functions up to their names.
+//! Declarators behind their names.
 #![tactic(auto)]
 
 ghost use Rattle.std.specs.Prelude.{◌≡◌, IfOk, option_map};
@@ -7,83 +7,11 @@ ghost use Rattle.item_reader.specs.Signs.{IsUnsigned};
 ghost use Rattle.item_reader.specs.Views.{as_sections, as_state, Moves};
 
 use crate::sections::guards_of;
-use crate::states::{Aim, ReadingState, Sections};
+use crate::states::{ReadingState, Sections};
 use c_grammar::Sign;
 use c_tree::{Declared, Guards, Op};
 use fam_outer::NoMemory;
 use std::alloc::Global;
-
-/// The state, where the sign is `int`.
-pub(crate) fn at_int(next: ReadingState, sign: Sign) -> Option<ReadingState>
-    ensures { option_map as_state result ≡ machine.at_int (as_state next) sign }
-{
-    match sign {
-        Sign::Int => Some(next),
-        _ => None,
-    }
-}
-
-/// The state, where the sign is `input`.
-pub(crate) fn at_input(next: ReadingState, sign: Sign) -> Option<ReadingState>
-    ensures { option_map as_state result ≡ machine.at_input (as_state next) sign }
-{
-    match sign {
-        Sign::Input => Some(next),
-        _ => None,
-    }
-}
-
-/// Where a declarator comes.
-pub(crate) fn declaring(
-    sections: Sections,
-    declared: Vec<Declared>,
-    sign: Sign,
-) -> Option<ReadingState>
-    ensures { option_map as_state result ≡ machine.declaring (as_sections sections) declared.items sign }
-{
-    match sign {
-        Sign::Name(name) => Some(ReadingState::Bare {
-            name,
-            sections,
-            declared,
-        }),
-        _ => None,
-    }
-}
-
-/// Behind `int main`, which stands outside every group.
-fn main_of(sections: Sections, declared: Vec<Declared>) -> Option<ReadingState>
-    ensures { option_map as_state result ≡ machine.main_of (as_sections sections) declared.items }
-{
-    match sections {
-        Sections::Outermost => Some(ReadingState::Parameters {
-            aim: Aim::ToMain { declared },
-        }),
-        _other => None,
-    }
-}
-
-/// Behind `int` at the front of a declaration.
-pub(crate) fn after_int(
-    sections: Sections,
-    declared: Vec<Declared>,
-    sign: Sign,
-) -> Option<ReadingState>
-    ensures { option_map as_state result ≡ machine.after_int (as_sections sections) declared.items sign }
-{
-    match sign {
-        Sign::Name(name) => Some(ReadingState::Bare {
-            name,
-            sections,
-            declared,
-        }),
-        Sign::Input => Some(ReadingState::Parameters {
-            aim: Aim::ToPrototype { sections, declared },
-        }),
-        Sign::Main => main_of(sections, declared),
-        _ => None,
-    }
-}
 
 /// The declarators with one more, under the guards of the groups around it.
 fn with_declared(

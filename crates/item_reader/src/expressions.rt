@@ -119,8 +119,11 @@ pub(crate) fn updated(
         ≡ grammar.updated place target (as_update update) (term by)) }
 {
     let op = match update {
-        Update::Raise => Op::Add,
-        Update::Lower => Op::Sub,
+        Update::Sum => Op::Add,
+        Update::Difference => Op::Sub,
+        Update::Product => Op::Mul,
+        Update::Quotient => Op::Div,
+        Update::Remainder => Op::Rem,
     };
     let value = binary(alloc, op, Expr::Var(target), by)?;
     Ok(Stmt::Assign {

@@ -7,6 +7,7 @@ mod expressions;
 mod files;
 mod frames;
 mod groups;
+mod heads;
 mod limits;
 mod lists;
 mod marks;

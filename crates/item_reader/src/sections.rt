@@ -7,7 +7,8 @@ ghost use Rattle.c_grammar.specs.Machine as machine;
 ghost use Rattle.c_grammar.specs.declared.items.Sign.TheVariants as signs;
 ghost use Rattle.item_reader.specs.Views.{as_sections, as_state, Moves};
 
-use crate::states::{ReadingState, Sections};
+use crate::heads::first_word;
+use crate::states::{Leading, ReadingState, Sections};
 use c_grammar::Sign;
 use c_tree::{Declared, Guard};
 use fam_outer::NoMemory;
@@ -148,11 +149,10 @@ pub(crate) fn outside(
     match sign {
         Sign::Static => Ok(Some(ReadingState::AfterStatic { sections, declared })),
         Sign::Extern => Ok(Some(ReadingState::AfterExtern { sections, declared })),
-        Sign::Int => Ok(Some(ReadingState::AfterInt { sections, declared })),
         Sign::GroupIf(number) => section_start(alloc, number, sections, declared),
         Sign::GroupElif(number) => next_condition(number, sections, declared),
         Sign::GroupElse => last_section(sections, declared),
         Sign::GroupEnd => Ok(section_end(sections, declared)),
-        _ => Ok(None),
+        other => Ok(first_word(Leading::NoWord, sections, declared, other)),
     }
 }

@@ -1,18 +1,18 @@
 //! Signs where a statement may begin, and behind a name at its front.
 #![tactic(auto)]
 
-ghost use Rattle.std.specs.Prelude.{◌≡◌, Some, option_map, pos};
-ghost use Rattle.c_tree.specs.Tree.{Done, Number};
+ghost use Rattle.std.specs.Prelude.{◌≡◌, [], Some, option_map};
+ghost use Rattle.c_tree.specs.Tree.{Done};
 ghost use Rattle.c_tree.specs.View.{front};
 ghost use Rattle.c_grammar.specs.Grammar as grammar;
 ghost use Rattle.c_grammar.specs.Machine as machine;
-ghost use Rattle.item_reader.specs.Views.{Moves, as_stack, as_state, as_update};
+ghost use Rattle.item_reader.specs.Views.{Moves, as_count, as_stack, as_state, as_update};
 
 use crate::expressions::{expected, updated};
 use crate::groups::{group_end, last_part, next_part, opened};
 use crate::lists::block;
 use crate::stacks::{else_of, folded};
-use crate::states::{File, Purpose, ReadingState, Stack, Update};
+use crate::states::{Count, File, Purpose, ReadingState, Stack, Update};
 use c_grammar::Sign;
 use c_tree::{Expr, Stmt};
 use fam_outer::{NoMemory, Place};
@@ -85,6 +85,16 @@ pub(crate) fn begin(
             outer,
             statement: Stmt::Skip { place },
         })),
+        Sign::PlusPlus => Ok(Some(ReadingState::Counting {
+            place,
+            count: Count::Raise,
+            outer,
+        })),
+        Sign::MinusMinus => Ok(Some(ReadingState::Counting {
+            place,
+            count: Count::Lower,
+            outer,
+        })),
         Sign::LeftBrace => block_in(alloc, outer, place),
         Sign::RightBrace => Ok(braced(alloc, outer, place)),
         Sign::Assert => Ok(Some(ReadingState::Opens {
@@ -136,19 +146,59 @@ pub(crate) fn on(
     }
 }
 
-/// `++` or `--` behind a name.
-fn counting(
+/// The step by one of `++` or `--`.
+fn by_one(count: Count) -> Update
+    ensures { as_update result ≡ grammar.by_one (as_count count) }
+{
+    match count {
+        Count::Raise => Update::Sum,
+        Count::Lower => Update::Difference,
+    }
+}
+
+/// `++` or `--` behind or before a name.
+fn changed_by_one(
     alloc: Global,
     place: Place,
     target: u32,
-    update: Update,
+    count: Count,
     outer: Stack,
 ) -> Result<Option<ReadingState>, NoMemory>
     ensures { Moves result (Some (machine.Finishing (as_stack outer)
-        (grammar.updated place target (as_update update) (Number (pos 1))))) }
+        (grammar.changed_by_one place target (as_count count)))) }
 {
-    let statement = updated(alloc, place, target, update, Expr::Number(1))?;
+    let statement = updated(alloc, place, target, by_one(count), Expr::Number(1))?;
     Ok(Some(ReadingState::Finishing { outer, statement }))
+}
+
+/// What a sign leads to behind `++` or `--` at the front of a statement.
+pub(crate) fn counting(
+    alloc: Global,
+    place: Place,
+    count: Count,
+    outer: Stack,
+    sign: Sign,
+) -> Result<Option<ReadingState>, NoMemory>
+    ensures { Moves result (machine.counting place (as_count count) (as_stack outer) sign) }
+{
+    match sign {
+        Sign::Name(target) => changed_by_one(alloc, place, target, count, outer),
+        _ => Ok(None),
+    }
+}
+
+/// The expression of a compound assignment comes.
+fn updating(alloc: Global, place: Place, target: u32, update: Update, outer: Stack) -> ReadingState
+    ensures { as_state result
+        ≡ machine.Wants [] (machine.ToUpdate place target (as_update update) (as_stack outer)) }
+{
+    let purpose = Purpose::ToUpdate {
+        place,
+        target,
+        update,
+        outer,
+    };
+    expected(alloc, purpose)
 }
 
 /// What a sign leads to behind the name at the front of a statement.
@@ -161,35 +211,23 @@ pub(crate) fn named(
 ) -> Result<Option<ReadingState>, NoMemory>
     ensures { Moves result (machine.named place target (as_stack outer) sign) }
 {
-    match sign {
-        Sign::Equals => Ok(Some(expected(
-            alloc,
-            Purpose::ToAssign {
+    let update = match sign {
+        Sign::Equals => {
+            let purpose = Purpose::ToAssign {
                 place,
                 target,
                 outer,
-            },
-        ))),
-        Sign::PlusEquals => Ok(Some(expected(
-            alloc,
-            Purpose::ToUpdate {
-                place,
-                target,
-                update: Update::Raise,
-                outer,
-            },
-        ))),
-        Sign::MinusEquals => Ok(Some(expected(
-            alloc,
-            Purpose::ToUpdate {
-                place,
-                target,
-                update: Update::Lower,
-                outer,
-            },
-        ))),
-        Sign::PlusPlus => counting(alloc, place, target, Update::Raise, outer),
-        Sign::MinusMinus => counting(alloc, place, target, Update::Lower, outer),
-        _ => Ok(None),
-    }
+            };
+            return Ok(Some(expected(alloc, purpose)));
+        }
+        Sign::PlusPlus => return changed_by_one(alloc, place, target, Count::Raise, outer),
+        Sign::MinusMinus => return changed_by_one(alloc, place, target, Count::Lower, outer),
+        Sign::PlusEquals => Update::Sum,
+        Sign::MinusEquals => Update::Difference,
+        Sign::StarEquals => Update::Product,
+        Sign::SlashEquals => Update::Quotient,
+        Sign::PercentEquals => Update::Remainder,
+        _ => return Ok(None),
+    };
+    Ok(Some(updating(alloc, place, target, update, outer)))
 }

@@ -12,9 +12,19 @@ pub(crate) enum Prefix {
     Inverse,
 }
 
-/// What `+=` and `++`, and `-=` and `--`, do to a variable.
+/// What a compound assignment, as `+=`, makes of a variable and an expression.
 #[derive(Clone, Copy, Drop)]
 pub(crate) enum Update {
+    Sum,
+    Difference,
+    Product,
+    Quotient,
+    Remainder,
+}
+
+/// `++` and `--`.
+#[derive(Clone, Copy, Drop)]
+pub(crate) enum Count {
     Raise,
     Lower,
 }
@@ -121,6 +131,22 @@ pub(crate) enum Sections {
     },
 }
 
+/// What stands before the type of a declaration.
+#[derive(Clone, Copy, Drop)]
+pub(crate) enum Leading {
+    NoWord,
+    StaticWord,
+    ExternWord,
+}
+
+/// The words of a type so far: `int`, `signed`, or all.
+#[derive(Clone, Copy, Drop)]
+pub(crate) enum TypeWords {
+    OneInt,
+    OneSigned,
+    WholeType,
+}
+
 /// What the parentheses behind the name of a function are for.
 #[derive(Drop)]
 pub(crate) enum Aim {
@@ -164,11 +190,10 @@ pub(crate) enum ReadingState {
         sections: Sections,
         declared: Vec<Declared>,
     },
-    AfterInt {
-        sections: Sections,
-        declared: Vec<Declared>,
-    },
-    AfterExternInt {
+    /// Behind a word of a type.
+    AfterType {
+        leading: Leading,
+        words: TypeWords,
         sections: Sections,
         declared: Vec<Declared>,
     },
@@ -231,6 +256,12 @@ pub(crate) enum ReadingState {
         frames: Vec<Frame>,
         purpose: Purpose,
         operand: Expr,
+    },
+    /// Behind `++` or `--` at the front of a statement.
+    Counting {
+        place: Place,
+        count: Count,
+        outer: Stack,
     },
     /// Behind the name at the front of a statement.
     Named {

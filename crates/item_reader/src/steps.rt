@@ -8,16 +8,15 @@ ghost use Rattle.item_reader.specs.Signs.{IsUnsigned};
 ghost use Rattle.item_reader.specs.Stages.{stage};
 ghost use Rattle.item_reader.specs.Views.{as_stack, as_state, Moves};
 
-use crate::declarations::{
-    after_int, at_input, at_int, declaring, is_bare, negating, started, starting,
-};
+use crate::declarations::{is_bare, negating, started, starting};
 use crate::endings::{closing, over, returning};
 use crate::expressions::{expected, have, want};
+use crate::heads::{after_type, declaring, first_word};
 use crate::marks::{at_close, at_open, at_semicolon};
 use crate::parameters::{after_parameters, in_parameters};
 use crate::sections::outside;
-use crate::statements::{begin, named, on};
-use crate::states::{Aim, ReadingState, Stack};
+use crate::statements::{begin, counting, named, on};
+use crate::states::{Leading, ReadingState, Stack};
 use c_grammar::Sign;
 use c_tree::Stmt;
 use fam_outer::{NoMemory, Place};
@@ -36,16 +35,17 @@ pub(crate) fn step(
     match state {
         ReadingState::Outside { sections, declared } => outside(alloc, sections, declared, sign),
         ReadingState::AfterStatic { sections, declared } => {
-            Ok(at_int(ReadingState::Declaring { sections, declared }, sign))
+            Ok(first_word(Leading::StaticWord, sections, declared, sign))
         }
         ReadingState::AfterExtern { sections, declared } => {
-            Ok(at_int(ReadingState::AfterExternInt { sections, declared }, sign))
+            Ok(first_word(Leading::ExternWord, sections, declared, sign))
         }
-        ReadingState::AfterInt { sections, declared } => Ok(after_int(sections, declared, sign)),
-        ReadingState::AfterExternInt { sections, declared } => {
-            let aim = Aim::ToPrototype { sections, declared };
-            Ok(at_input(ReadingState::Parameters { aim }, sign))
-        }
+        ReadingState::AfterType {
+            leading,
+            words,
+            sections,
+            declared,
+        } => Ok(after_type(leading, sections, declared, sign, words)),
         ReadingState::Declaring { sections, declared } => Ok(declaring(sections, declared, sign)),
         other => step_declarator(alloc, other, place, sign),
     }
@@ -101,6 +101,11 @@ fn step_statement(
     match state {
         ReadingState::Ready { outer } => begin(alloc, outer, place, sign),
         ReadingState::Ended { outer, statement } => on(alloc, outer, statement, place, sign),
+        ReadingState::Counting {
+            place: first,
+            count,
+            outer,
+        } => counting(alloc, first, count, outer, sign),
         ReadingState::Named {
             place,
             target,

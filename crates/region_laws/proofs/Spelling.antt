@@ -1,5 +1,5 @@
 -- Texts that spell an expression with a known value.
-use Rattle.std.proofs.Common.{◌≡◌, ℕ, suc, ◌^◌, ◌<◌, ℤ, pos, negsuc, unsigned_abs, Bool, true, false, not, ◌&&◌, ◌||◌, if◌then◌else◌, nat_eq, List, [], ◌∷◌, ◌++◌, length, codes, slice_index_or, Some, None, refl, sym, ap, subst, ◌∙◌, arith}
+use Rattle.std.proofs.Common.{◌≡◌, ℕ, suc, ◌^◌, ◌<◌, ℤ, pos, negsuc, unsigned_abs, Bool, true, false, not, ◌&&◌, ◌||◌, if◌then◌else◌, nat_eq, List, [], ◌∷◌, ◌++◌, length, codes, slice_index_or, is_none, Some, None, refl, sym, ap, subst, ◌∙◌, arith}
 use Rattle.std.proofs.lemmas.Bool.{false≢true}
 use Rattle.std.proofs.lemmas.List.{append-nil, append_assoc}
 use Rattle.std.specs.Fmt.{decimal, signed_decimal}
@@ -7,7 +7,7 @@ use Rattle.linear_atoms.specs.declared.atoms.Feature.{Feature}
 use Rattle.linear_atoms.specs.Atoms.{IsWithin}
 use Rattle.linear_atoms.specs.Texts.{name_at}
 use Rattle.cpp_conditions.specs.Expressions.{Expression, Number, Name, Unary, Binary, before, between, value}
-use Rattle.cpp_conditions.specs.Grammar.{Spells, CSpells, tighter, has_reserved}
+use Rattle.cpp_conditions.specs.Grammar.{Spells, CSpells, tighter, has_reserved, has_unknown}
 use Rattle.cpp_conditions.specs.Meaning.{is_linear, is_truth, gives_truth, names_feature, suits_operator}
 use Rattle.cpp_conditions.specs.Grammar as grammar
 use Rattle.cpp_conditions.specs.Tokens.{Token, Digits, Word, Bang, Oper, SpellsTokens, StopsAt, NoPair, is_first, is_word, is_identifier}
@@ -16,11 +16,11 @@ use Rattle.feature_model.specs.Features.{AreDistinct, AreNamed}
 use Rattle.cpp_conditions.specs.declared.operators.Operator.{Operator}
 use Rattle.cpp_conditions.specs.declared.operators.Operator.TheVariants.{Times, Plus, Minus, AtLeast, AtMost, Equal, Both, Differs}
 use Rattle.cpp_conditions.specs.declared.operators.Prefix.TheVariants.{Inverse, Negative}
-use Rattle.region_laws.proofs.Named.{IsNamed, is_named, value_of_name}
+use Rattle.region_laws.proofs.Named.{IsNamed, is_named, found_at, value_of_name}
 use Rattle.region_laws.proofs.Numerals.{number_token, alphanumeric_stops, minus_apart}
 
 -- the text spells an expression of the level, before whatever ends a word, and its value at values within the ranges is this; the
--- expression has no reserved name and is linear, and is no truth value where it is numeric
+-- expression has no reserved name, names features alone and is linear, and is no truth value where it is numeric
 pub record IsTold (features : List Feature) (level : ℕ) (numeric : Bool) (text : List ℕ) (of : List ℤ → ℤ) : Type 0 where
   pub tokens : List Token
   pub tree : Expression
@@ -28,22 +28,23 @@ pub record IsTold (features : List Feature) (level : ℕ) (numeric : Bool) (text
   pub spells : Spells level tokens tree
   pub value_is : (values : List ℤ) → IsWithin features values → value features values tree ≡ of values
   pub allowed : has_reserved tree ≡ false
+  pub known : has_unknown features tree ≡ false
   pub linear : is_linear features tree ≡ true
   pub number : numeric ≡ true → is_truth tree ≡ false
 
 module _ {features : List Feature} where
   pub looser : {level : ℕ} {numeric : Bool} {text : List ℕ} {of : List ℤ → ℤ} → IsTold features level numeric text of → IsTold features (suc level) numeric text of
-  looser t = record { tokens = t.tokens; tree = t.tree; read = t.read; spells = grammar.loose t.spells; value_is = t.value_is; allowed = t.allowed; linear = t.linear; number = t.number }
+  looser t = record { tokens = t.tokens; tree = t.tree; read = t.read; spells = grammar.loose t.spells; value_is = t.value_is; allowed = t.allowed; known = t.known; linear = t.linear; number = t.number }
 
   pub with_value : {level : ℕ} {numeric : Bool} {text : List ℕ} {of : List ℤ → ℤ} (by : List ℤ → ℤ) → ((values : List ℤ) → IsWithin features values → of values ≡ by values) → IsTold features level numeric text of → IsTold features level numeric text by
-  with_value by same t = record { tokens = t.tokens; tree = t.tree; read = t.read; spells = t.spells; value_is = λ values within. t.value_is values within ∙ same values within; allowed = t.allowed; linear = t.linear; number = t.number }
+  with_value by same t = record { tokens = t.tokens; tree = t.tree; read = t.read; spells = t.spells; value_is = λ values within. t.value_is values within ∙ same values within; allowed = t.allowed; known = t.known; linear = t.linear; number = t.number }
 
   pub with_text : {level : ℕ} {numeric : Bool} {text : List ℕ} {of : List ℤ → ℤ} (other : List ℕ) → text ≡ other → IsTold features level numeric text of → IsTold features level numeric other of
   with_text {level} {numeric} {text} {of} other same t = subst (λ bs. IsTold features level numeric bs of) same t
 
   -- a number may stand where nothing is said
   pub any : {level : ℕ} {numeric : Bool} {text : List ℕ} {of : List ℤ → ℤ} → IsTold features level numeric text of → IsTold features level false text of
-  any t = record { tokens = t.tokens; tree = t.tree; read = t.read; spells = t.spells; value_is = t.value_is; allowed = t.allowed; linear = t.linear; number = λ e. absurd (false≢true e) }
+  any t = record { tokens = t.tokens; tree = t.tree; read = t.read; spells = t.spells; value_is = t.value_is; allowed = t.allowed; known = t.known; linear = t.linear; number = λ e. absurd (false≢true e) }
 
 -- ---- one token
 
@@ -60,6 +61,7 @@ told_name features n named distinct lt =
       spells = grammar.name (name_at features n);
       value_is = λ values within. value_of_name features values n distinct lt;
       allowed = h.free;
+      known = ap is_none (found_at features n distinct lt);
       linear = refl;
       number = λ e. refl;
     }
@@ -72,6 +74,7 @@ told_natural features n lt = record {
   spells = grammar.number n;
   value_is = λ values within. refl;
   allowed = refl;
+  known = refl;
   linear = refl;
   number = λ e. refl;
 }
@@ -84,12 +87,13 @@ told_one features = record {
   spells = grammar.number 1;
   value_is = λ values within. refl;
   allowed = refl;
+  known = refl;
   linear = refl;
   number = λ e. refl;
 }
   where
     one_read : (rest : List ℕ) (us : List Token) → StopsAt is_word rest → SpellsTokens rest us → SpellsTokens (49 ∷ rest) (Digits 1 ∷ us)
-    one_read rest us stops s = tokens.number (49 ∷ []) refl (alphanumeric_stops rest stops) s
+    one_read rest us stops s = tokens.number (49 ∷ []) refl (alphanumeric_stops rest stops) refl s
 
 pub told_integer : (features : List Feature) (z : ℤ) → unsigned_abs z < 2 ^ 64 → IsTold features 0 true (signed_decimal z) (λ values. z)
 told_integer features (pos n) lt = told_natural features n lt
@@ -100,6 +104,7 @@ told_integer features (negsuc n) lt = record {
   spells = grammar.prefix Negative (grammar.number (suc n));
   value_is = λ values within. refl;
   allowed = refl;
+  known = refl;
   linear = refl;
   number = λ e. refl;
 }
@@ -129,6 +134,7 @@ told_inverse features n named distinct lt =
       spells = grammar.prefix Inverse (grammar.name name);
       value_is = λ values within. ap (before Inverse) (value_of_name features values n distinct lt);
       allowed = h.free;
+      known = ap is_none (found_at features n distinct lt);
       linear = refl;
       number = λ e. absurd (false≢true e);
     }
@@ -194,6 +200,7 @@ told_both features op p q r gives mark a b f g m t u suits = record {
   spells = grammar.binary op t.spells u.spells;
   value_is = λ values within. ap (λ x. between op x (value features values u.tree)) (t.value_is values within) ∙ ap (between op (f values)) (u.value_is values within);
   allowed = neither (has_reserved t.tree) (has_reserved u.tree) t.allowed u.allowed;
+  known = neither (has_unknown features t.tree) (has_unknown features u.tree) t.known u.known;
   linear = all_three (is_linear features t.tree) (is_linear features u.tree) _ t.linear u.linear suits;
   number = gives;
 }

@@ -2,6 +2,7 @@
 #![tactic(auto)]
 
 ghost use Rattle.std.specs.Prelude.{◌≡◌, ℤ, List, Ok, Err, length};
+ghost use Rattle.fam_outer.specs.declared.dialect.Unknown.{Unknown};
 ghost use Rattle.fam_outer.specs.declared.faults.ConditionFault.{ConditionFault};
 ghost use Rattle.linear_atoms.specs.declared.atoms.Atom.{Atom};
 ghost use Rattle.linear_atoms.specs.declared.atoms.Feature.{Feature};
@@ -23,18 +24,21 @@ pub fn region_texts_are_conditions()
 {}
 
 /// The text of a region, read as a condition over the features of a model, is true at values within the ranges exactly
-/// where all literals of the region hold.
+/// where all literals of the region hold, whatever unknown names are.
 pub fn region_texts_have_the_meaning_of_regions()
-    ensures { (regions : Regions) (features : List Feature) (literals : List Literal) (p : Proposition Atom) (values : List ℤ)
+    ensures { (unknown : Unknown) (regions : Regions) (features : List Feature) (literals : List Literal)
+        (p : Proposition Atom) (values : List ℤ)
         → AreNamed features → AreDistinct features → HaveSwitches features
-        → AreLiterals (length features) literals → ReadsAs features (region_text regions features literals) (Ok p)
+        → AreLiterals (length features) literals → ReadsAs unknown features (region_text regions features literals) (Ok p)
         → IsWithin features values → true_at values p ≡ all_hold literals values }
 {}
 
-/// The text of a region is read as a condition, or refused as one that is too deep or too large, and for nothing else.
+/// The text of a region is read as a condition, or refused as one that is too deep or too large, and for nothing else: it
+/// has no unknown name.
 pub fn region_texts_are_refused_by_size()
-    ensures { (regions : Regions) (features : List Feature) (literals : List Literal) (fault : ConditionFault)
+    ensures { (unknown : Unknown) (regions : Regions) (features : List Feature) (literals : List Literal)
+        (fault : ConditionFault)
         → AreNamed features → AreDistinct features → HaveSwitches features
         → AreLiterals (length features) literals
-        → ReadsAs features (region_text regions features literals) (Err fault) → IsOfSize fault }
+        → ReadsAs unknown features (region_text regions features literals) (Err fault) → IsOfSize fault }
 {}

@@ -10,7 +10,7 @@ ghost use Rattle.variant_projector.specs.Variant.{ReadsVariant};
 use crate::truths::{truths_of, vector_of};
 use cpp_conditions::Model;
 use cpp_lines::{blanked_file, preprocessed_text, read_sections};
-use fam_outer::{FileRefusal, Text};
+use fam_outer::{Dialect, FileRefusal, Text};
 use linear_atoms::Config;
 use std::alloc::Global;
 
@@ -22,6 +22,7 @@ use std::alloc::Global;
 /// `read_sections`. It answers `NoMemory` for want of memory.
 pub fn variant_text(
     alloc: Global,
+    dialect: Dialect,
     bytes: &[u8],
     model: &Model,
     config: &Config,
@@ -30,10 +31,10 @@ pub fn variant_text(
     requires fit { AreFit (length model.now.features) model.now.constraints }
     requires few { HaveFewAtoms 64 (plain model.now).constraints }
     requires config { IsConfig model.now.features config.now.values }
-    ensures { ReadsVariant (plain model.now) config.now.values bytes.now result }
+    ensures { ReadsVariant dialect (plain model.now) config.now.values bytes.now result }
 {
     let blanked = blanked_file(alloc, bytes)?;
-    let sections = read_sections(alloc, model, blanked.bytes())?;
+    let sections = read_sections(alloc, dialect, model, blanked.bytes())?;
     let vector = vector_of(alloc, sections.atoms.items(), config)?;
     let truths = truths_of(alloc, sections.conditions.items(), &vector)?;
     let lines = sections.lines.items();

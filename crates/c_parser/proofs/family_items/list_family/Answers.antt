@@ -17,8 +17,8 @@ returns-clause-listed c =
     let made : c.in_ok-items.items.items ≡ by_line c.in_ok-sections.sections.lines c.in_ok-names.field-0.items.items =
     c.in_ok-items.ensures ∙ ap (λ (ls : List Line). by_line ls c.as_slice.result.now) c.items-2.ensures
     ∙ ap (λ (xs : List Item). by_line c.in_ok-sections.sections.lines xs) c.as_slice.ensures.value in
-    listed_family (plain c.args.model.now) c.args.bytes.now c.in_ok-blanked.blanked c.in_ok-code.code c.in_ok-sections.sections c.in_ok-names.field-0 c.in_ok-items.items.items c.in_ok-blanked.ensures.value
-    (subst (λ (b : List ℕ). AreSectionsOf (plain c.args.model.now) b c.in_ok-sections.sections) c.bytes.ensures c.in_ok-sections.ensures.read)
+    listed_family c.args.dialect (plain c.args.model.now) c.args.bytes.now c.in_ok-blanked.blanked c.in_ok-code.code c.in_ok-sections.sections c.in_ok-names.field-0 c.in_ok-items.items.items c.in_ok-blanked.ensures.value
+    (subst (λ (b : List ℕ). AreSectionsOf c.args.dialect (plain c.args.model.now) b c.in_ok-sections.sections) c.bytes.ensures c.in_ok-sections.ensures.read)
     (c.in_ok-code.ensures ∙ ap code_of c.bytes-2.ensures)
     (subst (λ (b : List ℕ). items_of_code [] b ≡ Ok (listed_in c.in_ok-names.field-0)) c.bytes-3.ensures c.in_ok-names.ensures.listed) made
 

@@ -5,4 +5,4 @@ use Rattle.cpp_lines.proofs.laws.lines_are_placed.Goals as goal
 
 pub returns : goal.returns
 unfolding plain_lines_of
-returns c = λ text lines e. all_placed text 0 (pieces text) lines e refl (omega arith)
+returns c = λ includes text lines e. all_placed includes text 0 (pieces text) lines e refl (omega arith)

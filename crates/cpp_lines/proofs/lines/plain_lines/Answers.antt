@@ -22,7 +22,7 @@ lines-preserved c =
     let pushed : c.push.new.self.items ≡ c.lines.list.items ++ c.in_ok-plain_line.field-0 ∷ [] = c.in_ok-push.ensures.items in
     let next : c.lines.start + (length c.in-Some.line.now + 1) ≡ c.lines.start + length c.in-Some.line.now + 1 = omega arith in
     record {
-      read = rw pushed (line_on c.lines.list.items text start (start + (length line + 1)) c.lines.first l line (pieces rest) (pieces more) (plain_lines_from text 0 (pieces text)) cut.0 c.lines.invariant.first next c.in_ok-plain_line.ensures c.lines.invariant.read);
+      read = rw pushed (line_on c.args.includes c.lines.list.items text start (start + (length line + 1)) c.lines.first l line (pieces rest) (pieces more) (plain_lines_from c.args.includes text 0 (pieces text)) cut.0 c.lines.invariant.first next c.in_ok-plain_line.ensures c.lines.invariant.read);
       rest = sym (behind_line line more) ∙ ap (drop (length line + 1)) (sym cut.1) ∙ behind text start (length line + 1) rest c.lines.invariant.rest;
       len = omega (arith, ap length cut.1, length-append line (10 ∷ more));
       first = ap (λ (i : ℕ). spot (c.lines.first.line + 1) i) c.lines.invariant.column ∙ next_place text start (start + (length line + 1)) rest line more c.lines.first c.lines.invariant.rest cut.1 cut.2 c.lines.invariant.first refl;
@@ -35,8 +35,8 @@ unfolding plain_lines_of
 returns-in_err-plain_line-clause-value c =
     let text = c.args.blanked.now in
     let e : c.from_residual.result ≡ Err c.in_err-plain_line.field-0.0 = search rules in
-    subst (λ (r : Result Lines FileRefusal). Gives (λ (ls : List Line). ls) r (plain_lines_from text 0 (pieces text))) (sym e)
-    (fault_gives c.lines.list.items text c.lines.start c.lines.first c.in_err-plain_line.field-0.0 c.in-Some.line.now (pieces c.lines.rest.now) (pieces c.in-Some.behind.now) (plain_lines_from text 0 (pieces text))
+    subst (λ (r : Result Lines FileRefusal). Gives (λ (ls : List Line). ls) r (plain_lines_from c.args.includes text 0 (pieces text))) (sym e)
+    (fault_gives c.args.includes c.lines.list.items text c.lines.start c.lines.first c.in_err-plain_line.field-0.0 c.in-Some.line.now (pieces c.lines.rest.now) (pieces c.in-Some.behind.now) (plain_lines_from c.args.includes text 0 (pieces text))
     c.in-Some.ensures.0 c.lines.invariant.first c.in_err-plain_line.ensures c.lines.invariant.read)
 
 pub returns-in_err-plain_line-2-clause-value : goal.returns-in_err-plain_line-2-clause-value
@@ -44,21 +44,21 @@ unfolding plain_lines_of
 returns-in_err-plain_line-2-clause-value c =
     let text = c.args.blanked.now in
     let e : c.from_residual-in_err-plain_line-2.result ≡ Err c.in_err-plain_line-2.field-0.0 = search rules in
-    subst (λ (r : Result Lines FileRefusal). Gives (λ (ls : List Line). ls) r (plain_lines_from text 0 (pieces text))) (sym e)
-    (fault_gives c.lines.list.items text c.lines.start c.lines.first c.in_err-plain_line-2.field-0.0 c.lines.rest.now (pieces c.lines.rest.now) [] (plain_lines_from text 0 (pieces text))
+    subst (λ (r : Result Lines FileRefusal). Gives (λ (ls : List Line). ls) r (plain_lines_from c.args.includes text 0 (pieces text))) (sym e)
+    (fault_gives c.args.includes c.lines.list.items text c.lines.start c.lines.first c.in_err-plain_line-2.field-0.0 c.lines.rest.now (pieces c.lines.rest.now) [] (plain_lines_from c.args.includes text 0 (pieces text))
     c.in_default.ensures c.lines.invariant.first c.in_err-plain_line-2.ensures c.lines.invariant.read)
 
 pub returns-clause-value : goal.returns-clause-value
 unfolding plain_lines_of
 returns-clause-value c =
     let text = c.args.blanked.now in
-    last_on c.lines.list.items text c.lines.start c.lines.first c.in_ok-plain_line-2.field-0 c.lines.rest.now (pieces c.lines.rest.now) (plain_lines_from text 0 (pieces text)) c.in_default.ensures c.lines.invariant.first c.in_ok-plain_line-2.ensures c.lines.invariant.read
+    last_on c.args.includes c.lines.list.items text c.lines.start c.lines.first c.in_ok-plain_line-2.field-0 c.lines.rest.now (pieces c.lines.rest.now) (plain_lines_from c.args.includes text 0 (pieces text)) c.in_default.ensures c.lines.invariant.first c.in_ok-plain_line-2.ensures c.lines.invariant.read
     ∙ ap (λ (ls : List Line). Ok ls) (sym c.in_ok-push-2.ensures.items ∙ sym c.from_vec.ensures)
 
 pub returns-clause-lines : goal.returns-clause-lines
 unfolding AreLinesOf
 returns-clause-lines c =
     let text = c.args.blanked.now in
-    are_lines text 0 (pieces text) c.from_vec.result
-    (last_on c.lines.list.items text c.lines.start c.lines.first c.in_ok-plain_line-2.field-0 c.lines.rest.now (pieces c.lines.rest.now) (plain_lines_from text 0 (pieces text)) c.in_default.ensures c.lines.invariant.first c.in_ok-plain_line-2.ensures c.lines.invariant.read
+    are_lines c.args.includes text 0 (pieces text) c.from_vec.result
+    (last_on c.args.includes c.lines.list.items text c.lines.start c.lines.first c.in_ok-plain_line-2.field-0 c.lines.rest.now (pieces c.lines.rest.now) (plain_lines_from c.args.includes text 0 (pieces text)) c.in_default.ensures c.lines.invariant.first c.in_ok-plain_line-2.ensures c.lines.invariant.read
     ∙ ap (λ (ls : List Line). Ok ls) (sym c.in_ok-push-2.ensures.items ∙ sym c.from_vec.ensures))

@@ -6,7 +6,7 @@ use Rattle.cpp_lines.proofs.lines.plain_lines.Given as goal
 
 abbrev pub invariant-lines : goal.invariant-lines
 invariant-lines l = record {
-  read : prepended l.list.items (plain_lines_from l.blanked l.start (pieces l.rest)) ≡ plain_lines_from l.blanked 0 (pieces l.blanked);
+  read : prepended l.list.items (plain_lines_from l.includes l.blanked l.start (pieces l.rest)) ≡ plain_lines_from l.includes l.blanked 0 (pieces l.blanked);
   rest : l.rest ≡ drop l.start l.blanked;
   len : l.start + length l.rest ≡ length l.blanked;
   first : l.first ≡ place_at l.blanked l.start;

@@ -8,7 +8,7 @@ use Rattle.cpp_lines.proofs.sections.read_lines.Given as goal
 
 abbrev pub invariant-lines : goal.invariant-lines
 invariant-lines l = record {
-  stands : Stands (plain l.model) l.blanked l.start l.reading (pieces l.rest);
+  stands : Stands l.dialect (plain l.model) l.blanked l.start l.reading (pieces l.rest);
   kept : IsKept (plain l.model) l.reading;
   count : length l.reading.conditions.items ≤ l.start;
   rest : l.rest ≡ drop l.start l.blanked;
