@@ -75,10 +75,15 @@ leaf_text M names v = if is_nothing_of v then codes "unreachable" else items_tex
 
 -- ---- invariants
 
+-- what is known where a region is met, and the end of the line: `REGION: LEAF`
+abbrev pub known_text : Regions → LeafMeaning → List Feature → List (List ℕ) → Invariant → List ℕ
+known_text regions M features names i =
+    region_text regions features i.region.literals ++ (codes ": " ++ (leaf_text M names i.leaf ++ codes "\n"))
+
 -- `LINE:COLUMN: if REGION: LEAF`
 abbrev pub invariant_line : Regions → LeafMeaning → List Feature → List (List ℕ) → Invariant → List ℕ
 invariant_line regions M features names i =
-    place_text i.place ++ codes ": if " ++ region_text regions features i.region.literals ++ codes ": " ++ leaf_text M names i.leaf ++ codes "\n"
+    place_text i.place ++ (codes ": if " ++ known_text regions M features names i)
 
 abbrev pub invariant_text : Regions → LeafMeaning → List Feature → List (List ℕ) → List Invariant → List ℕ
 invariant_text regions M features names is = flat_map (invariant_line regions M features names) is

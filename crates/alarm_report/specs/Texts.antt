@@ -57,10 +57,13 @@ abbrev pub region_text : Regions → List Feature → List Literal → List ℕ
 region_text regions features [] = codes "1"
 region_text regions features (l ∷ ls) = joined (codes " && ") (map (piece_text features) (pieces_of regions features (l ∷ ls)))
 
+-- where a stop of which kind may be met, and by which configurations: `LINE:COLUMN: KIND if REGION`
+abbrev pub stop_text : Regions → List Feature → FamilyAlarm → List ℕ
+stop_text regions features a = place_text a.place ++ codes ": " ++ kind_text a.kind ++ codes " if " ++ region_text regions features a.region.literals
+
 -- the line of an alarm of a family: `LINE:COLUMN: KIND if REGION; example CONFIGURATION`
 abbrev pub family_line : Regions → List Feature → FamilyAlarm → List ℕ
-family_line regions features a = place_text a.place ++ codes ": " ++ kind_text a.kind ++ codes " if " ++ region_text regions features a.region.literals
-    ++ codes "; example " ++ config_text features a.region.example.values ++ codes "\n"
+family_line regions features a = stop_text regions features a ++ codes "; example " ++ config_text features a.region.example.values ++ codes "\n"
 
 -- the lines of the alarms of a family, and how many they are
 abbrev pub alarm_text : Regions → List Feature → List FamilyAlarm → List ℕ

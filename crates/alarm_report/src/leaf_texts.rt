@@ -7,7 +7,7 @@ ghost use Rattle.leaf_domain.specs.Ranges.{is_arithmetic};
 ghost use Rattle.linear_atoms.specs.Atoms.{AreLiterals};
 ghost use Rattle.alarm_report.specs.declared.invariants.FamilyInvariant.{FamilyInvariant};
 ghost use Rattle.alarm_report.specs.Invariants.{invariant};
-ghost use Rattle.alarm_report.specs.LeafTexts.{within_text, variable_items, same_range, item_of, pair_form, pair_range, pair_items, items_with, all_pairs, leaf_text as text_of_leaf, invariant_line, invariant_text};
+ghost use Rattle.alarm_report.specs.LeafTexts.{within_text, variable_items, same_range, item_of, pair_form, pair_range, pair_items, items_with, all_pairs, leaf_text as text_of_leaf, known_text, invariant_line, invariant_text};
 ghost use Rattle.alarm_report.specs.Forming.{IsSign};
 
 use crate::invariants::FamilyInvariant;
@@ -267,6 +267,27 @@ pub fn leaf_text<L: Leaf>(alloc: Global, names: &[Text], leaf: &L) -> Result<Tex
     }
 }
 
+/// Adds `REGION: LEAF` and the end of the line.
+pub fn push_known<L: Leaf>(
+    alloc: Global,
+    regions: Regions,
+    text: &mut Vec<u8>,
+    features: &[Feature],
+    names: &[Text],
+    one: &FamilyInvariant<L>,
+) -> Result<(), NoMemory>
+    requires { AreLiterals (length features.now) one.now.region.literals }
+    ensures { IfOk result (λ _. text.new.items
+        ≡ text.old.items ++ known_text regions L.meaning features.now names.now (invariant L.value one.now)) }
+{
+    push_region(alloc, regions, text, features, one.region.literals.items())?;
+    text.extend_from_slice(": ".as_bytes())?;
+    let leaf = leaf_text(alloc, names, &one.leaf.value)?;
+    text.extend_from_slice(leaf.bytes())?;
+    text.push(b'\n')?;
+    Ok(())
+}
+
 /// Adds the line of an invariant.
 fn push_line<L: Leaf>(
     alloc: Global,
@@ -282,12 +303,7 @@ fn push_line<L: Leaf>(
 {
     push_place(alloc, text, one.place)?;
     text.extend_from_slice(": if ".as_bytes())?;
-    push_region(alloc, regions, text, features, one.region.literals.items())?;
-    text.extend_from_slice(": ".as_bytes())?;
-    let leaf = leaf_text(alloc, names, &one.leaf.value)?;
-    text.extend_from_slice(leaf.bytes())?;
-    text.push(b'\n')?;
-    Ok(())
+    push_known(alloc, regions, text, features, names, one)
 }
 
 /// The text of invariants: for each a line `LINE:COLUMN: if REGION: LEAF`, with the region as in the report on a family, and

@@ -5,7 +5,7 @@ ghost use Rattle.std.specs.Prelude.{◌≡◌, ◌++◌, length, IfOk};
 ghost use Rattle.std.specs.List.{All};
 ghost use Rattle.linear_atoms.specs.Atoms.{AreLiterals};
 ghost use Rattle.alarm_report.specs.declared.alarms.FamilyAlarm.{FamilyAlarm};
-ghost use Rattle.alarm_report.specs.Texts.{place_text, kind_text as text_of_kind, alarm_line, count_line, variant_text, IsWordPlace, HaveWordPlaces, region_text, family_line, alarm_text};
+ghost use Rattle.alarm_report.specs.Texts.{place_text, kind_text as text_of_kind, alarm_line, count_line, variant_text, IsWordPlace, HaveWordPlaces, region_text, stop_text, family_line, alarm_text};
 
 use crate::alarms::FamilyAlarm;
 use crate::joining::joined;
@@ -99,8 +99,8 @@ pub fn push_region(
     }
 }
 
-/// Adds the line of an alarm of a family.
-fn push_line(
+/// Adds `LINE:COLUMN: KIND if REGION`.
+pub fn push_stop(
     alloc: Global,
     regions: Regions,
     text: &mut Vec<u8>,
@@ -108,7 +108,7 @@ fn push_line(
     alarm: &FamilyAlarm,
 ) -> Result<(), NoMemory>
     requires { AreLiterals (length features.now) alarm.now.region.literals }
-    ensures { IfOk result (λ _. text.new.items ≡ text.old.items ++ family_line regions features.now alarm.now) }
+    ensures { IfOk result (λ _. text.new.items ≡ text.old.items ++ stop_text regions features.now alarm.now) }
 {
     push_place(alloc, text, alarm.place)?;
     let kind = kind_text(alarm.kind);
@@ -120,7 +120,21 @@ fn push_line(
         text,
         features,
         alarm.region.literals.items(),
-    )?;
+    )
+}
+
+/// Adds the line of an alarm of a family.
+fn push_line(
+    alloc: Global,
+    regions: Regions,
+    text: &mut Vec<u8>,
+    features: &[Feature],
+    alarm: &FamilyAlarm,
+) -> Result<(), NoMemory>
+    requires { AreLiterals (length features.now) alarm.now.region.literals }
+    ensures { IfOk result (λ _. text.new.items ≡ text.old.items ++ family_line regions features.now alarm.now) }
+{
+    push_stop(alloc, regions, text, features, alarm)?;
     text.extend_from_slice("; example ".as_bytes())?;
     let example = config_text(alloc, features, alarm.region.example.values.items())?;
     text.extend_from_slice(example.bytes())?;

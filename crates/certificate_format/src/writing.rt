@@ -10,8 +10,9 @@ ghost use Rattle.alarm_report.specs.Invariants.{invariant};
 ghost use Rattle.certificate_format.specs.Certificates.{header as header_of};
 ghost use Rattle.certificate_format.specs.Texts.{loop_line, alarm_line, certificate_text as text_of};
 
-use alarm_report::texts::{push_place, push_region};
-use alarm_report::{FamilyAlarm, FamilyInvariant, kind_text, leaf_text};
+use alarm_report::leaf_texts::push_known;
+use alarm_report::texts::{push_place, push_stop};
+use alarm_report::{FamilyAlarm, FamilyInvariant};
 use c_tree::Mode;
 use fam_outer::{NoMemory, Text};
 use leaf_domain::Leaf;
@@ -44,12 +45,7 @@ fn push_loop<L: Leaf>(
     text.extend_from_slice(b"loop ")?;
     push_place(alloc, text, one.place)?;
     text.extend_from_slice(b" if ")?;
-    push_region(alloc, regions, text, features, one.region.literals.items())?;
-    text.extend_from_slice(b": ")?;
-    let leaf = leaf_text(alloc, names, &one.leaf.value)?;
-    text.extend_from_slice(leaf.bytes())?;
-    text.push(b'\n')?;
-    Ok(())
+    push_known(alloc, regions, text, features, names, one)
 }
 
 /// Adds the line of an alarm.
@@ -64,17 +60,7 @@ fn push_alarm(
     ensures { IfOk result (λ _. text.new.items ≡ text.old.items ++ alarm_line regions features.now alarm.now) }
 {
     text.extend_from_slice(b"alarm ")?;
-    push_place(alloc, text, alarm.place)?;
-    text.extend_from_slice(b": ")?;
-    text.extend_from_slice(kind_text(alarm.kind).as_bytes())?;
-    text.extend_from_slice(b" if ")?;
-    push_region(
-        alloc,
-        regions,
-        text,
-        features,
-        alarm.region.literals.items(),
-    )?;
+    push_stop(alloc, regions, text, features, alarm)?;
     text.push(b'\n')?;
     Ok(())
 }
