@@ -3,6 +3,10 @@ use Rattle.std.proofs.Common.{◌≡◌, ◌≢◌, ◌≤◌, ◌<◌, ◌^◌,
 use Rattle.std.specs.Prelude.{Option, Some, None, Err, unwrap_or, is_some, ok_or}
 use Rattle.std.specs.Str.Parse.{digits_value}
 use Rattle.std.proofs.lemmas.Bool.{and_parts, and_cases, leb-true}
+use Rattle.fam_outer.specs.declared.dialect.Unknown.{Unknown}
+use Rattle.fam_outer.specs.declared.dialect.Unknown.TheVariants.{Zero}
+use Rattle.fam_outer.specs.declared.dialect.Includes.{Includes}
+use Rattle.fam_outer.specs.declared.dialect.Includes.TheVariants.{Assert}
 use Rattle.clap.specs.Words.{FailsBy, Row, Text, fault_of, kind_of, matches_of}
 use Rattle.clap.specs.Kinds.{IsAmong, or_else}
 use Rattle.clap.specs.declared.error.Error.{Error}
@@ -20,9 +24,9 @@ use Rattle.linear_atoms.specs.declared.regions.Regions.{Regions}
 use Rattle.linear_atoms.specs.declared.regions.Regions.TheVariants.{Paths}
 use Rattle.fam_outer.specs.declared.refusal.Refusal.TheVariants as refusal
 use Rattle.command_words.specs.declared.refusal.Usage.{Usage}
-use Rattle.command_words.specs.Arguments.{AnswersWords, meant, domain_of, delay_of, narrow_of, widening_of, overflow_of, regions_of, steps_of, chosen_by, chosen_of, ◌>>=◌}
+use Rattle.command_words.specs.Arguments.{AnswersWords, meant, domain_of, delay_of, narrow_of, widening_of, overflow_of, regions_of, unknown_of, includes_of, steps_of, chosen_by, chosen_of, ◌>>=◌}
 use Rattle.command_words.specs.Options.{HasTexts, IsNumberBelow, are_spelled, options_app, passes, words_of}
-use Rattle.command_words.specs.Spelling.{domain_by, is_number, number_up_to, overflow_by, regions_by, widening_by}
+use Rattle.command_words.specs.Spelling.{domain_by, is_number, number_up_to, overflow_by, regions_by, unknown_by, includes_by, widening_by}
 use Rattle.command_words.proofs.Faults.{end_none, fault_parts, or_else_none, range_faults, words_fault}
 use Rattle.command_words.proofs.Numbers.{accepted}
 use Rattle.command_words.proofs.Texts.{texts_read}
@@ -35,24 +39,31 @@ none_after : {A B : Type 0} (o : Option A) (next : A → Option B) → ((x : A) 
 none_after None next h = refl
 none_after (Some x) next h = h x
 
-no_delay : (d : Option Domain) (n : Option ℕ) (w : Option Widening) (o : Option Mode) (g : Option Regions) (s : Option ℕ) → chosen_by d None n w o g s ≡ None
-no_delay d n w o g s = none_after d _ (λ d. refl)
+no_delay : (d : Option Domain) (n : Option ℕ) (w : Option Widening) (o : Option Mode) (g : Option Regions) (k : Option Unknown) (j : Option Includes) (s : Option ℕ) → chosen_by d None n w o g k j s ≡ None
+no_delay d n w o g k j s = none_after d _ (λ d. refl)
 
-no_narrow : (d : Option Domain) (l : Option ℕ) (w : Option Widening) (o : Option Mode) (g : Option Regions) (s : Option ℕ) → chosen_by d l None w o g s ≡ None
-no_narrow d l w o g s = none_after d _ (λ d. none_after l _ (λ l. refl))
+no_narrow : (d : Option Domain) (l : Option ℕ) (w : Option Widening) (o : Option Mode) (g : Option Regions) (k : Option Unknown) (j : Option Includes) (s : Option ℕ) → chosen_by d l None w o g k j s ≡ None
+no_narrow d l w o g k j s = none_after d _ (λ d. none_after l _ (λ l. refl))
 
-no_widening : (d : Option Domain) (l n : Option ℕ) (o : Option Mode) (g : Option Regions) (s : Option ℕ) → chosen_by d l n None o g s ≡ None
-no_widening d l n o g s = none_after d _ (λ d. none_after l _ (λ l. none_after n _ (λ n. refl)))
+no_widening : (d : Option Domain) (l n : Option ℕ) (o : Option Mode) (g : Option Regions) (k : Option Unknown) (j : Option Includes) (s : Option ℕ) → chosen_by d l n None o g k j s ≡ None
+no_widening d l n o g k j s = none_after d _ (λ d. none_after l _ (λ l. none_after n _ (λ n. refl)))
 
-no_overflow : (d : Option Domain) (l n : Option ℕ) (w : Option Widening) (g : Option Regions) (s : Option ℕ) → chosen_by d l n w None g s ≡ None
-no_overflow d l n w g s = none_after d _ (λ d. none_after l _ (λ l. none_after n _ (λ n. none_after w _ (λ w. refl))))
+no_overflow : (d : Option Domain) (l n : Option ℕ) (w : Option Widening) (g : Option Regions) (k : Option Unknown) (j : Option Includes) (s : Option ℕ) → chosen_by d l n w None g k j s ≡ None
+no_overflow d l n w g k j s = none_after d _ (λ d. none_after l _ (λ l. none_after n _ (λ n. none_after w _ (λ w. refl))))
 
-no_regions : (d : Option Domain) (l n : Option ℕ) (w : Option Widening) (o : Option Mode) (s : Option ℕ) → chosen_by d l n w o None s ≡ None
-no_regions d l n w o s = none_after d _ (λ d. none_after l _ (λ l. none_after n _ (λ n. none_after w _ (λ w. none_after o _ (λ o. refl)))))
+no_regions : (d : Option Domain) (l n : Option ℕ) (w : Option Widening) (o : Option Mode) (k : Option Unknown) (j : Option Includes) (s : Option ℕ) → chosen_by d l n w o None k j s ≡ None
+no_regions d l n w o k j s = none_after d _ (λ d. none_after l _ (λ l. none_after n _ (λ n. none_after w _ (λ w. none_after o _ (λ o. refl)))))
 
-no_steps : (d : Option Domain) (l n : Option ℕ) (w : Option Widening) (o : Option Mode) (g : Option Regions) → chosen_by d l n w o g None ≡ None
-no_steps d l n w o g =
-    none_after d _ (λ d. none_after l _ (λ l. none_after n _ (λ n. none_after w _ (λ w. none_after o _ (λ o. none_after g _ (λ g. refl))))))
+no_unknown : (d : Option Domain) (l n : Option ℕ) (w : Option Widening) (o : Option Mode) (g : Option Regions) (j : Option Includes) (s : Option ℕ) → chosen_by d l n w o g None j s ≡ None
+no_unknown d l n w o g j s = none_after d _ (λ d. none_after l _ (λ l. none_after n _ (λ n. none_after w _ (λ w. none_after o _ (λ o. none_after g _ (λ g. refl))))))
+
+no_includes : (d : Option Domain) (l n : Option ℕ) (w : Option Widening) (o : Option Mode) (g : Option Regions) (k : Option Unknown) (s : Option ℕ) → chosen_by d l n w o g k None s ≡ None
+no_includes d l n w o g k s =
+    none_after d _ (λ d. none_after l _ (λ l. none_after n _ (λ n. none_after w _ (λ w. none_after o _ (λ o. none_after g _ (λ g. none_after k _ (λ k. refl)))))))
+
+no_steps : (d : Option Domain) (l n : Option ℕ) (w : Option Widening) (o : Option Mode) (g : Option Regions) (k : Option Unknown) (j : Option Includes) → chosen_by d l n w o g k j None ≡ None
+no_steps d l n w o g k j =
+    none_after d _ (λ d. none_after l _ (λ l. none_after n _ (λ n. none_after w _ (λ w. none_after o _ (λ o. none_after g _ (λ g. none_after k _ (λ k. none_after j _ (λ j. refl))))))))
 
 -- an option means nothing
 pub record IsNone {A : Type 0} (o : Option A) : Type 0 where
@@ -60,37 +71,47 @@ pub record IsNone {A : Type 0} (o : Option A) : Type 0 where
 
 delay_none : (v : OptionValues) → IsNone (delay_of v) → chosen_of v ≡ None
 unfolding chosen_of
-delay_none v h = ap (λ l. chosen_by (domain_of v) l (narrow_of v) (widening_of v) (overflow_of v) (regions_of v) (steps_of v)) h.is
-    ∙ no_delay (domain_of v) (narrow_of v) (widening_of v) (overflow_of v) (regions_of v) (steps_of v)
+delay_none v h = ap (λ l. chosen_by (domain_of v) l (narrow_of v) (widening_of v) (overflow_of v) (regions_of v) (unknown_of v) (includes_of v) (steps_of v)) h.is
+    ∙ no_delay (domain_of v) (narrow_of v) (widening_of v) (overflow_of v) (regions_of v) (unknown_of v) (includes_of v) (steps_of v)
 
 narrow_none : (v : OptionValues) → IsNone (narrow_of v) → chosen_of v ≡ None
 unfolding chosen_of
-narrow_none v h = ap (λ n. chosen_by (domain_of v) (delay_of v) n (widening_of v) (overflow_of v) (regions_of v) (steps_of v)) h.is
-    ∙ no_narrow (domain_of v) (delay_of v) (widening_of v) (overflow_of v) (regions_of v) (steps_of v)
+narrow_none v h = ap (λ n. chosen_by (domain_of v) (delay_of v) n (widening_of v) (overflow_of v) (regions_of v) (unknown_of v) (includes_of v) (steps_of v)) h.is
+    ∙ no_narrow (domain_of v) (delay_of v) (widening_of v) (overflow_of v) (regions_of v) (unknown_of v) (includes_of v) (steps_of v)
 
 widening_none : (v : OptionValues) → IsNone (widening_of v) → chosen_of v ≡ None
 unfolding chosen_of
-widening_none v h = ap (λ w. chosen_by (domain_of v) (delay_of v) (narrow_of v) w (overflow_of v) (regions_of v) (steps_of v)) h.is
-    ∙ no_widening (domain_of v) (delay_of v) (narrow_of v) (overflow_of v) (regions_of v) (steps_of v)
+widening_none v h = ap (λ w. chosen_by (domain_of v) (delay_of v) (narrow_of v) w (overflow_of v) (regions_of v) (unknown_of v) (includes_of v) (steps_of v)) h.is
+    ∙ no_widening (domain_of v) (delay_of v) (narrow_of v) (overflow_of v) (regions_of v) (unknown_of v) (includes_of v) (steps_of v)
 
 steps_none : (v : OptionValues) → IsNone (steps_of v) → chosen_of v ≡ None
 unfolding chosen_of
-steps_none v h = ap (chosen_by (domain_of v) (delay_of v) (narrow_of v) (widening_of v) (overflow_of v) (regions_of v)) h.is
-    ∙ no_steps (domain_of v) (delay_of v) (narrow_of v) (widening_of v) (overflow_of v) (regions_of v)
+steps_none v h = ap (chosen_by (domain_of v) (delay_of v) (narrow_of v) (widening_of v) (overflow_of v) (regions_of v) (unknown_of v) (includes_of v)) h.is
+    ∙ no_steps (domain_of v) (delay_of v) (narrow_of v) (widening_of v) (overflow_of v) (regions_of v) (unknown_of v) (includes_of v)
 
 domain_none : (v : OptionValues) → IsNone (domain_of v) → chosen_of v ≡ None
 unfolding chosen_of
-domain_none v h = ap (λ d. chosen_by d (delay_of v) (narrow_of v) (widening_of v) (overflow_of v) (regions_of v) (steps_of v)) h.is
+domain_none v h = ap (λ d. chosen_by d (delay_of v) (narrow_of v) (widening_of v) (overflow_of v) (regions_of v) (unknown_of v) (includes_of v) (steps_of v)) h.is
 
 overflow_none : (v : OptionValues) → IsNone (overflow_of v) → chosen_of v ≡ None
 unfolding chosen_of
-overflow_none v h = ap (λ o. chosen_by (domain_of v) (delay_of v) (narrow_of v) (widening_of v) o (regions_of v) (steps_of v)) h.is
-    ∙ no_overflow (domain_of v) (delay_of v) (narrow_of v) (widening_of v) (regions_of v) (steps_of v)
+overflow_none v h = ap (λ o. chosen_by (domain_of v) (delay_of v) (narrow_of v) (widening_of v) o (regions_of v) (unknown_of v) (includes_of v) (steps_of v)) h.is
+    ∙ no_overflow (domain_of v) (delay_of v) (narrow_of v) (widening_of v) (regions_of v) (unknown_of v) (includes_of v) (steps_of v)
 
 regions_none : (v : OptionValues) → IsNone (regions_of v) → chosen_of v ≡ None
 unfolding chosen_of
-regions_none v h = ap (λ g. chosen_by (domain_of v) (delay_of v) (narrow_of v) (widening_of v) (overflow_of v) g (steps_of v)) h.is
-    ∙ no_regions (domain_of v) (delay_of v) (narrow_of v) (widening_of v) (overflow_of v) (steps_of v)
+regions_none v h = ap (λ g. chosen_by (domain_of v) (delay_of v) (narrow_of v) (widening_of v) (overflow_of v) g (unknown_of v) (includes_of v) (steps_of v)) h.is
+    ∙ no_regions (domain_of v) (delay_of v) (narrow_of v) (widening_of v) (overflow_of v) (unknown_of v) (includes_of v) (steps_of v)
+
+unknown_none : (v : OptionValues) → IsNone (unknown_of v) → chosen_of v ≡ None
+unfolding chosen_of
+unknown_none v h = ap (λ k. chosen_by (domain_of v) (delay_of v) (narrow_of v) (widening_of v) (overflow_of v) (regions_of v) k (includes_of v) (steps_of v)) h.is
+    ∙ no_unknown (domain_of v) (delay_of v) (narrow_of v) (widening_of v) (overflow_of v) (regions_of v) (includes_of v) (steps_of v)
+
+includes_none : (v : OptionValues) → IsNone (includes_of v) → chosen_of v ≡ None
+unfolding chosen_of
+includes_none v h = ap (λ j. chosen_by (domain_of v) (delay_of v) (narrow_of v) (widening_of v) (overflow_of v) (regions_of v) (unknown_of v) j (steps_of v)) h.is
+    ∙ no_includes (domain_of v) (delay_of v) (narrow_of v) (widening_of v) (overflow_of v) (regions_of v) (unknown_of v) (steps_of v)
 
 -- ---- values that are not spelled right
 
@@ -120,7 +141,13 @@ chosen-unspelled v e =
               | inl o ↦ overflow_none v (unspelled_name Stop overflow_by v.overflow o)
               | inr e ↦ elim (and_cases _ _ e) [
                 | inl g ↦ regions_none v (unspelled_name Paths regions_by v.regions g)
-                | inr s ↦ steps_none v (unspelled_number 1000 1000000 v.steps s)
+                | inr e ↦ elim (and_cases _ _ e) [
+                  | inl k ↦ unknown_none v (unspelled_name Zero unknown_by v.unknown k)
+                  | inr e ↦ elim (and_cases _ _ e) [
+                    | inl j ↦ includes_none v (unspelled_name Assert includes_by v.includes j)
+                    | inr s ↦ steps_none v (unspelled_number 1000 1000000 v.steps s)
+                  ]
+                ]
               ]
             ]
           ]
@@ -143,7 +170,9 @@ numbers_spelled v e =
     let s = and_parts (passes (λ text. is_some (widening_by text)) v.widening) _ r.1 in
     let t = and_parts (passes (λ text. is_some (overflow_by text)) v.overflow) _ s.1 in
     let u = and_parts (passes (λ text. is_some (regions_by text)) v.regions) _ t.1 in
-    record { delay = q.0; narrow = r.0; steps = u.1 }
+    let x = and_parts (passes (λ text. is_some (unknown_by text)) v.unknown) _ u.1 in
+    let y = and_parts (passes (λ text. is_some (includes_by text)) v.includes) _ x.1 in
+    record { delay = q.0; narrow = r.0; steps = y.1 }
 
 -- a number that does not fit means nothing
 unfit_number : (default most : ℕ) (o : Option Text) → most < 2 ^ 64 → passes is_number o ≡ true → fits most o ≡ false → IsNone (meant default (number_up_to most) o)
@@ -179,13 +208,21 @@ meant_regions : (o : Option Text) → meant Paths regions_by o ≡ regions_by (u
 meant_regions None = refl
 meant_regions (Some text) = refl
 
+meant_unknown : (o : Option Text) → meant Zero unknown_by o ≡ unknown_by (unwrap_or o (codes "zero"))
+meant_unknown None = refl
+meant_unknown (Some text) = refl
+
+meant_includes : (o : Option Text) → meant Assert includes_by o ≡ includes_by (unwrap_or o (codes "assert"))
+meant_includes None = refl
+meant_includes (Some text) = refl
+
 -- ---- what the command refuses
 
 pub words_refused : (v : OptionValues) → fault_of options_app (words_of v) ≡ range_faults v.delay v.narrow v.steps
 words_refused v =
     fault_parts (words_of v)
-    ∙ ap₂ or_else (words_fault v.domain v.delay v.narrow v.widening v.overflow v.regions v.steps)
-    (end_none v.domain v.delay v.narrow v.widening v.overflow v.regions v.steps)
+    ∙ ap₂ or_else (words_fault v.domain v.delay v.narrow v.widening v.overflow v.regions v.unknown v.includes v.steps)
+    (end_none v.domain v.delay v.narrow v.widening v.overflow v.regions v.unknown v.includes v.steps)
     ∙ or_else_none (range_faults v.delay v.narrow v.steps)
 
 pub record AllFit (v : OptionValues) : Type 0 where
@@ -229,16 +266,16 @@ chosen-refused v error spelled fails other =
 
 -- ---- what the command reads
 
-same_chosen : (d d' : Option Domain) (l l' n n' : Option ℕ) (w w' : Option Widening) (o o' : Option Mode) (g g' : Option Regions) (s s' : Option ℕ)
-    → d ≡ d' → l ≡ l' → n ≡ n' → w ≡ w' → o ≡ o' → g ≡ g' → s ≡ s' → chosen_by d l n w o g s ≡ chosen_by d' l' n' w' o' g' s'
-same_chosen d d' l l' n n' w w' o o' g g' s s' is_d is_l is_n is_w is_o is_g is_s = rw (is_d, is_l, is_n, is_w, is_o, is_g, is_s) refl
+same_chosen : (d d' : Option Domain) (l l' n n' : Option ℕ) (w w' : Option Widening) (o o' : Option Mode) (g g' : Option Regions) (k k' : Option Unknown) (j j' : Option Includes) (s s' : Option ℕ)
+    → d ≡ d' → l ≡ l' → n ≡ n' → w ≡ w' → o ≡ o' → g ≡ g' → k ≡ k' → j ≡ j' → s ≡ s' → chosen_by d l n w o g k j s ≡ chosen_by d' l' n' w' o' g' k' j' s'
+same_chosen d d' l l' n n' w w' o o' g g' k k' j j' s s' is_d is_l is_n is_w is_o is_g is_k is_j is_s = rw (is_d, is_l, is_n, is_w, is_o, is_g, is_k, is_j, is_s) refl
 
 -- what is read from the rows of the words is what is chosen
 pub chosen-read : (v : OptionValues) (rows : List Row) (words : List Text) (r : Option Chosen) → are_spelled v ≡ true → words ≡ words_of v
     → rows ≡ matches_of options_app words → fault_of options_app words ≡ []
-    → ((domain delay narrow widening overflow regions steps : Text) → HasTexts rows domain delay narrow widening overflow regions steps
+    → ((domain delay narrow widening overflow regions unknown includes steps : Text) → HasTexts rows domain delay narrow widening overflow regions unknown includes steps
     → IsNumberBelow 17 delay → IsNumberBelow 17 narrow → IsNumberBelow (2 ^ 64) steps
-    → r ≡ chosen_by (domain_by domain) (Some (digits_value 10 delay)) (Some (digits_value 10 narrow)) (widening_by widening) (overflow_by overflow) (regions_by regions) (Some (digits_value 10 steps)))
+    → r ≡ chosen_by (domain_by domain) (Some (digits_value 10 delay)) (Some (digits_value 10 narrow)) (widening_by widening) (overflow_by overflow) (regions_by regions) (unknown_by unknown) (includes_by includes) (Some (digits_value 10 steps)))
     → r ≡ chosen_of v
 unfolding chosen_of
 chosen-read v rows words r spelled e rows_are none reads =
@@ -251,18 +288,20 @@ chosen-read v rows words r spelled e rows_are none reads =
     let widening : Text = unwrap_or v.widening (codes "type") in
     let overflow : Text = unwrap_or v.overflow (codes "stop") in
     let regions : Text = unwrap_or v.regions (codes "paths") in
-    let texts : HasTexts rows domain delay narrow widening overflow regions steps =
-    rw (rows_are, e) (texts_read v.domain v.delay v.narrow v.widening v.overflow v.regions v.steps) in
-    let got = reads domain delay narrow widening overflow regions steps texts
+    let unknown : Text = unwrap_or v.unknown (codes "zero") in
+    let includes : Text = unwrap_or v.includes (codes "assert") in
+    let texts : HasTexts rows domain delay narrow widening overflow regions unknown includes steps =
+    rw (rows_are, e) (texts_read v.domain v.delay v.narrow v.widening v.overflow v.regions v.unknown v.includes v.steps) in
+    let got = reads domain delay narrow widening overflow regions unknown includes steps texts
     (number_below 16 17 v.delay (codes "0") (omega arith) (omega arith) (refl, omega arith) s.delay fit.delay)
     (number_below 8 17 v.narrow (codes "1") (omega arith) (omega arith) (refl, omega arith) s.narrow fit.narrow)
     (number_below 1000000 (2 ^ 64) v.steps (codes "1000") (omega arith) (omega arith) (refl, omega arith) s.steps fit.steps) in
     got ∙ sym (same_chosen (domain_of v) (domain_by domain) (delay_of v) (Some (digits_value 10 delay))
     (narrow_of v) (Some (digits_value 10 narrow)) (widening_of v) (widening_by widening)
-    (overflow_of v) (overflow_by overflow) (regions_of v) (regions_by regions) (steps_of v) (Some (digits_value 10 steps))
+    (overflow_of v) (overflow_by overflow) (regions_of v) (regions_by regions) (unknown_of v) (unknown_by unknown) (includes_of v) (includes_by includes) (steps_of v) (Some (digits_value 10 steps))
     (meant_domain v.domain) (fit_number 16 v.delay (codes "0") (omega arith) s.delay fit.delay)
     (fit_number 8 v.narrow (codes "1") (omega arith) s.narrow fit.narrow) (meant_widening v.widening)
-    (meant_overflow v.overflow) (meant_regions v.regions)
+    (meant_overflow v.overflow) (meant_regions v.regions) (meant_unknown v.unknown) (meant_includes v.includes)
     (fit_number 1000000 v.steps (codes "1000") (omega arith) s.steps fit.steps))
 
 -- a value, or else a refusal

@@ -1,9 +1,10 @@
 -- What the command of the options refuses, and what it reads.
-use Rattle.std.proofs.Common.{◌≡◌, ◌∙◌, List, [], ◌∷◌, Bool, true, false, refl, ap, codes, map}
-use Rattle.std.specs.Prelude.{Option, Some, None, is_some}
-use Rattle.clap.specs.Words.{Kinds, Row, Text, built, fault_of, is_simple, is_simple_and_free, matches_of}
+use Rattle.std.proofs.Common.{◌≡◌, ◌∙◌, List, [], ◌∷◌, Bool, true, false, refl, sym, ap, subst, codes, map}
+use Rattle.std.specs.Prelude.{Option, Some, None, is_some, Result, Ok, Err, IfOk}
+use Rattle.clap.specs.Words.{App, Kinds, Row, Text, built, fault_of, found_of, is_simple, is_simple_and_free, matches_of, rows_of}
 use Rattle.clap.specs.Kinds.{or_else}
-use Rattle.clap.specs.Simple.{names_of, entered}
+use Rattle.clap.specs.Simple.{names_of, entered, HasMatchesOf}
+use Rattle.clap.specs.declared.parser.matches.ArgMatches.{ArgMatches}
 use Rattle.clap.specs.Walk.{has_row, walk, nothing_held, settled, finished, Walk}
 use Rattle.clap.specs.Faults.{settle_fault, defaults_fault, check_fault, entered_fault}
 use Rattle.clap.specs.ValueTests.{accepts}
@@ -20,6 +21,13 @@ app_simple = refl
 pub app_simple_and_free : is_simple_and_free options_app ≡ true
 unfolding clap_on_literals
 app_simple_and_free = refl
+
+-- what the command finds is what the options have
+pub parsed : {E : Type 0} (app : App) (words : List Text) (result : Result ArgMatches E) → app ≡ options_app
+    → IfOk result (HasMatchesOf app words) → IfOk result (λ m. rows_of (found_of m) ≡ matches_of options_app words)
+parsed app words (Ok m) is has =
+    subst (λ (a : App). rows_of (found_of m) ≡ matches_of a words) is (has (subst (λ (a : App). is_simple a ≡ true) (sym is) app_simple)).0
+parsed app words (Err e) is has = tt
 
 -- ---- the options, with the texts that are given
 
@@ -41,18 +49,24 @@ overflow_use given = record { name = codes "overflow"; default = codes "stop"; m
 abbrev pub regions_use : Option Text → Use
 regions_use given = record { name = codes "regions"; default = codes "paths"; most = None; given = given }
 
+abbrev pub unknown_use : Option Text → Use
+unknown_use given = record { name = codes "unknown"; default = codes "zero"; most = None; given = given }
+
+abbrev pub includes_use : Option Text → Use
+includes_use given = record { name = codes "includes"; default = codes "assert"; most = None; given = given }
+
 abbrev pub steps_use : Option Text → Use
 steps_use given = record { name = codes "steps"; default = codes "1000"; most = Some 1000000; given = given }
 
-abbrev pub options_of : (a b c d e f g : Option Text) → List Use
-options_of a b c d e f g = domain_use a ∷ delay_use b ∷ narrow_use c ∷ widening_use d ∷ overflow_use e ∷ regions_use f ∷ steps_use g ∷ []
+abbrev pub options_of : (a b c d e f k j g : Option Text) → List Use
+options_of a b c d e f k j g = domain_use a ∷ delay_use b ∷ narrow_use c ∷ widening_use d ∷ overflow_use e ∷ regions_use f ∷ unknown_use k ∷ includes_use j ∷ steps_use g ∷ []
 
-pub rules_are : (a b c d e f g : Option Text) → (built options_app).top.rules ≡ map rule_for (options_of a b c d e f g)
-rules_are a b c d e f g = refl
+pub rules_are : (a b c d e f k j g : Option Text) → (built options_app).top.rules ≡ map rule_for (options_of a b c d e f k j g)
+rules_are a b c d e f k j g = refl
 
-words_are : (a b c d e f g : Option Text) → words_given a b c d e f g ≡ words_for (options_of a b c d e f g)
-words_are a b c d e f None = refl
-words_are a b c d e f (Some g) = refl
+words_are : (a b c d e f k j g : Option Text) → words_given a b c d e f k j g ≡ words_for (options_of a b c d e f k j g)
+words_are a b c d e f k j None = refl
+words_are a b c d e f k j (Some g) = refl
 
 -- ---- the word of each option
 
@@ -88,6 +102,14 @@ regions_turn : IsTurn (codes "regions") None
 unfolding clap_on_literals
 regions_turn rows v fresh = (rw fresh refl, refl)
 
+unknown_turn : IsTurn (codes "unknown") None
+unfolding clap_on_literals
+unknown_turn rows v fresh = (rw fresh refl, refl)
+
+includes_turn : IsTurn (codes "includes") None
+unfolding clap_on_literals
+includes_turn rows v fresh = (rw fresh refl, refl)
+
 steps_first : (rows : List Row) (v : Text) (b : Bool) → has_row (codes "steps") rows ≡ false → accepts false (vp.Unsigned 0 1000000) v ≡ b → IsFirst (codes "steps") v b rows
 unfolding clap_on_literals
 steps_first rows v true fresh e = (rw (fresh, e) refl, refl)
@@ -96,8 +118,8 @@ steps_first rows v false fresh e = (rw (fresh, e) refl, refl)
 steps_turn : IsTurn (codes "steps") (Some 1000000)
 steps_turn rows v fresh = steps_first rows v (fits 1000000 (Some v)) fresh refl
 
-turns : (a b c d e f g : Option Text) → AreTurns (options_of a b c d e f g)
-turns a b c d e f g = (domain_turn, (delay_turn, (narrow_turn, (widening_turn, (overflow_turn, (regions_turn, (steps_turn, tt)))))))
+turns : (a b c d e f k j g : Option Text) → AreTurns (options_of a b c d e f k j g)
+turns a b c d e f k j g = (domain_turn, (delay_turn, (narrow_turn, (widening_turn, (overflow_turn, (regions_turn, (unknown_turn, (includes_turn, (steps_turn, tt)))))))))
 
 -- ---- what is refused
 
@@ -110,9 +132,9 @@ abbrev pub range_faults : Option Text → Option Text → Option Text → Kinds
 range_faults delay narrow steps =
     or_else (refused_unless (fits 16 delay)) (or_else (refused_unless (fits 8 narrow)) (or_else (refused_unless (fits 1000000 steps)) []))
 
-pub words_fault : (a b c d e f g : Option Text) → walk_at [] (words_given a b c d e f g) ≡ range_faults b c g
-words_fault a b c d e f g =
-    ap (walk_at []) (words_are a b c d e f g) ∙ uses.words_fault (options_of a b c d e f g) [] (turns a b c d e f g) refl refl
+pub words_fault : (a b c d e f k j g : Option Text) → walk_at [] (words_given a b c d e f k j g) ≡ range_faults b c g
+words_fault a b c d e f k j g =
+    ap (walk_at []) (words_are a b c d e f k j g) ∙ uses.words_fault (options_of a b c d e f k j g) [] (turns a b c d e f k j g) refl refl
 
 -- what is refused after the words, where the walk ends there
 abbrev pub fault_after : Walk → Kinds
@@ -130,25 +152,25 @@ pub fault_parts : (words : List Text) → fault_of options_app words ≡ or_else
 fault_parts words = refl
 
 -- the walk over the words
-walk_is : (a b c d e f g : Option Text) → walk (built options_app).top.rules (names_of (built options_app)) nothing_held (words_given a b c d e f g)
-    ≡ at_rows (with_words (options_of a b c d e f g) [])
-walk_is a b c d e f g = rw (words_are a b c d e f g) (words_walk (options_of a b c d e f g) [] (turns a b c d e f g) refl refl)
+walk_is : (a b c d e f k j g : Option Text) → walk (built options_app).top.rules (names_of (built options_app)) nothing_held (words_given a b c d e f k j g)
+    ≡ at_rows (with_words (options_of a b c d e f k j g) [])
+walk_is a b c d e f k j g = rw (words_are a b c d e f k j g) (words_walk (options_of a b c d e f k j g) [] (turns a b c d e f k j g) refl refl)
 
-good : (a b c d e f g : Option Text) → AreGood (options_of a b c d e f g)
+good : (a b c d e f k j g : Option Text) → AreGood (options_of a b c d e f k j g)
 unfolding clap_on_literals
-good a b c d e f g = (refl, (refl, (refl, (refl, (refl, (refl, (refl, tt)))))))
+good a b c d e f k j g = (refl, (refl, (refl, (refl, (refl, (refl, (refl, (refl, (refl, tt)))))))))
 
-after_rows : (a b c d e f g : Option Text) (rows : List Row) → fault_after (at_rows rows) ≡ []
-after_rows a b c d e f g rows = rw (no_default_fault (options_of a b c d e f g) rows (good a b c d e f g)) refl
+after_rows : (a b c d e f k j g : Option Text) (rows : List Row) → fault_after (at_rows rows) ≡ []
+after_rows a b c d e f k j g rows = rw (no_default_fault (options_of a b c d e f k j g) rows (good a b c d e f k j g)) refl
 
 -- nothing is refused after the words
-pub end_none : (a b c d e f g : Option Text) → end_fault (words_given a b c d e f g) ≡ []
-end_none a b c d e f g = ap fault_after (walk_is a b c d e f g) ∙ after_rows a b c d e f g (with_words (options_of a b c d e f g) [])
+pub end_none : (a b c d e f k j g : Option Text) → end_fault (words_given a b c d e f k j g) ≡ []
+end_none a b c d e f k j g = ap fault_after (walk_is a b c d e f k j g) ∙ after_rows a b c d e f k j g (with_words (options_of a b c d e f k j g) [])
 
 -- ---- what is read
 
 -- each option has the row of the text that is given, or of its default
-pub rows_read : (a b c d e f g : Option Text) → AreFinal (options_of a b c d e f g) (matches_of options_app (words_given a b c d e f g))
-rows_read a b c d e f g =
-    let us = options_of a b c d e f g in
-    rw (walk_is a b c d e f g) (defaults_final us (with_words us []) refl (uses.words_given us [] refl refl))
+pub rows_read : (a b c d e f k j g : Option Text) → AreFinal (options_of a b c d e f k j g) (matches_of options_app (words_given a b c d e f k j g))
+rows_read a b c d e f k j g =
+    let us = options_of a b c d e f k j g in
+    rw (walk_is a b c d e f k j g) (defaults_final us (with_words us []) refl (uses.words_given us [] refl refl))

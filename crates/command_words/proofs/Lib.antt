@@ -3,6 +3,7 @@ pub mod Faults
 pub mod Numbers
 pub mod Positional
 pub mod Ranges
+pub mod Refused
 pub mod Rows
 pub mod Spellings
 pub mod Texts

@@ -5,6 +5,8 @@ use Rattle.std.specs.List.{All, slice_split}
 use Rattle.std.specs.Str.Parse.{digits_value, signed_digits_value}
 use Rattle.std.proofs.lemmas.Bool.{and_parts, leb-true}
 use Rattle.std.proofs.lemmas.List.Elements.{All-nil, All-push}
+use Rattle.fam_outer.specs.declared.dialect.Unknown.{Unknown}
+use Rattle.fam_outer.specs.declared.dialect.Includes.{Includes}
 use Rattle.command_words.specs.declared.named.OptionValues.{OptionValues}
 use Rattle.command_words.specs.declared.settings.Chosen.{Chosen}
 use Rattle.command_words.specs.declared.settings.Domain.{Domain}
@@ -12,7 +14,7 @@ use Rattle.command_words.specs.declared.settings.Widening.{Widening}
 use Rattle.c_tree.specs.declared.tree.Mode.{Mode}
 use Rattle.linear_atoms.specs.declared.regions.Regions.{Regions}
 use Rattle.command_words.specs.declared.settings.OptionSettings.{OptionSettings}
-use Rattle.command_words.specs.Arguments.{AreInRange, meant, domain_of, delay_of, narrow_of, widening_of, overflow_of, regions_of, steps_of, inputs_set, chosen_by, chosen_of, settings_from, settings_of}
+use Rattle.command_words.specs.Arguments.{AreInRange, meant, domain_of, delay_of, narrow_of, widening_of, overflow_of, regions_of, unknown_of, includes_of, steps_of, inputs_set, chosen_by, chosen_of, settings_from, settings_of}
 use Rattle.command_words.specs.Spelling.{input_of, inputs_after, inputs_of, is_in_int, is_input, is_number, number_up_to}
 use Rattle.command_words.proofs.Numbers.{in_order}
 
@@ -68,24 +70,26 @@ set_near (Some text) zs e = inputs_near [] (slice_split (λ c. c == 44) text) zs
 
 -- ---- all settings
 
-ranged : (d : Option Domain) (l n : Option ℕ) (w : Option Widening) (o : Option Mode) (g : Option Regions) (t : Option ℕ) (i : Option (List ℤ)) (s : OptionSettings) → settings_from (chosen_by d l n w o g t) i ≡ Some s
+ranged : (d : Option Domain) (l n : Option ℕ) (w : Option Widening) (o : Option Mode) (g : Option Regions) (k : Option Unknown) (j : Option Includes) (t : Option ℕ) (i : Option (List ℤ)) (s : OptionSettings) → settings_from (chosen_by d l n w o g k j t) i ≡ Some s
     → ((x : ℕ) → l ≡ Some x → x ≤ 16) → ((x : ℕ) → n ≡ Some x → x ≤ 8) → ((x : ℕ) → t ≡ Some x → x ≤ 1000000) → ((zs : List ℤ) → i ≡ Some zs → All IsNear zs) → AreInRange s
-ranged None l n w o g t i s e a b c f = absurd cc
-ranged (Some d) None n w o g t i s e a b c f = absurd cc
-ranged (Some d) (Some l) None w o g t i s e a b c f = absurd cc
-ranged (Some d) (Some l) (Some n) None o g t i s e a b c f = absurd cc
-ranged (Some d) (Some l) (Some n) (Some w) None g t i s e a b c f = absurd cc
-ranged (Some d) (Some l) (Some n) (Some w) (Some o) None t i s e a b c f = absurd cc
-ranged (Some d) (Some l) (Some n) (Some w) (Some o) (Some g) None i s e a b c f = absurd cc
-ranged (Some d) (Some l) (Some n) (Some w) (Some o) (Some g) (Some t) None s e a b c f = absurd cc
-ranged (Some d) (Some l) (Some n) (Some w) (Some o) (Some g) (Some t) (Some i) s e a b c f =
-    subst AreInRange (some_is (record { chosen = record { domain = d; delay = l; narrow = n; widening = w; overflow = o; regions = g; steps = t }; inputs = i }) s e)
+ranged None l n w o g k j t i s e a b c f = absurd cc
+ranged (Some d) None n w o g k j t i s e a b c f = absurd cc
+ranged (Some d) (Some l) None w o g k j t i s e a b c f = absurd cc
+ranged (Some d) (Some l) (Some n) None o g k j t i s e a b c f = absurd cc
+ranged (Some d) (Some l) (Some n) (Some w) None g k j t i s e a b c f = absurd cc
+ranged (Some d) (Some l) (Some n) (Some w) (Some o) None k j t i s e a b c f = absurd cc
+ranged (Some d) (Some l) (Some n) (Some w) (Some o) (Some g) None j t i s e a b c f = absurd cc
+ranged (Some d) (Some l) (Some n) (Some w) (Some o) (Some g) (Some k) None t i s e a b c f = absurd cc
+ranged (Some d) (Some l) (Some n) (Some w) (Some o) (Some g) (Some k) (Some j) None i s e a b c f = absurd cc
+ranged (Some d) (Some l) (Some n) (Some w) (Some o) (Some g) (Some k) (Some j) (Some t) None s e a b c f = absurd cc
+ranged (Some d) (Some l) (Some n) (Some w) (Some o) (Some g) (Some k) (Some j) (Some t) (Some i) s e a b c f =
+    subst AreInRange (some_is (record { chosen = record { domain = d; delay = l; narrow = n; widening = w; overflow = o; regions = g; unknown = k; includes = j; steps = t }; inputs = i }) s e)
     (record { delay = a l refl; narrow = b n refl; steps = c t refl; inputs = f i refl })
 
 settings_ranged : (v : OptionValues) (s : OptionSettings) → settings_of v ≡ Some s → AreInRange s
 unfolding settings_of chosen_of inputs_set
 settings_ranged v s e =
-    ranged (domain_of v) (delay_of v) (narrow_of v) (widening_of v) (overflow_of v) (regions_of v) (steps_of v) (inputs_set v) s e
+    ranged (domain_of v) (delay_of v) (narrow_of v) (widening_of v) (overflow_of v) (regions_of v) (unknown_of v) (includes_of v) (steps_of v) (inputs_set v) s e
     (λ x h. number_low 0 16 v.delay x (omega arith) h) (λ x h. number_low 1 8 v.narrow x (omega arith) h)
     (λ x h. number_low 1000 1000000 v.steps x (omega arith) h) (λ zs h. set_near v.inputs zs h)
 

@@ -5,7 +5,7 @@ use Rattle.std.specs.List.{list_all}
 use Rattle.std.specs.Str.{bytes_eq}
 use Rattle.std.proofs.lemmas.Bool.{and_parts, lt-ltb, not-true}
 use Rattle.command_words.specs.declared.named.OptionName.{OptionName}
-use Rattle.command_words.specs.declared.named.OptionName.TheVariants.{Domain, Delay, Narrow, Widening, Overflow, Regions, Steps, Inputs}
+use Rattle.command_words.specs.declared.named.OptionName.TheVariants.{Domain, Delay, Narrow, Widening, Overflow, Regions, Unknown, Includes, Steps, Inputs}
 use Rattle.command_words.specs.declared.sorting.SortingState.{SortingState}
 use Rattle.command_words.specs.Arguments.{arguments_of, settings_of, given_of, ◌>>=◌}
 use Rattle.command_words.specs.Sorting.{begins_with_dash, give, keep, option_given, option_taken, option_step, option_parts, free_step, waited_step, is_given, name_by, sorted_from, start, step, text_of}
@@ -84,6 +84,8 @@ joined_parts Narrow value = let e : nat_lt 6 (length (codes "narrow" ++ codes "=
 joined_parts Widening value = let e : nat_lt 8 (length (codes "widening" ++ codes "=" ++ value)) ≡ true = lt-ltb _ _ (omega arith) in rw e refl
 joined_parts Overflow value = let e : nat_lt 8 (length (codes "overflow" ++ codes "=" ++ value)) ≡ true = lt-ltb _ _ (omega arith) in rw e refl
 joined_parts Regions value = let e : nat_lt 7 (length (codes "regions" ++ codes "=" ++ value)) ≡ true = lt-ltb _ _ (omega arith) in rw e refl
+joined_parts Unknown value = let e : nat_lt 7 (length (codes "unknown" ++ codes "=" ++ value)) ≡ true = lt-ltb _ _ (omega arith) in rw e refl
+joined_parts Includes value = let e : nat_lt 8 (length (codes "includes" ++ codes "=" ++ value)) ≡ true = lt-ltb _ _ (omega arith) in rw e refl
 joined_parts Steps value = let e : nat_lt 5 (length (codes "steps" ++ codes "=" ++ value)) ≡ true = lt-ltb _ _ (omega arith) in rw e refl
 joined_parts Inputs value = let e : nat_lt 6 (length (codes "inputs" ++ codes "=" ++ value)) ≡ true = lt-ltb _ _ (omega arith) in rw e refl
 
@@ -94,6 +96,8 @@ free_joined s Narrow value = refl
 free_joined s Widening value = refl
 free_joined s Overflow value = refl
 free_joined s Regions value = refl
+free_joined s Unknown value = refl
+free_joined s Includes value = refl
 free_joined s Steps value = refl
 free_joined s Inputs value = refl
 
@@ -104,6 +108,8 @@ named s Narrow value = refl
 named s Widening value = refl
 named s Overflow value = refl
 named s Regions value = refl
+named s Unknown value = refl
+named s Includes value = refl
 named s Steps value = refl
 named s Inputs value = refl
 
@@ -122,6 +128,8 @@ free_alone s Narrow = refl
 free_alone s Widening = refl
 free_alone s Overflow = refl
 free_alone s Regions = refl
+free_alone s Unknown = refl
+free_alone s Includes = refl
 free_alone s Steps = refl
 free_alone s Inputs = refl
 

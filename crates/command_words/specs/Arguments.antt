@@ -2,6 +2,10 @@
 use Rattle.std.specs.Prelude.{ℕ, ℤ, pos, negsuc, ◌≡◌, ◌≤◌, ◌≤ℤ◌, ⊤, false, List, [], map, string_bytes, Option, Some, None, is_some, Result, Ok, Err}
 use Rattle.std.specs.List.{All}
 use Rattle.std.specs.declared.string.String.{String}
+use Rattle.fam_outer.specs.declared.dialect.Unknown.{Unknown}
+use Rattle.fam_outer.specs.declared.dialect.Unknown.TheVariants.{Zero}
+use Rattle.fam_outer.specs.declared.dialect.Includes.{Includes}
+use Rattle.fam_outer.specs.declared.dialect.Includes.TheVariants.{Assert}
 use Rattle.command_words.specs.declared.named.OptionValues.{OptionValues}
 use Rattle.command_words.specs.declared.settings.Chosen.{Chosen}
 use Rattle.command_words.specs.declared.settings.Domain.{Domain}
@@ -19,7 +23,7 @@ use Rattle.command_words.specs.declared.refusal.Usage.{Usage}
 use Rattle.fam_outer.specs.declared.refusal.Refusal.{Refusal}
 use Rattle.fam_outer.specs.declared.refusal.Refusal.TheVariants as refusal
 use Rattle.command_words.specs.Sorting.{sorted}
-use Rattle.command_words.specs.Spelling.{domain_by, overflow_by, regions_by, widening_by, number_up_to, inputs_of}
+use Rattle.command_words.specs.Spelling.{domain_by, overflow_by, regions_by, unknown_by, includes_by, widening_by, number_up_to, inputs_of}
 
 -- the words, each as its bytes
 abbrev pub texts_of : {Z : Type 0} → List (String Z) → List (List ℕ)
@@ -59,6 +63,14 @@ overflow_of values = meant Stop overflow_by values.overflow
 abbrev pub regions_of : OptionValues → Option Regions
 regions_of values = meant Paths regions_by values.regions
 
+-- what `--unknown` sets
+abbrev pub unknown_of : OptionValues → Option Unknown
+unknown_of values = meant Zero unknown_by values.unknown
+
+-- what `--includes` sets
+abbrev pub includes_of : OptionValues → Option Includes
+includes_of values = meant Assert includes_by values.includes
+
 -- what `--steps` sets
 abbrev pub steps_of : OptionValues → Option ℕ
 steps_of values = meant 1000 (number_up_to 1000000) values.steps
@@ -68,20 +80,22 @@ unfoldable pub inputs_set : OptionValues → Option (List ℤ)
 inputs_set values = meant [] inputs_of values.inputs
 
 -- what these set together
-abbrev pub chosen_by : Option Domain → Option ℕ → Option ℕ → Option Widening → Option Mode → Option Regions → Option ℕ → Option Chosen
-chosen_by domain_meant delay_meant narrow_meant widening_meant overflow_meant regions_meant steps_meant = do
+abbrev pub chosen_by : Option Domain → Option ℕ → Option ℕ → Option Widening → Option Mode → Option Regions → Option Unknown → Option Includes → Option ℕ → Option Chosen
+chosen_by domain_meant delay_meant narrow_meant widening_meant overflow_meant regions_meant unknown_meant includes_meant steps_meant = do
   domain ← domain_meant
   delay ← delay_meant
   narrow ← narrow_meant
   widening ← widening_meant
   overflow ← overflow_meant
   regions ← regions_meant
+  unknown ← unknown_meant
+  includes ← includes_meant
   steps ← steps_meant
-  Some (record { domain = domain; delay = delay; narrow = narrow; widening = widening; overflow = overflow; regions = regions; steps = steps })
+  Some (record { domain = domain; delay = delay; narrow = narrow; widening = widening; overflow = overflow; regions = regions; unknown = unknown; includes = includes; steps = steps })
 
 -- what the options other than `--inputs` set, or nothing where the text of one means nothing
 unfoldable pub chosen_of : OptionValues → Option Chosen
-chosen_of values = chosen_by (domain_of values) (delay_of values) (narrow_of values) (widening_of values) (overflow_of values) (regions_of values) (steps_of values)
+chosen_of values = chosen_by (domain_of values) (delay_of values) (narrow_of values) (widening_of values) (overflow_of values) (regions_of values) (unknown_of values) (includes_of values) (steps_of values)
 
 abbrev pub settings_from : Option Chosen → Option (List ℤ) → Option OptionSettings
 settings_from chosen_meant inputs_meant = do
@@ -102,6 +116,8 @@ given_of values = record {
   widening = is_some values.widening;
   overflow = is_some values.overflow;
   regions = is_some values.regions;
+  unknown = is_some values.unknown;
+  includes = is_some values.includes;
   steps = is_some values.steps;
   inputs = is_some values.inputs;
 }
@@ -130,12 +146,12 @@ pub record AreInRange (settings : OptionSettings) : Type 0 where
 
 -- no option
 abbrev pub nothing_given : Given
-nothing_given = record { domain = false; delay = false; narrow = false; widening = false; overflow = false; regions = false; steps = false; inputs = false }
+nothing_given = record { domain = false; delay = false; narrow = false; widening = false; overflow = false; regions = false; unknown = false; includes = false; steps = false; inputs = false }
 
 -- what is set where no option is given
 abbrev pub defaults : OptionSettings
 defaults = record {
-  chosen = record { domain = Interval; delay = 0; narrow = 1; widening = «Type»; overflow = Stop; regions = Paths; steps = 1000 };
+  chosen = record { domain = Interval; delay = 0; narrow = 1; widening = «Type»; overflow = Stop; regions = Paths; unknown = Zero; includes = Assert; steps = 1000 };
   inputs = [];
 }
 

@@ -5,7 +5,7 @@ use Rattle.std.specs.Str.{bytes_eq}
 use Rattle.std.specs.List.{before_first, after_first, position_or_len}
 use Rattle.std.specs.Borrow.{Bor}
 use Rattle.command_words.specs.declared.named.OptionName.{OptionName}
-use Rattle.command_words.specs.declared.named.OptionName.TheVariants.{Domain, Delay, Narrow, Widening, Overflow, Regions, Steps, Inputs}
+use Rattle.command_words.specs.declared.named.OptionName.TheVariants.{Domain, Delay, Narrow, Widening, Overflow, Regions, Unknown, Includes, Steps, Inputs}
 use Rattle.command_words.specs.declared.named.OptionValues.{OptionValues}
 use Rattle.command_words.specs.declared.sorting.SortingState.{SortingState}
 use Rattle.command_words.specs.declared.refusal.Usage.{Usage}
@@ -23,8 +23,10 @@ name_by name =
     else (if bytes_eq name (codes "widening") then Some Widening
     else (if bytes_eq name (codes "overflow") then Some Overflow
     else (if bytes_eq name (codes "regions") then Some Regions
+    else (if bytes_eq name (codes "unknown") then Some Unknown
+    else (if bytes_eq name (codes "includes") then Some Includes
     else (if bytes_eq name (codes "steps") then Some Steps
-    else (if bytes_eq name (codes "inputs") then Some Inputs else None)))))))
+    else (if bytes_eq name (codes "inputs") then Some Inputs else None)))))))))
 
 -- the name of the option
 abbrev pub text_of : OptionName → List ℕ
@@ -34,6 +36,8 @@ text_of Narrow = codes "narrow"
 text_of Widening = codes "widening"
 text_of Overflow = codes "overflow"
 text_of Regions = codes "regions"
+text_of Unknown = codes "unknown"
+text_of Includes = codes "includes"
 text_of Steps = codes "steps"
 text_of Inputs = codes "inputs"
 
@@ -45,6 +49,8 @@ is_given values Narrow = is_some values.narrow
 is_given values Widening = is_some values.widening
 is_given values Overflow = is_some values.overflow
 is_given values Regions = is_some values.regions
+is_given values Unknown = is_some values.unknown
+is_given values Includes = is_some values.includes
 is_given values Steps = is_some values.steps
 is_given values Inputs = is_some values.inputs
 
@@ -56,6 +62,8 @@ with_value values Narrow value = record values { narrow = Some value }
 with_value values Widening value = record values { widening = Some value }
 with_value values Overflow value = record values { overflow = Some value }
 with_value values Regions value = record values { regions = Some value }
+with_value values Unknown value = record values { unknown = Some value }
+with_value values Includes value = record values { includes = Some value }
 with_value values Steps value = record values { steps = Some value }
 with_value values Inputs value = record values { inputs = Some value }
 
@@ -91,7 +99,7 @@ option_parts word = option_and_then (λ text. Some (parts text)) (after_dashes w
 abbrev pub start : SortingState
 start = record {
   positional = [];
-  values = record { domain = None; delay = None; narrow = None; widening = None; overflow = None; regions = None; steps = None; inputs = None };
+  values = record { domain = None; delay = None; narrow = None; widening = None; overflow = None; regions = None; unknown = None; includes = None; steps = None; inputs = None };
   waiting = None;
   is_trailing = false;
 }

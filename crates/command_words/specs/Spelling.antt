@@ -4,6 +4,10 @@ use Rattle.std.specs.Prelude.{Option, Some, None, option_and_then}
 use Rattle.std.specs.List.{slice_split, list_all}
 use Rattle.std.specs.Str.{bytes_eq}
 use Rattle.std.specs.Str.Parse.{digits_value, signed_digits_value}
+use Rattle.fam_outer.specs.declared.dialect.Unknown.{Unknown}
+use Rattle.fam_outer.specs.declared.dialect.Unknown.TheVariants.{Zero, Refuse}
+use Rattle.fam_outer.specs.declared.dialect.Includes.{Includes}
+use Rattle.fam_outer.specs.declared.dialect.Includes.TheVariants.{Assert, Skip}
 use Rattle.command_words.specs.declared.settings.Domain.{Domain}
 use Rattle.command_words.specs.declared.settings.Domain.TheVariants.{Interval, Octagon, Stride}
 use Rattle.command_words.specs.declared.settings.Widening.{Widening}
@@ -37,6 +41,18 @@ abbrev pub regions_by : List ℕ → Option Regions
 regions_by name =
     if bytes_eq name (codes "paths") then Some Paths
     else (if bytes_eq name (codes "merged") then Some Merged else None)
+
+-- what a name is that no model has, by the name
+abbrev pub unknown_by : List ℕ → Option Unknown
+unknown_by name =
+    if bytes_eq name (codes "zero") then Some Zero
+    else (if bytes_eq name (codes "refuse") then Some Refuse else None)
+
+-- which includes a file may have, by the name
+abbrev pub includes_by : List ℕ → Option Includes
+includes_by name =
+    if bytes_eq name (codes "assert") then Some Assert
+    else (if bytes_eq name (codes "skip") then Some Skip else None)
 
 -- ---- numbers
 

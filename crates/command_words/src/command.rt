@@ -6,16 +6,17 @@ ghost use Rattle.std.specs.Str.Parse.{digits_value};
 ghost use Rattle.clap.specs.Words.{FailsBy, fault_of, found_of, matches_of, rows_of, rule_of, app_of, with_rule, is_broken, one_of, first_of};
 ghost use Rattle.clap.specs.declared.builder.value_parser.ValueParser.TheVariants as vp;
 ghost use Rattle.command_words.specs.Arguments.{texts_of, AnswersWords, chosen_of, chosen_by};
-ghost use Rattle.command_words.specs.Options.{bare_app, options_app, option_rule, words_of, are_spelled, HasTexts, IsNumberBelow};
-ghost use Rattle.command_words.specs.Spelling.{domain_by, overflow_by, regions_by, widening_by};
+ghost use Rattle.command_words.specs.Options.{analysis_app, bare_app, options_app, option_rule, words_of, are_spelled, HasTexts, IsNumberBelow};
+ghost use Rattle.command_words.specs.Spelling.{domain_by, includes_by, overflow_by, regions_by, unknown_by, widening_by};
 ghost use Rattle.command_words.specs.declared.named.OptionValues.{OptionValues};
 
 use crate::refusal::{Usage, WordsRefusal};
-use crate::settings::{Chosen, Domain, Widening, mode_of, regions_of};
+use crate::settings::{Chosen, Domain, Widening, includes_of, mode_of, regions_of, unknown_of};
 use c_tree::Mode;
 use clap::builder::ValueParser;
 use clap::error::ErrorKind;
 use clap::{Arg, ArgMatches, Command, Error};
+use fam_outer::{Includes, Unknown};
 use linear_atoms::Regions;
 use std::alloc::{AllocError, Global};
 
@@ -83,17 +84,26 @@ fn with_option<'a>(
     command.arg(option(alloc, name, default, parser))
 }
 
-/// The command of the options other than `--inputs`.
-fn options_command<'a>(alloc: Global) -> Result<Command<'a>, AllocError>
-    ensures { IfOk result (λ command. app_of command ≡ options_app) }
+/// The command of the options of an analysis.
+fn analysis_command<'a>(alloc: Global) -> Result<Command<'a>, AllocError>
+    ensures { IfOk result (λ command. app_of command ≡ analysis_app) }
 {
     let command = bare_command(alloc);
     let command = with_option(alloc, command, "domain", "interval", any_text())?;
     let command = with_option(alloc, command, "delay", "0", up_to_16())?;
     let command = with_option(alloc, command, "narrow", "1", up_to_8())?;
     let command = with_option(alloc, command, "widening", "type", any_text())?;
-    let command = with_option(alloc, command, "overflow", "stop", any_text())?;
+    with_option(alloc, command, "overflow", "stop", any_text())
+}
+
+/// The command of the options other than `--inputs`.
+fn options_command<'a>(alloc: Global) -> Result<Command<'a>, AllocError>
+    ensures { IfOk result (λ command. app_of command ≡ options_app) }
+{
+    let command = analysis_command(alloc)?;
     let command = with_option(alloc, command, "regions", "paths", any_text())?;
+    let command = with_option(alloc, command, "unknown", "zero", any_text())?;
+    let command = with_option(alloc, command, "includes", "assert", any_text())?;
     with_option(alloc, command, "steps", "1000", up_to_a_million())
 }
 
@@ -164,12 +174,28 @@ fn regions_in(matches: &ArgMatches<'_>) -> Option<Regions>
     regions_of(text_in(matches, "regions")?)
 }
 
+/// What a name is that no model has.
+fn unknown_in(matches: &ArgMatches<'_>) -> Option<Unknown>
+    ensures { (text : List ℕ) → first_of (codes "unknown") (rows_of (found_of matches.now)) ≡ Some text
+        → result ≡ unknown_by text }
+{
+    unknown_of(text_in(matches, "unknown")?)
+}
+
+/// Which includes a file may have.
+fn includes_in(matches: &ArgMatches<'_>) -> Option<Includes>
+    ensures { (text : List ℕ) → first_of (codes "includes") (rows_of (found_of matches.now)) ≡ Some text
+        → result ≡ includes_by text }
+{
+    includes_of(text_in(matches, "includes")?)
+}
+
 /// What the options set, whose texts are known.
 fn chosen_in(matches: &ArgMatches<'_>) -> Option<Chosen>
-    ensures { (domain delay narrow widening overflow regions steps : List ℕ)
-        → HasTexts (rows_of (found_of matches.now)) domain delay narrow widening overflow regions steps
+    ensures { (domain delay narrow widening overflow regions unknown includes steps : List ℕ)
+        → HasTexts (rows_of (found_of matches.now)) domain delay narrow widening overflow regions unknown includes steps
         → IsNumberBelow 17 delay → IsNumberBelow 17 narrow → IsNumberBelow (2 ^ 64) steps
-        → result ≡ chosen_by (domain_by domain) (Some (digits_value 10 delay)) (Some (digits_value 10 narrow)) (widening_by widening) (overflow_by overflow) (regions_by regions) (Some (digits_value 10 steps)) }
+        → result ≡ chosen_by (domain_by domain) (Some (digits_value 10 delay)) (Some (digits_value 10 narrow)) (widening_by widening) (overflow_by overflow) (regions_by regions) (unknown_by unknown) (includes_by includes) (Some (digits_value 10 steps)) }
 {
     Some(Chosen {
         domain: domain_in(matches)?,
@@ -178,6 +204,8 @@ fn chosen_in(matches: &ArgMatches<'_>) -> Option<Chosen>
         widening: widening_in(matches)?,
         overflow: overflow_in(matches)?,
         regions: regions_in(matches)?,
+        unknown: unknown_in(matches)?,
+        includes: includes_in(matches)?,
         steps: number_in(matches, "steps")?,
     })
 }

@@ -17,6 +17,8 @@ pub enum OptionName {
     Widening,
     Overflow,
     Regions,
+    Unknown,
+    Includes,
     Steps,
     Inputs,
 }
@@ -33,6 +35,8 @@ impl OptionName {
             "widening" => Some(OptionName::Widening),
             "overflow" => Some(OptionName::Overflow),
             "regions" => Some(OptionName::Regions),
+            "unknown" => Some(OptionName::Unknown),
+            "includes" => Some(OptionName::Includes),
             "steps" => Some(OptionName::Steps),
             "inputs" => Some(OptionName::Inputs),
             _ => None,
@@ -49,6 +53,8 @@ pub struct OptionValues {
     pub widening: Option<Word>,
     pub overflow: Option<Word>,
     pub regions: Option<Word>,
+    pub unknown: Option<Word>,
+    pub includes: Option<Word>,
     pub steps: Option<Word>,
     pub inputs: Option<Word>,
 }
@@ -65,6 +71,8 @@ impl OptionValues {
             OptionName::Widening => self.widening.is_some(),
             OptionName::Overflow => self.overflow.is_some(),
             OptionName::Regions => self.regions.is_some(),
+            OptionName::Unknown => self.unknown.is_some(),
+            OptionName::Includes => self.includes.is_some(),
             OptionName::Steps => self.steps.is_some(),
             OptionName::Inputs => self.inputs.is_some(),
         }
@@ -81,6 +89,8 @@ impl OptionValues {
             OptionName::Widening => self.widening = Some(value),
             OptionName::Overflow => self.overflow = Some(value),
             OptionName::Regions => self.regions = Some(value),
+            OptionName::Unknown => self.unknown = Some(value),
+            OptionName::Includes => self.includes = Some(value),
             OptionName::Steps => self.steps = Some(value),
             OptionName::Inputs => self.inputs = Some(value),
         }
@@ -97,6 +107,8 @@ impl OptionValues {
             widening: self.widening.is_some(),
             overflow: self.overflow.is_some(),
             regions: self.regions.is_some(),
+            unknown: self.unknown.is_some(),
+            includes: self.includes.is_some(),
             steps: self.steps.is_some(),
             inputs: self.inputs.is_some(),
         }

@@ -4,12 +4,12 @@
 ghost use Rattle.std.specs.Prelude.{◌≡◌, ◌++◌, IfOk, OnOk, codes, is_some, string_bytes};
 ghost use Rattle.command_words.specs.Arguments.{texts_of, AnswersWords, chosen_of};
 ghost use Rattle.command_words.specs.Options.{option_word, words_of, passes, are_spelled as spelled};
-ghost use Rattle.command_words.specs.Spelling.{is_number as number_spelled, domain_by, overflow_by, regions_by, widening_by};
+ghost use Rattle.command_words.specs.Spelling.{is_number as number_spelled, domain_by, includes_by, overflow_by, regions_by, unknown_by, widening_by};
 
 use crate::command::read_spelled;
 use crate::named::OptionValues;
 use crate::refusal::{Usage, WordsRefusal};
-use crate::settings::{Chosen, Domain, Widening, mode_of, regions_of};
+use crate::settings::{Chosen, Domain, Widening, includes_of, mode_of, regions_of, unknown_of};
 use crate::spelling::is_number;
 use crate::word::Word;
 use fam_outer::NoMemory;
@@ -65,6 +65,26 @@ fn is_regions_or_none(value: &Option<Word>) -> bool
     }
 }
 
+/// The value, if there is one, is a name of what unknown names are.
+fn is_unknown_or_none(value: &Option<Word>) -> bool
+    ensures { result ≡ passes (λ text. is_some (unknown_by text)) value.now }
+{
+    match value {
+        Some(text) => unknown_of(text.as_str()).is_some(),
+        None => true,
+    }
+}
+
+/// The value, if there is one, is a name of which includes there may be.
+fn is_includes_or_none(value: &Option<Word>) -> bool
+    ensures { result ≡ passes (λ text. is_some (includes_by text)) value.now }
+{
+    match value {
+        Some(text) => includes_of(text.as_str()).is_some(),
+        None => true,
+    }
+}
+
 /// Each value is spelled as its option wants.
 fn are_spelled(values: &OptionValues) -> bool
     ensures { result ≡ spelled values.now }
@@ -75,6 +95,8 @@ fn are_spelled(values: &OptionValues) -> bool
         && is_widening_or_none(&values.widening)
         && is_overflow_or_none(&values.overflow)
         && is_regions_or_none(&values.regions)
+        && is_unknown_or_none(&values.unknown)
+        && is_includes_or_none(&values.includes)
         && is_number_or_none(&values.steps)
 }
 
@@ -116,6 +138,8 @@ fn option_words(alloc: Global, values: &OptionValues) -> Result<Vec<String>, NoM
     add_word(alloc, &mut words, "widening", &values.widening)?;
     add_word(alloc, &mut words, "overflow", &values.overflow)?;
     add_word(alloc, &mut words, "regions", &values.regions)?;
+    add_word(alloc, &mut words, "unknown", &values.unknown)?;
+    add_word(alloc, &mut words, "includes", &values.includes)?;
     add_word(alloc, &mut words, "steps", &values.steps)?;
     Ok(words)
 }

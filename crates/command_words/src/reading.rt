@@ -32,7 +32,7 @@ fn read_settings(alloc: Global, values: &OptionValues) -> Result<OptionSettings,
     Ok(OptionSettings { chosen, inputs })
 }
 
-/// What the words say. They are refused where one is no option of these eight, an option is given twice
+/// What the words say. They are refused where one is no option of these ten, an option is given twice
 /// or without its value, or a value is not spelled as the option wants or is out of its range.
 pub fn read_words(alloc: Global, words: &[String]) -> Result<Arguments, WordsRefusal>
     ensures answer { AnswersWords (arguments_of (texts_of words.now)) result }

@@ -2,10 +2,10 @@
 #![tactic(auto)]
 
 ghost use Rattle.std.specs.Prelude.{◌≡◌};
-ghost use Rattle.command_words.specs.Spelling.{domain_by, overflow_by, regions_by, widening_by};
+ghost use Rattle.command_words.specs.Spelling.{domain_by, includes_by, overflow_by, regions_by, unknown_by, widening_by};
 
 use c_tree::Mode;
-use fam_outer::Values;
+use fam_outer::{Includes, Unknown, Values};
 use linear_atoms::Regions;
 
 /// The domain of an analysis.
@@ -74,6 +74,28 @@ pub fn regions_of(name: &str) -> Option<Regions>
     }
 }
 
+/// What a name of a condition is that no model has, by the name.
+pub fn unknown_of(name: &str) -> Option<Unknown>
+    ensures { result ≡ unknown_by name.now }
+{
+    match name {
+        "zero" => Some(Unknown::Zero),
+        "refuse" => Some(Unknown::Refuse),
+        _ => None,
+    }
+}
+
+/// Which includes a file may have, by the name.
+pub fn includes_of(name: &str) -> Option<Includes>
+    ensures { result ≡ includes_by name.now }
+{
+    match name {
+        "assert" => Some(Includes::Assert),
+        "skip" => Some(Includes::Skip),
+        _ => None,
+    }
+}
+
 /// What the options other than `--inputs` set.
 #[derive(Clone, Copy, Debug, PartialEq, Eq)]
 pub struct Chosen {
@@ -83,6 +105,8 @@ pub struct Chosen {
     pub widening: Widening,
     pub overflow: Mode,
     pub regions: Regions,
+    pub unknown: Unknown,
+    pub includes: Includes,
     pub steps: u64,
 }
 
@@ -102,6 +126,8 @@ pub struct Given {
     pub widening: bool,
     pub overflow: bool,
     pub regions: bool,
+    pub unknown: bool,
+    pub includes: bool,
     pub steps: bool,
     pub inputs: bool,
 }

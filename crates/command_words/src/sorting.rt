@@ -54,6 +54,8 @@ impl SortingState {
                 widening: None,
                 overflow: None,
                 regions: None,
+                unknown: None,
+                includes: None,
                 steps: None,
                 inputs: None,
             },

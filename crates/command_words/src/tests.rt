@@ -30,6 +30,8 @@ fn write_given(text: &mut String, given: &Given) -> Result<(), NoMemory> {
     add_given(text, given.widening, "widening")?;
     add_given(text, given.overflow, "overflow")?;
     add_given(text, given.regions, "regions")?;
+    add_given(text, given.unknown, "unknown")?;
+    add_given(text, given.includes, "includes")?;
     add_given(text, given.steps, "steps")?;
     add_given(text, given.inputs, "inputs")
 }
@@ -48,11 +50,13 @@ fn line_of(alloc: Global, found: &Arguments) -> Result<String, NoMemory> {
         widening,
         overflow,
         regions,
+        unknown,
+        includes,
         steps,
     } = found.settings.chosen;
     write!(
         text,
-        "| {domain:?} {delay} {narrow} {widening:?} {overflow:?} {regions:?} {steps} |"
+        "| {domain:?} {delay} {narrow} {widening:?} {overflow:?} {regions:?} {unknown:?} {includes:?} {steps} |"
     )?;
     for input in found.settings.inputs.items() {
         write!(text, " {input}")?;
@@ -75,80 +79,94 @@ fn told(alloc: Global, line: &str) -> Result<String, NoMemory> {
 #[test]
 fn words_are_read(rt: HostRuntime) -> Result<(), Fail> {
     let cases = [
-        ("", "| Interval 0 1 Type Stop Paths 1000 | |"),
-        ("plain F", "plain F | Interval 0 1 Type Stop Paths 1000 | |"),
+        ("", "| Interval 0 1 Type Stop Paths Zero Assert 1000 | |"),
+        (
+            "plain F",
+            "plain F | Interval 0 1 Type Stop Paths Zero Assert 1000 | |",
+        ),
         (
             "plain F --delay=16",
-            "plain F | Interval 16 1 Type Stop Paths 1000 | | delay",
+            "plain F | Interval 16 1 Type Stop Paths Zero Assert 1000 | | delay",
         ),
         (
             "--delay 0 plain F",
-            "plain F | Interval 0 1 Type Stop Paths 1000 | | delay",
+            "plain F | Interval 0 1 Type Stop Paths Zero Assert 1000 | | delay",
         ),
         (
             "plain --narrow 8 F --domain=octagon",
-            "plain F | Octagon 0 8 Type Stop Paths 1000 | | domain narrow",
+            "plain F | Octagon 0 8 Type Stop Paths Zero Assert 1000 | | domain narrow",
         ),
         (
             "--domain stride --overflow wrap x --steps 1000000 --inputs 2147483647,0",
-            "x | Stride 0 1 Type Wrap Paths 1000000 | 2147483647 0 | domain overflow steps inputs",
+            "x | Stride 0 1 Type Wrap Paths Zero Assert 1000000 | 2147483647 0 | domain overflow steps inputs",
         ),
         (
             "--domain=interval --overflow=stop --narrow=0 --steps=0",
-            "| Interval 0 0 Type Stop Paths 0 | | domain narrow overflow steps",
+            "| Interval 0 0 Type Stop Paths Zero Assert 0 | | domain narrow overflow steps",
         ),
         (
             "run --inputs=-5,3,-2147483648",
-            "run | Interval 0 1 Type Stop Paths 1000 | -5 3 -2147483648 | inputs",
+            "run | Interval 0 1 Type Stop Paths Zero Assert 1000 | -5 3 -2147483648 | inputs",
         ),
         (
             "analyse M F --regions merged",
-            "analyse M F | Interval 0 1 Type Stop Merged 1000 | | regions",
+            "analyse M F | Interval 0 1 Type Stop Merged Zero Assert 1000 | | regions",
         ),
         (
             "analyse --regions=merged M F",
-            "analyse M F | Interval 0 1 Type Stop Merged 1000 | | regions",
+            "analyse M F | Interval 0 1 Type Stop Merged Zero Assert 1000 | | regions",
         ),
         (
             "--regions=paths --steps 3 x",
-            "x | Interval 0 1 Type Stop Paths 3 | | regions steps",
+            "x | Interval 0 1 Type Stop Paths Zero Assert 3 | | regions steps",
         ),
         (
             "plain F --widening thresholds",
-            "plain F | Interval 0 1 Thresholds Stop Paths 1000 | | widening",
+            "plain F | Interval 0 1 Thresholds Stop Paths Zero Assert 1000 | | widening",
         ),
         (
             "--widening=type plain --narrow=2 F",
-            "plain F | Interval 0 2 Type Stop Paths 1000 | | narrow widening",
+            "plain F | Interval 0 2 Type Stop Paths Zero Assert 1000 | | narrow widening",
         ),
         (
             "--inputs 1 --steps 2 --regions merged --overflow wrap --widening thresholds --narrow 3 --delay 4 --domain octagon",
-            "| Octagon 4 3 Thresholds Wrap Merged 2 | 1 | domain delay narrow widening overflow regions steps inputs",
+            "| Octagon 4 3 Thresholds Wrap Merged Zero Assert 2 | 1 | domain delay narrow widening overflow regions steps inputs",
+        ),
+        (
+            "analyse M F --unknown refuse --includes=skip",
+            "analyse M F | Interval 0 1 Type Stop Paths Refuse Skip 1000 | | unknown includes",
+        ),
+        (
+            "--includes assert --unknown=zero x --steps 3",
+            "x | Interval 0 1 Type Stop Paths Zero Assert 3 | | unknown includes steps",
         ),
         (
             "-- --widening thresholds",
-            "--widening thresholds | Interval 0 1 Type Stop Paths 1000 | |",
+            "--widening thresholds | Interval 0 1 Type Stop Paths Zero Assert 1000 | |",
         ),
         (
             "-- --regions merged",
-            "--regions merged | Interval 0 1 Type Stop Paths 1000 | |",
+            "--regions merged | Interval 0 1 Type Stop Paths Zero Assert 1000 | |",
         ),
-        ("plain -", "plain - | Interval 0 1 Type Stop Paths 1000 | |"),
+        (
+            "plain -",
+            "plain - | Interval 0 1 Type Stop Paths Zero Assert 1000 | |",
+        ),
         (
             "-- --delay -x",
-            "--delay -x | Interval 0 1 Type Stop Paths 1000 | |",
+            "--delay -x | Interval 0 1 Type Stop Paths Zero Assert 1000 | |",
         ),
         (
             "a -- b -- c",
-            "a b -- c | Interval 0 1 Type Stop Paths 1000 | |",
+            "a b -- c | Interval 0 1 Type Stop Paths Zero Assert 1000 | |",
         ),
         (
             "plain -- F --narrow 0",
-            "plain F --narrow 0 | Interval 0 1 Type Stop Paths 1000 | |",
+            "plain F --narrow 0 | Interval 0 1 Type Stop Paths Zero Assert 1000 | |",
         ),
         (
             "--narrow 0 -- plain F",
-            "plain F | Interval 0 0 Type Stop Paths 1000 | | narrow",
+            "plain F | Interval 0 0 Type Stop Paths Zero Assert 1000 | | narrow",
         ),
     ];
     for (line, want) in cases {
@@ -212,6 +230,17 @@ fn words_are_refused(rt: HostRuntime) -> Result<(), Fail> {
         "--regions=Merged",
         "--regions=paths,merged",
         "--region merged",
+        "--unknown zero --unknown zero",
+        "--unknown",
+        "--unknown --narrow 1",
+        "--unknown=",
+        "--unknown Refuse",
+        "--unknown 0",
+        "--includes skip --includes=skip",
+        "--includes",
+        "--includes=",
+        "--includes skipped",
+        "--include skip",
         "--inputs=",
         "--inputs=-0",
         "--inputs=01",

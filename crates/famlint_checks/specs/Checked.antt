@@ -2,6 +2,7 @@
 use Rattle.std.specs.Prelude.{ℕ, ℤ, ◌≡◌, true, List, ◌++◌, codes, length, Result, Ok, Err}
 use Rattle.std.specs.List.{All}
 use Rattle.std.specs.Fmt.{decimal}
+use Rattle.fam_outer.specs.declared.dialect.Dialect.{Dialect}
 use Rattle.fam_outer.specs.declared.faults.Place.{Place}
 use Rattle.c_tree.specs.declared.tree.Kind.{Kind}
 use Rattle.c_tree.specs.Run.{StoppedEnd, run_of}
@@ -68,10 +69,10 @@ abbrev pub IsCheckPromised : ProductLine → List ℕ → ℕ → Type 0
 IsCheckPromised l bytes status = status ≡ 0 → (c : Certificate) × ReadsCertificate l bytes (Ok c) × ListsAllStops l c
 
 -- what the check of the certificate comes to, or the refusal of the model, the file or the certificate
-abbrev pub AnswersCheck : Contents → Result Done Fault → Type 0
-AnswersCheck told (Ok done) = (l : ProductLine) × IsProductLine told.model told.file l × IsCheckDone l told.certificate done
-AnswersCheck told (Err fault) = IsCheckRefused told.model told.file told.certificate fault
+abbrev pub AnswersCheck : Dialect → Contents → Result Done Fault → Type 0
+AnswersCheck dialect told (Ok done) = (l : ProductLine) × IsProductLine dialect told.model told.file l × IsCheckDone l told.certificate done
+AnswersCheck dialect told (Err fault) = IsCheckRefused dialect told.model told.file told.certificate fault
 
 -- what is promised of a check: see `Checked`
-abbrev pub PromisedCheck : Contents → ℕ → Type 0
-PromisedCheck told status = (l : ProductLine) × IsProductLine told.model told.file l × IsCheckPromised l told.certificate status
+abbrev pub PromisedCheck : Dialect → Contents → ℕ → Type 0
+PromisedCheck dialect told status = (l : ProductLine) × IsProductLine dialect told.model told.file l × IsCheckPromised l told.certificate status

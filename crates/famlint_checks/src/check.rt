@@ -18,7 +18,7 @@ use alarm_report::texts::push_place;
 use c_parser::variants::variants_are_projections;
 use certificate_format::Certificate;
 use command_words::Word;
-use fam_outer::{Files, NoMemory, Place, Text};
+use fam_outer::{Dialect, Files, NoMemory, Place, Text};
 use famlint_loads::{Done, Failure, ProductLine, load_certificate, load_product_line};
 use interval_leaf::IntervalLeaf;
 use invariant_certificate::{Verdict, check as check_all};
@@ -134,25 +134,26 @@ pub fn check<F: Files>(
     model: &Word,
     file: &Word,
     certificate: &Word,
+    dialect: Dialect,
     files: &mut F,
 ) -> Result<Done, Failure>
     ensures answer { (told : Contents) → F.content files.old model.now ≡ Some told.model
         → F.content files.old file.now ≡ Some told.file
         → F.content files.old certificate.now ≡ Some told.certificate
-        → Comes (AnswersCheck told) result }
+        → Comes (AnswersCheck dialect told) result }
     ensures promise { (told : Contents) → F.content files.old model.now ≡ Some told.model
         → F.content files.old file.now ≡ Some told.file
         → F.content files.old certificate.now ≡ Some told.certificate
-        → IfOk result (λ done. PromisedCheck told done.status) }
+        → IfOk result (λ done. PromisedCheck dialect told done.status) }
     ensures status { IfOk result (λ done. done.status ≤ 1) }
     ensures order { (m f : List ℕ) → F.content files.old model.now ≡ Some m
         → F.content files.old file.now ≡ Some f → IsReadFault result
-        → IsLoadedForCheck model.now file.now certificate.now m f (F.failed files.new) }
+        → IsLoadedForCheck dialect model.now file.now certificate.now m f (F.failed files.new) }
     ensures kept { F.content files.new ≡ F.content files.old }
     ensures read { IsReadOf (model.now ∷ file.now ∷ certificate.now ∷ [])
         (F.faults files.old) (F.faults files.new) (F.failed files.new) result }
 {
-    let line = load_product_line(alloc, model.as_str(), file.as_str(), files)?;
+    let line = load_product_line(alloc, dialect, model.as_str(), file.as_str(), files)?;
     let certificate = load_certificate(alloc, &line, certificate.as_str(), files)?;
     Ok(check_done(alloc, &line, &certificate)?)
 }

@@ -4,6 +4,8 @@ use Rattle.std.proofs.lemmas.Bool.{eqb-true, eqb-false}
 use Rattle.std.proofs.lemmas.List.Elements.{All-weaker}
 use Rattle.std.specs.Prelude.{Option, Some, None, Result, Ok, Err, if◌then◌else◌}
 use Rattle.std.specs.List.{All}
+use Rattle.fam_outer.specs.declared.dialect.Dialect.{Dialect}
+use Rattle.fam_outer.specs.declared.dialect.Unknown.{Unknown}
 use Rattle.fam_outer.specs.declared.faults.FileCode.{FileCode}
 use Rattle.fam_outer.specs.declared.faults.Place.{Place}
 use Rattle.fam_outer.specs.declared.refusal.Refusal.{Refusal}
@@ -73,7 +75,7 @@ use Rattle.famlint_loads.specs.CertificateLoads.{ReadsCertificate, IsCheckRefuse
 use Rattle.famlint_checks.specs.Checked.{IsCheckDone, verdict_status}
 use Rattle.famlint_core.specs.Certified.{IsWrittenByCertify, IsYes}
 use Rattle.famlint_loads.specs.CertificateLoads as checked
-use Rattle.famlint_core.specs.Endings.{EndsWith, status_at}
+use Rattle.famlint_core.specs.Endings.{Streams, EndsWith, status_at}
 use Rattle.famlint_families.specs.FamilyReports.{IsFamilyDone, IsLeafTree, IsAlarmTreeOf}
 use Rattle.famlint_loads.specs.Loads.{IsModel}
 use Rattle.famlint_loads.specs.ProductLines.{IsProductLine}
@@ -137,15 +139,15 @@ ended_same model a _ (models.too_many_tests more) e = absurd (not_read model_fau
 ended_same model a _ (models.void few none) e = absurd (not_read model_faults.Void a e)
 ended_same model a _ (models.accepted few values valid) e = same_read model a e
 
-have_entries : (bytes : List ℕ) (a : Plain) (r : Result Plain ModelFault) → IsReadAs bytes r → r ≡ Ok a → HaveEntries a.features
-have_entries bytes a _ (models.untold f e) h = absurd (not_read f a h)
-have_entries bytes a _ (models.refused t f e constraints) h = absurd (not_read f a h)
-have_entries bytes a _ (models.said model end says ends) h =
+have_entries : (unknown : Unknown) (bytes : List ℕ) (a : Plain) (r : Result Plain ModelFault) → IsReadAs unknown bytes r → r ≡ Ok a → HaveEntries a.features
+have_entries unknown bytes a _ (models.untold f e) h = absurd (not_read f a h)
+have_entries unknown bytes a _ (models.refused t f e constraints) h = absurd (not_read f a h)
+have_entries unknown bytes a _ (models.said model end says ends) h =
     subst (λ (x : Plain). HaveEntries x.features) (ended_same model a end ends h)
     (by_outline (stages.outlined bytes) (record { features = model.features; texts = says.texts }) says.told)
 
-model_entries : (bytes : List ℕ) (model : Model) → IsModel bytes (Ok model) → HaveEntries model.features
-model_entries bytes model h = have_entries bytes (plain model) (Ok (plain model)) h refl
+model_entries : (unknown : Unknown) (bytes : List ℕ) (model : Model) → IsModel unknown bytes (Ok model) → HaveEntries model.features
+model_entries unknown bytes model h = have_entries unknown bytes (plain model) (Ok (plain model)) h refl
 
 are_named : (features : List Feature) → HaveEntries features → AreNamed features
 are_named features h = named_so h.outline.entries h.outline.entries h.outline.entries features refl refl (sym h.sound) h.are
@@ -168,22 +170,22 @@ same_lines : (s t : Told) → lines_ok s ≡ lines_ok t → s ≡ t
 same_lines s t e = let k : lines_ok s ≡ lines_ok t = e in cc
 
 -- the atoms are those of the constraints and of the conditions of the text
-same_atoms : TextsAreReadOnce → (a b : Model) (bytes : List ℕ) (f g : Family) → plain a ≡ plain b → IsFamilyOf a bytes f → IsFamilyOf b bytes g → f.atoms ≡ g.atoms
-same_atoms once a b bytes f g e o p =
+same_atoms : TextsAreReadOnce → (dialect : Dialect) (a b : Model) (bytes : List ℕ) (f g : Family) → plain a ≡ plain b → IsFamilyOf dialect a bytes f → IsFamilyOf dialect b bytes g → f.atoms ≡ g.atoms
+same_atoms once dialect a b bytes f g e o p =
     let blanked = same_blanked bytes o.are.items.blanked p.are.items.blanked o.are.items.without_comments p.are.items.without_comments in
-    let read : TextIsRead (plain b) p.are.items.blanked (Ok o.are.told) =
-    subst (λ (m : Plain). TextIsRead m p.are.items.blanked (Ok o.are.told)) e (subst (λ (z : List ℕ). TextIsRead (plain a) z (Ok o.are.told)) blanked o.are.items.read) in
-    let told : o.are.told ≡ p.are.told = same_lines o.are.told p.are.told (once (plain b) p.are.items.blanked (Ok o.are.told) (Ok p.are.told) read p.are.items.read) in
+    let read : TextIsRead dialect (plain b) p.are.items.blanked (Ok o.are.told) =
+    subst (λ (m : Plain). TextIsRead dialect m p.are.items.blanked (Ok o.are.told)) e (subst (λ (z : List ℕ). TextIsRead dialect (plain a) z (Ok o.are.told)) blanked o.are.items.read) in
+    let told : o.are.told ≡ p.are.told = same_lines o.are.told p.are.told (once dialect (plain b) p.are.items.blanked (Ok o.are.told) (Ok p.are.told) read p.are.items.read) in
     let mine : AreAtomsOf ((plain b).constraints ++ p.are.told.conditions) f.atoms =
     subst (λ (t : Told). AreAtomsOf ((plain b).constraints ++ t.conditions) f.atoms) told
     (subst (λ (m : Plain). AreAtomsOf (m.constraints ++ o.are.told.conditions) f.atoms) e o.are.conditions.atoms_are) in
     one_list ((plain b).constraints ++ p.are.told.conditions) f.atoms g.atoms mine p.are.conditions.atoms_are
 
-pub are_same : CertifiedLaws → (m f : List ℕ) (k l : ProductLine) → IsProductLine m f k → IsProductLine m f l → AreSameLines k l
-are_same laws m f k l h i =
-    let e : plain k.model ≡ plain l.model = same_line_model laws.once m f k l h i in
-    let family : AreSameFamily k.family l.family = laws.once.families k.model l.model f k.family l.family e h.family i.family in
-    record { model = e; code = family.code; atoms = same_atoms laws.texts k.model l.model f k.family l.family e h.family i.family; truths = family.truths }
+pub are_same : CertifiedLaws → (dialect : Dialect) (m f : List ℕ) (k l : ProductLine) → IsProductLine dialect m f k → IsProductLine dialect m f l → AreSameLines k l
+are_same laws dialect m f k l h i =
+    let e : plain k.model ≡ plain l.model = same_line_model laws.once dialect m f k l h i in
+    let family : AreSameFamily k.family l.family = laws.once.families dialect k.model l.model f k.family l.family e h.family i.family in
+    record { model = e; code = family.code; atoms = same_atoms laws.texts dialect k.model l.model f k.family l.family e h.family i.family; truths = family.truths }
 
 -- ---- the same reading and the same verdict
 
@@ -278,60 +280,60 @@ written_of o r l done bytes (loops, alarms, a, b, e) text = record {
   text = text ∙ ap (λ (d : Done). d.text) e;
 }
 
-module _ (laws : CertifiedLaws) (m f bytes : List ℕ) (h : IsWrittenByCertify m f bytes) where
+module _ (laws : CertifiedLaws) (dialect : Dialect) (m f bytes : List ℕ) (h : IsWrittenByCertify dialect m f bytes) where
   abbrev l : ProductLine
   l = h.line
 
   names : AreNames l.model l.family.atoms (whole l.family.code).names
   names =
-      let entries = model_entries m l.model h.line_is.model in
+      let entries = model_entries dialect.unknown m l.model h.line_is.model in
       record {
         named = are_named l.model.features entries;
         distinct = are_distinct l.model.features entries;
         well = h.line_is.usable.atoms;
-        lines = (laws.files l.model f l.family h.line_is.family).lines;
+        lines = (laws.files dialect l.model f l.family h.line_is.family).lines;
       }
 
-  read_accepted : (k : ProductLine) (result : Result Certificate (Refusal CertificateFault)) → IsProductLine m f k
+  read_accepted : (k : ProductLine) (result : Result Certificate (Refusal CertificateFault)) → IsProductLine dialect m f k
       → reader.IsCertificateRead (piece_of k.model.features k.family.atoms) (whole k.family.code).names bytes result
       → IsReadAndAccepted l.model (whole l.family.code) l.family.conditions l.family.atoms result
   read_accepted k result line answers =
       laws.written h.options l.model (whole l.family.code) l.family.conditions l.family.atoms bytes result h.line_is.usable.program
-      (laws.files l.model f l.family h.line_is.family).placed names (written_of h.options h.regions l h.done bytes h.done_is h.text) h.short
-      (read_over k l bytes result (are_same laws m f k l line h.line_is) answers)
+      (laws.files dialect l.model f l.family h.line_is.family).placed names (written_of h.options h.regions l h.done bytes h.done_is h.text) h.short
+      (read_over k l bytes result (are_same laws dialect m f k l line h.line_is) answers)
 
-  status_yes : (k : ProductLine) (done : Done) → IsProductLine m f k → IsCheckDone k bytes done → done.status ≡ 0
+  status_yes : (k : ProductLine) (done : Done) → IsProductLine dialect m f k → IsCheckDone k bytes done → done.status ≡ 0
   status_yes k done line d =
       d.status
-      ∙ ap verdict_status (read_accepted k (Ok d.certificate) line d.is d.verdict (verdict_over k l d.certificate d.verdict (are_same laws m f k l line h.line_is) d.verdict_is))
+      ∙ ap verdict_status (read_accepted k (Ok d.certificate) line d.is d.verdict (verdict_over k l d.certificate d.verdict (are_same laws dialect m f k l line h.line_is) d.verdict_is))
 
-  not_refused : (k : ProductLine) (given : Fault) → IsProductLine m f k → ReadsCertificate k bytes (Err given) → ⊥
+  not_refused : (k : ProductLine) (given : Fault) → IsProductLine dialect m f k → ReadsCertificate k bytes (Err given) → ⊥
   not_refused k (fault.Certificate given) line i = read_accepted k (Err (refusals.Fault given)) line i
   not_refused k (fault.Model given) line i = i
   not_refused k (fault.File code place example) line i = i
   not_refused k (fault.Settings given name) line i = i
 
-  never : (given : Fault) → IsCheckRefused m f bytes given → ⊥
-  never given (checked.no_product_line i) = no_line_refusal laws.once m f l given h.line_is i
+  never : (given : Fault) → IsCheckRefused dialect m f bytes given → ⊥
+  never given (checked.no_product_line i) = no_line_refusal laws.once dialect m f l given h.line_is i
   never given (checked.no_certificate k line i) = not_refused k given line i
 
-pub certified_yes : CertifiedLaws → (told : Contents) (answer : Result Done Fault) → IsWrittenByCertify told.model told.file told.certificate → AnswersCheck told answer → IsYes answer
-certified_yes laws told (Ok done) h (k, line, d) = status_yes laws told.model told.file told.certificate h k done line d
-certified_yes laws told (Err given) h i = never laws told.model told.file told.certificate h given i
+pub certified_yes : CertifiedLaws → (dialect : Dialect) (told : Contents) (answer : Result Done Fault) → IsWrittenByCertify dialect told.model told.file told.certificate → AnswersCheck dialect told answer → IsYes answer
+certified_yes laws dialect told (Ok done) h (k, line, d) = status_yes laws dialect told.model told.file told.certificate h k done line d
+certified_yes laws dialect told (Err given) h i = never laws dialect told.model told.file told.certificate h given i
 
 -- ---- the request
 
 abbrev SaysYes : Type 0
-SaysYes = (told : Contents) (answer : Result Done Fault) → IsWrittenByCertify told.model told.file told.certificate → AnswersCheck told answer → IsYes answer
+SaysYes = (dialect : Dialect) (told : Contents) (answer : Result Done Fault) → IsWrittenByCertify dialect told.model told.file told.certificate → AnswersCheck dialect told answer → IsYes answer
 
 asked_yes : SaysYes → (r : Request) (told : Contents) (answer : Result Done Fault) → AsksOfCertified r told → Answers r told answer → IsYes answer
-asked_yes law (request.Check model file certificate) told answer asked h = law told answer asked h
-asked_yes law (request.Plain file analysis) told answer asked h = absurd asked
-asked_yes law (request.Variant model file settings t) told answer asked h = absurd asked
-asked_yes law (request.Family model file analysis regions t) told answer asked h = absurd asked
+asked_yes law (request.Check model file certificate dialect) told answer asked h = law dialect told answer asked h
+asked_yes law (request.Plain file includes analysis) told answer asked h = absurd asked
+asked_yes law (request.Variant model file dialect settings t) told answer asked h = absurd asked
+asked_yes law (request.Family model file dialect analysis regions t) told answer asked h = absurd asked
 asked_yes law (request.Generate number analysis regions) told answer asked h = absurd asked
-asked_yes law (request.Advice model file settings analysis) told answer asked h = absurd asked
-asked_yes law (request.Features model) told answer asked h = absurd asked
+asked_yes law (request.Advice model file dialect settings analysis) told answer asked h = absurd asked
+asked_yes law (request.Features model unknown) told answer asked h = absurd asked
 asked_yes law (request.Guide guide) told answer asked h = absurd asked
 
 yes_zero : (answer : Result Done Fault) → IsYes answer → status_at answer ≡ 0
@@ -346,10 +348,10 @@ by_yes status answer is six seven exact = elim (nat_eq status 8) as (λ b. nat_e
 ] refl
 
 -- what is certified is answered yes
-pub certified : SaysYes → (r : Request) (told : Contents) (role : Role) (status : ℕ) (out out' err err' : Option (List ℕ)) (errs errs' : ℕ) → AsksOfCertified r told
-    → EndsWith (Answers r told) role status out out' err err' errs errs'
+pub certified : SaysYes → (r : Request) (told : Contents) (role : Role) (status : ℕ) (before after : Streams) → AsksOfCertified r told
+    → EndsWith (Answers r told) role status before after
     → (status ≡ 6 → ⊥) → (status ≡ 7 → ⊥) → (status ≡ 0) ⊎ (status ≡ 8)
-certified law r told role status out out' err err' errs errs' asked (inl read) six seven = absurd (six read)
-certified law r told role status out out' err err' errs errs' asked (inr (inl memory)) six seven = inr memory
-certified law r told role status out out' err err' errs errs' asked (inr (inr (answer, answers, ends))) six seven =
+certified law r told role status before after asked (inl read) six seven = absurd (six read)
+certified law r told role status before after asked (inr (inl memory)) six seven = inr memory
+certified law r told role status before after asked (inr (inr (answer, answers, ends))) six seven =
     by_yes status answer (asked_yes law r told answer asked answers) six seven ends.exact

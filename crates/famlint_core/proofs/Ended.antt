@@ -34,7 +34,7 @@ use Rattle.famlint_core.specs.Answers.{IsAccepted, IsTold, Answers}
 use Rattle.famlint_programs.specs.AnalysisOptions.{options_of}
 use Rattle.famlint_programs.specs.ProgramAnswers.{IsDone, program_done, file_of, meaning_of}
 use Rattle.famlint_checks.specs.Checked.{verdict_status}
-use Rattle.famlint_core.specs.Endings.{IsEnded, EndsWith, status_at}
+use Rattle.famlint_core.specs.Endings.{Streams, IsEnded, EndsWith, status_at}
 use Rattle.famlint_families.specs.FamilyReports.{IsFamilyDone, family_status}
 use Rattle.famlint_loads.specs.Faults.{status_of}
 use Rattle.famlint_loads.specs.Loads.{Comes}
@@ -43,12 +43,12 @@ use Rattle.famlint_requests.specs.Requests.{role_of}
 
 -- what the work came to is what the program ended with
 pub ends_with : (MayBe : Result Done Fault → Type 0) (came : Result Done Failure) (role : Role) (status : ℕ)
-    (out out' err err' : Option (List ℕ)) (outs outs' errs errs' : ℕ)
-    → Comes MayBe came → IsEnded came role status out out' err err' outs outs' errs errs' → EndsWith MayBe role status out out' err err' errs errs'
-ends_with MayBe (Ok done) role status out out' err err' outs outs' errs errs' comes ended = inr (inr (Ok done, comes, ended.ends))
-ends_with MayBe (Err (failure.Refused given)) role status out out' err err' outs outs' errs errs' comes ended = inr (inr (Err given, comes, ended.ends))
-ends_with MayBe (Err failure.ReadFault) role status out out' err err' outs outs' errs errs' comes ended = inl ended.ends.0
-ends_with MayBe (Err failure.NoMemory) role status out out' err err' outs outs' errs errs' comes ended = inr (inl ended.ends.0)
+    (before after : Streams)
+    → Comes MayBe came → IsEnded came role status before after → EndsWith MayBe role status before after
+ends_with MayBe (Ok done) role status before after comes ended = inr (inr (Ok done, comes, ended.ends))
+ends_with MayBe (Err (failure.Refused given)) role status before after comes ended = inr (inr (Err given, comes, ended.ends))
+ends_with MayBe (Err failure.ReadFault) role status before after comes ended = inl ended.ends.0
+ends_with MayBe (Err failure.NoMemory) role status before after comes ended = inr (inl ended.ends.0)
 
 refused_high : (f : Fault) → 3 ≤ status_of f
 refused_high (fault.Model given) = omega arith
@@ -57,16 +57,16 @@ refused_high (fault.Settings given name) = omega arith
 refused_high (fault.Certificate given) = omega arith
 
 -- at 0 and 1 the whole output was appended, of which this holds
-pub appended : (P : ℕ → List ℕ → Type 0) (came : Result Done Failure) (role : Role) (status : ℕ) (out out' err err' : Option (List ℕ)) (outs outs' errs errs' : ℕ)
-    → IfOk came (λ done. P done.status done.text) → IsEnded came role status out out' err err' outs outs' errs errs' → status ≤ 1
-    → (text : List ℕ) × (out' ≡ append_known out text) × P status text
-appended P (Ok done) role status out out' err err' outs outs' errs errs' promised ended low =
+pub appended : (P : ℕ → List ℕ → Type 0) (came : Result Done Failure) (role : Role) (status : ℕ) (before after : Streams)
+    → IfOk came (λ done. P done.status done.text) → IsEnded came role status before after → status ≤ 1
+    → (text : List ℕ) × (after.out ≡ append_known before.out text) × P status text
+appended P (Ok done) role status before after promised ended low =
     let e : status ≡ done.status = ended.ends.exact (omega (arith, low)) (omega (arith, low)) (omega (arith, low)) in
     (done.text, ended.ends.whole low, subst (λ (n : ℕ). P n done.text) (sym e) promised)
-appended P (Err (failure.Refused given)) role status out out' err err' outs outs' errs errs' promised ended low =
+appended P (Err (failure.Refused given)) role status before after promised ended low =
     let e : status ≡ status_of given = ended.ends.exact (omega (arith, low)) (omega (arith, low)) (omega (arith, low)) in absurd (omega (arith, low, e, refused_high given))
-appended P (Err failure.ReadFault) role status out out' err err' outs outs' errs errs' promised ended low = absurd (omega (arith, low, ended.ends.0))
-appended P (Err failure.NoMemory) role status out out' err err' outs outs' errs errs' promised ended low = absurd (omega (arith, low, ended.ends.0))
+appended P (Err failure.ReadFault) role status before after promised ended low = absurd (omega (arith, low, ended.ends.0))
+appended P (Err failure.NoMemory) role status before after promised ended low = absurd (omega (arith, low, ended.ends.0))
 
 -- ---- the request that was read
 
@@ -105,13 +105,13 @@ advice_low None done e = omega (arith, e)
 advice_low (Some advice) done e = omega (arith, e)
 
 answered_low : (r : Request) (told : Contents) (done : Done) → Answers r told (Ok done) → done.status ≤ 1
-answered_low (request.Plain file analysis) told done (p, reads, e) = program_low analysis p p done e
-answered_low (request.Variant model file settings t) told done (s, selected, is) = done_low t s done is
-answered_low (request.Family model file analysis regions t) told done (l, line, is) = family_low (meaning_of analysis.domain) (options_of analysis (whole l.family.code)) regions t l done is
+answered_low (request.Plain file includes analysis) told done (p, reads, e) = program_low analysis p p done e
+answered_low (request.Variant model file dialect settings t) told done (s, selected, is) = done_low t s done is
+answered_low (request.Family model file dialect analysis regions t) told done (l, line, is) = family_low (meaning_of analysis.domain) (options_of analysis (whole l.family.code)) regions t l done is
 answered_low (request.Generate number analysis regions) told done (l, line, is) = family_low (meaning_of analysis.domain) (options_of analysis (whole l.family.code)) regions families.Generate l done is
-answered_low (request.Check model file certificate) told done (l, line, is) = verdict_low is.verdict done is.status
-answered_low (request.Advice model file settings analysis) told done (s, selected, is) = advice_low is.found done is.status
-answered_low (request.Features model) told done (m, is, uses) = let e : done.status ≡ 0 = uses.status in omega (arith, e)
+answered_low (request.Check model file certificate dialect) told done (l, line, is) = verdict_low is.verdict done is.status
+answered_low (request.Advice model file dialect settings analysis) told done (s, selected, is) = advice_low is.found done is.status
+answered_low (request.Features model unknown) told done (m, is, uses) = let e : done.status ≡ 0 = uses.status in omega (arith, e)
 answered_low (request.Guide guide) told done e = rw e (omega arith)
 
 by_exact : (status low : ℕ) → low ≤ 1 → (status ≡ 6 → ⊥) → (status ≡ 7 → ⊥) → (status ≢ 6 → status ≢ 7 → status ≢ 8 → status ≡ low) → (status ≤ 1) ⊎ (status ≡ 8)
@@ -121,29 +121,29 @@ by_exact status low small six seven exact = elim (nat_eq status 8) as (λ b. nat
 ] refl
 
 -- what is accepted is answered
-pub completed : (r : Request) (told : Contents) (role : Role) (status : ℕ) (out out' err err' : Option (List ℕ)) (errs errs' : ℕ) → IsAccepted r told
-    → EndsWith (Answers r told) role status out out' err err' errs errs'
+pub completed : (r : Request) (told : Contents) (role : Role) (status : ℕ) (before after : Streams) → IsAccepted r told
+    → EndsWith (Answers r told) role status before after
     → (status ≡ 6 → ⊥) → (status ≡ 7 → ⊥) → (status ≤ 1) ⊎ (status ≡ 8)
-completed r told role status out out' err err' errs errs' accepted (inl read) six seven = absurd (six read)
-completed r told role status out out' err err' errs errs' accepted (inr (inl memory)) six seven = inr memory
-completed r told role status out out' err err' errs errs' accepted (inr (inr (Ok done, answers, ends))) six seven =
+completed r told role status before after accepted (inl read) six seven = absurd (six read)
+completed r told role status before after accepted (inr (inl memory)) six seven = inr memory
+completed r told role status before after accepted (inr (inr (Ok done, answers, ends))) six seven =
     by_exact status done.status (answered_low r told done answers) six seven ends.exact
-completed r told role status out out' err err' errs errs' accepted (inr (inr (Err given, answers, ends))) six seven = absurd (accepted given answers)
+completed r told role status before after accepted (inr (inr (Err given, answers, ends))) six seven = absurd (accepted given answers)
 
 -- the program ended with an answer to the request that was read
 pub by_role : (mine request : Request) (content : List ℕ → Option (List ℕ)) (told : Contents) (came : Result Done Failure) (failed : Option (List ℕ)) (role : Role) (status : ℕ)
-    (out out' err err' : Option (List ℕ)) (outs outs' errs errs' : ℕ) → mine ≡ request → (IsTold mine content told → Comes (Answers mine told) came)
-    → role ≡ role_of mine failed → IsEnded came role status out out' err err' outs outs' errs errs' → IsTold request content told
-    → EndsWith (Answers request told) (role_of request failed) status out out' err err' errs errs'
-by_role mine request content told came failed role status out out' err err' outs outs' errs errs' same comes role_is ended is_told =
-    let P : Request → Type 0 = λ r. IsTold r content told → EndsWith (Answers r told) (role_of r failed) status out out' err err' errs errs' in
-    subst P same (λ t. subst (λ x. EndsWith (Answers mine told) x status out out' err err' errs errs') role_is
-    (ends_with (Answers mine told) came role status out out' err err' outs outs' errs errs' (comes t) ended)) is_told
+    (before after : Streams) → mine ≡ request → (IsTold mine content told → Comes (Answers mine told) came)
+    → role ≡ role_of mine failed → IsEnded came role status before after → IsTold request content told
+    → EndsWith (Answers request told) (role_of request failed) status before after
+by_role mine request content told came failed role status before after same comes role_is ended is_told =
+    let P : Request → Type 0 = λ r. IsTold r content told → EndsWith (Answers r told) (role_of r failed) status before after in
+    subst P same (λ t. subst (λ x. EndsWith (Answers mine told) x status before after) role_is
+    (ends_with (Answers mine told) came role status before after (comes t) ended)) is_told
 
 -- where no load failed and memory did not run out, the status is that of an answer, if no write failed
-pub exactly : (MayBe : Result Done Fault → Type 0) (role : Role) (status : ℕ) (out out' err err' : Option (List ℕ)) (errs errs' : ℕ)
-    → EndsWith MayBe role status out out' err err' errs errs' → status ≢ 6 → status ≢ 7 → status ≢ 8
+pub exactly : (MayBe : Result Done Fault → Type 0) (role : Role) (status : ℕ) (before after : Streams)
+    → EndsWith MayBe role status before after → status ≢ 6 → status ≢ 7 → status ≢ 8
     → (answer : Result Done Fault) × MayBe answer × (status ≡ status_at answer)
-exactly MayBe role status out out' err err' errs errs' (inl read) six seven eight = absurd (six read)
-exactly MayBe role status out out' err err' errs errs' (inr (inl memory)) six seven eight = absurd (eight memory)
-exactly MayBe role status out out' err err' errs errs' (inr (inr (answer, may, ends))) six seven eight = (answer, may, ends.exact six seven eight)
+exactly MayBe role status before after (inl read) six seven eight = absurd (six read)
+exactly MayBe role status before after (inr (inl memory)) six seven eight = absurd (eight memory)
+exactly MayBe role status before after (inr (inr (answer, may, ends))) six seven eight = (answer, may, ends.exact six seven eight)

@@ -49,8 +49,8 @@ valid_in : (k l : ProductLine) → AreAlike k l → (values : List ℤ) → IsVa
 valid_in k l e values valid = subst (λ (m : Plain). IsValid m values) (sym e.model) valid
 
 pub quiet_families : VariantLaws → QuietFamiliesAreSafe
-quiet_families laws model file analysis regions told text (k, line, report) l is values valid p at =
-    let e : AreAlike k l = alike laws told.model told.file k l line is in
+quiet_families laws model file dialect analysis regions told text (k, line, report) l is values valid p at =
+    let e : AreAlike k l = alike laws dialect told.model told.file k l line is in
     let variant = report.2.variants values (valid_in k l e values valid) in
     of_program laws k l e (NeverStops analysis.mode) values p variant.0 at variant.1 (variant.2.safe refl)
 
@@ -60,8 +60,8 @@ TellsStops mode alarms values p = (inputs : List ℤ) (n : ℕ) (place : Place) 
     → run_of p inputs n mode ≡ StoppedEnd place kind → TellsOnce alarms place kind values
 
 pub told_stops : VariantLaws → ReportsTellEachStop
-told_stops laws model file analysis regions told status text (k, line, report) l is =
-    let e : AreAlike k l = alike laws told.model told.file k l line is in (
+told_stops laws model file dialect analysis regions told status text (k, line, report) l is =
+    let e : AreAlike k l = alike laws dialect told.model told.file k l line is in (
       report.0,
       report.1 ∙ ap (λ (m : Plain). alarm_text regions m.features report.0) e.model,
       λ values valid p at.
@@ -70,17 +70,17 @@ told_stops laws model file analysis regions told status text (k, line, report) l
     )
 
 pub read_families : FamiliesAreRead
-read_families model file analysis regions told status text (k, line, report) =
+read_families model file dialect analysis regions told status text (k, line, report) =
     (k, line, λ values valid. let variant = report.2.variants values valid in (variant.0, variant.1))
 
 -- ---- one program
 
 pub quiet_programs : OneReading → QuietProgramsAreSafe
-quiet_programs once file analysis told text (q, read, report) p is =
-    subst (NeverStops analysis.mode) (one_plain_program once told.file q p read is) (report.safe refl)
+quiet_programs once file includes analysis told text (q, read, report) p is =
+    subst (NeverStops analysis.mode) (one_plain_program once includes told.file q p read is) (report.safe refl)
 
 pub read_programs : ProgramsAreRead
-read_programs file analysis told status text (q, read, report) = (q, read)
+read_programs file includes analysis told status text (q, read, report) = (q, read)
 
 -- ---- certificates
 
@@ -97,9 +97,9 @@ ListsStops c atoms values p = (inputs : List ℤ) (n : ℕ) (place : Place) (kin
     → run_of p inputs n c.mode ≡ StoppedEnd place kind → is_listed c.alarms.items (place, kind) (vector_at atoms values) ≡ true
 
 pub listed_stops : CertifiedLaws → CheckedCertificatesListEachStop
-listed_stops laws model file certificate told text (k, line, promised) l is =
-    let e : AreAlike k l = alike laws.once told.model told.file k l line is in
-    let same : AreSameLines k l = are_same laws told.model told.file k l line is in
+listed_stops laws model file certificate dialect told text (k, line, promised) l is =
+    let e : AreAlike k l = alike laws.once dialect told.model told.file k l line is in
+    let same : AreSameLines k l = are_same laws dialect told.model told.file k l line is in
     let found = promised refl in (
       found.0,
       read_over k l told.certificate found.0 same found.1,
@@ -156,8 +156,8 @@ safe_advice analysis t s e text (Some advice) zero text_is good = record {
 safe_advice analysis t s e text None zero text_is good = cc
 
 pub advice_is_safe : VariantLaws → AdviceIsSafe
-advice_is_safe laws model file settings analysis told text (t, line, tells) s is =
-    let e : AreSame t s = same_selected laws told.model told.file settings t s line is in
+advice_is_safe laws model file dialect settings analysis told text (t, line, tells) s is =
+    let e : AreSame t s = same_selected laws dialect told.model told.file settings t s line is in
     let safe : IsSafeAdvice analysis s text = safe_advice analysis t s e text tells.found tells.status_is tells.text_is tells.good in (
       safe.advice,
       safe.text_is,

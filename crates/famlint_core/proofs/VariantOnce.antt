@@ -1,6 +1,9 @@
 -- What is asked of a variant is answered once.
 use Rattle.std.proofs.Common.{◌≡◌, ℕ, ℤ, Bool, List, Option, Result, Ok, Err, sym, ap, ap₂, subst, ◌∙◌}
 use Rattle.std.specs.Prelude.{if◌then◌else◌}
+use Rattle.fam_outer.specs.declared.dialect.Dialect.{Dialect}
+use Rattle.fam_outer.specs.declared.dialect.Unknown.{Unknown}
+use Rattle.fam_outer.specs.declared.dialect.Includes.TheVariants.{Assert}
 use Rattle.fam_outer.specs.declared.faults.FileCode.{FileCode}
 use Rattle.fam_outer.specs.declared.faults.Place.{Place}
 use Rattle.linear_atoms.specs.declared.atoms.Atom.{Atom}
@@ -40,11 +43,11 @@ use Rattle.famlint_core.proofs.Answering.{OneReading}
 
 -- what laws of lower crates say
 pub record VariantLaws : Type 0 where
-  pub models : (bytes : List ℕ) (r s : Result Plain ModelFault) → IsReadAs bytes r → IsReadAs bytes s → r ≡ s
+  pub models : (unknown : Unknown) (bytes : List ℕ) (r s : Result Plain ModelFault) → IsReadAs unknown bytes r → IsReadAs unknown bytes s → r ≡ s
   pub families : FamiliesAreReadOnce
   pub accepted : FamiliesAreNotRefused
   pub refused : FamiliesAreRefusedOnce
-  pub texts : (model : Plain) (truths : List (Proposition Atom) → List Bool) (bytes s t : List ℕ) → IsPreprocessed model truths bytes s → IsPreprocessed model truths bytes t → s ≡ t
+  pub texts : (dialect : Dialect) (model : Plain) (truths : List (Proposition Atom) → List Bool) (bytes s t : List ℕ) → IsPreprocessed dialect model truths bytes s → IsPreprocessed dialect model truths bytes t → s ≡ t
   pub programs : OneReading
 
 -- ---- models
@@ -64,44 +67,44 @@ same_err f g e = let k : model_err f ≡ model_err g = e in cc
 ok_or_err : (a : Plain) (f : ModelFault) → model_ok a ≡ model_err f → ⊥
 ok_or_err a f e = let k : model_ok a ≡ model_err f = e in cc
 
-same_model : VariantLaws → (m : List ℕ) (a b : Model) → IsModel m (Ok a) → IsModel m (Ok b) → plain a ≡ plain b
-same_model laws m a b h k = same_ok (plain a) (plain b) (laws.models m (Ok (plain a)) (Ok (plain b)) h k)
+same_model : VariantLaws → (unknown : Unknown) (m : List ℕ) (a b : Model) → IsModel unknown m (Ok a) → IsModel unknown m (Ok b) → plain a ≡ plain b
+same_model laws unknown m a b h k = same_ok (plain a) (plain b) (laws.models unknown m (Ok (plain a)) (Ok (plain b)) h k)
 
-no_model_fault : VariantLaws → (m : List ℕ) (a : Model) (f : Fault) → IsModel m (Ok a) → IsModel m (Err f) → ⊥
-no_model_fault laws m a (fault.Model f) h k = ok_or_err (plain a) f (laws.models m (Ok (plain a)) (Err f) h k)
-no_model_fault laws m a (fault.File code place example) h k = absurd k
-no_model_fault laws m a (fault.Settings given name) h k = absurd k
-no_model_fault laws m a (fault.Certificate given) h k = absurd k
+no_model_fault : VariantLaws → (unknown : Unknown) (m : List ℕ) (a : Model) (f : Fault) → IsModel unknown m (Ok a) → IsModel unknown m (Err f) → ⊥
+no_model_fault laws unknown m a (fault.Model f) h k = ok_or_err (plain a) f (laws.models unknown m (Ok (plain a)) (Err f) h k)
+no_model_fault laws unknown m a (fault.File code place example) h k = absurd k
+no_model_fault laws unknown m a (fault.Settings given name) h k = absurd k
+no_model_fault laws unknown m a (fault.Certificate given) h k = absurd k
 
-same_model_fault : VariantLaws → (m : List ℕ) (f g : Fault) → IsModel m (Err f) → IsModel m (Err g) → f ≡ g
-same_model_fault laws m (fault.Model f) (fault.Model g) h k = ap (λ (x : ModelFault). fault.Model x) (same_err f g (laws.models m (Err f) (Err g) h k))
-same_model_fault laws m (fault.Model f) (fault.File code place example) h k = absurd k
-same_model_fault laws m (fault.Model f) (fault.Settings given name) h k = absurd k
-same_model_fault laws m (fault.Model f) (fault.Certificate given) h k = absurd k
-same_model_fault laws m (fault.File code place example) g h k = absurd h
-same_model_fault laws m (fault.Settings given name) g h k = absurd h
-same_model_fault laws m (fault.Certificate given) g h k = absurd h
+same_model_fault : VariantLaws → (unknown : Unknown) (m : List ℕ) (f g : Fault) → IsModel unknown m (Err f) → IsModel unknown m (Err g) → f ≡ g
+same_model_fault laws unknown m (fault.Model f) (fault.Model g) h k = ap (λ (x : ModelFault). fault.Model x) (same_err f g (laws.models unknown m (Err f) (Err g) h k))
+same_model_fault laws unknown m (fault.Model f) (fault.File code place example) h k = absurd k
+same_model_fault laws unknown m (fault.Model f) (fault.Settings given name) h k = absurd k
+same_model_fault laws unknown m (fault.Model f) (fault.Certificate given) h k = absurd k
+same_model_fault laws unknown m (fault.File code place example) g h k = absurd h
+same_model_fault laws unknown m (fault.Settings given name) g h k = absurd h
+same_model_fault laws unknown m (fault.Certificate given) g h k = absurd h
 
 -- ---- families
 
-no_family_fault : VariantLaws → (a b : Model) → plain a ≡ plain b → (bytes : List ℕ) (l : Family) (f : Fault) → IsFamily a bytes (Ok l) → IsFamily b bytes (Err f) → ⊥
-no_family_fault laws a b e bytes l (fault.File code place example) h k = laws.accepted a b bytes l (code, place) e h k.1
-no_family_fault laws a b e bytes l (fault.Model given) h k = k
-no_family_fault laws a b e bytes l (fault.Settings given name) h k = k
-no_family_fault laws a b e bytes l (fault.Certificate given) h k = k
+no_family_fault : VariantLaws → (dialect : Dialect) (a b : Model) → plain a ≡ plain b → (bytes : List ℕ) (l : Family) (f : Fault) → IsFamily dialect a bytes (Ok l) → IsFamily dialect b bytes (Err f) → ⊥
+no_family_fault laws dialect a b e bytes l (fault.File code place example) h k = laws.accepted dialect a b bytes l (code, place) e h k.1
+no_family_fault laws dialect a b e bytes l (fault.Model given) h k = k
+no_family_fault laws dialect a b e bytes l (fault.Settings given name) h k = k
+no_family_fault laws dialect a b e bytes l (fault.Certificate given) h k = k
 
-same_family_fault : VariantLaws → (a b : Model) → plain a ≡ plain b → (bytes : List ℕ) (f g : Fault) → IsFamily a bytes (Err f) → IsFamily b bytes (Err g) → f ≡ g
-same_family_fault laws a b e bytes (fault.File c p x) (fault.File d q y) h k =
-    let same : (c, p) ≡ (d, q) = laws.refused a b bytes (c, p) (d, q) e h.1 k.1 in
+same_family_fault : VariantLaws → (dialect : Dialect) (a b : Model) → plain a ≡ plain b → (bytes : List ℕ) (f g : Fault) → IsFamily dialect a bytes (Err f) → IsFamily dialect b bytes (Err g) → f ≡ g
+same_family_fault laws dialect a b e bytes (fault.File c p x) (fault.File d q y) h k =
+    let same : (c, p) ≡ (d, q) = laws.refused dialect a b bytes (c, p) (d, q) e h.1 k.1 in
     let code : c ≡ d = ap (λ (z : FileCode × Place). z.0) same in
     let example : x ≡ y = h.0 ∙ ap (λ (m : Plain). example_of m.features c) e ∙ ap (example_of b.features) code ∙ sym k.0 in
     ap (λ (z : FileCode × Place). fault.File z.0 z.1 x) same ∙ ap (λ (z : Option (List ℕ)). fault.File d q z) example
-same_family_fault laws a b e bytes (fault.File c p x) (fault.Model given) h k = absurd k
-same_family_fault laws a b e bytes (fault.File c p x) (fault.Settings given name) h k = absurd k
-same_family_fault laws a b e bytes (fault.File c p x) (fault.Certificate given) h k = absurd k
-same_family_fault laws a b e bytes (fault.Model given) g h k = absurd h
-same_family_fault laws a b e bytes (fault.Settings given name) g h k = absurd h
-same_family_fault laws a b e bytes (fault.Certificate given) g h k = absurd h
+same_family_fault laws dialect a b e bytes (fault.File c p x) (fault.Model given) h k = absurd k
+same_family_fault laws dialect a b e bytes (fault.File c p x) (fault.Settings given name) h k = absurd k
+same_family_fault laws dialect a b e bytes (fault.File c p x) (fault.Certificate given) h k = absurd k
+same_family_fault laws dialect a b e bytes (fault.Model given) g h k = absurd h
+same_family_fault laws dialect a b e bytes (fault.Settings given name) g h k = absurd h
+same_family_fault laws dialect a b e bytes (fault.Certificate given) g h k = absurd h
 
 -- ---- settings
 
@@ -141,60 +144,62 @@ same_settings_fault a b e words f g h k =
 -- ---- refusals
 
 -- the models of two product lines of the same files are the same
-pub same_line_model : VariantLaws → (m f : List ℕ) (l k : ProductLine) → IsProductLine m f l → IsProductLine m f k → plain l.model ≡ plain k.model
-same_line_model laws m f l k h i = same_model laws m l.model k.model h.model i.model
+pub same_line_model : VariantLaws → (dialect : Dialect) (m f : List ℕ) (l k : ProductLine) → IsProductLine dialect m f l → IsProductLine dialect m f k → plain l.model ≡ plain k.model
+same_line_model laws dialect m f l k h i = same_model laws dialect.unknown m l.model k.model h.model i.model
 
-pub no_line_refusal : VariantLaws → (m f : List ℕ) (l : ProductLine) (g : Fault) → IsProductLine m f l → IsLineRefused m f g → ⊥
-no_line_refusal laws m f l g h (lines.no_model k) = no_model_fault laws m l.model g h.model k
-no_line_refusal laws m f l g h (lines.no_family b i k) = no_family_fault laws l.model b (same_model laws m l.model b h.model i) f l.family g h.family k
+pub no_line_refusal : VariantLaws → (dialect : Dialect) (m f : List ℕ) (l : ProductLine) (g : Fault) → IsProductLine dialect m f l → IsLineRefused dialect m f g → ⊥
+no_line_refusal laws dialect m f l g h (lines.no_model k) = no_model_fault laws dialect.unknown m l.model g h.model k
+no_line_refusal laws dialect m f l g h (lines.no_family b i k) = no_family_fault laws dialect l.model b (same_model laws dialect.unknown m l.model b h.model i) f l.family g h.family k
 
-same_line_refusal : VariantLaws → (m f : List ℕ) (x y : Fault) → IsLineRefused m f x → IsLineRefused m f y → x ≡ y
-same_line_refusal laws m f x y (lines.no_model h) (lines.no_model k) = same_model_fault laws m x y h k
-same_line_refusal laws m f x y (lines.no_model h) (lines.no_family b i k) = absurd (no_model_fault laws m b x i h)
-same_line_refusal laws m f x y (lines.no_family a i h) (lines.no_model k) = absurd (no_model_fault laws m a y i k)
-same_line_refusal laws m f x y (lines.no_family a i h) (lines.no_family b j k) = same_family_fault laws a b (same_model laws m a b i j) f x y h k
+same_line_refusal : VariantLaws → (dialect : Dialect) (m f : List ℕ) (x y : Fault) → IsLineRefused dialect m f x → IsLineRefused dialect m f y → x ≡ y
+same_line_refusal laws dialect m f x y (lines.no_model h) (lines.no_model k) = same_model_fault laws dialect.unknown m x y h k
+same_line_refusal laws dialect m f x y (lines.no_model h) (lines.no_family b i k) = absurd (no_model_fault laws dialect.unknown m b x i h)
+same_line_refusal laws dialect m f x y (lines.no_family a i h) (lines.no_model k) = absurd (no_model_fault laws dialect.unknown m a y i k)
+same_line_refusal laws dialect m f x y (lines.no_family a i h) (lines.no_family b j k) = same_family_fault laws dialect a b (same_model laws dialect.unknown m a b i j) f x y h k
 
-no_refusal : VariantLaws → (m f : List ℕ) (words : List (List ℕ)) (s : Selected) (g : Fault) → AreSelected m f words s → IsSelectionRefused m f words g → ⊥
-no_refusal laws m f words s g h (selected.no_line k) = no_line_refusal laws m f s.line g h.line k
-no_refusal laws m f words s g h (selected.no_settings l i k) =
-    no_settings_fault s.line.model l.model (same_line_model laws m f s.line l h.line i) words s.config.values g h.config k
+no_refusal : VariantLaws → (dialect : Dialect) (m f : List ℕ) (words : List (List ℕ)) (s : Selected) (g : Fault) → AreSelected dialect m f words s → IsSelectionRefused dialect m f words g → ⊥
+no_refusal laws dialect m f words s g h (selected.no_line k) = no_line_refusal laws dialect m f s.line g h.line k
+no_refusal laws dialect m f words s g h (selected.no_settings l i k) =
+    no_settings_fault s.line.model l.model (same_line_model laws dialect m f s.line l h.line i) words s.config.values g h.config k
 
-same_refusal : VariantLaws → (m f : List ℕ) (words : List (List ℕ)) (x y : Fault) → IsSelectionRefused m f words x → IsSelectionRefused m f words y → x ≡ y
-same_refusal laws m f words x y (selected.no_line h) (selected.no_line k) = same_line_refusal laws m f x y h k
-same_refusal laws m f words x y (selected.no_line h) (selected.no_settings l i k) = absurd (no_line_refusal laws m f l x i h)
-same_refusal laws m f words x y (selected.no_settings l i h) (selected.no_line k) = absurd (no_line_refusal laws m f l y i k)
-same_refusal laws m f words x y (selected.no_settings l i h) (selected.no_settings n j k) =
-    same_settings_fault l.model n.model (same_line_model laws m f l n i j) words x y h k
+same_refusal : VariantLaws → (dialect : Dialect) (m f : List ℕ) (words : List (List ℕ)) (x y : Fault) → IsSelectionRefused dialect m f words x → IsSelectionRefused dialect m f words y → x ≡ y
+same_refusal laws dialect m f words x y (selected.no_line h) (selected.no_line k) = same_line_refusal laws dialect m f x y h k
+same_refusal laws dialect m f words x y (selected.no_line h) (selected.no_settings l i k) = absurd (no_line_refusal laws dialect m f l x i h)
+same_refusal laws dialect m f words x y (selected.no_settings l i h) (selected.no_line k) = absurd (no_line_refusal laws dialect m f l y i k)
+same_refusal laws dialect m f words x y (selected.no_settings l i h) (selected.no_settings n j k) =
+    same_settings_fault l.model n.model (same_line_model laws dialect m f l n i j) words x y h k
 
 -- ---- two product lines of the same files
 
 pub record AreAlike (k l : ProductLine) : Type 0 where
+  pub dialect : k.dialect ≡ l.dialect
   pub model : plain k.model ≡ plain l.model
   pub code : whole k.family.code ≡ whole l.family.code
   pub text : k.text ≡ l.text
 
-pub alike : VariantLaws → (m f : List ℕ) (k l : ProductLine) → IsProductLine m f k → IsProductLine m f l → AreAlike k l
-alike laws m f k l h i =
-    let e : plain k.model ≡ plain l.model = same_line_model laws m f k l h i in
-    let family : AreSameFamily k.family l.family = laws.families k.model l.model f k.family l.family e h.family i.family in
-    record { model = e; code = family.code; text = h.text ∙ sym i.text }
+pub alike : VariantLaws → (dialect : Dialect) (m f : List ℕ) (k l : ProductLine) → IsProductLine dialect m f k → IsProductLine dialect m f l → AreAlike k l
+alike laws dialect m f k l h i =
+    let e : plain k.model ≡ plain l.model = same_line_model laws dialect m f k l h i in
+    let family : AreSameFamily k.family l.family = laws.families dialect k.model l.model f k.family l.family e h.family i.family in
+    record { dialect = h.dialect_is ∙ sym i.dialect_is; model = e; code = family.code; text = h.text ∙ sym i.text }
 
 -- the texts and the programs of their variants are the same
 
-variant_moved : (k l : ProductLine) → AreAlike k l → (values : List ℤ) (x : List ℕ) → IsVariant (plain k.model) values k.text x → IsVariant (plain l.model) values l.text x
+variant_moved : (k l : ProductLine) → AreAlike k l → (values : List ℤ) (x : List ℕ) → IsVariant k.dialect (plain k.model) values k.text x → IsVariant l.dialect (plain l.model) values l.text x
 variant_moved k l e values x h =
-    subst (λ (b : List ℕ). IsPreprocessed (plain l.model) (truths_at values) b x) e.text
-    (subst (λ (m : Plain). IsPreprocessed m (truths_at values) k.text x) e.model h)
+    subst (λ (d : Dialect). IsPreprocessed d (plain l.model) (truths_at values) l.text x) e.dialect
+    (subst (λ (b : List ℕ). IsPreprocessed k.dialect (plain l.model) (truths_at values) b x) e.text
+    (subst (λ (m : Plain). IsPreprocessed k.dialect m (truths_at values) k.text x) e.model h))
 
 pub program_moved : (k l : ProductLine) → AreAlike k l → (values : List ℤ) (p : Whole) → IsProgramAt k values p → IsProgramAt l values p
 program_moved k l e values p h = record {
   text = h.text;
   preprocessed = variant_moved k l e values h.text h.preprocessed;
-  read = subst (λ (w : Whole). IsPlainReadOver w.names h.text (Ok p)) e.code h.read;
+  read = subst (λ (w : Whole). IsPlainReadOver Assert w.names h.text (Ok p)) e.code h.read;
 }
 
-one_text : VariantLaws → (l : ProductLine) (values : List ℤ) (x y : List ℕ) → IsVariant (plain l.model) values l.text x → IsVariant (plain l.model) values l.text y → x ≡ y
-one_text laws l values x y h k = laws.texts (plain l.model) (truths_at values) l.text x y h k
+one_text : VariantLaws → (l : ProductLine) (values : List ℤ) (x y : List ℕ) → IsVariant l.dialect (plain l.model) values l.text x → IsVariant l.dialect (plain l.model) values l.text y → x ≡ y
+one_text laws l values x y h k = laws.texts l.dialect (plain l.model) (truths_at values) l.text x y h k
 
 abbrev read_ok : Whole → Result Whole (FileCode × Place)
 read_ok p = Ok p
@@ -206,7 +211,7 @@ pub one_program : VariantLaws → (l : ProductLine) (values : List ℤ) (p q : W
 one_program laws l values p q h k =
     let text : h.text ≡ k.text = one_text laws l values h.text k.text h.preprocessed k.preprocessed in
     same_read p q
-    (laws.programs (names_in l.family) k.text (Ok p) (Ok q) (subst (λ (b : List ℕ). IsPlainReadOver (names_in l.family) b (Ok p)) text h.read) k.read)
+    (laws.programs Assert (names_in l.family) k.text (Ok p) (Ok q) (subst (λ (b : List ℕ). IsPlainReadOver Assert (names_in l.family) b (Ok p)) text h.read) k.read)
 
 -- ---- what is done
 
@@ -215,18 +220,18 @@ pub record AreSame (s t : Selected) : Type 0 where
   pub line : AreAlike s.line t.line
   pub values : s.config.values ≡ t.config.values
 
-pub same_selected : VariantLaws → (m f : List ℕ) (words : List (List ℕ)) (s t : Selected) → AreSelected m f words s → AreSelected m f words t → AreSame s t
-same_selected laws m f words s t h k =
-    let line : AreAlike s.line t.line = alike laws m f s.line t.line h.line k.line in
+pub same_selected : VariantLaws → (dialect : Dialect) (m f : List ℕ) (words : List (List ℕ)) (s t : Selected) → AreSelected dialect m f words s → AreSelected dialect m f words t → AreSame s t
+same_selected laws dialect m f words s t h k =
+    let line : AreAlike s.line t.line = alike laws dialect m f s.line t.line h.line k.line in
     record {
       line = line;
       values = same_values s.config.values t.config.values (sym h.config ∙ same_config s.line.model t.line.model line.model words ∙ k.config);
     }
 
-same_text : VariantLaws → (s t : Selected) → AreSame s t → (x y : List ℕ) → IsVariant (plain s.line.model) s.config.values s.line.text x → IsVariant (plain t.line.model) t.config.values t.line.text y → x ≡ y
+same_text : VariantLaws → (s t : Selected) → AreSame s t → (x y : List ℕ) → IsVariant s.line.dialect (plain s.line.model) s.config.values s.line.text x → IsVariant t.line.dialect (plain t.line.model) t.config.values t.line.text y → x ≡ y
 same_text laws s t e x y h k =
     one_text laws t.line t.config.values x y
-    (subst (λ (v : List ℤ). IsVariant (plain t.line.model) v t.line.text x) e.values (variant_moved s.line t.line e.line s.config.values x h)) k
+    (subst (λ (v : List ℤ). IsVariant t.line.dialect (plain t.line.model) v t.line.text x) e.values (variant_moved s.line t.line e.line s.config.values x h)) k
 
 same_program : VariantLaws → (s t : Selected) → AreSame s t → (p q : Whole) → IsProgramOf s p → IsProgramOf t q → p ≡ q
 same_program laws s t e p q h k =
@@ -242,9 +247,9 @@ same_done laws (Variant analysis) s t e x y (p, h, i) (q, k, j) = i ∙ ap₂ (p
 same_done laws (Run steps inputs mode) s t e x y (p, h, i) (q, k, j) = i ∙ ap (run_done inputs steps mode) (same_program laws s t e p q h k) ∙ sym j
 
 -- a variant is answered once
-pub one_answer : VariantLaws → (task : VariantTask) (settings : List (List ℕ)) (told : Contents) (a b : Result Done Fault) → AnswersVariant task settings told a → AnswersVariant task settings told b → a ≡ b
-one_answer laws task settings told (Ok x) (Ok y) (s, h, i) (t, k, j) =
-    ap (λ (d : Done). Ok d) (same_done laws task s t (same_selected laws told.model told.file settings s t h k) x y i j)
-one_answer laws task settings told (Ok x) (Err g) (s, h, i) k = absurd (no_refusal laws told.model told.file settings s g h k)
-one_answer laws task settings told (Err g) (Ok x) h (s, k, i) = absurd (no_refusal laws told.model told.file settings s g k h)
-one_answer laws task settings told (Err f) (Err g) h k = ap (λ (x : Fault). Err x) (same_refusal laws told.model told.file settings f g h k)
+pub one_answer : VariantLaws → (dialect : Dialect) (task : VariantTask) (settings : List (List ℕ)) (told : Contents) (a b : Result Done Fault) → AnswersVariant dialect task settings told a → AnswersVariant dialect task settings told b → a ≡ b
+one_answer laws dialect task settings told (Ok x) (Ok y) (s, h, i) (t, k, j) =
+    ap (λ (d : Done). Ok d) (same_done laws task s t (same_selected laws dialect told.model told.file settings s t h k) x y i j)
+one_answer laws dialect task settings told (Ok x) (Err g) (s, h, i) k = absurd (no_refusal laws dialect told.model told.file settings s g h k)
+one_answer laws dialect task settings told (Err g) (Ok x) h (s, k, i) = absurd (no_refusal laws dialect told.model told.file settings s g k h)
+one_answer laws dialect task settings told (Err f) (Err g) h k = ap (λ (x : Fault). Err x) (same_refusal laws dialect told.model told.file settings f g h k)

@@ -16,19 +16,19 @@ use Rattle.famlint_loads.specs.Contents.{Contents}
 
 -- the contents of the paths of a request are told, and are these
 abbrev pub IsTold : Request → (List ℕ → Option (List ℕ)) → Contents → Type 0
-IsTold (Plain file analysis) content told = content file ≡ Some told.file
-IsTold (Variant model file settings task) content told = (content model ≡ Some told.model) × (content file ≡ Some told.file)
-IsTold (Family model file analysis regions task) content told = (content model ≡ Some told.model) × (content file ≡ Some told.file)
+IsTold (Plain file includes analysis) content told = content file ≡ Some told.file
+IsTold (Variant model file dialect settings task) content told = (content model ≡ Some told.model) × (content file ≡ Some told.file)
+IsTold (Family model file dialect analysis regions task) content told = (content model ≡ Some told.model) × (content file ≡ Some told.file)
 IsTold (Generate number analysis regions) content told = ⊤
-IsTold (Check model file certificate) content told =
+IsTold (Check model file certificate dialect) content told =
     (content model ≡ Some told.model) × (content file ≡ Some told.file) × (content certificate ≡ Some told.certificate)
-IsTold (Advice model file settings analysis) content told = (content model ≡ Some told.model) × (content file ≡ Some told.file)
-IsTold (Features model) content told = content model ≡ Some told.model
+IsTold (Advice model file dialect settings analysis) content told = (content model ≡ Some told.model) × (content file ≡ Some told.file)
+IsTold (Features model unknown) content told = content model ≡ Some told.model
 IsTold (Guide guide) content told = ⊤
 
 -- the request is to check what `certify` writes of its model and its file
 abbrev pub AsksOfCertified : Request → Contents → Type 0
-AsksOfCertified (Check model file certificate) told = IsWrittenByCertify told.model told.file told.certificate
+AsksOfCertified (Check model file certificate dialect) told = IsWrittenByCertify dialect told.model told.file told.certificate
 AsksOfCertified other told = ⊥
 
 -- a text about the program, with status 0, and no fault
@@ -38,13 +38,13 @@ AnswersGuide guide (Err fault) = ⊥
 
 -- a request is answered this where the paths that it names hold this
 abbrev pub Answers : Request → Contents → Result Done Fault → Type 0
-Answers (Plain file analysis) told answer = AnswersPlain analysis told.file answer
-Answers (Variant model file settings task) told answer = AnswersVariant task settings told answer
-Answers (Family model file analysis regions task) told answer = AnswersFamily analysis regions task told answer
+Answers (Plain file includes analysis) told answer = AnswersPlain includes analysis told.file answer
+Answers (Variant model file dialect settings task) told answer = AnswersVariant dialect task settings told answer
+Answers (Family model file dialect analysis regions task) told answer = AnswersFamily dialect analysis regions task told answer
 Answers (Generate number analysis regions) told answer = AnswersGenerate analysis regions number answer
-Answers (Check model file certificate) told answer = AnswersCheck told answer
-Answers (Advice model file settings analysis) told answer = AnswersAdvice analysis settings told answer
-Answers (Features model) told answer = AnswersFeatures told.model answer
+Answers (Check model file certificate dialect) told answer = AnswersCheck dialect told answer
+Answers (Advice model file dialect settings analysis) told answer = AnswersAdvice dialect analysis settings told answer
+Answers (Features model unknown) told answer = AnswersFeatures unknown told.model answer
 Answers (Guide guide) told answer = AnswersGuide guide answer
 
 -- what a request names is accepted: no fault answers it
@@ -53,22 +53,22 @@ IsAccepted request told = (fault : Fault) → Answers request told (Err fault) �
 
 -- a path that is loaded for a request
 abbrev pub IsLoaded : Request → Contents → Option (List ℕ) → Type 0
-IsLoaded (Plain file analysis) told failed = failed ≡ Some file
-IsLoaded (Variant model file settings task) told failed = IsLoadedFor model file told.model failed
-IsLoaded (Family model file analysis regions task) told failed = IsLoadedFor model file told.model failed
+IsLoaded (Plain file includes analysis) told failed = failed ≡ Some file
+IsLoaded (Variant model file dialect settings task) told failed = IsLoadedFor dialect.unknown model file told.model failed
+IsLoaded (Family model file dialect analysis regions task) told failed = IsLoadedFor dialect.unknown model file told.model failed
 IsLoaded (Generate number analysis regions) told failed = ⊥
-IsLoaded (Check model file certificate) told failed = IsLoadedForCheck model file certificate told.model told.file failed
-IsLoaded (Advice model file settings analysis) told failed = IsLoadedFor model file told.model failed
-IsLoaded (Features model) told failed = failed ≡ Some model
+IsLoaded (Check model file certificate dialect) told failed = IsLoadedForCheck dialect model file certificate told.model told.file failed
+IsLoaded (Advice model file dialect settings analysis) told failed = IsLoadedFor dialect.unknown model file told.model failed
+IsLoaded (Features model unknown) told failed = failed ≡ Some model
 IsLoaded (Guide guide) told failed = ⊥
 
 -- what is promised of the output to a request; of what a model leaves open no more than its answer
 abbrev pub Promised : Request → Contents → ℕ → List ℕ → Type 0
-Promised (Plain file analysis) told status text = PromisedPlain analysis told.file status text
-Promised (Variant model file settings task) told status text = PromisedVariant task settings told status text
-Promised (Family model file analysis regions task) told status text = PromisedFamily analysis regions task told status text
+Promised (Plain file includes analysis) told status text = PromisedPlain includes analysis told.file status text
+Promised (Variant model file dialect settings task) told status text = PromisedVariant dialect task settings told status text
+Promised (Family model file dialect analysis regions task) told status text = PromisedFamily dialect analysis regions task told status text
 Promised (Generate number analysis regions) told status text = PromisedGenerate analysis regions number status text
-Promised (Check model file certificate) told status text = PromisedCheck told status
-Promised (Advice model file settings analysis) told status text = PromisedAdvice analysis settings told status text
-Promised (Features model) told status text = status ≡ 0
+Promised (Check model file certificate dialect) told status text = PromisedCheck dialect told status
+Promised (Advice model file dialect settings analysis) told status text = PromisedAdvice dialect analysis settings told status text
+Promised (Features model unknown) told status text = status ≡ 0
 Promised (Guide guide) told status text = (status ≡ 0) × (text ≡ guide_text guide)

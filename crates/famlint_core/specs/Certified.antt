@@ -1,5 +1,6 @@
 -- What `certify` writes, as what `check` is asked of.
 use Rattle.std.specs.Prelude.{ℕ, ◌≡◌, ◌≤◌, List, length, Result, Ok, Err}
+use Rattle.fam_outer.specs.declared.dialect.Dialect.{Dialect}
 use Rattle.linear_atoms.specs.declared.regions.Regions.{Regions}
 use Rattle.interval_leaf.specs.Intervals.{intervals}
 use Rattle.plain_analysis.specs.declared.options.Options.{Options}
@@ -11,12 +12,12 @@ use Rattle.famlint_requests.specs.declared.request.FamilyTask.TheVariants as tas
 use Rattle.famlint_families.specs.FamilyReports.{IsFamilyDone}
 use Rattle.famlint_loads.specs.ProductLines.{IsProductLine}
 
--- the bytes are what `certify` writes of the model and the file, and not too long
-pub record IsWrittenByCertify (m f bytes : List ℕ) : Type 0 where
+-- the bytes are what `certify` writes of the model and the file, read so, and not too long
+pub record IsWrittenByCertify (dialect : Dialect) (m f bytes : List ℕ) : Type 0 where
   pub options : Options
   pub regions : Regions
   pub line : ProductLine
-  pub line_is : IsProductLine m f line
+  pub line_is : IsProductLine dialect m f line
   pub done : Done
   pub done_is : IsFamilyDone intervals options regions task.Certify line done
   pub text : bytes ≡ done.text

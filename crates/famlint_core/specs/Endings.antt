@@ -27,6 +27,16 @@ write_fault_line = codes "write fault\n"
 abbrev pub memory_line : List ℕ
 memory_line = codes "want of memory\n"
 
+-- the two streams at one time: what was written to each, where that is told, and how many writes to it failed
+pub record Streams : Type 0 where
+  pub out : Option (List ℕ)
+  pub err : Option (List ℕ)
+  pub out_faults : ℕ
+  pub err_faults : ℕ
+
+abbrev pub streams : Option (List ℕ) → Option (List ℕ) → ℕ → ℕ → Streams
+streams out err out_faults err_faults = record { out = out; err = err; out_faults = out_faults; err_faults = err_faults }
+
 -- the status of an answer
 abbrev pub status_at : Result Done Fault → ℕ
 status_at (Ok done) = done.status
@@ -49,44 +59,48 @@ line_at status failed answer =
     else (if status == 7 then write_fault_line
     else (if status == 8 then memory_line else fault_line answer))
 
+-- the line was written to the error stream, or a prefix of it where a write failed
+abbrev pub Tells : Streams → Streams → List ℕ → Type 0
+Tells before after line = Reports before.err after.err line before.err_faults after.err_faults
+
 -- the run ended with this answer, but for a failed load, a failed write and want of memory: the status is the answer's, the
 -- whole output was appended at 0 and 1 and a prefix of it that is not all at 7, and at 2 to 9 the fault's line was written
-pub record Ends (answer : Result Done Fault) (failed : Role) (status : ℕ) (out out' err err' : Option (List ℕ)) (errs errs' : ℕ) : Type 0 where
+pub record Ends (answer : Result Done Fault) (failed : Role) (status : ℕ) (before after : Streams) : Type 0 where
   pub exact : status ≢ 6 → status ≢ 7 → status ≢ 8 → status ≡ status_at answer
-  pub whole : status ≤ 1 → out' ≡ append_known out (output_of answer)
-  pub part : status ≡ 7 → Delivers out out' (output_of answer) false
-  pub line : 2 ≤ status → Reports err err' (line_at status failed answer) errs errs'
+  pub whole : status ≤ 1 → after.out ≡ append_known before.out (output_of answer)
+  pub part : status ≡ 7 → Delivers before.out after.out (output_of answer) false
+  pub line : 2 ≤ status → Tells before after (line_at status failed answer)
 
 -- the run ended with an answer that may be, unless a load failed or memory ran out
-abbrev pub EndsWith : (Result Done Fault → Type 0) → Role → ℕ → Option (List ℕ) → Option (List ℕ) → Option (List ℕ) → Option (List ℕ) → ℕ → ℕ → Type 0
-EndsWith MayBe failed status out out' err err' errs errs' =
-    (status ≡ 6) ⊎ ((status ≡ 8) ⊎ ((answer : Result Done Fault) × MayBe answer × Ends answer failed status out out' err err' errs errs'))
+abbrev pub EndsWith : (Result Done Fault → Type 0) → Role → ℕ → Streams → Streams → Type 0
+EndsWith MayBe failed status before after =
+    (status ≡ 6) ⊎ ((status ≡ 8) ⊎ ((answer : Result Done Fault) × MayBe answer × Ends answer failed status before after))
 
 -- ---- by what the work came to
 
 -- what holds of the status by what the work came to: a failed load is 6 and want of memory 8, and what was done or refused ends
 -- with that answer
-abbrev pub EndsAs : Result Done Failure → Role → ℕ → Option (List ℕ) → Option (List ℕ) → Option (List ℕ) → Option (List ℕ) → ℕ → ℕ → Type 0
-EndsAs (Ok done) role status out out' err err' errs errs' = Ends (Ok done) role status out out' err err' errs errs'
-EndsAs (Err (failure.Refused fault)) role status out out' err err' errs errs' = Ends (Err fault) role status out out' err err' errs errs'
-EndsAs (Err failure.ReadFault) role status out out' err err' errs errs' = (status ≡ 6) × Reports err err' (read_fault_line role) errs errs'
-EndsAs (Err failure.NoMemory) role status out out' err err' errs errs' = (status ≡ 8) × Reports err err' memory_line errs errs'
+abbrev pub EndsAs : Result Done Failure → Role → ℕ → Streams → Streams → Type 0
+EndsAs (Ok done) role status before after = Ends (Ok done) role status before after
+EndsAs (Err (failure.Refused fault)) role status before after = Ends (Err fault) role status before after
+EndsAs (Err failure.ReadFault) role status before after = (status ≡ 6) × Tells before after (read_fault_line role)
+EndsAs (Err failure.NoMemory) role status before after = (status ≡ 8) × Tells before after memory_line
 
 -- the line that tells a failed load, a failed write or want of memory
-pub record HasLines (failed : Role) (status : ℕ) (err err' : Option (List ℕ)) (errs errs' : ℕ) : Type 0 where
-  pub read : status ≡ 6 → Reports err err' (read_fault_line failed) errs errs'
-  pub write : status ≡ 7 → Reports err err' write_fault_line errs errs'
-  pub memory : status ≡ 8 → Reports err err' memory_line errs errs'
+pub record HasLines (failed : Role) (status : ℕ) (before after : Streams) : Type 0 where
+  pub read : status ≡ 6 → Tells before after (read_fault_line failed)
+  pub write : status ≡ 7 → Tells before after write_fault_line
+  pub memory : status ≡ 8 → Tells before after memory_line
 
 -- the run ended with what the work came to
-pub record IsEnded (came : Result Done Failure) (failed : Role) (status : ℕ) (out out' err err' : Option (List ℕ)) (outs outs' errs errs' : ℕ) : Type 0 where
+pub record IsEnded (came : Result Done Failure) (failed : Role) (status : ℕ) (before after : Streams) : Type 0 where
   pub known : status ≤ 9
   pub no_usage : status ≢ 2
   pub read : status ≡ 6 → IsReadFault came
-  pub ends : EndsAs came failed status out out' err err' errs errs'
-  pub lines : HasLines failed status err err' errs errs'
-  pub write : status ≡ 7 → Rose outs outs'
-  pub quiet : 2 ≤ status → status ≢ 7 → out' ≡ out
-  pub silent : status ≤ 1 → err' ≡ err
-  pub outs_later : outs ≤ outs'
-  pub errs_later : errs ≤ errs'
+  pub ends : EndsAs came failed status before after
+  pub lines : HasLines failed status before after
+  pub write : status ≡ 7 → Rose before.out_faults after.out_faults
+  pub quiet : 2 ≤ status → status ≢ 7 → after.out ≡ before.out
+  pub silent : status ≤ 1 → after.err ≡ before.err
+  pub outs_later : before.out_faults ≤ after.out_faults
+  pub errs_later : before.err_faults ≤ after.err_faults

@@ -7,12 +7,14 @@
 -- told, a run that ends with status 0 or 1 has appended a text to the output, of which what is `Promised` holds. What follows from this in
 -- the words of runs stands here; laws in src/laws.rt have these statements.
 --
--- `IsProductLine told.model told.file l` says that the bytes of MODEL and FILE spell the model and the family of l, `IsValid` that values
+-- `IsProductLine dialect told.model told.file l` says that the bytes of MODEL and FILE spell the model and the family of l, `IsValid` that values
 -- are a valid configuration of the model, and `IsProgramAt l values p` that the preprocessed text of its variant is read as the program p.
 -- `run_of p inputs n mode` is where at most n steps of p lead from its start, and `StoppedEnd place kind` is a stop: an overflow, a zero
 -- divisor or a failed assertion.
 use Rattle.std.specs.Prelude.{ℕ, ℤ, ◌≡◌, true, List, Some, Ok}
 use Rattle.std.specs.List.{All}
+use Rattle.fam_outer.specs.declared.dialect.Dialect.{Dialect}
+use Rattle.fam_outer.specs.declared.dialect.Includes.{Includes}
 use Rattle.fam_outer.specs.declared.faults.Place.{Place}
 use Rattle.c_tree.specs.declared.tree.Kind.{Kind}
 use Rattle.c_tree.specs.Run.{StoppedEnd, run_of}
@@ -50,9 +52,9 @@ use Rattle.famlint_core.specs.Answers.{Promised}
 -- steps, and in the mode that the words ask for.
 abbrev pub QuietFamiliesAreSafe : Type 0
 QuietFamiliesAreSafe =
-    (model file : List ℕ) (analysis : Analysis) (regions : Regions) (told : Contents) (text : List ℕ)
-    → Promised (Family model file analysis regions Analyse) told 0 text
-    → (l : ProductLine) → IsProductLine told.model told.file l
+    (model file : List ℕ) (dialect : Dialect) (analysis : Analysis) (regions : Regions) (told : Contents) (text : List ℕ)
+    → Promised (Family model file dialect analysis regions Analyse) told 0 text
+    → (l : ProductLine) → IsProductLine dialect told.model told.file l
     → (values : List ℤ) → IsValid (plain l.model) values
     → (p : Whole) → IsProgramAt l values p
     → (inputs : List ℤ) (n : ℕ) (place : Place) (kind : Kind) → All IsInt inputs
@@ -62,9 +64,9 @@ QuietFamiliesAreSafe =
 -- one with this place, this kind and a region that the configuration meets.
 abbrev pub ReportsTellEachStop : Type 0
 ReportsTellEachStop =
-    (model file : List ℕ) (analysis : Analysis) (regions : Regions) (told : Contents) (status : ℕ) (text : List ℕ)
-    → Promised (Family model file analysis regions Analyse) told status text
-    → (l : ProductLine) → IsProductLine told.model told.file l
+    (model file : List ℕ) (dialect : Dialect) (analysis : Analysis) (regions : Regions) (told : Contents) (status : ℕ) (text : List ℕ)
+    → Promised (Family model file dialect analysis regions Analyse) told status text
+    → (l : ProductLine) → IsProductLine dialect told.model told.file l
     → (alarms : List FamilyAlarm) × (text ≡ alarm_text regions l.model.features alarms)
     × ((values : List ℤ) → IsValid (plain l.model) values
     → (p : Whole) → IsProgramAt l values p
@@ -74,9 +76,9 @@ ReportsTellEachStop =
 -- There is what these two speak of: the bytes spell a model and a family, and the variant of each valid configuration is read as a program.
 abbrev pub FamiliesAreRead : Type 0
 FamiliesAreRead =
-    (model file : List ℕ) (analysis : Analysis) (regions : Regions) (told : Contents) (status : ℕ) (text : List ℕ)
-    → Promised (Family model file analysis regions Analyse) told status text
-    → (l : ProductLine) × IsProductLine told.model told.file l
+    (model file : List ℕ) (dialect : Dialect) (analysis : Analysis) (regions : Regions) (told : Contents) (status : ℕ) (text : List ℕ)
+    → Promised (Family model file dialect analysis regions Analyse) told status text
+    → (l : ProductLine) × IsProductLine dialect told.model told.file l
     × ((values : List ℤ) → IsValid (plain l.model) values → (p : Whole) × IsProgramAt l values p)
 
 -- ---- one program
@@ -84,17 +86,17 @@ FamiliesAreRead =
 -- Where `plain` ends with status 0, no run of the program that the file is read as stops.
 abbrev pub QuietProgramsAreSafe : Type 0
 QuietProgramsAreSafe =
-    (file : List ℕ) (analysis : Analysis) (told : Contents) (text : List ℕ)
-    → Promised (Plain file analysis) told 0 text
-    → (p : Whole) → IsPlainRead told.file (Ok p)
+    (file : List ℕ) (includes : Includes) (analysis : Analysis) (told : Contents) (text : List ℕ)
+    → Promised (Plain file includes analysis) told 0 text
+    → (p : Whole) → IsPlainRead includes told.file (Ok p)
     → (inputs : List ℤ) (n : ℕ) (place : Place) (kind : Kind) → All IsInt inputs
     → run_of p inputs n analysis.mode ≡ StoppedEnd place kind → ⊥
 
 -- There is such a program.
 abbrev pub ProgramsAreRead : Type 0
 ProgramsAreRead =
-    (file : List ℕ) (analysis : Analysis) (told : Contents) (status : ℕ) (text : List ℕ)
-    → Promised (Plain file analysis) told status text → (p : Whole) × IsPlainRead told.file (Ok p)
+    (file : List ℕ) (includes : Includes) (analysis : Analysis) (told : Contents) (status : ℕ) (text : List ℕ)
+    → Promised (Plain file includes analysis) told status text → (p : Whole) × IsPlainRead includes told.file (Ok p)
 
 -- ---- certificates and advice
 
@@ -103,9 +105,9 @@ ProgramsAreRead =
 -- meets.
 abbrev pub CheckedCertificatesListEachStop : Type 0
 CheckedCertificatesListEachStop =
-    (model file certificate : List ℕ) (told : Contents) (text : List ℕ)
-    → Promised (Check model file certificate) told 0 text
-    → (l : ProductLine) → IsProductLine told.model told.file l
+    (model file certificate : List ℕ) (dialect : Dialect) (told : Contents) (text : List ℕ)
+    → Promised (Check model file certificate dialect) told 0 text
+    → (l : ProductLine) → IsProductLine dialect told.model told.file l
     → (c : Certificate) × ReadsCertificate l told.certificate (Ok c)
     × ((values : List ℤ) → IsValid (plain l.model) values
     → (p : Whole) → IsProgramAt l values p
@@ -116,9 +118,9 @@ CheckedCertificatesListEachStop =
 -- that is nearer to the given one has an alarm (`IsGoodAdvice`).
 abbrev pub AdviceIsSafe : Type 0
 AdviceIsSafe =
-    (model file : List ℕ) (settings : List (List ℕ)) (analysis : Analysis) (told : Contents) (text : List ℕ)
-    → Promised (Advice model file settings analysis) told 0 text
-    → (s : Selected) → AreSelected told.model told.file settings s
+    (model file : List ℕ) (dialect : Dialect) (settings : List (List ℕ)) (analysis : Analysis) (told : Contents) (text : List ℕ)
+    → Promised (Advice model file dialect settings analysis) told 0 text
+    → (s : Selected) → AreSelected dialect told.model told.file settings s
     → (advice : nearest.Advice) × (text ≡ advice_text s.line.model.features (Some advice))
     × IsGoodAdvice (meaning_of analysis.domain) (options_of analysis (whole s.line.family.code)) s.line s.config.values advice
     × ((p : Whole) → IsProgramAt s.line advice.config.values p

@@ -3,7 +3,7 @@
 
 ghost use Rattle.std.specs.Prelude.{◌≡◌, ◌≤◌, IfOk};
 ghost use Rattle.fam_outer.specs.Writing.{Reports};
-ghost use Rattle.famlint_core.specs.Endings.{IsEnded};
+ghost use Rattle.famlint_core.specs.Endings.{IsEnded, streams};
 ghost use Rattle.famlint_core.specs.Endings.{read_fault_line, usage_line, memory_line};
 
 use fam_outer::{Sink, write_all};
@@ -67,9 +67,9 @@ pub fn end<S: Sink, E: Sink>(
     err: &mut E,
 ) -> u8
     requires { IfOk came.now (λ done. done.status ≤ 1) }
-    ensures { IsEnded came.now failed result (S.written out.old) (S.written out.new) (E.written err.old)
-        (E.written err.new)
-        (S.faults out.old) (S.faults out.new) (E.faults err.old) (E.faults err.new) }
+    ensures { IsEnded came.now failed result
+        (streams (S.written out.old) (E.written err.old) (S.faults out.old) (E.faults err.old))
+        (streams (S.written out.new) (E.written err.new) (S.faults out.new) (E.faults err.new)) }
 {
     match came {
         Err(Failure::NoMemory) => give_up(err),

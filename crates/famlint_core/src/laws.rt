@@ -2,6 +2,8 @@
 #![tactic(auto)]
 
 ghost use Rattle.std.specs.Prelude.{◌≡◌, ℕ, List, Result};
+ghost use Rattle.fam_outer.specs.declared.dialect.Dialect.{Dialect};
+ghost use Rattle.fam_outer.specs.declared.dialect.Includes.{Includes};
 ghost use Rattle.famlint_requests.specs.declared.request.Analysis.{Analysis};
 ghost use Rattle.famlint_requests.specs.declared.request.VariantTask.{VariantTask};
 ghost use Rattle.famlint_loads.specs.declared.fault.Done.{Done};
@@ -21,10 +23,10 @@ use feature_model::laws::bytes_say_one_model;
 
 /// `plain` has one answer, whatever its path holds.
 pub fn plain_has_one_answer()
-    ensures some { (analysis : Analysis) (bytes : List ℕ)
-        → (answer : Result Done Fault) × AnswersPlain analysis bytes answer }
-    ensures alone { (analysis : Analysis) (bytes : List ℕ) (a b : Result Done Fault)
-        → AnswersPlain analysis bytes a → AnswersPlain analysis bytes b → a ≡ b }
+    ensures some { (includes : Includes) (analysis : Analysis) (bytes : List ℕ)
+        → (answer : Result Done Fault) × AnswersPlain includes analysis bytes answer }
+    ensures alone { (includes : Includes) (analysis : Analysis) (bytes : List ℕ) (a b : Result Done Fault)
+        → AnswersPlain includes analysis bytes a → AnswersPlain includes analysis bytes b → a ≡ b }
 {
     reads_at_most_once();
     reads_something();
@@ -33,8 +35,8 @@ pub fn plain_has_one_answer()
 /// `project`, `variant` and `run` have at most one answer, whatever MODEL and FILE hold: a text, a report or a run, or one
 /// refusal of the model, the file or the settings.
 pub fn variants_have_one_answer()
-    ensures { (task : VariantTask) (settings : List (List ℕ)) (told : Contents) (a b : Result Done Fault)
-        → AnswersVariant task settings told a → AnswersVariant task settings told b → a ≡ b }
+    ensures { (dialect : Dialect) (task : VariantTask) (settings : List (List ℕ)) (told : Contents) (a b : Result Done Fault)
+        → AnswersVariant dialect task settings told a → AnswersVariant dialect task settings told b → a ≡ b }
 {
     bytes_say_one_model();
     families_are_read_once();
@@ -42,10 +44,11 @@ pub fn variants_have_one_answer()
     reads_at_most_once();
 }
 
-/// What `certify` writes of a model and a file, if it is not too long, `check` of these has no answer to but yes.
+/// What `certify` writes of a model and a file, if it is not too long, `check` of these has no answer to but yes, where both
+/// read names and includes alike.
 pub fn certificates_are_accepted()
-    ensures { (told : Contents) (answer : Result Done Fault)
-        → IsWrittenByCertify told.model told.file told.certificate → AnswersCheck told answer → IsYes answer }
+    ensures { (dialect : Dialect) (told : Contents) (answer : Result Done Fault)
+        → IsWrittenByCertify dialect told.model told.file told.certificate → AnswersCheck dialect told answer → IsYes answer }
 {
     bytes_say_one_model();
     families_are_read_once();

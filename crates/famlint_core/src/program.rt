@@ -9,7 +9,7 @@ ghost use Rattle.command_words.specs.Arguments.{texts_of};
 ghost use Rattle.famlint_requests.specs.declared.request.Request.{Request};
 ghost use Rattle.famlint_loads.specs.Contents.{Contents};
 ghost use Rattle.famlint_core.specs.Answers.{IsTold, IsAccepted, IsLoaded, Answers, Promised, AsksOfCertified};
-ghost use Rattle.famlint_core.specs.Endings.{EndsWith, HasLines};
+ghost use Rattle.famlint_core.specs.Endings.{EndsWith, HasLines, streams};
 ghost use Rattle.famlint_core.specs.Endings.{usage_line, memory_line};
 ghost use Rattle.famlint_loads.specs.Loads.{IsOneOf};
 ghost use Rattle.famlint_requests.specs.Requests.{reading, paths_of, role_of};
@@ -41,7 +41,8 @@ pub fn famlint<F: Files, S: Sink, E: Sink>(
     ensures answer { (request : Request) → reading (texts_of words.now) ≡ Some request
         → (told : Contents) → IsTold request (F.content files.old) told
         → EndsWith (Answers request told) (role_of request (F.failed files.new)) result
-        (S.written out.old) (S.written out.new) (E.written err.old) (E.written err.new) (E.faults err.old) (E.faults err.new) }
+        (streams (S.written out.old) (E.written err.old) (S.faults out.old) (E.faults err.old))
+        (streams (S.written out.new) (E.written err.new) (S.faults out.new) (E.faults err.new)) }
     // What is promised of the output: each stop of each run of a reported program is printed, and at status 0 no run stops. Under
     // `analyse` and `invariants` this is so for the variant of each valid configuration, by the lines whose regions it meets.
     ensures promise { (request : Request) → reading (texts_of words.now) ≡ Some request
@@ -64,7 +65,9 @@ pub fn famlint<F: Files, S: Sink, E: Sink>(
         → result ≡ 6 → IsLoaded request told (F.failed files.new) }
     // The line of a failed load, a failed write and want of memory, whatever is told.
     ensures lines { (request : Request) → reading (texts_of words.now) ≡ Some request
-        → HasLines (role_of request (F.failed files.new)) result (E.written err.old) (E.written err.new) (E.faults err.old) (E.faults err.new) }
+        → HasLines (role_of request (F.failed files.new)) result
+        (streams (S.written out.old) (E.written err.old) (S.faults out.old) (E.faults err.old))
+        (streams (S.written out.new) (E.written err.new) (S.faults out.new) (E.faults err.new)) }
     ensures usage_told { result ≡ 2
         → Reports (E.written err.old) (E.written err.new) usage_line (E.faults err.old) (E.faults err.new) }
     ensures memory_told { result ≡ 8

@@ -45,20 +45,28 @@ pub fn work<F: Files>(alloc: Global, request: &Request, files: &mut F) -> Result
         (F.failed files.new) result }
 {
     match request {
-        Request::Plain { file, analysis } => plain(alloc, file, analysis, files),
+        Request::Plain {
+            file,
+            includes,
+            analysis,
+        } => plain(alloc, file, *includes, analysis, files),
         Request::Variant {
             model,
             file,
+            dialect,
             settings,
             task,
-        } => variant(alloc, model, file, settings, task, files),
+        } => variant(alloc, model, file, *dialect, settings, task, files),
         Request::Family {
             model,
             file,
+            dialect,
             analysis,
             regions,
             task,
-        } => family(alloc, model, file, analysis, *regions, *task, files),
+        } => family(
+            alloc, model, file, *dialect, analysis, *regions, *task, files,
+        ),
         Request::Generate {
             number,
             analysis,
@@ -68,14 +76,16 @@ pub fn work<F: Files>(alloc: Global, request: &Request, files: &mut F) -> Result
             model,
             file,
             certificate,
-        } => check(alloc, model, file, certificate, files),
+            dialect,
+        } => check(alloc, model, file, certificate, *dialect, files),
         Request::Advice {
             model,
             file,
+            dialect,
             settings,
             analysis,
-        } => advice(alloc, model, file, settings, analysis, files),
-        Request::Features { model } => features(alloc, model, files),
+        } => advice(alloc, model, file, *dialect, settings, analysis, files),
+        Request::Features { model, unknown } => features(alloc, model, *unknown, files),
         Request::Guide(guide) => Ok(guided(alloc, guide)?),
     }
 }

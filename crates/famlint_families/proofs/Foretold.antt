@@ -126,7 +126,7 @@ record IsTrueAt (trees : List PlainAlarmTree) (v : List Bool) : Type 0 where
 -- ---- one variant
 
 module _ {L : Type 0} (value : L → LeafValue) (M : LeafMeaning) (laws : LeafLaws M) (o : Options) (r : Regions) (l : ProductLine) (f : FamilyFindings L) (found : IsFound value M o r l f)
-    (rising : IsRising (program_places (whole l.family.code))) (law : VariantsAreRead) (spelled : IsFamilyOf l.model l.text l.family) where
+    (rising : IsRising (program_places (whole l.family.code))) (law : VariantsAreRead) (spelled : IsFamilyOf l.dialect l.model l.text l.family) where
   abbrev stops : List PlainAlarmTree
   stops = map plain_alarm_tree f.alarms.items
 

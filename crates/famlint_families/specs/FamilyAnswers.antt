@@ -1,6 +1,8 @@
 -- What the commands on all variants are answered, and what is promised of it: `analyse`, `invariants`, `certify`, `generate`, `advise` and
 -- `features`.
 use Rattle.std.specs.Prelude.{ℕ, List, Result, Ok, Err}
+use Rattle.fam_outer.specs.declared.dialect.Dialect.{Dialect}
+use Rattle.fam_outer.specs.declared.dialect.Unknown.{Unknown}
 use Rattle.c_tree.specs.View.{whole}
 use Rattle.linear_atoms.specs.declared.regions.Regions.{Regions}
 use Rattle.cpp_conditions.specs.declared.models.Model.{Model}
@@ -24,10 +26,10 @@ use Rattle.famlint_programs.specs.ProgramAnswers.{meaning_of}
 use Rattle.famlint_loads.specs.Contents.{Contents}
 
 -- what is asked of all variants at once, or the refusal of the model or the file
-abbrev pub AnswersFamily : Analysis → Regions → FamilyTask → Contents → Result Done Fault → Type 0
-AnswersFamily analysis r task told (Ok done) =
-    (l : ProductLine) × IsProductLine told.model told.file l × IsFamilyDone (meaning_of analysis.domain) (options_of analysis (whole l.family.code)) r task l done
-AnswersFamily analysis r task told (Err fault) = IsLineRefused told.model told.file fault
+abbrev pub AnswersFamily : Dialect → Analysis → Regions → FamilyTask → Contents → Result Done Fault → Type 0
+AnswersFamily dialect analysis r task told (Ok done) =
+    (l : ProductLine) × IsProductLine dialect told.model told.file l × IsFamilyDone (meaning_of analysis.domain) (options_of analysis (whole l.family.code)) r task l done
+AnswersFamily dialect analysis r task told (Err fault) = IsLineRefused dialect told.model told.file fault
 
 -- the sizes and the alarms of the family that is generated for a number
 abbrev pub IsGenerateDone : Analysis → Regions → ℕ → Done → Type 0
@@ -40,20 +42,20 @@ AnswersGenerate analysis r number (Ok done) = IsGenerateDone analysis r number d
 AnswersGenerate analysis r number (Err fault) = ⊥
 
 -- the advice for the configuration that settings give, or the refusal of the model, the file or the settings
-abbrev pub AnswersAdvice : Analysis → List (List ℕ) → Contents → Result Done Fault → Type 0
-AnswersAdvice analysis settings told (Ok done) =
-    (s : Selected) × AreSelected told.model told.file settings s × IsAdviseDone (meaning_of analysis.domain) (options_of analysis (whole s.line.family.code)) s.line s.config.values done
-AnswersAdvice analysis settings told (Err fault) = IsSelectionRefused told.model told.file settings fault
+abbrev pub AnswersAdvice : Dialect → Analysis → List (List ℕ) → Contents → Result Done Fault → Type 0
+AnswersAdvice dialect analysis settings told (Ok done) =
+    (s : Selected) × AreSelected dialect told.model told.file settings s × IsAdviseDone (meaning_of analysis.domain) (options_of analysis (whole s.line.family.code)) s.line s.config.values done
+AnswersAdvice dialect analysis settings told (Err fault) = IsSelectionRefused dialect told.model told.file settings fault
 
 -- what the model leaves open, or its refusal
-abbrev pub AnswersFeatures : List ℕ → Result Done Fault → Type 0
-AnswersFeatures bytes (Ok done) = (model : Model) × IsModel bytes (Ok model) × AreUsesDone model done
-AnswersFeatures bytes (Err fault) = IsModel bytes (Err fault)
+abbrev pub AnswersFeatures : Unknown → List ℕ → Result Done Fault → Type 0
+AnswersFeatures unknown bytes (Ok done) = (model : Model) × IsModel unknown bytes (Ok model) × AreUsesDone model done
+AnswersFeatures unknown bytes (Err fault) = IsModel unknown bytes (Err fault)
 
 -- what is promised of the report on all variants: see `Headline`
-abbrev pub PromisedFamily : Analysis → Regions → FamilyTask → Contents → ℕ → List ℕ → Type 0
-PromisedFamily analysis r task told status text =
-    (l : ProductLine) × IsProductLine told.model told.file l × PromisedOfAll (meaning_of analysis.domain) (options_of analysis (whole l.family.code)) r task l status text
+abbrev pub PromisedFamily : Dialect → Analysis → Regions → FamilyTask → Contents → ℕ → List ℕ → Type 0
+PromisedFamily dialect analysis r task told status text =
+    (l : ProductLine) × IsProductLine dialect told.model told.file l × PromisedOfAll (meaning_of analysis.domain) (options_of analysis (whole l.family.code)) r task l status text
 
 -- what is promised of the report on a generated family: as of each family
 abbrev pub PromisedGenerate : Analysis → Regions → ℕ → ℕ → List ℕ → Type 0
@@ -61,6 +63,6 @@ PromisedGenerate analysis r number status text =
     (l : ProductLine) × IsGeneratedLine number l × PromisedOfAll (meaning_of analysis.domain) (options_of analysis (whole l.family.code)) r Generate l status text
 
 -- what is promised of advice: see `Advised`
-abbrev pub PromisedAdvice : Analysis → List (List ℕ) → Contents → ℕ → List ℕ → Type 0
-PromisedAdvice analysis settings told status text =
-    (s : Selected) × AreSelected told.model told.file settings s × TellsGoodAdvice (meaning_of analysis.domain) (options_of analysis (whole s.line.family.code)) s.line s.config.values status text
+abbrev pub PromisedAdvice : Dialect → Analysis → List (List ℕ) → Contents → ℕ → List ℕ → Type 0
+PromisedAdvice dialect analysis settings told status text =
+    (s : Selected) × AreSelected dialect told.model told.file settings s × TellsGoodAdvice (meaning_of analysis.domain) (options_of analysis (whole s.line.family.code)) s.line s.config.values status text

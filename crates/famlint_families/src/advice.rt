@@ -23,7 +23,7 @@ use c_parser::variants::variants_are_projections;
 use command_words::Word;
 use configuration_advice::{Advice, advice_text, nearest};
 use decision_tree::Tree;
-use fam_outer::{Files, NoMemory};
+use fam_outer::{Dialect, Files, NoMemory};
 use famlint_loads::{Done, Failure, ProductLine, Selected, select};
 use famlint_programs::options::options_of;
 use famlint_programs::over_domain;
@@ -119,25 +119,27 @@ pub fn advice<F: Files>(
     alloc: Global,
     model: &Word,
     file: &Word,
+    dialect: Dialect,
     settings: &SettingWords,
     analysis: &Analysis,
     files: &mut F,
 ) -> Result<Done, Failure>
     ensures answer { (told : Contents) → F.content files.old model.now ≡ Some told.model
         → F.content files.old file.now ≡ Some told.file
-        → Comes (AnswersAdvice analysis.now settings.now told) result }
+        → Comes (AnswersAdvice dialect analysis.now settings.now told) result }
     ensures promise { (told : Contents) → F.content files.old model.now ≡ Some told.model
         → F.content files.old file.now ≡ Some told.file
-        → IfOk result (λ done. PromisedAdvice analysis.now settings.now told done.status done.text) }
+        → IfOk result (λ done. PromisedAdvice dialect analysis.now settings.now told done.status done.text) }
     ensures status { IfOk result (λ done. done.status ≤ 1) }
     ensures order { (m : List ℕ) → F.content files.old model.now ≡ Some m → IsReadFault result
-        → IsLoadedFor model.now file.now m (F.failed files.new) }
+        → IsLoadedFor dialect.unknown model.now file.now m (F.failed files.new) }
     ensures kept { F.content files.new ≡ F.content files.old }
     ensures read { IsReadOf (model.now ∷ file.now ∷ []) (F.faults files.old) (F.faults files.new)
         (F.failed files.new) result }
 {
     let selected = select(
         alloc,
+        dialect,
         model.as_str(),
         file.as_str(),
         settings.items(),

@@ -24,7 +24,7 @@ use alarm_report::{
 use atom_solver::{Prepared, plausible};
 use c_parser::variants::variants_are_projections;
 use command_words::Word;
-use fam_outer::{Files, NoMemory, Text};
+use fam_outer::{Dialect, Files, NoMemory, Text};
 use famlint_loads::{Done, Failure, ProductLine, load_product_line};
 use famlint_programs::options::options_of;
 use famlint_programs::over_domain;
@@ -234,6 +234,7 @@ pub fn family<F: Files>(
     alloc: Global,
     model: &Word,
     file: &Word,
+    dialect: Dialect,
     analysis: &Analysis,
     regions: Regions,
     task: FamilyTask,
@@ -241,17 +242,17 @@ pub fn family<F: Files>(
 ) -> Result<Done, Failure>
     ensures answer { (told : Contents) → F.content files.old model.now ≡ Some told.model
         → F.content files.old file.now ≡ Some told.file
-        → Comes (AnswersFamily analysis.now regions task told) result }
+        → Comes (AnswersFamily dialect analysis.now regions task told) result }
     ensures promise { (told : Contents) → F.content files.old model.now ≡ Some told.model
         → F.content files.old file.now ≡ Some told.file
-        → IfOk result (λ done. PromisedFamily analysis.now regions task told done.status done.text) }
+        → IfOk result (λ done. PromisedFamily dialect analysis.now regions task told done.status done.text) }
     ensures status { IfOk result (λ done. done.status ≤ 1) }
     ensures order { (m : List ℕ) → F.content files.old model.now ≡ Some m → IsReadFault result
-        → IsLoadedFor model.now file.now m (F.failed files.new) }
+        → IsLoadedFor dialect.unknown model.now file.now m (F.failed files.new) }
     ensures kept { F.content files.new ≡ F.content files.old }
     ensures read { IsReadOf (model.now ∷ file.now ∷ []) (F.faults files.old) (F.faults files.new)
         (F.failed files.new) result }
 {
-    let line = load_product_line(alloc, model.as_str(), file.as_str(), files)?;
+    let line = load_product_line(alloc, dialect, model.as_str(), file.as_str(), files)?;
     Ok(report_by(alloc, &line, analysis, regions, task)?)
 }

@@ -9,7 +9,7 @@ ghost use Rattle.famlint_loads.specs.Loads.{Comes, IsReadOf, IsUsable};
 use command_words::Word;
 use configuration_advice::{uses, uses_text};
 use cpp_conditions::Model;
-use fam_outer::{Files, NoMemory};
+use fam_outer::{Files, NoMemory, Unknown};
 use famlint_loads::{Done, Failure, load_model};
 use std::alloc::Global;
 
@@ -26,14 +26,19 @@ fn uses_done(alloc: Global, model: &Model) -> Result<Done, NoMemory>
 }
 
 /// The work of `features`.
-pub fn features<F: Files>(alloc: Global, model: &Word, files: &mut F) -> Result<Done, Failure>
+pub fn features<F: Files>(
+    alloc: Global,
+    model: &Word,
+    unknown: Unknown,
+    files: &mut F,
+) -> Result<Done, Failure>
     ensures answer { (bytes : List ℕ) → F.content files.old model.now ≡ Some bytes
-        → Comes (AnswersFeatures bytes) result }
+        → Comes (AnswersFeatures unknown bytes) result }
     ensures status { IfOk result (λ done. done.status ≡ 0) }
     ensures kept { F.content files.new ≡ F.content files.old }
     ensures read { IsReadOf (model.now ∷ []) (F.faults files.old) (F.faults files.new)
         (F.failed files.new) result }
 {
-    let model = load_model(alloc, model.as_str(), files)?;
+    let model = load_model(alloc, unknown, model.as_str(), files)?;
     Ok(uses_done(alloc, &model)?)
 }

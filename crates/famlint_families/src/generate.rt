@@ -21,11 +21,13 @@ fn generated_line(alloc: Global, number: u32) -> Result<ProductLine, NoMemory>
     ensures usable { IfOk result (λ line. IsUsableLine line) }
 {
     let GeneratedFamily {
+        dialect,
         model,
         text,
         family,
     } = generated_family(alloc, number)?;
     Ok(ProductLine {
+        dialect,
         model,
         family,
         text,

@@ -1,6 +1,8 @@
 use Rattle.std.proofs.Common.{◌≡◌, ◌<◌, ℕ, List, [], length, refl, sym, subst, inl, inr}
 use Rattle.std.proofs.lemmas.Bool.{lt-ltb}
 use Rattle.std.specs.Prelude.{◌∷◌, Option, Ok, Err}
+use Rattle.fam_outer.specs.declared.dialect.Dialect.{Dialect}
+use Rattle.fam_outer.specs.declared.dialect.Unknown.{Unknown}
 use Rattle.fam_outer.specs.Limits.{file_bytes}
 use Rattle.fam_outer.specs.declared.faults.FileCode.TheVariants.{TooLong}
 use Rattle.cpp_conditions.specs.declared.models.Model.{Model}
@@ -34,56 +36,56 @@ long_blanked : (bytes : List ℕ) → file_bytes < length bytes → blanked_file
 long_blanked bytes h = rw (lt-ltb file_bytes (length bytes) h) refl
 
 -- a model's text that is refused
-pub model_refused : (bytes : List ℕ) (s : Failure) → Comes {X = List ℕ} (IsText 65536 (fault.Model model_faults.TooLong) bytes) (Err s) → Comes {X = Model} (IsModel bytes) (Err s)
-model_refused bytes (failure.Refused given) h =
-    subst (λ (x : Fault). IsModel bytes (Err x)) (sym h.1) (models.untold model_faults.TooLong (long_model bytes h.0))
-model_refused bytes failure.ReadFault h = h
-model_refused bytes failure.NoMemory h = h
+pub model_refused : (unknown : Unknown) (bytes : List ℕ) (s : Failure) → Comes {X = List ℕ} (IsText 65536 (fault.Model model_faults.TooLong) bytes) (Err s) → Comes {X = Model} (IsModel unknown bytes) (Err s)
+model_refused unknown bytes (failure.Refused given) h =
+    subst (λ (x : Fault). IsModel unknown bytes (Err x)) (sym h.1) (models.untold model_faults.TooLong (long_model bytes h.0))
+model_refused unknown bytes failure.ReadFault h = h
+model_refused unknown bytes failure.NoMemory h = h
 
 -- the same, for a family
-pub family_refused : (model : Model) (bytes : List ℕ) (s : Failure) → Comes {X = List ℕ} (IsFileText bytes) (Err s) → Comes {X = FamilyFile} (IsFamilyFile model bytes) (Err s)
-family_refused model bytes (failure.Refused given) h =
-    subst (λ (x : Fault). IsFamily model bytes (Err x)) (sym h.1) (refl, inl (inl (long_blanked bytes h.0)))
-family_refused model bytes failure.ReadFault h = h
-family_refused model bytes failure.NoMemory h = h
+pub family_refused : (dialect : Dialect) (model : Model) (bytes : List ℕ) (s : Failure) → Comes {X = List ℕ} (IsFileText bytes) (Err s) → Comes {X = FamilyFile} (IsFamilyFile dialect model bytes) (Err s)
+family_refused dialect model bytes (failure.Refused given) h =
+    subst (λ (x : Fault). IsFamily dialect model bytes (Err x)) (sym h.1) (refl, inl (inl (long_blanked bytes h.0)))
+family_refused dialect model bytes failure.ReadFault h = h
+family_refused dialect model bytes failure.NoMemory h = h
 
 -- ---- MODEL and FILE
 
-pub line_no_model : (m f : List ℕ) (s : Failure) → Comes {X = Model} (IsModel m) (Err s) → Comes {X = ProductLine} (ReadsProductLine m f) (Err s)
-line_no_model m f (failure.Refused given) h = lines.no_model h
-line_no_model m f failure.ReadFault h = h
-line_no_model m f failure.NoMemory h = h
+pub line_no_model : (dialect : Dialect) (m f : List ℕ) (s : Failure) → Comes {X = Model} (IsModel dialect.unknown m) (Err s) → Comes {X = ProductLine} (ReadsProductLine dialect m f) (Err s)
+line_no_model dialect m f (failure.Refused given) h = lines.no_model h
+line_no_model dialect m f failure.ReadFault h = h
+line_no_model dialect m f failure.NoMemory h = h
 
-pub line_no_family : (m f : List ℕ) (model : Model) (s : Failure) → IsModel m (Ok model)
-    → Comes {X = FamilyFile} (IsFamilyFile model f) (Err s) → Comes {X = ProductLine} (ReadsProductLine m f) (Err s)
-line_no_family m f model (failure.Refused given) read h = lines.no_family model read h
-line_no_family m f model failure.ReadFault read h = h
-line_no_family m f model failure.NoMemory read h = h
+pub line_no_family : (dialect : Dialect) (m f : List ℕ) (model : Model) (s : Failure) → IsModel dialect.unknown m (Ok model)
+    → Comes {X = FamilyFile} (IsFamilyFile dialect model f) (Err s) → Comes {X = ProductLine} (ReadsProductLine dialect m f) (Err s)
+line_no_family dialect m f model (failure.Refused given) read h = lines.no_family model read h
+line_no_family dialect m f model failure.ReadFault read h = h
+line_no_family dialect m f model failure.NoMemory read h = h
 
 -- FILE is loaded where MODEL is accepted
-second_of : (failed : Option (List ℕ)) (model_path file_path m : List ℕ) (model : Model) → IsModel m (Ok model) → IsOneOf failed (file_path ∷ [])
-    → IsLoadedFor model_path file_path m failed
-second_of failed model_path file_path m model read (inl e) = inr (e, model, read)
-second_of failed model_path file_path m model read (inr h) = absurd h
+second_of : (unknown : Unknown) (failed : Option (List ℕ)) (model_path file_path m : List ℕ) (model : Model) → IsModel unknown m (Ok model) → IsOneOf failed (file_path ∷ [])
+    → IsLoadedFor unknown model_path file_path m failed
+second_of unknown failed model_path file_path m model read (inl e) = inr (e, model, read)
+second_of unknown failed model_path file_path m model read (inr h) = absurd h
 
-pub loaded_second : (failed : Option (List ℕ)) (model_path file_path m : List ℕ) (model : Model) (s : Failure) → IsModel m (Ok model)
-    → (IsReadFault {X = FamilyFile} (Err s) → IsOneOf failed (file_path ∷ [])) → IsReadFault {X = ProductLine} (Err s) → IsLoadedFor model_path file_path m failed
-loaded_second failed model_path file_path m model (failure.Refused given) read path h = absurd h
-loaded_second failed model_path file_path m model failure.ReadFault read path h = second_of failed model_path file_path m model read (path h)
-loaded_second failed model_path file_path m model failure.NoMemory read path h = absurd h
+pub loaded_second : (unknown : Unknown) (failed : Option (List ℕ)) (model_path file_path m : List ℕ) (model : Model) (s : Failure) → IsModel unknown m (Ok model)
+    → (IsReadFault {X = FamilyFile} (Err s) → IsOneOf failed (file_path ∷ [])) → IsReadFault {X = ProductLine} (Err s) → IsLoadedFor unknown model_path file_path m failed
+loaded_second unknown failed model_path file_path m model (failure.Refused given) read path h = absurd h
+loaded_second unknown failed model_path file_path m model failure.ReadFault read path h = second_of unknown failed model_path file_path m model read (path h)
+loaded_second unknown failed model_path file_path m model failure.NoMemory read path h = absurd h
 
 -- ---- and settings
 
-pub no_line : (m f : List ℕ) (settings : List (List ℕ)) (s : Failure) → Comes {X = ProductLine} (ReadsProductLine m f) (Err s) → Comes {X = Selected} (IsSelected m f settings) (Err s)
-no_line m f settings (failure.Refused given) h = refused.no_line h
-no_line m f settings failure.ReadFault h = h
-no_line m f settings failure.NoMemory h = h
+pub no_line : (dialect : Dialect) (m f : List ℕ) (settings : List (List ℕ)) (s : Failure) → Comes {X = ProductLine} (ReadsProductLine dialect m f) (Err s) → Comes {X = Selected} (IsSelected dialect m f settings) (Err s)
+no_line dialect m f settings (failure.Refused given) h = refused.no_line h
+no_line dialect m f settings failure.ReadFault h = h
+no_line dialect m f settings failure.NoMemory h = h
 
-pub no_settings : (m f : List ℕ) (settings : List (List ℕ)) (line : ProductLine) (s : Failure) → IsProductLine m f line
-    → Comes {X = Config} (IsSettled line.model settings) (Err s) → Comes {X = Selected} (IsSelected m f settings) (Err s)
-no_settings m f settings line (failure.Refused given) read h = refused.no_settings line read h
-no_settings m f settings line failure.ReadFault read h = h
-no_settings m f settings line failure.NoMemory read h = h
+pub no_settings : (dialect : Dialect) (m f : List ℕ) (settings : List (List ℕ)) (line : ProductLine) (s : Failure) → IsProductLine dialect m f line
+    → Comes {X = Config} (IsSettled line.model settings) (Err s) → Comes {X = Selected} (IsSelected dialect m f settings) (Err s)
+no_settings dialect m f settings line (failure.Refused given) read h = refused.no_settings line read h
+no_settings dialect m f settings line failure.ReadFault read h = h
+no_settings dialect m f settings line failure.NoMemory read h = h
 
 -- a certificate's text that is refused
 pub certificate_refused : (l : ProductLine) (bytes : List ℕ) (s : Failure) → Comes {X = List ℕ} (IsText 16777216 (fault.Certificate TooLongCertificate) bytes) (Err s)

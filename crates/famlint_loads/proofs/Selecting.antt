@@ -1,6 +1,7 @@
 -- The program of a variant is what its text is read as.
 use Rattle.std.proofs.Common.{◌≡◌, ℤ, List, [], ◌∷◌, ◌++◌, refl, subst, sym}
 use Rattle.std.specs.Prelude.{Ok}
+use Rattle.fam_outer.specs.declared.dialect.Includes.TheVariants.{Assert}
 use Rattle.c_tree.specs.Tree.{Whole}
 use Rattle.linear_atoms.specs.declared.atoms.Atom.{Atom}
 use Rattle.cpp_conditions.specs.Numbering.{AreAllAmong}
@@ -15,15 +16,15 @@ use Rattle.c_parser.specs.Variants.{VariantsAreRead, projection, truths_in, name
 use Rattle.famlint_loads.specs.declared.product_line.ProductLine.{ProductLine}
 use Rattle.famlint_loads.specs.ProductLines.{IsProgramAt, IsUsableLine}
 
-pub is_program_at : VariantsAreRead → (l : ProductLine) (values : List ℤ) (p : Whole) → IsFamilyOf l.model l.text l.family → IsValid (plain l.model) values
+pub is_program_at : VariantsAreRead → (l : ProductLine) (values : List ℤ) (p : Whole) → IsFamilyOf l.dialect l.model l.text l.family → IsValid (plain l.model) values
     → p ≡ projection l.family (truths_in l.family values) → IsProgramAt l values p
 is_program_at law l values p spelled valid e =
     let told = spelled.are.told in
     let blanked = spelled.are.items.blanked in
     let text = preprocessed (truths_at values told.conditions) told.lines blanked in
-    let made : IsPreprocessed (plain l.model) (truths_at values) l.text text =
+    let made : IsPreprocessed l.dialect (plain l.model) (truths_at values) l.text text =
     record { blanked = blanked; told = told; without_comments = spelled.are.items.without_comments; read = spelled.are.items.read; is = refl } in
-    record { text = text; preprocessed = made; read = subst (λ q. IsPlainReadOver (names_in l.family) text (Ok q)) (sym e) (law l.model l.text text l.family values spelled valid made) }
+    record { text = text; preprocessed = made; read = subst (λ q. IsPlainReadOver Assert (names_in l.family) text (Ok q)) (sym e) (law l.dialect l.model l.text text l.family values spelled valid made Assert) }
 
 front_among : (atoms : List Atom) (ps qs : List (Proposition Atom)) → AreAllAmong atoms (ps ++ qs) → AreAllAmong atoms ps
 front_among atoms [] qs h = tt

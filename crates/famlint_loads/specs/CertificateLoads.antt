@@ -1,6 +1,7 @@
 -- The certificate of a path over a product line, or the first refusal of the model, the file and the certificate.
 use Rattle.std.specs.Prelude.{ℕ, ◌≡◌, ◌⊎◌, List, length, Option, Some, Result, Ok, Err}
 use Rattle.std.specs.List.{All}
+use Rattle.fam_outer.specs.declared.dialect.Dialect.{Dialect}
 use Rattle.c_tree.specs.View.{whole}
 use Rattle.cpp_conditions.specs.Propositions.{IsBelow}
 use Rattle.cpp_conditions.specs.View.{formula}
@@ -28,11 +29,11 @@ pub record IsUsableCertificate (l : ProductLine) (c : Certificate) : Type 0 wher
   pub alarms : All (λ (line : AlarmLine). IsBelow (length l.family.atoms) (formula line.region)) c.alarms.items
 
 -- the model is refused, or else the file, or else the certificate
-pub data IsCheckRefused (m f c : List ℕ) (fault : Fault) : Type 0 where
-  no_product_line : IsLineRefused m f fault → IsCheckRefused m f c fault
-  no_certificate : (l : ProductLine) → IsProductLine m f l → ReadsCertificate l c (Err fault) → IsCheckRefused m f c fault
+pub data IsCheckRefused (dialect : Dialect) (m f c : List ℕ) (fault : Fault) : Type 0 where
+  no_product_line : IsLineRefused dialect m f fault → IsCheckRefused dialect m f c fault
+  no_certificate : (l : ProductLine) → IsProductLine dialect m f l → ReadsCertificate l c (Err fault) → IsCheckRefused dialect m f c fault
 
 -- a path that is loaded: MODEL, and where it is accepted FILE, and where that is accepted too CERTIFICATE
-abbrev pub IsLoadedForCheck : List ℕ → List ℕ → List ℕ → List ℕ → List ℕ → Option (List ℕ) → Type 0
-IsLoadedForCheck model_path file_path certificate_path m f failed =
-    IsLoadedFor model_path file_path m failed ⊎ ((failed ≡ Some certificate_path) × (l : ProductLine) × IsProductLine m f l)
+abbrev pub IsLoadedForCheck : Dialect → List ℕ → List ℕ → List ℕ → List ℕ → List ℕ → Option (List ℕ) → Type 0
+IsLoadedForCheck dialect model_path file_path certificate_path m f failed =
+    IsLoadedFor dialect.unknown model_path file_path m failed ⊎ ((failed ≡ Some certificate_path) × (l : ProductLine) × IsProductLine dialect m f l)

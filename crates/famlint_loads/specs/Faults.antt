@@ -50,6 +50,7 @@ condition_code condition.NonLinear = codes "C2"
 condition_code condition.TooLarge = codes "C3"
 condition_code condition.ReservedName = codes "C4"
 condition_code condition.TooDeep = codes "C5"
+condition_code condition.UnknownName = codes "C6"
 
 -- a line that ends with a number
 abbrev pub numbered : List ℕ → ℕ → List ℕ

@@ -1,6 +1,8 @@
 -- Loads and readings, and how what a stage of the work came to is tied to what it should answer.
 use Rattle.std.specs.Prelude.{ℕ, ℤ, ◌≡◌, ◌≤◌, ◌<◌, ◌⊎◌, ⊤, List, [], ◌∷◌, length, Option, Some, None, Result, Ok, Err}
 use Rattle.std.specs.List.{All}
+use Rattle.fam_outer.specs.declared.dialect.Dialect.{Dialect}
+use Rattle.fam_outer.specs.declared.dialect.Unknown.{Unknown}
 use Rattle.fam_outer.specs.Causes.{Rose}
 use Rattle.fam_outer.specs.Limits.{file_bytes}
 use Rattle.fam_outer.specs.declared.faults.FileCode.TheVariants.{TooLong}
@@ -66,10 +68,10 @@ IsFileText bytes answer = IsText file_bytes long_file bytes answer
 -- ---- models
 
 -- the model that bytes say, or why they are refused
-abbrev pub IsModel : List ℕ → Result Model Fault → Type 0
-IsModel bytes (Ok model) = IsReadAs bytes (Ok (plain model))
-IsModel bytes (Err (fault.Model fault)) = IsReadAs bytes (Err fault)
-IsModel bytes (Err other) = ⊥
+abbrev pub IsModel : Unknown → List ℕ → Result Model Fault → Type 0
+IsModel unknown bytes (Ok model) = IsReadAs unknown bytes (Ok (plain model))
+IsModel unknown bytes (Err (fault.Model fault)) = IsReadAs unknown bytes (Err fault)
+IsModel unknown bytes (Err other) = ⊥
 
 -- what is known of a model that was read
 pub record IsUsable (model : Model) : Type 0 where
@@ -81,16 +83,16 @@ pub record IsUsable (model : Model) : Type 0 where
 -- ---- families
 
 -- the family that bytes spell over a model, or why they are refused
-abbrev pub IsFamily : Model → List ℕ → Result Family Fault → Type 0
-IsFamily model bytes (Ok family) = IsFamilyOf model bytes family
-IsFamily model bytes (Err (fault.File code place example)) =
-    (example ≡ example_of model.features code) × IsFamilyRefused model bytes (code, place)
-IsFamily model bytes (Err other) = ⊥
+abbrev pub IsFamily : Dialect → Model → List ℕ → Result Family Fault → Type 0
+IsFamily dialect model bytes (Ok family) = IsFamilyOf dialect model bytes family
+IsFamily dialect model bytes (Err (fault.File code place example)) =
+    (example ≡ example_of model.features code) × IsFamilyRefused dialect model bytes (code, place)
+IsFamily dialect model bytes (Err other) = ⊥
 
 -- the same, with the bytes
-abbrev pub IsFamilyFile : Model → List ℕ → Result FamilyFile Fault → Type 0
-IsFamilyFile model bytes (Ok made) = IsFamily model bytes (Ok made.family) × (made.text ≡ bytes)
-IsFamilyFile model bytes (Err fault) = IsFamily model bytes (Err fault)
+abbrev pub IsFamilyFile : Dialect → Model → List ℕ → Result FamilyFile Fault → Type 0
+IsFamilyFile dialect model bytes (Ok made) = IsFamily dialect model bytes (Ok made.family) × (made.text ≡ bytes)
+IsFamilyFile dialect model bytes (Err fault) = IsFamily dialect model bytes (Err fault)
 
 -- what is known of a family that was read over so many features
 pub record IsUsableFamily (count : ℕ) (family : Family) : Type 0 where

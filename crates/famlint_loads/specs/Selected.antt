@@ -1,5 +1,6 @@
 -- The variant that settings select: a product line and a valid configuration, or the first refusal of these.
 use Rattle.std.specs.Prelude.{ℕ, ◌≡◌, List, Result, Ok, Err}
+use Rattle.fam_outer.specs.declared.dialect.Dialect.{Dialect}
 use Rattle.cpp_conditions.specs.declared.models.Model.{Model}
 use Rattle.linear_atoms.specs.declared.atoms.Config.{Config}
 use Rattle.feature_model.specs.declared.faults.ConfigFault.{ConfigFault}
@@ -17,18 +18,18 @@ IsSettled model settings (Ok config) = config_of model settings ≡ Ok config.va
 IsSettled model settings (Err fault) = (given : ConfigFault) × (config_of model settings ≡ Err given) × (fault ≡ fault_of_settings model.features given)
 
 -- the model is refused, or else the file, or else the settings
-pub data IsSelectionRefused (m f : List ℕ) (settings : List (List ℕ)) (fault : Fault) : Type 0 where
-  no_line : IsLineRefused m f fault → IsSelectionRefused m f settings fault
-  no_settings : (line : ProductLine) → IsProductLine m f line → IsSettled line.model settings (Err fault) → IsSelectionRefused m f settings fault
+pub data IsSelectionRefused (dialect : Dialect) (m f : List ℕ) (settings : List (List ℕ)) (fault : Fault) : Type 0 where
+  no_line : IsLineRefused dialect m f fault → IsSelectionRefused dialect m f settings fault
+  no_settings : (line : ProductLine) → IsProductLine dialect m f line → IsSettled line.model settings (Err fault) → IsSelectionRefused dialect m f settings fault
 
 -- the model, the family and the configuration are those of the bytes and the settings
-pub record AreSelected (m f : List ℕ) (settings : List (List ℕ)) (s : Selected) : Type 0 where
-  pub line : IsProductLine m f s.line
+pub record AreSelected (dialect : Dialect) (m f : List ℕ) (settings : List (List ℕ)) (s : Selected) : Type 0 where
+  pub line : IsProductLine dialect m f s.line
   pub config : IsSettled s.line.model settings (Ok s.config)
 
-abbrev pub IsSelected : List ℕ → List ℕ → List (List ℕ) → Result Selected Fault → Type 0
-IsSelected m f settings (Ok s) = AreSelected m f settings s
-IsSelected m f settings (Err fault) = IsSelectionRefused m f settings fault
+abbrev pub IsSelected : Dialect → List ℕ → List ℕ → List (List ℕ) → Result Selected Fault → Type 0
+IsSelected dialect m f settings (Ok s) = AreSelected dialect m f settings s
+IsSelected dialect m f settings (Err fault) = IsSelectionRefused dialect m f settings fault
 
 -- the program of the variant that is selected
 abbrev pub IsProgramOf : Selected → Whole → Type 0

@@ -8,7 +8,9 @@ ghost use Rattle.famlint_loads.specs.Loads.{Comes, IsReadOf, IsText, IsFileText,
 use crate::fault::{Failure, Fault, file_fault};
 use c_parser::{Family, read_family};
 use cpp_conditions::Model;
-use fam_outer::{FILE_BYTES, FileCode, FileRefusal, Files, Loaded, MODEL_BYTES, Place, Text};
+use fam_outer::{
+    Dialect, FILE_BYTES, FileCode, FileRefusal, Files, Loaded, MODEL_BYTES, Place, Text, Unknown,
+};
 use feature_model::{ModelFault, ModelRefusal, read_model};
 use std::alloc::Global;
 
@@ -57,12 +59,12 @@ pub fn load_file<F: Files>(alloc: Global, path: &str, files: &mut F) -> Result<T
 }
 
 /// The model that bytes say.
-fn model_of(alloc: Global, bytes: &[u8]) -> Result<Model, Failure>
-    ensures model { Comes (IsModel bytes.now) result }
+fn model_of(alloc: Global, unknown: Unknown, bytes: &[u8]) -> Result<Model, Failure>
+    ensures model { Comes (IsModel unknown bytes.now) result }
     ensures usable { IfOk result (λ model. IsUsable model) }
     ensures read { IsReadFault result → ⊥ }
 {
-    match read_model(alloc, bytes) {
+    match read_model(alloc, unknown, bytes) {
         Ok(model) => Ok(model),
         Err(ModelRefusal::NoMemory) => Err(Failure::NoMemory),
         Err(ModelRefusal::Fault(fault)) => Err(Failure::Refused(Fault::Model(fault))),
@@ -70,9 +72,14 @@ fn model_of(alloc: Global, bytes: &[u8]) -> Result<Model, Failure>
 }
 
 /// The model of MODEL, of at most 65,536 bytes.
-pub fn load_model<F: Files>(alloc: Global, path: &str, files: &mut F) -> Result<Model, Failure>
+pub fn load_model<F: Files>(
+    alloc: Global,
+    unknown: Unknown,
+    path: &str,
+    files: &mut F,
+) -> Result<Model, Failure>
     ensures model { (bytes : List ℕ) → F.content files.old path.now ≡ Some bytes
-        → Comes (IsModel bytes) result }
+        → Comes (IsModel unknown bytes) result }
     ensures usable { IfOk result (λ model. IsUsable model) }
     ensures kept { F.content files.new ≡ F.content files.old }
     ensures read { IsReadOf (path.now ∷ []) (F.faults files.old) (F.faults files.new)
@@ -85,7 +92,7 @@ pub fn load_model<F: Files>(alloc: Global, path: &str, files: &mut F) -> Result<
         Fault::Model(ModelFault::TooLong),
         files,
     )?;
-    model_of(alloc, text.bytes())
+    model_of(alloc, unknown, text.bytes())
 }
 
 /// A family, and the bytes of its file.
@@ -96,14 +103,19 @@ pub struct FamilyFile {
 }
 
 /// The family that bytes spell over a model.
-fn family_of(alloc: Global, model: &Model, text: Text) -> Result<FamilyFile, Failure>
+fn family_of(
+    alloc: Global,
+    dialect: Dialect,
+    model: &Model,
+    text: Text,
+) -> Result<FamilyFile, Failure>
     requires { IsUsable model.now }
-    ensures family { Comes (IsFamilyFile model.now text) result }
-    ensures spelled { IfOk result (λ made. IsFamilyOf model.now made.text made.family) }
+    ensures family { Comes (IsFamilyFile dialect model.now text) result }
+    ensures spelled { IfOk result (λ made. IsFamilyOf dialect model.now made.text made.family) }
     ensures usable { IfOk result (λ made. IsUsableFamily (length model.now.features) made.family) }
     ensures read { IsReadFault result → ⊥ }
 {
-    match read_family(alloc, model, text.bytes()) {
+    match read_family(alloc, dialect, model, text.bytes()) {
         Ok(family) => Ok(FamilyFile { family, text }),
         Err(FileRefusal::NoMemory) => Err(Failure::NoMemory),
         Err(FileRefusal::Fault { code, place }) => Err(Failure::Refused(file_fault(
@@ -118,19 +130,20 @@ fn family_of(alloc: Global, model: &Model, text: Text) -> Result<FamilyFile, Fai
 /// The family of FILE over a model.
 pub fn load_family<F: Files>(
     alloc: Global,
+    dialect: Dialect,
     model: &Model,
     path: &str,
     files: &mut F,
 ) -> Result<FamilyFile, Failure>
     requires { IsUsable model.now }
     ensures family { (bytes : List ℕ) → F.content files.old path.now ≡ Some bytes
-        → Comes (IsFamilyFile model.now bytes) result }
-    ensures spelled { IfOk result (λ made. IsFamilyOf model.now made.text made.family) }
+        → Comes (IsFamilyFile dialect model.now bytes) result }
+    ensures spelled { IfOk result (λ made. IsFamilyOf dialect model.now made.text made.family) }
     ensures usable { IfOk result (λ made. IsUsableFamily (length model.now.features) made.family) }
     ensures kept { F.content files.new ≡ F.content files.old }
     ensures read { IsReadOf (path.now ∷ []) (F.faults files.old) (F.faults files.new)
         (F.failed files.new) result }
 {
     let text = load_text(alloc, path, FILE_BYTES as u32, long_file(), files)?;
-    family_of(alloc, model, text)
+    family_of(alloc, dialect, model, text)
 }

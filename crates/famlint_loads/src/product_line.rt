@@ -9,12 +9,13 @@ use crate::fault::Failure;
 use crate::load::{FamilyFile, load_family, load_model};
 use c_parser::Family;
 use cpp_conditions::Model;
-use fam_outer::{Files, Text};
+use fam_outer::{Dialect, Files, Text};
 use std::alloc::Global;
 
-/// A feature model, and a family over it with the bytes of its file.
+/// A feature model, and a family over it with the bytes of its file; and how they were read.
 #[derive(Drop)]
 pub struct ProductLine {
+    pub dialect: Dialect,
     pub model: Model,
     pub family: Family,
     pub text: Text,
@@ -23,23 +24,25 @@ pub struct ProductLine {
 /// Loads MODEL and then FILE.
 pub fn load_product_line<F: Files>(
     alloc: Global,
+    dialect: Dialect,
     model_path: &str,
     file_path: &str,
     files: &mut F,
 ) -> Result<ProductLine, Failure>
     ensures line { (m f : List ℕ) → F.content files.old model_path.now ≡ Some m
         → F.content files.old file_path.now ≡ Some f
-        → Comes (ReadsProductLine m f) result }
+        → Comes (ReadsProductLine dialect m f) result }
     ensures usable { IfOk result (λ made. IsUsableLine made) }
     ensures kept { F.content files.new ≡ F.content files.old }
     ensures read { IsReadOf (model_path.now ∷ file_path.now ∷ []) (F.faults files.old) (F.faults files.new)
         (F.failed files.new) result }
     ensures order { (m : List ℕ) → F.content files.old model_path.now ≡ Some m → IsReadFault result
-        → IsLoadedFor model_path.now file_path.now m (F.failed files.new) }
+        → IsLoadedFor dialect.unknown model_path.now file_path.now m (F.failed files.new) }
 {
-    let model = load_model(alloc, model_path, files)?;
-    let FamilyFile { family, text } = load_family(alloc, &model, file_path, files)?;
+    let model = load_model(alloc, dialect.unknown, model_path, files)?;
+    let FamilyFile { family, text } = load_family(alloc, dialect, &model, file_path, files)?;
     Ok(ProductLine {
+        dialect,
         model,
         family,
         text,

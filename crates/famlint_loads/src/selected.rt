@@ -10,7 +10,7 @@ ghost use Rattle.famlint_loads.specs.Selected.{IsSelected, IsSettled};
 use crate::fault::{Failure, settings_fault};
 use crate::product_line::{ProductLine, load_product_line};
 use cpp_conditions::Model;
-use fam_outer::Files;
+use fam_outer::{Dialect, Files};
 use feature_model::{ConfigRefusal, read_config};
 use linear_atoms::Config;
 use std::alloc::Global;
@@ -44,6 +44,7 @@ fn settled(alloc: Global, model: &Model, settings: &[String]) -> Result<Config, 
 /// Loads MODEL and then FILE, and reads the settings behind them.
 pub fn select<F: Files>(
     alloc: Global,
+    dialect: Dialect,
     model_path: &str,
     file_path: &str,
     settings: &[String],
@@ -51,7 +52,7 @@ pub fn select<F: Files>(
 ) -> Result<Selected, Failure>
     ensures selected { (m f : List ℕ) → F.content files.old model_path.now ≡ Some m
         → F.content files.old file_path.now ≡ Some f
-        → Comes (IsSelected m f (map string_bytes settings.now)) result }
+        → Comes (IsSelected dialect m f (map string_bytes settings.now)) result }
     ensures line { IfOk result (λ made. IsUsableLine made.line) }
     ensures valid { IfOk result (λ made. IsValid (plain made.line.model) made.config.values) }
     ensures config { IfOk result (λ made. IsConfig made.line.model.features made.config.values) }
@@ -59,9 +60,9 @@ pub fn select<F: Files>(
     ensures read { IsReadOf (model_path.now ∷ file_path.now ∷ []) (F.faults files.old) (F.faults files.new)
         (F.failed files.new) result }
     ensures order { (m : List ℕ) → F.content files.old model_path.now ≡ Some m → IsReadFault result
-        → IsLoadedFor model_path.now file_path.now m (F.failed files.new) }
+        → IsLoadedFor dialect.unknown model_path.now file_path.now m (F.failed files.new) }
 {
-    let line = load_product_line(alloc, model_path, file_path, files)?;
+    let line = load_product_line(alloc, dialect, model_path, file_path, files)?;
     let config = settled(alloc, &line.model, settings)?;
     Ok(Selected { line, config })
 }

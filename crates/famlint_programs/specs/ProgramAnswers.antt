@@ -1,5 +1,7 @@
 -- What the commands on one program are answered, and what is promised of it: `plain`, `project`, `variant` and `run`.
 use Rattle.std.specs.Prelude.{ℕ, ℤ, ◌≡◌, List, Option, Result, Ok, Err}
+use Rattle.fam_outer.specs.declared.dialect.Dialect.{Dialect}
+use Rattle.fam_outer.specs.declared.dialect.Includes.{Includes}
 use Rattle.c_tree.specs.Run.{run_of}
 use Rattle.c_tree.specs.Tree.{Whole}
 use Rattle.c_tree.specs.View.{whole}
@@ -45,10 +47,10 @@ abbrev pub file_of : Selected → Whole
 file_of s = whole s.line.family.code
 
 -- the report on the program that the bytes spell, or their refusal
-abbrev pub AnswersPlain : Analysis → List ℕ → Result Done Fault → Type 0
-AnswersPlain analysis bytes (Ok done) = (p : Whole) × IsPlainRead bytes (Ok p) × (done ≡ plain_done analysis p)
-AnswersPlain analysis bytes (Err (fault.File code place example)) = IsPlainRead bytes (Err (code, place)) × (example ≡ Option.None)
-AnswersPlain analysis bytes (Err other) = ⊥
+abbrev pub AnswersPlain : Includes → Analysis → List ℕ → Result Done Fault → Type 0
+AnswersPlain includes analysis bytes (Ok done) = (p : Whole) × IsPlainRead includes bytes (Ok p) × (done ≡ plain_done analysis p)
+AnswersPlain includes analysis bytes (Err (fault.File code place example)) = IsPlainRead includes bytes (Err (code, place)) × (example ≡ Option.None)
+AnswersPlain includes analysis bytes (Err other) = ⊥
 
 -- how a run stands, as a text
 abbrev pub run_done : List ℤ → ℕ → Mode → Whole → Done
@@ -56,18 +58,18 @@ run_done inputs steps mode p = record { text = run_text p.names (run_of p inputs
 
 -- what is asked of a variant is this
 abbrev pub IsDone : VariantTask → Selected → Done → Type 0
-IsDone Project s done = IsVariant (plain s.line.model) s.config.values s.line.text done.text × (done.status ≡ 0)
+IsDone Project s done = IsVariant s.line.dialect (plain s.line.model) s.config.values s.line.text done.text × (done.status ≡ 0)
 IsDone (Variant analysis) s done = (p : Whole) × IsProgramOf s p × (done ≡ program_done analysis (file_of s) p)
 IsDone (Run steps inputs mode) s done = (p : Whole) × IsProgramOf s p × (done ≡ run_done inputs steps mode p)
 
 -- what is asked of the variant that settings select, or the refusal of the model, the file or the settings
-abbrev pub AnswersVariant : VariantTask → List (List ℕ) → Contents → Result Done Fault → Type 0
-AnswersVariant task settings told (Ok done) = (s : Selected) × AreSelected told.model told.file settings s × IsDone task s done
-AnswersVariant task settings told (Err fault) = IsSelectionRefused told.model told.file settings fault
+abbrev pub AnswersVariant : Dialect → VariantTask → List (List ℕ) → Contents → Result Done Fault → Type 0
+AnswersVariant dialect task settings told (Ok done) = (s : Selected) × AreSelected dialect told.model told.file settings s × IsDone task s done
+AnswersVariant dialect task settings told (Err fault) = IsSelectionRefused dialect told.model told.file settings fault
 
 -- the report is one on the program that the bytes spell
-abbrev pub PromisedPlain : Analysis → List ℕ → ℕ → List ℕ → Type 0
-PromisedPlain analysis bytes status text = (p : Whole) × IsPlainRead bytes (Ok p) × IsReport (meaning_of analysis.domain) (options_of analysis p) p status text
+abbrev pub PromisedPlain : Includes → Analysis → List ℕ → ℕ → List ℕ → Type 0
+PromisedPlain includes analysis bytes status text = (p : Whole) × IsPlainRead includes bytes (Ok p) × IsReport (meaning_of analysis.domain) (options_of analysis p) p status text
 
 -- a report is one on the program of the variant; a text or a run is exactly its answer, and no more is promised of it
 abbrev pub PromisedOf : VariantTask → Selected → ℕ → List ℕ → Type 0
@@ -76,5 +78,5 @@ PromisedOf (Variant analysis) s status text =
     (p : Whole) × IsProgramOf s p × IsReport (meaning_of analysis.domain) (options_of analysis (file_of s)) p status text
 PromisedOf (Run steps inputs mode) s status text = status ≡ 0
 
-abbrev pub PromisedVariant : VariantTask → List (List ℕ) → Contents → ℕ → List ℕ → Type 0
-PromisedVariant task settings told status text = (s : Selected) × AreSelected told.model told.file settings s × PromisedOf task s status text
+abbrev pub PromisedVariant : Dialect → VariantTask → List (List ℕ) → Contents → ℕ → List ℕ → Type 0
+PromisedVariant dialect task settings told status text = (s : Selected) × AreSelected dialect told.model told.file settings s × PromisedOf task s status text

@@ -8,19 +8,24 @@ ghost use Rattle.famlint_loads.specs.Loads.{Comes, IsReadFault, IsReadOf};
 use crate::report::report_by;
 use c_parser::read_plain;
 use command_words::Word;
-use fam_outer::{FileRefusal, Files};
+use fam_outer::{FileRefusal, Files, Includes};
 use famlint_loads::{Done, Failure, Fault, load_file};
 use famlint_requests::Analysis;
 use std::alloc::Global;
 
 /// The report on the program that the bytes spell.
-fn report_on_bytes(alloc: Global, bytes: &[u8], analysis: &Analysis) -> Result<Done, Failure>
-    ensures answer { Comes (AnswersPlain analysis.now bytes.now) result }
-    ensures promise { IfOk result (λ done. PromisedPlain analysis.now bytes.now done.status done.text) }
+fn report_on_bytes(
+    alloc: Global,
+    includes: Includes,
+    bytes: &[u8],
+    analysis: &Analysis,
+) -> Result<Done, Failure>
+    ensures answer { Comes (AnswersPlain includes analysis.now bytes.now) result }
+    ensures promise { IfOk result (λ done. PromisedPlain includes analysis.now bytes.now done.status done.text) }
     ensures status { IfOk result (λ done. done.status ≤ 1) }
     ensures read { IsReadFault result → ⊥ }
 {
-    match read_plain(alloc, bytes) {
+    match read_plain(alloc, includes, bytes) {
         Err(FileRefusal::NoMemory) => Err(Failure::NoMemory),
         Err(FileRefusal::Fault { code, place }) => Err(Failure::Refused(Fault::File {
             code,
@@ -35,18 +40,19 @@ fn report_on_bytes(alloc: Global, bytes: &[u8], analysis: &Analysis) -> Result<D
 pub fn plain<F: Files>(
     alloc: Global,
     file: &Word,
+    includes: Includes,
     analysis: &Analysis,
     files: &mut F,
 ) -> Result<Done, Failure>
     ensures answer { (bytes : List ℕ) → F.content files.old file.now ≡ Some bytes
-        → Comes (AnswersPlain analysis.now bytes) result }
+        → Comes (AnswersPlain includes analysis.now bytes) result }
     ensures promise { (bytes : List ℕ) → F.content files.old file.now ≡ Some bytes
-        → IfOk result (λ done. PromisedPlain analysis.now bytes done.status done.text) }
+        → IfOk result (λ done. PromisedPlain includes analysis.now bytes done.status done.text) }
     ensures status { IfOk result (λ done. done.status ≤ 1) }
     ensures kept { F.content files.new ≡ F.content files.old }
     ensures read { IsReadOf (file.now ∷ []) (F.faults files.old) (F.faults files.new)
         (F.failed files.new) result }
 {
     let text = load_file(alloc, file.as_str(), files)?;
-    report_on_bytes(alloc, text.bytes(), analysis)
+    report_on_bytes(alloc, includes, text.bytes(), analysis)
 }

@@ -22,7 +22,7 @@ use alarm_report::kind_text;
 use c_parser::variants::variants_are_projections;
 use c_tree::{Mode, Program, project};
 use command_words::Word;
-use fam_outer::{FileRefusal, Files, NoMemory, Place, Text, Values};
+use fam_outer::{Dialect, FileRefusal, Files, NoMemory, Place, Text, Values};
 use famlint_loads::{Done, Failure, Selected, select};
 use famlint_requests::{SettingWords, VariantTask};
 use linear_atoms::push_settings;
@@ -118,7 +118,7 @@ fn text_of(alloc: Global, selected: &Selected) -> Result<Done, NoMemory>
 {
     variants_are_projections();
     let Selected { line, config } = selected;
-    match variant_text(alloc, line.text.bytes(), &line.model, config) {
+    match variant_text(alloc, line.dialect, line.text.bytes(), &line.model, config) {
         Ok(text) => Ok(Done { text, status: 0 }),
         Err(FileRefusal::NoMemory) => Err(NoMemory),
         Err(FileRefusal::Fault { code: _, place: _ }) => unreachable!(),
@@ -157,6 +157,7 @@ pub fn variant<F: Files>(
     alloc: Global,
     model: &Word,
     file: &Word,
+    dialect: Dialect,
     settings: &SettingWords,
     task: &VariantTask,
     files: &mut F,
@@ -164,19 +165,20 @@ pub fn variant<F: Files>(
     requires { HaveInts task.now }
     ensures answer { (told : Contents) → F.content files.old model.now ≡ Some told.model
         → F.content files.old file.now ≡ Some told.file
-        → Comes (AnswersVariant task.now settings.now told) result }
+        → Comes (AnswersVariant dialect task.now settings.now told) result }
     ensures promise { (told : Contents) → F.content files.old model.now ≡ Some told.model
         → F.content files.old file.now ≡ Some told.file
-        → IfOk result (λ done. PromisedVariant task.now settings.now told done.status done.text) }
+        → IfOk result (λ done. PromisedVariant dialect task.now settings.now told done.status done.text) }
     ensures status { IfOk result (λ done. done.status ≤ 1) }
     ensures order { (m : List ℕ) → F.content files.old model.now ≡ Some m → IsReadFault result
-        → IsLoadedFor model.now file.now m (F.failed files.new) }
+        → IsLoadedFor dialect.unknown model.now file.now m (F.failed files.new) }
     ensures kept { F.content files.new ≡ F.content files.old }
     ensures read { IsReadOf (model.now ∷ file.now ∷ []) (F.faults files.old) (F.faults files.new)
         (F.failed files.new) result }
 {
     let selected = select(
         alloc,
+        dialect,
         model.as_str(),
         file.as_str(),
         settings.items(),

@@ -59,6 +59,10 @@ precision_text taken =
     when taken.domain options.DOMAIN.now ++ (when taken.delay options.DELAY.now
     ++ (when taken.narrow options.NARROW.now ++ when taken.widening options.WIDENING.now))
 
+-- the same of those that say how files and models are read
+abbrev pub reading_text : Given → List ℕ
+reading_text taken = when taken.unknown options.UNKNOWN.now ++ when taken.includes options.INCLUDES.now
+
 -- the same of the others
 abbrev pub other_text : Given → List ℕ
 other_text taken =
@@ -67,7 +71,7 @@ other_text taken =
 
 -- what the options set that are taken
 unfoldable pub options_text : Given → List ℕ
-options_text taken = when (is_any taken) commands.OPTIONS.now ++ (precision_text taken ++ other_text taken)
+options_text taken = when (is_any taken) commands.OPTIONS.now ++ (precision_text taken ++ (reading_text taken ++ other_text taken))
 
 -- the text of a guide
 abbrev pub guide_text : Guide → List ℕ

@@ -3,6 +3,9 @@ use Rattle.std.specs.Prelude.{ℕ, ◌≤◌, Bool, ⊤, false, List, [], ◌∷
 use Rattle.std.specs.Option.{option_and_then, option_map}
 use Rattle.std.specs.Str.{bytes_eq}
 use Rattle.std.specs.List.{All}
+use Rattle.fam_outer.specs.declared.dialect.Dialect.{Dialect}
+use Rattle.fam_outer.specs.declared.dialect.Unknown.{Unknown}
+use Rattle.fam_outer.specs.declared.dialect.Includes.{Includes}
 use Rattle.c_tree.specs.Value.{IsInt}
 use Rattle.command_words.specs.Arguments.{arguments_of}
 use Rattle.command_words.specs.declared.reading.Arguments.{Arguments}
@@ -32,6 +35,10 @@ use Rattle.famlint_requests.specs.declared.request.VariantTask.TheVariants as ta
 abbrev pub suits : Command → Arguments → Bool
 suits command arguments = are_taken arguments.given (taken_by command)
 
+-- how names and includes are read
+abbrev pub dialect_of : Chosen → Dialect
+dialect_of chosen = record { unknown = chosen.unknown; includes = chosen.includes }
+
 -- how programs are analysed
 abbrev pub analysis_of : Chosen → Analysis
 analysis_of chosen = record {
@@ -49,23 +56,23 @@ interval_analysis chosen = record (analysis_of chosen) { domain = domains.Interv
 -- ---- commands
 
 -- what `plain` asks for with these words; nothing, where they are refused
-abbrev pub plain_request : Analysis → List (List ℕ) → Option Request
-plain_request analysis [] = None
-plain_request analysis (file ∷ []) = Some (request.Plain file analysis)
-plain_request analysis (file ∷ more ∷ words) = None
+abbrev pub plain_request : Includes → Analysis → List (List ℕ) → Option Request
+plain_request includes analysis [] = None
+plain_request includes analysis (file ∷ []) = Some (request.Plain file includes analysis)
+plain_request includes analysis (file ∷ more ∷ words) = None
 
 -- what is asked of a variant with these words
-abbrev pub variant_request : VariantTask → List (List ℕ) → Option Request
-variant_request task [] = None
-variant_request task (model ∷ []) = None
-variant_request task (model ∷ file ∷ words) = Some (request.Variant model file words task)
+abbrev pub variant_request : Dialect → VariantTask → List (List ℕ) → Option Request
+variant_request dialect task [] = None
+variant_request dialect task (model ∷ []) = None
+variant_request dialect task (model ∷ file ∷ words) = Some (request.Variant model file dialect words task)
 
 -- what is asked of all variants with these words
-abbrev pub family_request : Analysis → Regions → FamilyTask → List (List ℕ) → Option Request
-family_request analysis regions task [] = None
-family_request analysis regions task (model ∷ []) = None
-family_request analysis regions task (model ∷ file ∷ []) = Some (request.Family model file analysis regions task)
-family_request analysis regions task (model ∷ file ∷ more ∷ words) = None
+abbrev pub family_request : Dialect → Analysis → Regions → FamilyTask → List (List ℕ) → Option Request
+family_request dialect analysis regions task [] = None
+family_request dialect analysis regions task (model ∷ []) = None
+family_request dialect analysis regions task (model ∷ file ∷ []) = Some (request.Family model file dialect analysis regions task)
+family_request dialect analysis regions task (model ∷ file ∷ more ∷ words) = None
 
 -- the number of blocks that the text spells, from 1 to 2000
 abbrev pub blocks_of : List ℕ → Option ℕ
@@ -78,24 +85,24 @@ generate_request analysis regions (number ∷ []) = option_map (λ n. request.Ge
 generate_request analysis regions (number ∷ more ∷ words) = None
 
 -- what `check` asks for with these words
-abbrev pub check_request : List (List ℕ) → Option Request
-check_request [] = None
-check_request (model ∷ []) = None
-check_request (model ∷ file ∷ []) = None
-check_request (model ∷ file ∷ certificate ∷ []) = Some (request.Check model file certificate)
-check_request (model ∷ file ∷ certificate ∷ more ∷ words) = None
+abbrev pub check_request : Dialect → List (List ℕ) → Option Request
+check_request dialect [] = None
+check_request dialect (model ∷ []) = None
+check_request dialect (model ∷ file ∷ []) = None
+check_request dialect (model ∷ file ∷ certificate ∷ []) = Some (request.Check model file certificate dialect)
+check_request dialect (model ∷ file ∷ certificate ∷ more ∷ words) = None
 
 -- what `advise` asks for with these words
-abbrev pub advice_request : Analysis → List (List ℕ) → Option Request
-advice_request analysis [] = None
-advice_request analysis (model ∷ []) = None
-advice_request analysis (model ∷ file ∷ words) = Some (request.Advice model file words analysis)
+abbrev pub advice_request : Dialect → Analysis → List (List ℕ) → Option Request
+advice_request dialect analysis [] = None
+advice_request dialect analysis (model ∷ []) = None
+advice_request dialect analysis (model ∷ file ∷ words) = Some (request.Advice model file dialect words analysis)
 
 -- what `features` asks for with these words
-abbrev pub features_request : List (List ℕ) → Option Request
-features_request [] = None
-features_request (model ∷ []) = Some (request.Features model)
-features_request (model ∷ more ∷ words) = None
+abbrev pub features_request : Unknown → List (List ℕ) → Option Request
+features_request unknown [] = None
+features_request unknown (model ∷ []) = Some (request.Features model unknown)
+features_request unknown (model ∷ more ∷ words) = None
 
 -- the run that the options ask for
 abbrev pub run_task : OptionSettings → VariantTask
@@ -103,17 +110,17 @@ run_task settings = task.Run settings.chosen.steps settings.inputs settings.chos
 
 -- what a command asks for with these words
 abbrev pub request_for : Command → OptionSettings → List (List ℕ) → Option Request
-request_for command.Plain settings words = plain_request (analysis_of settings.chosen) words
-request_for command.Project settings words = variant_request task.Project words
-request_for command.Variant settings words = variant_request (task.Variant (analysis_of settings.chosen)) words
-request_for command.Run settings words = variant_request (run_task settings) words
-request_for command.Analyse settings words = family_request (analysis_of settings.chosen) settings.chosen.regions family.Analyse words
-request_for command.Invariants settings words = family_request (analysis_of settings.chosen) settings.chosen.regions family.Invariants words
+request_for command.Plain settings words = plain_request settings.chosen.includes (analysis_of settings.chosen) words
+request_for command.Project settings words = variant_request (dialect_of settings.chosen) task.Project words
+request_for command.Variant settings words = variant_request (dialect_of settings.chosen) (task.Variant (analysis_of settings.chosen)) words
+request_for command.Run settings words = variant_request (dialect_of settings.chosen) (run_task settings) words
+request_for command.Analyse settings words = family_request (dialect_of settings.chosen) (analysis_of settings.chosen) settings.chosen.regions family.Analyse words
+request_for command.Invariants settings words = family_request (dialect_of settings.chosen) (analysis_of settings.chosen) settings.chosen.regions family.Invariants words
 request_for command.Generate settings words = generate_request (analysis_of settings.chosen) settings.chosen.regions words
-request_for command.Certify settings words = family_request (interval_analysis settings.chosen) settings.chosen.regions family.Certify words
-request_for command.Check settings words = check_request words
-request_for command.Advise settings words = advice_request (analysis_of settings.chosen) words
-request_for command.Features settings words = features_request words
+request_for command.Certify settings words = family_request (dialect_of settings.chosen) (interval_analysis settings.chosen) settings.chosen.regions family.Certify words
+request_for command.Check settings words = check_request (dialect_of settings.chosen) words
+request_for command.Advise settings words = advice_request (dialect_of settings.chosen) (analysis_of settings.chosen) words
+request_for command.Features settings words = features_request settings.chosen.unknown words
 
 -- what a command asks for, where the options suit it
 abbrev pub suited : Command → Arguments → List (List ℕ) → Option Request
@@ -145,13 +152,13 @@ reading words = guided (guide_of words) words
 
 -- the paths of a request
 abbrev pub paths_of : Request → List (List ℕ)
-paths_of (request.Plain file analysis) = file ∷ []
-paths_of (request.Variant model file settings task) = model ∷ file ∷ []
-paths_of (request.Family model file analysis regions task) = model ∷ file ∷ []
+paths_of (request.Plain file includes analysis) = file ∷ []
+paths_of (request.Variant model file dialect settings task) = model ∷ file ∷ []
+paths_of (request.Family model file dialect analysis regions task) = model ∷ file ∷ []
 paths_of (request.Generate number analysis regions) = []
-paths_of (request.Check model file certificate) = model ∷ file ∷ certificate ∷ []
-paths_of (request.Advice model file settings analysis) = model ∷ file ∷ []
-paths_of (request.Features model) = model ∷ []
+paths_of (request.Check model file certificate dialect) = model ∷ file ∷ certificate ∷ []
+paths_of (request.Advice model file dialect settings analysis) = model ∷ file ∷ []
+paths_of (request.Features model unknown) = model ∷ []
 paths_of (request.Guide guide) = []
 
 -- the failed path is this one
@@ -171,13 +178,13 @@ role_of_three failed model file certificate =
 
 -- what the path of a failed load is to a request
 abbrev pub role_of : Request → Option (List ℕ) → Role
-role_of (request.Plain file analysis) failed = role.File
-role_of (request.Variant model file settings task) failed = role_beside failed model
-role_of (request.Family model file analysis regions task) failed = role_beside failed model
+role_of (request.Plain file includes analysis) failed = role.File
+role_of (request.Variant model file dialect settings task) failed = role_beside failed model
+role_of (request.Family model file dialect analysis regions task) failed = role_beside failed model
 role_of (request.Generate number analysis regions) failed = role.File
-role_of (request.Check model file certificate) failed = role_of_three failed model file certificate
-role_of (request.Advice model file settings analysis) failed = role_beside failed model
-role_of (request.Features model) failed = role.Model
+role_of (request.Check model file certificate dialect) failed = role_of_three failed model file certificate
+role_of (request.Advice model file dialect settings analysis) failed = role_beside failed model
+role_of (request.Features model unknown) failed = role.Model
 role_of (request.Guide guide) failed = role.File
 
 -- ---- numbers
@@ -190,11 +197,11 @@ HaveInts (task.Run steps inputs mode) = All IsInt inputs
 
 -- the numbers of a request are within their ranges
 abbrev pub IsWithinRanges : Request → Type 0
-IsWithinRanges (request.Plain file analysis) = ⊤
-IsWithinRanges (request.Variant model file settings task) = HaveInts task
-IsWithinRanges (request.Family model file analysis regions task) = ⊤
+IsWithinRanges (request.Plain file includes analysis) = ⊤
+IsWithinRanges (request.Variant model file dialect settings task) = HaveInts task
+IsWithinRanges (request.Family model file dialect analysis regions task) = ⊤
 IsWithinRanges (request.Generate number analysis regions) = number ≤ 2000
-IsWithinRanges (request.Check model file certificate) = ⊤
-IsWithinRanges (request.Advice model file settings analysis) = ⊤
-IsWithinRanges (request.Features model) = ⊤
+IsWithinRanges (request.Check model file certificate dialect) = ⊤
+IsWithinRanges (request.Advice model file dialect settings analysis) = ⊤
+IsWithinRanges (request.Features model unknown) = ⊤
 IsWithinRanges (request.Guide guide) = ⊤

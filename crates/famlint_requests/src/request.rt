@@ -11,7 +11,7 @@ ghost use Rattle.famlint_requests.specs.Requests.{role_of, role_beside, role_of_
 
 use c_tree::Mode;
 use command_words::{Domain, Widening, Word};
-use fam_outer::{NoMemory, Text, Values};
+use fam_outer::{Dialect, Includes, NoMemory, Text, Unknown, Values};
 pub use guide::Guide;
 use linear_atoms::Regions;
 pub use options::Command;
@@ -25,12 +25,14 @@ pub enum Request {
     /// The report on the program of FILE.
     Plain {
         file: Word,
+        includes: Includes,
         analysis: Analysis,
     },
     /// Something of the variant of FILE that the settings select among those of MODEL.
     Variant {
         model: Word,
         file: Word,
+        dialect: Dialect,
         settings: SettingWords,
         task: VariantTask,
     },
@@ -38,6 +40,7 @@ pub enum Request {
     Family {
         model: Word,
         file: Word,
+        dialect: Dialect,
         analysis: Analysis,
         regions: Regions,
         task: FamilyTask,
@@ -53,17 +56,20 @@ pub enum Request {
         model: Word,
         file: Word,
         certificate: Word,
+        dialect: Dialect,
     },
     /// The nearest configuration of MODEL to the one that the settings give at which FILE has no alarms.
     Advice {
         model: Word,
         file: Word,
+        dialect: Dialect,
         settings: SettingWords,
         analysis: Analysis,
     },
     /// What MODEL leaves open of each feature.
     Features {
         model: Word,
+        unknown: Unknown,
     },
     /// A text about the program.
     Guide(Guide),
@@ -195,17 +201,20 @@ impl Request {
         match self {
             Request::Plain {
                 file: _,
+                includes: _,
                 analysis: _,
             } => Role::File,
             Request::Variant {
                 model,
                 file: _,
+                dialect: _,
                 settings: _,
                 task: _,
             } => role_beside(failed, model),
             Request::Family {
                 model,
                 file: _,
+                dialect: _,
                 analysis: _,
                 regions: _,
                 task: _,
@@ -219,14 +228,19 @@ impl Request {
                 model,
                 file,
                 certificate,
+                dialect: _,
             } => role_of_three(failed, model, file, certificate),
             Request::Advice {
                 model,
                 file: _,
+                dialect: _,
                 settings: _,
                 analysis: _,
             } => role_beside(failed, model),
-            Request::Features { model: _ } => Role::Model,
+            Request::Features {
+                model: _,
+                unknown: _,
+            } => Role::Model,
             Request::Guide(_) => Role::File,
         }
     }

@@ -57,7 +57,7 @@ fn asked(alloc: Global, line: &str) -> Result<String, NoMemory> {
 
 /// The gist of the text on all commands.
 const ALL: &str =
-    "usage: famlint COMMAND WORD.. [OPTION..] --help, --domain --delay --narrow --widening --overflow --regions --steps --inputs";
+    "usage: famlint COMMAND WORD.. [OPTION..] --help, --domain --delay --narrow --widening --unknown --includes --overflow --regions --steps --inputs";
 
 /// The text on the program itself.
 const VERSION: &str = "famlint, proved by rattle-kit-13f logic dac8208d650f15bf";
@@ -72,22 +72,33 @@ fn texts_are_asked_for(rt: HostRuntime) -> Result<(), Fail> {
         ("-V", VERSION),
         (
             "help plain",
-            "famlint plain FILE --domain --delay --narrow --widening --overflow",
+            "famlint plain FILE --domain --delay --narrow --widening --includes --overflow",
         ),
-        ("help project", "famlint project MODEL FILE SETTING.."),
+        (
+            "help project",
+            "famlint project MODEL FILE SETTING.. --unknown --includes",
+        ),
         (
             "help run",
-            "famlint run MODEL FILE SETTING.. --overflow --steps --inputs",
+            "famlint run MODEL FILE SETTING.. --unknown --includes --overflow --steps --inputs",
         ),
         (
             "help analyse",
-            "famlint analyse MODEL FILE --domain --delay --narrow --widening --overflow --regions",
+            "famlint analyse MODEL FILE --domain --delay --narrow --widening --unknown --includes --overflow --regions",
         ),
         (
             "help certify",
-            "famlint certify MODEL FILE --delay --narrow --widening --overflow --regions",
+            "famlint certify MODEL FILE --delay --narrow --widening --unknown --includes --overflow --regions",
         ),
-        ("help check", "famlint check MODEL FILE CERTIFICATE"),
+        (
+            "help check",
+            "famlint check MODEL FILE CERTIFICATE --unknown --includes",
+        ),
+        ("help features", "famlint features MODEL --unknown"),
+        (
+            "help generate",
+            "famlint generate NUMBER --domain --delay --narrow --widening --overflow --regions",
+        ),
         ("explain F12", "F12: A file is refused."),
         (
             "explain C5",
@@ -96,6 +107,9 @@ fn texts_are_asked_for(rt: HostRuntime) -> Result<(), Fail> {
         ("explain 4", "Status 4: the file is refused."),
         ("plain F", "work"),
         ("plain --overflow wrap F", "work"),
+        ("plain --includes skip F", "work"),
+        ("features M --unknown refuse", "work"),
+        ("project M F --unknown=refuse --includes=skip", "work"),
     ];
     for (line, want) in cases {
         let text = asked(rt.alloc(), line)?;
@@ -128,6 +142,10 @@ fn other_words_are_refused(rt: HostRuntime) -> Result<(), Fail> {
         "explain 04",
         "explain F1 F2",
         "explain --steps",
+        "plain F --unknown refuse",
+        "features M --includes skip",
+        "generate 3 --unknown zero",
+        "generate 3 --includes skip",
         "F1",
     ];
     for line in cases {

@@ -2,7 +2,7 @@
 #![tactic(auto)]
 
 /// The codes and the statuses, each with its text.
-pub const CODES: [(&str, &str); 54] = [
+pub const CODES: [(&str, &str); 55] = [
     (
         "F20",
         "F20: A file is refused.\nCause: more than 1,048,576 bytes; at 1:1.\nWhat to do: cut the file.\n",
@@ -21,7 +21,7 @@ pub const CODES: [(&str, &str); 54] = [
     ),
     (
         "F4",
-        "F4: A file is refused.\nCause: a directive that is none of `if`, `ifdef`, `ifndef`, `elif`, `else`,\n`endif`, and no `include` of exactly `<assert.h>`; or text behind `else` or\n`endif`; at `#`.\nWhat to do: write the number; leave out other includes.\n",
+        "F4: A file is refused.\nCause: a directive that is none of `if`, `ifdef`, `ifndef`, `elif`, `else`,\n`endif`, and no `include` of exactly `<assert.h>` (under `--includes=skip`, of\nanything); or text behind `else` or `endif`; at `#`.\nWhat to do: write the number; leave out other includes, or take\n`--includes=skip`.\n",
     ),
     (
         "F21",
@@ -29,11 +29,11 @@ pub const CODES: [(&str, &str); 54] = [
     ),
     (
         "F10",
-        "F10: A file is refused.\nCause: a byte that begins no token; at it.\nWhat to do: leave out strings, character constants, `[`, `?`, `:`, a lone `&`,\n`.`, and bytes that are not ASCII.\n",
+        "F10: A file is refused.\nCause: a byte that begins no token; at it.\nWhat to do: leave out strings, `[`, `?`, `:`, a lone `&`, `.`, and bytes that\nare not ASCII.\n",
     ),
     (
         "F11",
-        "F11: A file is refused.\nCause: a number that is not decimal without a leading zero, or is past\n2147483647; at its first digit.\nWhat to do: write it in decimal, without a suffix; the least `int` is\n`-2147483647 - 1`.\n",
+        "F11: A file is refused.\nCause: a number that is past 2147483647, has a suffix or is none of C (`08`,\n`0x1E+1`), or a quote without exactly one character or escape of ASCII and a\nsecond quote (`''`, `'ab'`); at its first byte.\nWhat to do: write it without a suffix; all bits are `-1`, and the least `int` is\n`-2147483647 - 1`.\n",
     ),
     (
         "F12",
@@ -161,7 +161,7 @@ pub const CODES: [(&str, &str); 54] = [
     ),
     (
         "C1",
-        "C1: A condition is refused, of a model (M7) or of a file (F8).\nCause: a byte begins no token, or a run of digits and letters is no decimal\nnumber. Or: the tokens are no expression.\nWhat to do: decimal numbers. Or: an expression; `- -SIZE` with a space.\n",
+        "C1: A condition is refused, of a model (M7) or of a file (F8).\nCause: a byte begins no token, or a run of digits and letters is no integer\nconstant of C, or has a suffix with `u` or `U`. Or: the tokens are no\nexpression.\nWhat to do: numbers without a suffix. Or: an expression; `- -SIZE` with a space.\n",
     ),
     (
         "C5",
@@ -170,6 +170,10 @@ pub const CODES: [(&str, &str); 54] = [
     (
         "C4",
         "C4: A condition is refused, of a model (M7) or of a file (F8).\nCause: a name begins with two underscores.\nWhat to do: a feature of the model.\n",
+    ),
+    (
+        "C6",
+        "C6: A condition is refused, of a model (M7) or of a file (F8).\nCause: under `--unknown=refuse`, a name that is no feature of the model, under\n`defined`, `#ifdef` and `#ifndef` too.\nWhat to do: the feature's name as the model has it; where the name is meant to\nbe unknown, `--unknown=zero`.\n",
     ),
     (
         "C2",

@@ -26,6 +26,20 @@ pub const WIDENING: &str =
                                      near those of FILE; without it type
 ";
 
+/// `--unknown`.
+pub const UNKNOWN: &str =
+    "  --unknown zero|refuse              what a name of a condition is that is no
+                                     feature: the number 0, or refused with C6;
+                                     without it zero
+";
+
+/// `--includes`.
+pub const INCLUDES: &str =
+    "  --includes assert|skip             whether FILE may include <assert.h> alone,
+                                     or anything, which is not read; without it
+                                     assert
+";
+
 /// `--overflow`.
 pub const OVERFLOW: &str =
     "  --overflow stop|wrap               whether an overflow stops the run, or wraps

@@ -20,6 +20,7 @@ fn condition_code(fault: ConditionFault) -> &'static str
         ConditionFault::TooLarge => "C3",
         ConditionFault::ReservedName => "C4",
         ConditionFault::TooDeep => "C5",
+        ConditionFault::UnknownName => "C6",
     }
 }
 

@@ -96,6 +96,14 @@ fn add_precision(text: &mut Vec<u8>, taken: Given) -> Result<(), NoMemory>
     add(text, taken.widening, options::WIDENING)
 }
 
+/// Adds the same of those that say how files and models are read.
+fn add_reading(text: &mut Vec<u8>, taken: Given) -> Result<(), NoMemory>
+    ensures { OnOk result (text.new.items ≡ text.old.items ++ specs.reading_text taken) }
+{
+    add(text, taken.unknown, options::UNKNOWN)?;
+    add(text, taken.includes, options::INCLUDES)
+}
+
 /// Adds the same of the others.
 fn add_others(text: &mut Vec<u8>, taken: Given) -> Result<(), NoMemory>
     ensures { OnOk result (text.new.items ≡ text.old.items ++ specs.other_text taken) }
@@ -114,6 +122,7 @@ fn with_options(alloc: Global, text: &str, taken: Given) -> Result<Text, NoMemor
     let mut bytes = Vec::from_slice(alloc, text.as_bytes())?;
     add(&mut bytes, is_any(taken), commands::OPTIONS)?;
     add_precision(&mut bytes, taken)?;
+    add_reading(&mut bytes, taken)?;
     add_others(&mut bytes, taken)?;
     Ok(Text::from_vec(bytes))
 }

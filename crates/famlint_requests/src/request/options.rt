@@ -7,6 +7,7 @@ ghost use Rattle.famlint_requests.specs.Requests as specs;
 
 use crate::request::Analysis;
 use command_words::{Arguments, Chosen, Domain, Given};
+use fam_outer::Dialect;
 
 /// The commands.
 #[derive(Clone, Copy, Debug, PartialEq, Eq)]
@@ -50,23 +51,51 @@ impl Command {
         ensures { result ≡ commands.taken_by self }
     {
         match self {
-            Command::Plain | Command::Variant | Command::Advise => Given {
+            Command::Plain => Given {
                 domain: true,
                 delay: true,
                 narrow: true,
                 widening: true,
                 overflow: true,
                 regions: false,
+                unknown: false,
+                includes: true,
                 steps: false,
                 inputs: false,
             },
-            Command::Analyse | Command::Invariants | Command::Generate => Given {
+            Command::Variant | Command::Advise => Given {
+                domain: true,
+                delay: true,
+                narrow: true,
+                widening: true,
+                overflow: true,
+                regions: false,
+                unknown: true,
+                includes: true,
+                steps: false,
+                inputs: false,
+            },
+            Command::Analyse | Command::Invariants => Given {
                 domain: true,
                 delay: true,
                 narrow: true,
                 widening: true,
                 overflow: true,
                 regions: true,
+                unknown: true,
+                includes: true,
+                steps: false,
+                inputs: false,
+            },
+            Command::Generate => Given {
+                domain: true,
+                delay: true,
+                narrow: true,
+                widening: true,
+                overflow: true,
+                regions: true,
+                unknown: false,
+                includes: false,
                 steps: false,
                 inputs: false,
             },
@@ -77,16 +106,32 @@ impl Command {
                 widening: true,
                 overflow: true,
                 regions: true,
+                unknown: true,
+                includes: true,
                 steps: false,
                 inputs: false,
             },
-            Command::Project | Command::Check | Command::Features => Given {
+            Command::Project | Command::Check => Given {
                 domain: false,
                 delay: false,
                 narrow: false,
                 widening: false,
                 overflow: false,
                 regions: false,
+                unknown: true,
+                includes: true,
+                steps: false,
+                inputs: false,
+            },
+            Command::Features => Given {
+                domain: false,
+                delay: false,
+                narrow: false,
+                widening: false,
+                overflow: false,
+                regions: false,
+                unknown: true,
+                includes: false,
                 steps: false,
                 inputs: false,
             },
@@ -97,6 +142,8 @@ impl Command {
                 widening: false,
                 overflow: true,
                 regions: false,
+                unknown: true,
+                includes: true,
                 steps: true,
                 inputs: true,
             },
@@ -104,18 +151,33 @@ impl Command {
     }
 }
 
-/// Whether each option that is given is taken.
-fn are_taken(given: Given, taken: Given) -> bool
-    ensures { result ≡ commands.are_taken given taken }
+/// Whether each option of an analysis that is given is taken.
+fn are_analysis_taken(given: Given, taken: Given) -> bool
+    ensures { result ≡ commands.are_analysis_taken given taken }
 {
     (!given.domain || taken.domain)
         && (!given.delay || taken.delay)
         && (!given.narrow || taken.narrow)
         && (!given.widening || taken.widening)
         && (!given.overflow || taken.overflow)
-        && (!given.regions || taken.regions)
+}
+
+/// Whether each other option that is given is taken.
+fn are_others_taken(given: Given, taken: Given) -> bool
+    ensures { result ≡ commands.are_others_taken given taken }
+{
+    (!given.regions || taken.regions)
+        && (!given.unknown || taken.unknown)
+        && (!given.includes || taken.includes)
         && (!given.steps || taken.steps)
         && (!given.inputs || taken.inputs)
+}
+
+/// Whether each option that is given is taken.
+fn are_taken(given: Given, taken: Given) -> bool
+    ensures { result ≡ commands.are_taken given taken }
+{
+    are_analysis_taken(given, taken) && are_others_taken(given, taken)
 }
 
 /// All options.
@@ -129,6 +191,8 @@ pub fn all_options() -> Given
         widening: true,
         overflow: true,
         regions: true,
+        unknown: true,
+        includes: true,
         steps: true,
         inputs: true,
     }
@@ -144,6 +208,8 @@ pub fn is_any(given: Given) -> bool
         || given.widening
         || given.overflow
         || given.regions
+        || given.unknown
+        || given.includes
         || given.steps
         || given.inputs
 }
@@ -153,6 +219,16 @@ pub fn suits(command: Command, arguments: &Arguments) -> bool
     ensures { result ≡ specs.suits command arguments.now }
 {
     are_taken(arguments.given, command.options())
+}
+
+/// How names and includes are read.
+pub fn dialect_of(chosen: Chosen) -> Dialect
+    ensures { result ≡ specs.dialect_of chosen }
+{
+    Dialect {
+        unknown: chosen.unknown,
+        includes: chosen.includes,
+    }
 }
 
 /// How programs are analysed.

@@ -9,23 +9,29 @@ ghost use Rattle.famlint_requests.specs.Requests as specs;
 ghost use Rattle.famlint_requests.specs.Requests.{reading, IsWithinRanges, HaveInts};
 
 use crate::request::guide::guide_of;
-use crate::request::options::{Command, analysis_of, interval_analysis, suits};
+use crate::request::options::{Command, analysis_of, dialect_of, interval_analysis, suits};
 use crate::request::{Analysis, FamilyTask, Request, SettingWords, VariantTask};
 use command_words::{
     Arguments, OptionSettings, Usage, Word, WordsRefusal, number_up_to, read_words,
 };
-use fam_outer::NoMemory;
+use fam_outer::{Dialect, Includes, NoMemory, Unknown};
 use linear_atoms::Regions;
 use std::alloc::Global;
 
 /// What `plain` asks for with these words.
-fn plain_request(alloc: Global, analysis: Analysis, words: &[Word]) -> Result<Request, WordsRefusal>
-    ensures answer { AnswersWords (specs.plain_request analysis words.now) result }
+fn plain_request(
+    alloc: Global,
+    includes: Includes,
+    analysis: Analysis,
+    words: &[Word],
+) -> Result<Request, WordsRefusal>
+    ensures answer { AnswersWords (specs.plain_request includes analysis words.now) result }
     ensures ranges { IfOk result (λ request. IsWithinRanges request) }
 {
     match words {
         [file] => Ok(Request::Plain {
             file: Word::from_str(alloc, file.as_str())?,
+            includes,
             analysis,
         }),
         _ => Err(WordsRefusal::Fault(Usage)),
@@ -35,17 +41,19 @@ fn plain_request(alloc: Global, analysis: Analysis, words: &[Word]) -> Result<Re
 /// What is asked of a variant with these words.
 fn variant_request(
     alloc: Global,
+    dialect: Dialect,
     task: VariantTask,
     words: &[Word],
 ) -> Result<Request, WordsRefusal>
     requires { HaveInts task }
-    ensures answer { AnswersWords (specs.variant_request task words.now) result }
+    ensures answer { AnswersWords (specs.variant_request dialect task words.now) result }
     ensures ranges { IfOk result (λ request. IsWithinRanges request) }
 {
     match words {
         [model, file, rest @ ..] => Ok(Request::Variant {
             model: Word::from_str(alloc, model.as_str())?,
             file: Word::from_str(alloc, file.as_str())?,
+            dialect,
             settings: SettingWords::from_words(alloc, rest)?,
             task,
         }),
@@ -56,18 +64,20 @@ fn variant_request(
 /// What is asked of all variants with these words.
 fn family_request(
     alloc: Global,
+    dialect: Dialect,
     analysis: Analysis,
     regions: Regions,
     task: FamilyTask,
     words: &[Word],
 ) -> Result<Request, WordsRefusal>
-    ensures answer { AnswersWords (specs.family_request analysis regions task words.now) result }
+    ensures answer { AnswersWords (specs.family_request dialect analysis regions task words.now) result }
     ensures ranges { IfOk result (λ request. IsWithinRanges request) }
 {
     match words {
         [model, file] => Ok(Request::Family {
             model: Word::from_str(alloc, model.as_str())?,
             file: Word::from_str(alloc, file.as_str())?,
+            dialect,
             analysis,
             regions,
             task,
@@ -111,8 +121,8 @@ fn generate_request(
 }
 
 /// What `check` asks for with these words.
-fn check_request(alloc: Global, words: &[Word]) -> Result<Request, WordsRefusal>
-    ensures answer { AnswersWords (specs.check_request words.now) result }
+fn check_request(alloc: Global, dialect: Dialect, words: &[Word]) -> Result<Request, WordsRefusal>
+    ensures answer { AnswersWords (specs.check_request dialect words.now) result }
     ensures ranges { IfOk result (λ request. IsWithinRanges request) }
 {
     match words {
@@ -120,6 +130,7 @@ fn check_request(alloc: Global, words: &[Word]) -> Result<Request, WordsRefusal>
             model: Word::from_str(alloc, model.as_str())?,
             file: Word::from_str(alloc, file.as_str())?,
             certificate: Word::from_str(alloc, certificate.as_str())?,
+            dialect,
         }),
         _ => Err(WordsRefusal::Fault(Usage)),
     }
@@ -128,16 +139,18 @@ fn check_request(alloc: Global, words: &[Word]) -> Result<Request, WordsRefusal>
 /// What `advise` asks for with these words.
 fn advice_request(
     alloc: Global,
+    dialect: Dialect,
     analysis: Analysis,
     words: &[Word],
 ) -> Result<Request, WordsRefusal>
-    ensures answer { AnswersWords (specs.advice_request analysis words.now) result }
+    ensures answer { AnswersWords (specs.advice_request dialect analysis words.now) result }
     ensures ranges { IfOk result (λ request. IsWithinRanges request) }
 {
     match words {
         [model, file, rest @ ..] => Ok(Request::Advice {
             model: Word::from_str(alloc, model.as_str())?,
             file: Word::from_str(alloc, file.as_str())?,
+            dialect,
             settings: SettingWords::from_words(alloc, rest)?,
             analysis,
         }),
@@ -146,13 +159,18 @@ fn advice_request(
 }
 
 /// What `features` asks for with these words.
-fn features_request(alloc: Global, words: &[Word]) -> Result<Request, WordsRefusal>
-    ensures answer { AnswersWords (specs.features_request words.now) result }
+fn features_request(
+    alloc: Global,
+    unknown: Unknown,
+    words: &[Word],
+) -> Result<Request, WordsRefusal>
+    ensures answer { AnswersWords (specs.features_request unknown words.now) result }
     ensures ranges { IfOk result (λ request. IsWithinRanges request) }
 {
     match words {
         [model] => Ok(Request::Features {
             model: Word::from_str(alloc, model.as_str())?,
+            unknown,
         }),
         _ => Err(WordsRefusal::Fault(Usage)),
     }
@@ -182,19 +200,28 @@ fn request_for(
     ensures answer { AnswersWords (specs.request_for command settings.now words.now) result }
     ensures ranges { IfOk result (λ request. IsWithinRanges request) }
 {
+    let dialect = dialect_of(settings.chosen);
     let analysis = analysis_of(settings.chosen);
     let regions = settings.chosen.regions;
     match command {
-        Command::Plain => plain_request(alloc, analysis, words),
-        Command::Project => variant_request(alloc, VariantTask::Project, words),
-        Command::Variant => variant_request(alloc, VariantTask::Variant(analysis), words),
+        Command::Plain => plain_request(alloc, dialect.includes, analysis, words),
+        Command::Project => variant_request(alloc, dialect, VariantTask::Project, words),
+        Command::Variant => variant_request(alloc, dialect, VariantTask::Variant(analysis), words),
         Command::Run => {
             let task = run_task(alloc, settings)?;
-            variant_request(alloc, task, words)
+            variant_request(alloc, dialect, task, words)
         }
-        Command::Analyse => family_request(alloc, analysis, regions, FamilyTask::Analyse, words),
+        Command::Analyse => family_request(
+            alloc,
+            dialect,
+            analysis,
+            regions,
+            FamilyTask::Analyse,
+            words,
+        ),
         Command::Invariants => family_request(
             alloc,
+            dialect,
             analysis,
             regions,
             FamilyTask::Invariants,
@@ -203,11 +230,18 @@ fn request_for(
         Command::Generate => generate_request(analysis, regions, words),
         Command::Certify => {
             let analysis = interval_analysis(settings.chosen);
-            family_request(alloc, analysis, regions, FamilyTask::Certify, words)
+            family_request(
+                alloc,
+                dialect,
+                analysis,
+                regions,
+                FamilyTask::Certify,
+                words,
+            )
         }
-        Command::Check => check_request(alloc, words),
-        Command::Advise => advice_request(alloc, analysis, words),
-        Command::Features => features_request(alloc, words),
+        Command::Check => check_request(alloc, dialect, words),
+        Command::Advise => advice_request(alloc, dialect, analysis, words),
+        Command::Features => features_request(alloc, dialect.unknown, words),
     }
 }
 

@@ -9,7 +9,7 @@ returns-in_err-line-clause-answer g c = λ told told_model told_file told_certif
     let content = g.F.Files.content c.args.files.now in
     let line = c.in_err-line.ensures.line told.model told.file (ap content c.as_str.ensures ∙ told_model) (ap content c.as_str-2.ensures ∙ told_file) in
     let e : c.from_residual.result ≡ Err c.in_err-line.field-0.0 = search rules in
-    subst (λ r. Comes (AnswersCheck told) r) (sym e) (check_no_line told c.in_err-line.field-0.0 line)
+    subst (λ r. Comes (AnswersCheck c.args.dialect told) r) (sym e) (check_no_line c.args.dialect told c.in_err-line.field-0.0 line)
 
 pub returns-in_err-certificate-clause-answer : goal.returns-in_err-certificate-clause-answer
 returns-in_err-certificate-clause-answer g c = λ told told_model told_file told_certificate.
@@ -18,8 +18,8 @@ returns-in_err-certificate-clause-answer g c = λ told told_model told_file told
     let kept : g.F.Files.content c.load_product_line.new.files c.as_str-3.result.now ≡ Some told.certificate =
     ap (λ k. k c.as_str-3.result.now) c.load_product_line.ensures.kept ∙ (ap content c.as_str-3.ensures ∙ told_certificate) in
     let e : c.from_residual-in_err-certificate.result ≡ Err c.in_err-certificate.field-0.0 = search rules in
-    subst (λ r. Comes (AnswersCheck told) r) (sym e)
-    (check_no_certificate told c.in_ok-line.line c.in_err-certificate.field-0.0 line (c.in_err-certificate.ensures.certificate told.certificate kept))
+    subst (λ r. Comes (AnswersCheck c.args.dialect told) r) (sym e)
+    (check_no_certificate c.args.dialect told c.in_ok-line.line c.in_err-certificate.field-0.0 line (c.in_err-certificate.ensures.certificate told.certificate kept))
 
 pub returns-in_err-certificate-clause-order : goal.returns-in_err-certificate-clause-order
 returns-in_err-certificate-clause-order g c = λ m f told_model told_file fault.
@@ -27,7 +27,7 @@ returns-in_err-certificate-clause-order g c = λ m f told_model told_file fault.
     let failed = g.F.Files.failed c.load_certificate.new.files in
     let line = c.in_ok-line.ensures.line m f (ap content c.as_str.ensures ∙ told_model) (ap content c.as_str-2.ensures ∙ told_file) in
     let e : c.from_residual-in_err-certificate.result ≡ Err c.in_err-certificate.field-0.0 = search rules in
-    loaded_third failed c.args.model.now c.args.file.now c.args.certificate.now m f c.in_ok-line.line c.in_err-certificate.field-0.0 line
+    loaded_third c.args.dialect failed c.args.model.now c.args.file.now c.args.certificate.now m f c.in_ok-line.line c.in_err-certificate.field-0.0 line
     (λ failing. subst (λ path. IsOneOf failed (path ∷ [])) c.as_str-3.ensures (c.in_err-certificate.ensures.read.path failing))
     (subst (λ r. IsReadFault r) e fault)
 

@@ -12,7 +12,7 @@ returns-in-Ok-clause-answer g c = λ request e told is_told.
     let mine = c.in-Ok.request in
     let read : reading (texts_of c.args.words.now) ≡ Some mine = search rules in
     let same = same_request (reading (texts_of c.args.words.now)) mine request read e in
-    by_role mine request (g.F.Files.content c.args.files.now) told c.work-came.result (g.F.Files.failed c.work-came.new.files) c.role-failed.result _ _ _ _ _ _ _ _ _
+    by_role mine request (g.F.Files.content c.args.files.now) told c.work-came.result (g.F.Files.failed c.work-came.new.files) c.role-failed.result _ _ _
     same (c.work-came.ensures.answer told) (search rules) c.end.ensures is_told
 
 pub returns-in-Ok-clause-promise : goal.returns-in-Ok-clause-promise
@@ -21,7 +21,7 @@ returns-in-Ok-clause-promise g c = λ request e told is_told low.
     let read : reading (texts_of c.args.words.now) ≡ Some mine = search rules in
     let same = same_request (reading (texts_of c.args.words.now)) mine request read e in
     let mine_told = subst (λ r. IsTold r (g.F.Files.content c.args.files.now) told) (sym same) is_told in
-    appended (Promised request told) c.work-came.result c.role-failed.result _ _ _ _ _ _ _ _ _
+    appended (Promised request told) c.work-came.result c.role-failed.result _ _ _
     (subst (λ r. IfOk c.work-came.result (λ done. Promised r told done.status done.text)) same (c.work-came.ensures.promise told mine_told)) c.end.ensures low
 
 pub returns-in-Ok-clause-certified : goal.returns-in-Ok-clause-certified
@@ -29,8 +29,8 @@ returns-in-Ok-clause-certified g c = λ request e told is_told asked no_load no_
     let mine = c.in-Ok.request in
     let read : reading (texts_of c.args.words.now) ≡ Some mine = search rules in
     let same = same_request (reading (texts_of c.args.words.now)) mine request read e in
-    certified c.certificates_are_accepted.ensures request told _ _ _ _ _ _ _ _ asked
-    (by_role mine request (g.F.Files.content c.args.files.now) told c.work-came.result (g.F.Files.failed c.work-came.new.files) c.role-failed.result _ _ _ _ _ _ _ _ _
+    certified c.certificates_are_accepted.ensures request told _ _ _ _ asked
+    (by_role mine request (g.F.Files.content c.args.files.now) told c.work-came.result (g.F.Files.failed c.work-came.new.files) c.role-failed.result _ _ _
     same (c.work-came.ensures.answer told) (search rules) c.end.ensures is_told)
     (λ six. no_load (c.work-came.ensures.read.risen (c.end.ensures.read six)))
     (λ seven. no_write (c.end.ensures.write seven))

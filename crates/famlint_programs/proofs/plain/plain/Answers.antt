@@ -8,4 +8,4 @@ pub returns-in_err-text-clause-answer : goal.returns-in_err-text-clause-answer
 returns-in_err-text-clause-answer g c = λ bytes told.
     let e : c.from_residual.result ≡ Err c.in_err-text.field-0.0 = search rules in
     let there = ap (g.F.Files.content c.args.files.now) c.as_str.ensures ∙ told in
-    subst (λ r. Comes (AnswersPlain c.args.analysis.now bytes) r) (sym e) (plain_refused c.args.analysis.now bytes c.in_err-text.field-0.0 (c.in_err-text.ensures.text bytes there))
+    subst (λ r. Comes (AnswersPlain c.args.includes c.args.analysis.now bytes) r) (sym e) (plain_refused c.args.includes c.args.analysis.now bytes c.in_err-text.field-0.0 (c.in_err-text.ensures.text bytes there))

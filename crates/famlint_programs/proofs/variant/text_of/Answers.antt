@@ -10,5 +10,5 @@ unreachable-requires c =
     let s = c.args.selected.now in
     let values = s.config.values in
     let fault : FileCode × Place = (c.in-Err-Fault.field-0-0, c.in-Err-Fault.field-0-1) in
-    let refused = subst (ReadsVariant (plain s.line.model) values c.bytes.result.now) (c.in-Err-Fault.is ∙ ap (λ x. Err x) c.in-Err-Fault.field-0-is) c.variant_text.ensures in
-    c.variants_are_projections.ensures.accepted s.line.model s.line.text s.line.family fault c.requires.line.spelled (subst (λ bytes. IsFaulty (plain s.line.model) bytes fault) c.bytes.ensures refused)
+    let refused = subst (ReadsVariant s.line.dialect (plain s.line.model) values c.bytes.result.now) (c.in-Err-Fault.is ∙ ap (λ x. Err x) c.in-Err-Fault.field-0-is) c.variant_text.ensures in
+    c.variants_are_projections.ensures.accepted s.line.dialect s.line.model s.line.text s.line.family fault c.requires.line.spelled (subst (λ bytes. IsFaulty s.line.dialect (plain s.line.model) bytes fault) c.bytes.ensures refused)
