@@ -1,5 +1,5 @@
 int mask;
 int main(void)
 {
-    mask = 0xFF;
+    mask = 0xFFFFFFFF;
 }

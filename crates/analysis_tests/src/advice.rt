@@ -1,6 +1,7 @@
 //! What models leave open, with ample memory.
 
 use configuration_advice::{uses, uses_text};
+use fam_outer::Unknown;
 use feature_model::read_model;
 use std::alloc::Global;
 use std::process::Abort;
@@ -8,7 +9,7 @@ use std::test::Fail;
 
 /// The uses of the features of a model, as a text.
 fn shows(rt: &impl Abort, alloc: Global, model: &str, text: &str) -> Result<(), Fail> {
-    match read_model(alloc, model.as_bytes()) {
+    match read_model(alloc, Unknown::Zero, model.as_bytes()) {
         Ok(model) => {
             let made = uses(alloc, &model)?;
             let shown = uses_text(alloc, model.features.items(), &made)?;

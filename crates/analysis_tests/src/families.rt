@@ -34,7 +34,7 @@ fn less(alloc: Global, x: u32, n: i64) -> Result<Expr, NoMemory>
 }
 
 /// A list of one statement.
-fn one(alloc: Global, s: Stmt) -> Result<Vec<Stmt>, NoMemory>
+pub(crate) fn one(alloc: Global, s: Stmt) -> Result<Vec<Stmt>, NoMemory>
     ensures { IfOk result (λ made. made.items ≡ s ∷ []) }
 {
     let mut list = Vec::new(alloc);
@@ -105,7 +105,7 @@ fn section(alloc: Global, number: u32, yes: Vec<Stmt>, no: Vec<Stmt>) -> Result<
 
 /// A list and then another.
 #[tactic(auto, using(crate::proofs::Lists::code_append))]
-fn both(mut first: Vec<Stmt>, second: Vec<Stmt>) -> Result<Vec<Stmt>, NoMemory>
+pub(crate) fn both(mut first: Vec<Stmt>, second: Vec<Stmt>) -> Result<Vec<Stmt>, NoMemory>
     ensures { IfOk result (λ made. code made.items ≡ followed (code first.items) (code second.items)) }
 {
     let mut rest = second;

@@ -24,6 +24,10 @@ mod steps;
 #[cfg(test)]
 mod stride_programs;
 #[cfg(test)]
+mod threshold_pairs;
+#[cfg(test)]
+mod threshold_programs;
+#[cfg(test)]
 mod tree_formulas;
 #[cfg(test)]
 mod unifying;

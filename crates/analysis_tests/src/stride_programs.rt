@@ -15,7 +15,7 @@ use std::alloc::Global;
 use std::test::Fail;
 
 /// `while (x < 10) x = x + STEP;` in line 3, and `assert(x == WANTED);` in line 4.
-fn counting(alloc: Global, step: i64, wanted: i64) -> Result<Program, NoMemory>
+pub(crate) fn counting(alloc: Global, step: i64, wanted: i64) -> Result<Program, NoMemory>
     requires step { IsInt step }
     requires step_positive { pos 0 ≤ℤ step }
     requires wanted { IsInt wanted }

@@ -9,7 +9,7 @@ use cpp_conditions::{
     Condition, ConditionRefusal, Conditions, Features, Formula, Model, add_atoms, distinct_atoms,
     formulas, is_valid, number, read_condition,
 };
-use fam_outer::{ConditionFault, MOST_VALUE, Text, Values};
+use fam_outer::{ConditionFault, MOST_VALUE, Text, Unknown, Values};
 use linear_atoms::{Atom, Config, Feature, Linear, Literal, Normal};
 use std::alloc::Global;
 use std::test::Fail;
@@ -70,7 +70,7 @@ fn two_conditions(alloc: Global) -> Result<Vec<Condition>, Fail> {
     let features = both_features(alloc)?;
     let mut list = Vec::new(alloc);
     for bytes in [b"N >= 3 || A".as_slice(), b"N < 1 && A".as_slice()] {
-        match read_condition(alloc, features.items(), bytes) {
+        match read_condition(alloc, Unknown::Zero, features.items(), bytes) {
             Ok(condition) => list.push(condition)?,
             Err(_) => return Err("a condition is wanted")?,
         }
@@ -187,9 +187,9 @@ fn truths(alloc: Global, condition: &Condition, switch: i64) -> Result<u8, Fail>
     Ok(bits)
 }
 
-fn read(alloc: Global, bytes: &[u8]) -> Result<Answer, Fail> {
+fn read(alloc: Global, unknown: Unknown, bytes: &[u8]) -> Result<Answer, Fail> {
     let features = both_features(alloc)?;
-    match read_condition(alloc, features.items(), bytes) {
+    match read_condition(alloc, unknown, features.items(), bytes) {
         Ok(condition) => {
             let off = truths(alloc, &condition, 0)?;
             let on = truths(alloc, &condition, 1)?;
@@ -225,7 +225,66 @@ fn conditions_are_read(rt: HostRuntime) -> Result<(), Fail> {
         (b"\tN\r+ A*8 > +7\x0b\x0c", 0, 255),
     ];
     for (bytes, off, on) in cases {
-        assert_eq!(rt; read(alloc, bytes)?, Answer::Truths(off, on));
+        assert_eq!(rt; read(alloc, Unknown::Zero, bytes)?, Answer::Truths(off, on));
+    }
+    Ok(())
+}
+
+#[test]
+fn integer_constants_are_read(rt: HostRuntime) -> Result<(), Fail> {
+    let alloc = rt.alloc();
+    let cases: [(&[u8], u8); 15] = [
+        (b"N == 0x5", 0b0010_0000),
+        (b"N == 0X5", 0b0010_0000),
+        (b"N == 07", 0b1000_0000),
+        (b"N == 00", 0b0000_0001),
+        (b"N == 5L", 0b0010_0000),
+        (b"N == 5l", 0b0010_0000),
+        (b"N == 5LL", 0b0010_0000),
+        (b"N == 0x5ll", 0b0010_0000),
+        (b"N > 01L", 0b1111_1100),
+        (b"N < 0x80000000", 255),
+        (b"N > -020000000000", 255),
+        (b"N + 0xe == 0xF", 0b0000_0010),
+        (b"N == 0x1F-0x1A", 0b0010_0000),
+        (b"N == 0xE -012", 0b0001_0000),
+        (b"N + 0x1EL+1 == 0x23", 0b0001_0000),
+    ];
+    for (bytes, both) in cases {
+        assert_eq!(rt;
+            read(alloc, Unknown::Zero, bytes)?,
+            Answer::Truths(both, both)
+        );
+    }
+    Ok(())
+}
+
+#[test]
+fn integer_constants_are_refused(rt: HostRuntime) -> Result<(), Fail> {
+    let alloc = rt.alloc();
+    let cases: [(&[u8], ConditionFault); 19] = [
+        (b"5u", ConditionFault::Syntax),
+        (b"5U", ConditionFault::Syntax),
+        (b"5uL", ConditionFault::Syntax),
+        (b"5LU", ConditionFault::Syntax),
+        (b"5lL", ConditionFault::Syntax),
+        (b"5Ll", ConditionFault::Syntax),
+        (b"5LLL", ConditionFault::Syntax),
+        (b"5L5", ConditionFault::Syntax),
+        (b"08L", ConditionFault::Syntax),
+        (b"0x", ConditionFault::Syntax),
+        (b"0xL", ConditionFault::Syntax),
+        (b"0xg", ConditionFault::Syntax),
+        (b"0x1E+1", ConditionFault::Syntax),
+        (b"0x1e-1", ConditionFault::Syntax),
+        (b"'a'", ConditionFault::Syntax),
+        (b"N > 0x80000001", ConditionFault::TooLarge),
+        (b"N > 020000000001", ConditionFault::TooLarge),
+        (b"N > 2147483649L", ConditionFault::TooLarge),
+        (b"N > 0xffffffffffffffffffff", ConditionFault::TooLarge),
+    ];
+    for (bytes, fault) in cases {
+        assert_eq!(rt; read(alloc, Unknown::Zero, bytes)?, Answer::Fault(fault));
     }
     Ok(())
 }
@@ -234,10 +293,10 @@ fn conditions_are_read(rt: HostRuntime) -> Result<(), Fail> {
 fn conditions_have_normal_forms(rt: HostRuntime) -> Result<(), Fail> {
     let alloc = rt.alloc();
     let features = both_features(alloc)?;
-    let decided = read_condition(alloc, features.items(), b"N >= 8");
+    let decided = read_condition(alloc, Unknown::Zero, features.items(), b"N >= 8");
     assert!(rt; matches!(decided, Ok(Condition::Const(false))));
     let least = at_least(alloc, 0, -3)?;
-    match read_condition(alloc, features.items(), b"3 - N > 0") {
+    match read_condition(alloc, Unknown::Zero, features.items(), b"3 - N > 0") {
         Ok(Condition::Not(inner)) => match &*inner {
             Condition::Test(atom) => assert!(rt; *atom == least),
             _ => panic!(rt; "no test"),
@@ -287,7 +346,47 @@ fn conditions_are_refused(rt: HostRuntime) -> Result<(), Fail> {
         (b"N * 65536 * 65536", ConditionFault::TooLarge),
     ];
     for (bytes, fault) in cases {
-        assert_eq!(rt; read(alloc, bytes)?, Answer::Fault(fault));
+        assert_eq!(rt; read(alloc, Unknown::Zero, bytes)?, Answer::Fault(fault));
+    }
+    Ok(())
+}
+
+#[test]
+fn unknown_names_are_refused_or_0(rt: HostRuntime) -> Result<(), Fail> {
+    let alloc = rt.alloc();
+    let known = Answer::Truths(0, 252);
+    let unknown = Answer::Fault(ConditionFault::UnknownName);
+    let cases: [(&[u8], Answer, Answer); 10] = [
+        (b"N > 1 && defined A", known, known),
+        (b"X", unknown, Answer::Truths(0, 0)),
+        (b"defined X", unknown, Answer::Truths(0, 0)),
+        (b"!defined(X) || N", unknown, Answer::Truths(255, 255)),
+        (b"A && (N > 1 + X)", unknown, known),
+        (
+            b"X + (A && A)",
+            unknown,
+            Answer::Fault(ConditionFault::NonLinear),
+        ),
+        (
+            b"X && N > 2147483649",
+            unknown,
+            Answer::Fault(ConditionFault::TooLarge),
+        ),
+        (
+            b"X && __N",
+            Answer::Fault(ConditionFault::ReservedName),
+            Answer::Fault(ConditionFault::ReservedName),
+        ),
+        (
+            b"X &&",
+            Answer::Fault(ConditionFault::Syntax),
+            Answer::Fault(ConditionFault::Syntax),
+        ),
+        (b"n > 1 && A", unknown, Answer::Truths(0, 0)),
+    ];
+    for (bytes, refused, zero) in cases {
+        assert_eq!(rt; read(alloc, Unknown::Refuse, bytes)?, refused);
+        assert_eq!(rt; read(alloc, Unknown::Zero, bytes)?, zero);
     }
     Ok(())
 }

@@ -5,7 +5,7 @@ ghost use Rattle.cpp_conditions.specs.Naming.{AreFeatures};
 ghost use Rattle.cpp_conditions.specs.Validity.{AreFit};
 
 use cpp_conditions::{Condition, Model};
-use fam_outer::ConditionFault;
+use fam_outer::{ConditionFault, Unknown};
 use feature_model::{
     ConfigFault, ConfigRefusal, ModelFault, ModelRefusal, read_config, read_model,
 };
@@ -13,8 +13,8 @@ use std::alloc::Global;
 use std::test::Fail;
 
 /// The fault of bytes, or None where they are a model.
-fn fault(alloc: Global, bytes: &[u8]) -> Result<Option<ModelFault>, Fail> {
-    match read_model(alloc, bytes) {
+fn fault(alloc: Global, unknown: Unknown, bytes: &[u8]) -> Result<Option<ModelFault>, Fail> {
+    match read_model(alloc, unknown, bytes) {
         Ok(_) => Ok(None),
         Err(ModelRefusal::Fault(fault)) => Ok(Some(fault)),
         Err(ModelRefusal::NoMemory) => Err("want of memory")?,
@@ -26,7 +26,7 @@ fn model(alloc: Global, bytes: &[u8]) -> Result<Model, Fail>
     ensures features { IfOk result (λ made. AreFeatures made.features) }
     ensures fit { IfOk result (λ made. AreFit (length made.features) made.constraints) }
 {
-    match read_model(alloc, bytes) {
+    match read_model(alloc, Unknown::Zero, bytes) {
         Ok(model) => Ok(model),
         Err(_) => Err("no model")?,
     }
@@ -134,7 +134,7 @@ fn models_are_refused(rt: HostRuntime) -> Result<(), Fail> {
         ),
     ];
     for (bytes, expected) in cases {
-        assert_eq!(rt; fault(alloc, bytes)?, Some(expected));
+        assert_eq!(rt; fault(alloc, Unknown::Zero, bytes)?, Some(expected));
     }
     Ok(())
 }
@@ -178,12 +178,18 @@ fn repeated(
 fn long_and_deep_models_are_refused(rt: HostRuntime) -> Result<(), Fail> {
     let alloc = rt.alloc();
     let spaces = repeated(alloc, "", " ", 65_522, "{\"features\":[]}")?;
-    assert_eq!(rt; fault(alloc, spaces.as_bytes())?, Some(ModelFault::TooLong));
+    assert_eq!(rt;
+        fault(alloc, Unknown::Zero, spaces.as_bytes())?,
+        Some(ModelFault::TooLong)
+    );
     let spaces = repeated(alloc, "", " ", 65_521, "{\"features\":[]}")?;
-    assert_eq!(rt; fault(alloc, spaces.as_bytes())?, None);
+    assert_eq!(rt; fault(alloc, Unknown::Zero, spaces.as_bytes())?, None);
     let open = repeated(alloc, "", "[", 200, "")?;
     let deep = repeated(alloc, open.as_str(), "]", 200, "")?;
-    assert_eq!(rt; fault(alloc, deep.as_bytes())?, Some(ModelFault::Json));
+    assert_eq!(rt;
+        fault(alloc, Unknown::Zero, deep.as_bytes())?,
+        Some(ModelFault::Json)
+    );
     Ok(())
 }
 
@@ -227,7 +233,7 @@ fn models_have_limits(rt: HostRuntime) -> Result<(), Fail> {
         (tests(alloc, 256, 1)?, Some(ModelFault::TooMany)),
     ];
     for (text, expected) in &cases {
-        assert_eq!(rt; fault(alloc, text.as_bytes())?, *expected);
+        assert_eq!(rt; fault(alloc, Unknown::Zero, text.as_bytes())?, *expected);
     }
     Ok(())
 }
@@ -276,7 +282,7 @@ fn wide_models_are_judged_by_bounds(rt: HostRuntime) -> Result<(), Fail> {
     ];
     for (constraints, expected) in cases {
         let text = wide(alloc, constraints)?;
-        assert_eq!(rt; fault(alloc, text.as_bytes())?, expected);
+        assert_eq!(rt; fault(alloc, Unknown::Zero, text.as_bytes())?, expected);
     }
     Ok(())
 }
@@ -359,5 +365,18 @@ fn settings_are_refused(rt: HostRuntime) -> Result<(), Fail> {
     for (words, fault) in cases {
         assert_eq!(rt; configured(alloc, &model, words)?, Err(fault));
     }
+    Ok(())
+}
+
+#[test]
+fn unknown_names_refuse_constraints(rt: HostRuntime) -> Result<(), Fail> {
+    let alloc = rt.alloc();
+    let model = b"{\"features\":[{\"name\":\"A\"}],\"constraints\":[\"A||!A\",\"defined(B)\"]}";
+    let refused = ModelFault::Constraint(2, ConditionFault::UnknownName);
+    assert_eq!(rt; fault(alloc, Unknown::Refuse, model)?, Some(refused));
+    assert_eq!(rt; fault(alloc, Unknown::Zero, model)?, Some(ModelFault::Void));
+    let model = b"{\"features\":[{\"name\":\"A\"}],\"constraints\":[\"A||!A\",\"!defined(B)\"]}";
+    assert_eq!(rt; fault(alloc, Unknown::Refuse, model)?, Some(refused));
+    assert_eq!(rt; fault(alloc, Unknown::Zero, model)?, None);
     Ok(())
 }

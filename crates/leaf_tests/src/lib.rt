@@ -3,13 +3,21 @@
 #![tactic(auto)]
 
 #[cfg(test)]
+mod best;
+#[cfg(test)]
 mod intervals;
+#[cfg(test)]
+mod models;
+#[cfg(test)]
+mod numbers;
 #[cfg(test)]
 mod octagons;
 #[cfg(test)]
 mod operations;
 #[cfg(test)]
 mod pairs;
+#[cfg(test)]
+mod random_chains;
 #[cfg(test)]
 mod ranges;
 #[cfg(test)]

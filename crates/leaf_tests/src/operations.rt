@@ -1,14 +1,19 @@
 //! The operations on one leaf, each as a test of it: whether the answer holds every store that it must.
 
+ghost use Rattle.leaf_domain.specs.Ranges.{IsInInt};
+
+use crate::best::is_best_over;
+use crate::models::Template;
 use crate::small::{Sum, form_of, value};
 use crate::stores::{NUMBERS, Store, are_among, between, held_by, holds_all, met, replaced};
 use fam_outer::NoMemory;
 use leaf_domain::{Compare, Leaf, Range};
 use std::alloc::Global;
 
-/// A leaf, and the small stores that it holds.
+/// A leaf of a kind, and the small stores that it holds.
 #[derive(Drop)]
 pub(crate) struct Small<'a, L> {
+    pub template: Template,
     pub leaf: &'a L,
     pub held: &'a [Store],
 }
@@ -72,11 +77,7 @@ pub(crate) fn form_range_holds<L: Leaf>(
     let Some(range) = best.form_range(&form) else {
         return Ok(!is_reached);
     };
-    let mut values = Range::EMPTY;
-    for store in small.held {
-        let n = value(sum, *store);
-        values = values.hull(Range { low: n, high: n });
-    }
+    let values = values_of(small.held, sum);
     Ok(if is_reached {
         range == values
     } else {
@@ -96,7 +97,8 @@ fn is_so(op: Compare, n: i64) -> bool {
     }
 }
 
-/// The stores at which the comparison of a sum with 0 holds are held behind its meet, and none but the leaf's own.
+/// The stores at which the comparison of a sum with 0 holds are held behind its meet, and none but the leaf's own. Where the kind
+/// meets the sum exactly, the meet is the best leaf over these stores, and holds no other.
 pub(crate) fn meet_form_holds<L: Leaf>(
     alloc: Global,
     small: &Small<L>,
@@ -115,10 +117,16 @@ pub(crate) fn meet_form_holds<L: Leaf>(
         }
     }
     let kept = held_by(alloc, &met)?;
+    if small.template.has_sum(sum) && op != Compare::Ne {
+        return Ok(
+            kept.as_slice() == wanted.as_slice()
+                && is_best_over(alloc, small.template, &met, &wanted)?,
+        );
+    }
     Ok(are_among(&wanted, &kept) && are_among(&kept, small.held))
 }
 
-/// The stores at which a variable lies in a range are exactly those behind its meet.
+/// The stores at which a variable lies in a range are exactly those behind its meet, which is the best leaf over them.
 pub(crate) fn meet_range_is_exact<L: Leaf>(
     alloc: Global,
     small: &Small<L>,
@@ -135,11 +143,12 @@ pub(crate) fn meet_range_is_exact<L: Leaf>(
         }
     }
     let kept = held_by(alloc, &met)?;
-    Ok(kept.as_slice() == wanted.as_slice())
+    Ok(kept.as_slice() == wanted.as_slice() && is_best_over(alloc, small.template, &met, &wanted)?)
 }
 
-/// Each store with a variable's number replaced by any small number of a range is held behind the replacement.
-pub(crate) fn set_range_holds<L: Leaf>(
+/// The stores with a variable's number replaced by any small number of a range are exactly those behind the replacement, which is
+/// the best leaf over them.
+pub(crate) fn set_range_is_exact<L: Leaf>(
     alloc: Global,
     small: &Small<L>,
     x: u32,
@@ -156,24 +165,54 @@ pub(crate) fn set_range_holds<L: Leaf>(
         }
     }
     let kept = held_by(alloc, &set)?;
-    Ok(are_among(&wanted, &kept))
+    Ok(
+        are_among(&wanted, &kept)
+            && are_among(&kept, &wanted)
+            && is_best_over(alloc, small.template, &set, &wanted)?,
+    )
 }
 
-/// Each store with a variable's number replaced by the value of a sum is held behind the assignment.
+/// Each store at which a sum lies in a range, with a variable's number replaced by the value of the sum, is held behind the
+/// assignment. Where that is asked, the assignment is the best leaf over these stores; an octagon then holds no other.
 pub(crate) fn set_form_holds<L: Leaf>(
     alloc: Global,
     small: &Small<L>,
     x: u32,
     sum: Sum,
-) -> Result<bool, NoMemory> {
+    r: Range,
+    is_best: bool,
+) -> Result<bool, NoMemory>
+    requires { IsInInt r }
+{
     let form = form_of(alloc, sum)?;
     if x >= 2 || small.leaf.variables() != 2 {
         return Ok(false);
     }
-    let set = small.leaf.set_form(alloc, x, &form, between(-100, 100))?;
+    let set = small.leaf.set_form(alloc, x, &form, r)?;
     let mut wanted = Vec::new(alloc);
     for store in small.held {
-        wanted.push(with_number(*store, x, value(sum, *store)))?;
+        let n = value(sum, *store);
+        if r.low <= n && n <= r.high {
+            wanted.push(with_number(*store, x, n))?;
+        }
     }
-    holds_all(alloc, &set, &wanted)
+    if !is_best {
+        return holds_all(alloc, &set, &wanted);
+    }
+    let is_exact = small.template == Template::Octagons;
+    Ok(
+        holds_all(alloc, &set, &wanted)?
+            && (!is_exact || are_among(&held_by(alloc, &set)?, &wanted))
+            && is_best_over(alloc, small.template, &set, &wanted)?,
+    )
+}
+
+/// The least range of a sum's values.
+pub(crate) fn values_of(held: &[Store], sum: Sum) -> Range {
+    let mut values = Range::EMPTY;
+    for store in held {
+        let n = value(sum, *store);
+        values = values.hull(Range { low: n, high: n });
+    }
+    values
 }

@@ -78,10 +78,10 @@ pub(crate) fn joined<L: Leaf>(alloc: Global, a: &L, b: &L) -> Result<L, NoMemory
 }
 
 /// The join of single stores.
-fn join_of<L: Leaf>(alloc: Global, stores: [(i64, i64); 3]) -> Result<L, NoMemory> {
+pub(crate) fn join_of<L: Leaf>(alloc: Global, stores: &[Store]) -> Result<L, NoMemory> {
     let mut leaf = L::nothing(alloc, 2)?;
-    for (x, y) in stores {
-        let single = boxed(alloc, (x, x, y, y))?;
+    for store in stores {
+        let single = boxed(alloc, (store.x, store.x, store.y, store.y))?;
         leaf = joined(alloc, &leaf, &single)?;
     }
     Ok(leaf)
@@ -116,6 +116,15 @@ fn add_boxes<L: Leaf>(alloc: Global, leaves: &mut Vec<L>) -> Result<(), NoMemory
     Ok(())
 }
 
+/// The stores with these numbers of both variables.
+fn stores_at(alloc: Global, points: [(i64, i64); 3]) -> Result<Vec<Store>, NoMemory> {
+    let mut stores = Vec::new(alloc);
+    for (x, y) in points {
+        stores.push(Store { x, y })?;
+    }
+    Ok(stores)
+}
+
 /// The stores of some joins, as numbers of both variables.
 const POINTS: [[(i64, i64); 3]; 5] = [
     [(0, 0), (2, 2), (4, 4)],
@@ -129,8 +138,9 @@ const POINTS: [[(i64, i64); 3]; 5] = [
 pub(crate) fn small_leaves<L: Leaf>(alloc: Global) -> Result<Vec<L>, NoMemory> {
     let mut leaves = Vec::new(alloc);
     add_boxes(alloc, &mut leaves)?;
-    for stores in POINTS {
-        leaves.push(join_of(alloc, stores)?)?;
+    for points in POINTS {
+        let stores = stores_at(alloc, points)?;
+        leaves.push(join_of(alloc, stores.as_slice())?)?;
     }
     Ok(leaves)
 }

@@ -1,12 +1,13 @@
 //! All operations of a kind of leaf over all small leaves.
 
+use crate::models::Template;
 use crate::operations::{
     Small, bounds_are_reached, form_range_holds, is_same_by_best, meet_form_holds,
-    meet_range_is_exact, set_form_holds, set_range_holds,
+    meet_range_is_exact, set_form_holds, set_range_is_exact, values_of,
 };
 use crate::pairs::{both_are_held, common_are_kept, order_is_seen};
 use crate::small::{Sum, small_leaves};
-use crate::stores::held_by;
+use crate::stores::{between, held_by};
 use fam_outer::NoMemory;
 use interval_leaf::IntervalLeaf;
 use leaf_domain::{Compare, Leaf, Thresholds};
@@ -15,17 +16,17 @@ use product_leaf::StrideLeaf;
 use std::alloc::Global;
 use std::test::Fail;
 
-/// Sums, and whether an octagon has the best range of each.
-const SUMS: [(i8, i8, i8, bool); 9] = [
-    (0, 0, 3, true),
-    (1, 0, 0, true),
-    (0, -1, 2, true),
-    (1, -1, 0, true),
-    (1, 1, -1, true),
-    (-1, -1, 3, true),
-    (-1, 1, -2, true),
-    (2, 1, 0, false),
-    (3, -2, 1, false),
+/// Sums of both variables and of a constant.
+const SUMS: [(i8, i8, i8); 9] = [
+    (0, 0, 3),
+    (1, 0, 0),
+    (0, -1, 2),
+    (1, -1, 0),
+    (1, 1, -1),
+    (-1, -1, 3),
+    (-1, 1, -2),
+    (2, 1, 0),
+    (3, -2, 1),
 ];
 
 const COMPARES: [Compare; 6] = [
@@ -39,13 +40,25 @@ const COMPARES: [Compare; 6] = [
 
 const RANGES: [(i64, i64); 4] = [(-4, 4), (0, 2), (-1, -1), (3, 2)];
 
+/// A variable is put as a sum: where the sum may have any value, where just its values are given, and where only some of them are.
+fn sets_pass<L: Leaf>(alloc: Global, small: &Small<L>, x: u32, sum: Sum) -> Result<bool, NoMemory> {
+    let is_exact = small.template == Template::Octagons && small.template.sets_sum(sum);
+    let values = values_of(small.held, sum);
+    let values = between(values.low, values.high);
+    Ok(
+        set_form_holds(alloc, small, x, sum, between(-100, 100), is_exact)?
+            && set_form_holds(alloc, small, x, sum, values, small.template.sets_sum(sum))?
+            && set_form_holds(alloc, small, x, sum, between(-1, 2), is_exact)?,
+    )
+}
+
 /// The operations that take a sum.
-fn sums_pass<L: Leaf>(alloc: Global, small: &Small<L>, is_octagon: bool) -> Result<bool, NoMemory> {
-    for (x, y, constant, is_best) in SUMS {
+fn sums_pass<L: Leaf>(alloc: Global, small: &Small<L>) -> Result<bool, NoMemory> {
+    for (x, y, constant) in SUMS {
         let sum = Sum { x, y, constant };
-        if !(form_range_holds(alloc, small, sum, is_octagon && is_best)?
-            && set_form_holds(alloc, small, 0, sum)?
-            && set_form_holds(alloc, small, 1, sum)?)
+        if !(form_range_holds(alloc, small, sum, small.template.has_sum(sum))?
+            && sets_pass(alloc, small, 0, sum)?
+            && sets_pass(alloc, small, 1, sum)?)
         {
             return Ok(false);
         }
@@ -63,7 +76,7 @@ fn ranges_pass<L: Leaf>(alloc: Global, small: &Small<L>) -> Result<bool, NoMemor
     for (low, high) in RANGES {
         for x in [0, 1] {
             if !(meet_range_is_exact(alloc, small, x, low, high)?
-                && set_range_holds(alloc, small, x, low, high)?)
+                && set_range_is_exact(alloc, small, x, low, high)?)
             {
                 return Ok(false);
             }
@@ -73,27 +86,33 @@ fn ranges_pass<L: Leaf>(alloc: Global, small: &Small<L>) -> Result<bool, NoMemor
 }
 
 /// The operations on one leaf.
-fn single_passes<L: Leaf>(alloc: Global, leaf: &L, is_octagon: bool) -> Result<bool, NoMemory> {
+fn single_passes<L: Leaf>(alloc: Global, leaf: &L, template: Template) -> Result<bool, NoMemory> {
     let held = held_by(alloc, leaf)?;
-    let small = Small { leaf, held: &held };
+    let small = Small {
+        template,
+        leaf,
+        held: &held,
+    };
     Ok(
         is_same_by_best(alloc, &small)?
             && bounds_are_reached(alloc, &small, 0)?
             && bounds_are_reached(alloc, &small, 1)?
             && ranges_pass(alloc, &small)?
-            && sums_pass(alloc, &small, is_octagon)?,
+            && sums_pass(alloc, &small)?,
     )
 }
 
 /// The operations on two leaves, without thresholds and with some.
-fn pair_passes<L: Leaf>(alloc: Global, a: &L, b: &L) -> Result<bool, NoMemory> {
+fn pair_passes<L: Leaf>(alloc: Global, template: Template, a: &L, b: &L) -> Result<bool, NoMemory> {
     let held = held_by(alloc, a)?;
     let other = held_by(alloc, b)?;
     let a = Small {
+        template,
         leaf: a,
         held: &held,
     };
     let b = Small {
+        template,
         leaf: b,
         held: &other,
     };
@@ -109,14 +128,14 @@ fn pair_passes<L: Leaf>(alloc: Global, a: &L, b: &L) -> Result<bool, NoMemory> {
 }
 
 /// Everything, over all small leaves of a kind.
-fn all_pass<L: Leaf>(alloc: Global, is_octagon: bool) -> Result<bool, NoMemory> {
+fn all_pass<L: Leaf>(alloc: Global, template: Template) -> Result<bool, NoMemory> {
     let leaves: Vec<L> = small_leaves(alloc)?;
     for a in &leaves {
-        if !single_passes(alloc, a, is_octagon)? {
+        if !single_passes(alloc, a, template)? {
             return Ok(false);
         }
         for b in &leaves {
-            if !pair_passes(alloc, a, b)? {
+            if !pair_passes(alloc, template, a, b)? {
                 return Ok(false);
             }
         }
@@ -126,18 +145,18 @@ fn all_pass<L: Leaf>(alloc: Global, is_octagon: bool) -> Result<bool, NoMemory> 
 
 #[test]
 fn intervals_hold_what_they_must(rt: HostRuntime) -> Result<(), Fail> {
-    assert!(rt; all_pass::<IntervalLeaf>(rt.alloc(), false)?);
+    assert!(rt; all_pass::<IntervalLeaf>(rt.alloc(), Template::Intervals)?);
     Ok(())
 }
 
 #[test]
 fn strides_hold_what_they_must(rt: HostRuntime) -> Result<(), Fail> {
-    assert!(rt; all_pass::<StrideLeaf>(rt.alloc(), false)?);
+    assert!(rt; all_pass::<StrideLeaf>(rt.alloc(), Template::Strides)?);
     Ok(())
 }
 
 #[test]
 fn octagons_hold_what_they_must(rt: HostRuntime) -> Result<(), Fail> {
-    assert!(rt; all_pass::<OctagonLeaf>(rt.alloc(), true)?);
+    assert!(rt; all_pass::<OctagonLeaf>(rt.alloc(), Template::Octagons)?);
     Ok(())
 }

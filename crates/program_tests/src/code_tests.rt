@@ -69,7 +69,7 @@ fn codes_of_files_without_groups(rt: HostRuntime) -> Result<(), Fail> {
             "file: F10 at 2:8\n",
         ),
         (
-            "int mask;\nint main(void) {\nmask = 0xFF;\n}\n",
+            "int mask;\nint main(void) {\nmask = 0xFFFFFFFF;\n}\n",
             "file: F11 at 3:8\n",
         ),
         ("int main(void) {\nfor (;;) ;\n}\n", "file: F12 at 2:1\n"),

@@ -1,10 +1,18 @@
 //! The example files, and the words of commands on them with what is expected, as `examples/to_tests.sh` writes them.
 
 /// Each file under its path.
-pub(crate) const FILES: [(&str, &str); 60] = [
+pub(crate) const FILES: [(&str, &str); 65] = [
     (
         "assertion.c",
         "int level = 900;\nint limit = 1000;\nint main(void)\n{\n    level = level - limit;\n    assert(level > 0 - 200);\n    assert(level >= 0);\n    level = 0;\n}\n",
+    ),
+    (
+        "digits.c",
+        "/* Counts the digits of a line, and stops at 16 of them. */\nint byte, digits, hexadecimal;\n\nstatic int most = 0x10;\n\nint main(void)\n{\n    byte = input();\n    while (byte != '\\n' && digits < most) {\n        if (byte >= '0' && byte <= '9')\n            digits++;\n        else if (byte >= 'a' && byte <= '\\x66')\n            hexadecimal = 1;\n        byte = input();\n    }\n    assert(digits <= 020);\n    assert(hexadecimal >= '\\0');\n}\n",
+    ),
+    (
+        "includes.c",
+        "#include <assert.h>\n#include <stdint.h>\n#include \"board.h\"\n\nint level;\n\nint main(void)\n{\n    level = level + 1;\n    assert(level == 1);\n}\n",
     ),
     (
         "logger.c",
@@ -27,6 +35,10 @@ pub(crate) const FILES: [(&str, &str); 60] = [
         "int width = 640;\nint height = -480;\nint margin;\nint main()\n{\n    margin = width + height - 100;\n    assert(margin == 60);\n    assert(margin <= width);\n}\n",
     ),
     (
+        "ramp.c",
+        "/* The ramp of a stepper motor, in words that such code has: int32_t, and the short forms of assignments. */\n#include <assert.h>\n\nstatic int32_t phase;\nstatic int32_t speed = 1;\nsigned int steps;\n\nint main(void) {\n    steps = input();\n    if (steps < 0 || steps > 1000) steps = 1000;\n    while (steps > 0) {\n        --steps;\n        if (speed < 400) speed *= 2; else speed /= 2;\n        ++phase;\n        phase %= 4;\n        assert(phase >= 0 && phase < 4);\n        assert(speed > 0);\n    }\n    return 0;\n}\n",
+    ),
+    (
         "sensor.c",
         "#include <assert.h>\n/* A counter, and a sensor whose value is\n   brought within 0 to 100. */\nextern int input(void);\n\nint count;\nint load;\n\nint main(void)\n{\n    load = input();\n    if (load < 0 || load > 100)\n        load = 0;\n    while (count < 10)\n        count++;\n    assert(count == 10); // narrowing gives 10\n    load = 1000 / load;\n    return 0;\n}\n",
     ),
@@ -40,7 +52,7 @@ pub(crate) const FILES: [(&str, &str); 60] = [
     ),
     (
         "F11.c",
-        "int mask;\nint main(void)\n{\n    mask = 0xFF;\n}\n",
+        "int mask;\nint main(void)\n{\n    mask = 0xFFFFFFFF;\n}\n",
     ),
     (
         "F12.c",
@@ -159,6 +171,10 @@ pub(crate) const FILES: [(&str, &str); 60] = [
         "int count;\nint main(void)\n{\n#if PIN == 1 || PIN == 3 || PIN == 5 || PIN == 7 || PIN == 9 || PIN == 11 || PIN == 13 || PIN == 15 || PIN == 17 || PIN == 19 || PIN == 21 || PIN == 23 || PIN == 25 || PIN == 27 || PIN == 29 || PIN == 31 || PIN == 33 || PIN == 35 || PIN == 37 || PIN == 39 || PIN == 41 || PIN == 43 || PIN == 45 || PIN == 47 || PIN == 49 || PIN == 51 || PIN == 53 || PIN == 55 || PIN == 57 || PIN == 59 || PIN == 61 || PIN == 63 || PIN == 65\n    count = 1;\n#endif\n}\n",
     ),
     (
+        "F8_C6.c",
+        "int count;\nint main(void)\n{\n#ifdef FATS\n    count = 1;\n#endif\n}\n",
+    ),
+    (
         "F9.c",
         "int odd;\nint main(void)\n{\n#if PIN == 1 || PIN == 3 || PIN == 5 || PIN == 7 || PIN == 9 || PIN == 11 || PIN == 13 || PIN == 15\n    odd = 1;\n#elif PIN == 17 || PIN == 19 || PIN == 21 || PIN == 23 || PIN == 25 || PIN == 27 || PIN == 29 || PIN == 31\n    odd = 1;\n#elif PIN == 33 || PIN == 35 || PIN == 37 || PIN == 39 || PIN == 41 || PIN == 43 || PIN == 45 || PIN == 47\n    odd = 1;\n#elif PIN == 49 || PIN == 51 || PIN == 53 || PIN == 55 || PIN == 57 || PIN == 59 || PIN == 61 || PIN == 63\n    odd = 1;\n#elif PIN > 64\n    odd = 2;\n#endif\n}\n",
     ),
@@ -193,7 +209,7 @@ pub(crate) const FILES: [(&str, &str); 60] = [
     ),
     (
         "M7_C1.json",
-        "{\"features\": [{\"name\": \"FAST\"}, {\"name\": \"SIZE\", \"min\": 1, \"max\": 16}],\n\"constraints\": [\"!FAST || SIZE >= 4\", \"SIZE > 0x10\"]}\n",
+        "{\"features\": [{\"name\": \"FAST\"}, {\"name\": \"SIZE\", \"min\": 1, \"max\": 16}],\n\"constraints\": [\"!FAST || SIZE >= 4\", \"SIZE > 16u\"]}\n",
     ),
     (
         "M7_C1_syntax.json",
@@ -214,6 +230,10 @@ pub(crate) const FILES: [(&str, &str); 60] = [
     (
         "M7_C5.json",
         "{\"features\": [{\"name\": \"PIN\", \"min\": 0, \"max\": 100}],\n\"constraints\": [\"PIN != 1 && PIN != 3 && PIN != 5 && PIN != 7 && PIN != 9 && PIN != 11 && PIN != 13 && PIN != 15 && PIN != 17 && PIN != 19 && PIN != 21 && PIN != 23 && PIN != 25 && PIN != 27 && PIN != 29 && PIN != 31 && PIN != 33 && PIN != 35 && PIN != 37 && PIN != 39 && PIN != 41 && PIN != 43 && PIN != 45 && PIN != 47 && PIN != 49 && PIN != 51 && PIN != 53 && PIN != 55 && PIN != 57 && PIN != 59 && PIN != 61 && PIN != 63 && PIN != 65\"]}\n",
+    ),
+    (
+        "M7_C6.json",
+        "{\"features\": [{\"name\": \"FAST\"}, {\"name\": \"SIZE\", \"min\": 1, \"max\": 16}],\n\"constraints\": [\"!FAST || SIZE >= 4\", \"!defined SIZ\"]}\n",
     ),
     (
         "M9.json",
@@ -239,14 +259,17 @@ pub(crate) const FILES: [(&str, &str); 60] = [
 ];
 
 /// The words of each command on a program without variants, with its output and then its line on the error stream.
-pub(crate) const PROGRAMS: [(&str, &str); 20] = [
+pub(crate) const PROGRAMS: [(&str, &str); 23] = [
     ("plain assertion.c", "7:5: assertion\nalarms: 1\n"),
+    ("plain digits.c", "alarms: 0\n"),
+    ("plain --includes=skip includes.c", "alarms: 0\n"),
     ("plain logger.c", "20:9: overflow\nalarms: 1\n"),
     ("plain logger_mended.c", "alarms: 0\n"),
     ("plain messages.c", "13:13: assertion\nalarms: 1\n"),
     ("plain --widening=thresholds messages.c", "alarms: 0\n"),
     ("plain overflow.c", "8:5: overflow\nalarms: 1\n"),
     ("plain quiet.c", "alarms: 0\n"),
+    ("plain ramp.c", "alarms: 0\n"),
     ("plain sensor.c", "17:5: zero-divisor\nalarms: 1\n"),
     ("plain F1.c", "file: F1 at 4:12\n"),
     ("plain F10.c", "file: F10 at 3:12\n"),
@@ -332,7 +355,7 @@ pub(crate) const FAMILIES: [(&str, &str); 17] = [
 ];
 
 /// Those on families that are refused.
-pub(crate) const REFUSED_FAMILIES: [(&str, &str); 38] = [
+pub(crate) const REFUSED_FAMILIES: [(&str, &str); 40] = [
     (
         "check buffer.json buffer.c E2.certificate",
         "certificate: E2\n",
@@ -365,6 +388,10 @@ pub(crate) const REFUSED_FAMILIES: [(&str, &str); 38] = [
     ("analyse buffer.json F8_C3.c", "file: F8 C3 at 4:1\n"),
     ("analyse buffer.json F8_C4.c", "file: F8 C4 at 4:1\n"),
     ("analyse pins.json F8_C5.c", "file: F8 C5 at 4:1\n"),
+    (
+        "analyse --unknown=refuse buffer.json F8_C6.c",
+        "file: F8 C6 at 4:1\n",
+    ),
     ("analyse pins.json F9.c", "file: F9 at 12:1\n"),
     (
         "variant buffer.json buffer.c SLOW",
@@ -420,6 +447,10 @@ pub(crate) const REFUSED_FAMILIES: [(&str, &str); 38] = [
     (
         "analyse M7_C5.json buffer.c",
         "model: M7 C5 at constraint 1\n",
+    ),
+    (
+        "analyse --unknown=refuse M7_C6.json buffer.c",
+        "model: M7 C6 at constraint 2\n",
     ),
     ("analyse M9.json buffer.c", "model: M9\n"),
 ];

@@ -13,7 +13,7 @@ const STATUS_8: &str =
     "Status 8: want of memory.\nOn the error stream: `want of memory`.\nWhat to do: more memory, or a smaller file.\n";
 
 const FEATURES: &str =
-    "famlint features MODEL\n\nWhat a model leaves open, over its valid configurations: whether a switch is\nfree, dead or always on, and the least and the greatest value of a number.\n\nExample: famlint features queue.json\n";
+    "famlint features MODEL\n\nWhat a model leaves open, over its valid configurations: whether a switch is\nfree, dead or always on, and the least and the greatest value of a number.\n\nExample: famlint features queue.json\n\nOptions, as --NAME=VALUE or --NAME VALUE, each at most once:\n  --unknown zero|refuse              what a name of a condition is that is no\n                                     feature: the number 0, or refused with C6;\n                                     without it zero\n";
 
 #[test]
 fn tells_texts(rt: HostRuntime) -> Result<(), Fail> {

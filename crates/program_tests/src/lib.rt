@@ -16,6 +16,8 @@ mod code_tests;
 #[cfg(test)]
 mod comparing;
 #[cfg(test)]
+mod dialect_tests;
+#[cfg(test)]
 mod example_files;
 #[cfg(test)]
 mod example_tests;

@@ -3,6 +3,7 @@ use Rattle.std.proofs.Common.{◌≡◌, ℕ, ◌<◌, true, false, List, [], �
 use Rattle.std.specs.Prelude.{codes, pos, nat_eq, ◌||◌}
 use Rattle.std.specs.List.{list_any}
 use Rattle.std.proofs.lemmas.Bool.{eqb-true}
+use Rattle.fam_outer.specs.declared.dialect.Includes.TheVariants.{Assert}
 use Rattle.fam_outer.specs.declared.faults.Place.{Place}
 use Rattle.fam_outer.specs.declared.faults.FileCode.{FileCode}
 use Rattle.cpp_lines.specs.Lines.{plain_lines_of}
@@ -30,7 +31,7 @@ listed_here = record {
       ∷ at (spot 18) (signs.Name 1) ∷ at (spot 19) signs.Equals ∷ at (spot 20) (signs.Number (pos 1)) ∷ at (spot 21) signs.Semicolon ∷ at (spot 22) signs.RightBrace ∷ [];
 }
 
-items_are : items_of given text ≡ Ok listed_here
+items_are : items_of Assert given text ≡ Ok listed_here
 unfolding items_of code_of_file plain_lines_of code_of first_fault tokens_of
 items_are = refl
 
@@ -47,5 +48,5 @@ below x h = elim (nat_eq x 1) as (λ b. nat_eq x 1 ≡ b → (b || false) ≡ tr
 ] refl h
 
 -- each name that the text declares is given
-pub among : DeclaresAmong given text
-among l is = subst (λ (m : Listed). AreAmong given m.items) (same listed_here l (items_of given text) items_are is) below
+pub among : DeclaresAmong Assert given text
+among l is = subst (λ (m : Listed). AreAmong given m.items) (same listed_here l (items_of Assert given text) items_are is) below

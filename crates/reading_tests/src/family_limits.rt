@@ -1,6 +1,6 @@
 //! The limits of a family, and a family that is cut short.
 
-use crate::family_reading::{MIXED, SWITCH, model, read, refuses, repeated};
+use crate::family_reading::{MIXED, SWITCH, model, read, refuses, repeated, usual};
 use c_parser::read_family;
 use fam_outer::{FileRefusal, Place};
 use std::alloc::Global;
@@ -203,7 +203,7 @@ fn cut_files_are_refused(rt: HostRuntime) -> Result<(), Fail> {
             Some((first, _)) => ("NoEndif", *first),
             None => ("Syntax", count + 1),
         };
-        match read_family(alloc, &model, file.as_bytes()) {
+        match read_family(alloc, usual(), &model, file.as_bytes()) {
             Err(FileRefusal::Fault { code, place }) => {
                 let shown = format!(in alloc; "{code:?}")?;
                 assert_eq!(rt; shown.as_str(), wanted);
@@ -213,6 +213,6 @@ fn cut_files_are_refused(rt: HostRuntime) -> Result<(), Fail> {
         }
     }
     let file = front(alloc, 40)?;
-    assert!(rt; read_family(alloc, &model, file.as_bytes()).is_ok());
+    assert!(rt; read_family(alloc, usual(), &model, file.as_bytes()).is_ok());
     Ok(())
 }

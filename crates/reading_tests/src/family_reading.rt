@@ -7,7 +7,7 @@ ghost use Rattle.cpp_conditions.specs.Validity.{plain, AreFit};
 
 use c_parser::{Family, read_family};
 use cpp_conditions::Model;
-use fam_outer::{FileRefusal, Place};
+use fam_outer::{Dialect, FileRefusal, Includes, Place, Unknown};
 use feature_model::read_model;
 use std::alloc::{AllocError, Global};
 use std::process::Abort;
@@ -23,13 +23,29 @@ pub(crate) const SWITCH: &str = "{\"features\":[{\"name\":\"A\"}]}";
 /// A number from 0 to 7.
 pub(crate) const NUMBER: &str = "{\"features\":[{\"name\":\"N\",\"min\":0,\"max\":7}]}";
 
+/// How names and includes are read without options.
+pub(crate) fn usual() -> Dialect {
+    Dialect {
+        unknown: Unknown::Zero,
+        includes: Includes::Assert,
+    }
+}
+
+/// The same, with any includes.
+pub(crate) fn skipping() -> Dialect {
+    Dialect {
+        unknown: Unknown::Zero,
+        includes: Includes::Skip,
+    }
+}
+
 /// The model of a text.
 pub(crate) fn model(alloc: Global, text: &str) -> Result<Model, Fail>
     ensures features { IfOk result (λ made. AreFeatures made.features) }
     ensures fit { IfOk result (λ made. AreFit (length made.features) made.constraints) }
     ensures few { IfOk result (λ made. HaveFewAtoms 64 (plain made).constraints) }
 {
-    match read_model(alloc, text.as_bytes()) {
+    match read_model(alloc, Unknown::Zero, text.as_bytes()) {
         Ok(model) => Ok(model),
         Err(_) => Err("no model")?,
     }
@@ -42,7 +58,7 @@ pub(crate) fn read(
     file: &[u8],
 ) -> Result<Result<Family, FileRefusal>, Fail> {
     let model = model(alloc, features)?;
-    Ok(read_family(alloc, &model, file))
+    Ok(read_family(alloc, usual(), &model, file))
 }
 
 /// A file over a model with this fault, at a line and a column.

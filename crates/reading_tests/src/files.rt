@@ -5,14 +5,19 @@ ghost use Rattle.std.specs.Prelude.{◌≡◌, IfOk, [], ◌∷◌};
 
 use c_parser::{read_plain, read_plain_with};
 use c_tree::Names;
-use fam_outer::{FileRefusal, NoMemory, Place, Text};
+use fam_outer::{FileRefusal, Includes, NoMemory, Place, Text};
 use std::alloc::{AllocError, Global};
 use std::process::Abort;
 use std::test::Fail;
 
 /// A file that is read as the program with this text.
-fn accepts(rt: &impl Abort, alloc: Global, file: &str, wanted: &str) -> Result<(), Fail> {
-    match read_plain(alloc, file.as_bytes()) {
+pub(crate) fn accepts(
+    rt: &impl Abort,
+    alloc: Global,
+    file: &str,
+    wanted: &str,
+) -> Result<(), Fail> {
+    match read_plain(alloc, Includes::Assert, file.as_bytes()) {
         Ok(program) => {
             let shown = format!(in alloc; "{program:?}")?;
             assert_eq!(rt; shown.as_str(), wanted);
@@ -23,7 +28,7 @@ fn accepts(rt: &impl Abort, alloc: Global, file: &str, wanted: &str) -> Result<(
 }
 
 /// A file that is refused, with the code's text and the place.
-fn refuses(
+pub(crate) fn refuses(
     rt: &impl Abort,
     alloc: Global,
     file: &[u8],
@@ -31,7 +36,7 @@ fn refuses(
     line: u32,
     column: u32,
 ) -> Result<(), Fail> {
-    match read_plain(alloc, file) {
+    match read_plain(alloc, Includes::Assert, file) {
         Err(FileRefusal::Fault { code, place }) => {
             let shown = format!(in alloc; "{code:?}")?;
             assert_eq!(rt; shown.as_str(), wanted);
@@ -43,7 +48,7 @@ fn refuses(
 }
 
 /// A file between these texts, with a text so many times between them.
-fn repeated(
+pub(crate) fn repeated(
     alloc: Global,
     front: &str,
     middle: &str,
@@ -167,6 +172,42 @@ fn refusals(rt: HostRuntime) -> Result<(), Fail> {
     Ok(())
 }
 
+/// Numbers of each form: 31, 15 and 65, and comments with quotes in them.
+#[test]
+fn numbers(rt: HostRuntime) -> Result<(), Fail> {
+    accepts(
+        &rt,
+        rt.alloc(),
+        "int x = 0x1F, y = -017; // it's\nint main(void) { x = '\\x41'; /* don't */ y = '/'; }",
+        "Program { names: Names { list: [Text { bytes: [120] }, Text { bytes: [121] }] }, start: Values { list: [31, -15] }, declared: Declarations { list: [] }, body: [Assign { place: Place { line: 2, column: 18 }, target: 0, value: Number(65) }, Assign { place: Place { line: 2, column: 42 }, target: 1, value: Number(47) }], end: Place { line: 2, column: 51 } }",
+    )?;
+    let cases: [(&[u8], &str, u32, u32); 8] = [
+        (
+            b"int x;\nint main(void) {\nx = '\\200';\n}",
+            "Literal",
+            3,
+            5,
+        ),
+        (b"int x = 0x80000000;\nint main(void) { }", "Literal", 1, 9),
+        (b"int x = 1u;\nint main(void) { }", "Literal", 1, 9),
+        // no comment stands in a character constant that is read
+        (b"int x;\nint main(void) { x = '//'; }", "Literal", 2, 22),
+        (
+            b"int x;\nint main(void) { x = '/*'; }",
+            "OpenComment",
+            2,
+            23,
+        ),
+        (b"int x;\nint main(void) { x = 'a\n'; }", "Literal", 2, 22),
+        (b"int x;\nint main(void) { x = '\\\n'; }", "Splice", 2, 23),
+        (b"int int32_t;\nint main(void) { }", "Syntax", 1, 5),
+    ];
+    for (file, wanted, line, column) in cases {
+        refuses(&rt, rt.alloc(), file, wanted, line, column)?;
+    }
+    Ok(())
+}
+
 #[test]
 fn limits(rt: HostRuntime) -> Result<(), Fail> {
     let alloc = rt.alloc();
@@ -177,7 +218,7 @@ fn limits(rt: HostRuntime) -> Result<(), Fail> {
         64,
         ";\n}\n",
     )?;
-    assert!(rt; read_plain(alloc, sum.as_bytes()).is_ok());
+    assert!(rt; read_plain(alloc, Includes::Assert, sum.as_bytes()).is_ok());
     let sum = repeated(
         alloc,
         "int x;\nint main(void) {\nx = 1",
@@ -188,15 +229,15 @@ fn limits(rt: HostRuntime) -> Result<(), Fail> {
     refuses(&rt, alloc, sum.as_bytes(), "TooDeep", 3, 263)?;
     let blocks = repeated(alloc, "int main(void) {", "{", 64, "")?;
     let whole = repeated(alloc, blocks.as_str(), "}", 65, "")?;
-    assert!(rt; read_plain(alloc, whole.as_bytes()).is_ok());
+    assert!(rt; read_plain(alloc, Includes::Assert, whole.as_bytes()).is_ok());
     let blocks = repeated(alloc, "int main(void) {", "{", 65, "")?;
     let whole = repeated(alloc, blocks.as_str(), "}", 66, "")?;
     refuses(&rt, alloc, whole.as_bytes(), "TooDeep", 1, 81)?;
     let names = "int a, b, c, d, e, f, g, h, i, j, k, l, m, n, o, p;\nint main(void) { p = a; }";
-    assert!(rt; read_plain(alloc, names.as_bytes()).is_ok());
+    assert!(rt; read_plain(alloc, Includes::Assert, names.as_bytes()).is_ok());
     let long = repeated(alloc, "int main(void) { }", " ", 1_048_558, "")?;
     assert_eq!(rt; long.len(), 1_048_576);
-    assert!(rt; read_plain(alloc, long.as_bytes()).is_ok());
+    assert!(rt; read_plain(alloc, Includes::Assert, long.as_bytes()).is_ok());
     let longer = repeated(alloc, "int main(void) { }", " ", 1_048_559, "")?;
     refuses(&rt, alloc, longer.as_bytes(), "TooLong", 1, 1)
 }
@@ -214,7 +255,12 @@ fn given(alloc: Global) -> Result<Names, NoMemory>
 #[test]
 fn given_names(rt: HostRuntime) -> Result<(), Fail> {
     let names = given(rt.alloc())?;
-    match read_plain_with(rt.alloc(), names.items(), b"int x;int main(){x=1;}") {
+    match read_plain_with(
+        rt.alloc(),
+        Includes::Assert,
+        names.items(),
+        b"int x;int main(){x=1;}",
+    ) {
         Ok(program) => {
             let shown = format!(in rt.alloc(); "{program:?}")?;
             assert_eq!(rt;
@@ -225,4 +271,13 @@ fn given_names(rt: HostRuntime) -> Result<(), Fail> {
         Err(_) => panic!(rt; "refused"),
     }
     Ok(())
+}
+
+#[test]
+fn includes_are_skipped(rt: HostRuntime) -> Result<(), Fail> {
+    let file = b"#include <stdint.h>\n#include \"a.h\"\nint main(void) { }\n";
+    assert!(rt; read_plain(rt.alloc(), Includes::Skip, file).is_ok());
+    refuses(&rt, rt.alloc(), file, "Directive", 1, 1)?;
+    let file = b"#include <assert.h>\n#include \"a.h\"\nint main(void) { }\n";
+    refuses(&rt, rt.alloc(), file, "Directive", 2, 1)
 }

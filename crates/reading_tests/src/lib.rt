@@ -28,6 +28,8 @@ mod names;
 #[cfg(test)]
 mod sections;
 #[cfg(test)]
+mod short_forms;
+#[cfg(test)]
 mod trees;
 #[cfg(test)]
 mod variants;

@@ -5,8 +5,9 @@ ghost use Rattle.cpp_conditions.specs.Distinct.{HaveFewAtoms};
 ghost use Rattle.cpp_conditions.specs.Naming.{AreFeatures};
 ghost use Rattle.cpp_conditions.specs.Validity.{plain, AreFit, IsConfig};
 
+use crate::family_reading::{skipping, usual};
 use cpp_conditions::Model;
-use fam_outer::{FileCode, FileRefusal, Place};
+use fam_outer::{Dialect, FileCode, FileRefusal, Place, Unknown};
 use feature_model::{read_config, read_model};
 use linear_atoms::Config;
 use std::alloc::Global;
@@ -23,7 +24,7 @@ fn model(alloc: Global) -> Result<Model, Fail>
     ensures fit { IfOk result (λ made. AreFit (length made.features) made.constraints) }
     ensures few { IfOk result (λ made. HaveFewAtoms 64 (plain made).constraints) }
 {
-    match read_model(alloc, MODEL) {
+    match read_model(alloc, Unknown::Zero, MODEL) {
         Ok(model) => Ok(model),
         Err(_) => Err("no model")?,
     }
@@ -49,13 +50,14 @@ fn config(alloc: Global, model: &Model, words: [&str; 2]) -> Result<Config, Fail
 fn has_variant(
     rt: &impl Abort,
     alloc: Global,
+    dialect: Dialect,
     words: [&str; 2],
     file: &[u8],
     wanted: &[u8],
 ) -> Result<(), Fail> {
     let model = model(alloc)?;
     let config = config(alloc, &model, words)?;
-    match variant_text(alloc, file, &model, &config) {
+    match variant_text(alloc, dialect, file, &model, &config) {
         Ok(text) => assert_eq!(rt; text.bytes(), wanted),
         Err(_) => panic!(rt; "refused"),
     }
@@ -71,11 +73,11 @@ fn configurations_select_variants(rt: HostRuntime) -> Result<(), Fail> {
         (["A=0", "N=4"], b"        x\n\n\n\n\n\nw"),
     ];
     for (words, wanted) in cases {
-        has_variant(&rt, rt.alloc(), words, file, wanted)?;
+        has_variant(&rt, rt.alloc(), usual(), words, file, wanted)?;
     }
     let file = b"int x; // one\nint main(void) {\n#ifdef A\nx = 1;\n#else\nx = 2;\n#endif\n}\n";
     let wanted = b"int x;       \nint main(void) {\n\nx = 1;\n\n\n\n}\n";
-    has_variant(&rt, rt.alloc(), ["A=1", "N=0"], file, wanted)
+    has_variant(&rt, rt.alloc(), usual(), ["A=1", "N=0"], file, wanted)
 }
 
 #[test]
@@ -90,7 +92,7 @@ fn faulty_files_have_no_variant(rt: HostRuntime) -> Result<(), Fail> {
         (b"x\n #if A\n", FileCode::NoEndif, 2, 2),
     ];
     for (file, wanted, line, column) in cases {
-        match variant_text(alloc, file, &model, &config) {
+        match variant_text(alloc, usual(), file, &model, &config) {
             Err(FileRefusal::Fault { code, place }) => {
                 let shown = format!(in alloc; "{code:?}")?;
                 let wanted = format!(in alloc; "{wanted:?}")?;
@@ -99,6 +101,20 @@ fn faulty_files_have_no_variant(rt: HostRuntime) -> Result<(), Fail> {
             }
             _ => panic!(rt; "not refused"),
         }
+    }
+    Ok(())
+}
+
+#[test]
+fn includes_are_blank_lines(rt: HostRuntime) -> Result<(), Fail> {
+    let file =
+        b"#include <stdint.h>\n#ifdef A\n#include \"a.h\"\ny\n#endif\n# include X\nw\n#include";
+    let cases: [([&str; 2], &[u8]); 2] = [
+        (["A=1", "N=0"], b"\n\n\ny\n\n\nw\n"),
+        (["A=0", "N=0"], b"\n\n\n\n\n\nw\n"),
+    ];
+    for (words, wanted) in cases {
+        has_variant(&rt, rt.alloc(), skipping(), words, file, wanted)?;
     }
     Ok(())
 }

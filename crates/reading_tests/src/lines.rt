@@ -1,7 +1,7 @@
 //! Texts by hand, with their blanked text or refusal, their lines and their code.
 
 use cpp_lines::*;
-use fam_outer::{FileCode, FileRefusal, Place, Text};
+use fam_outer::{FileCode, FileRefusal, Includes, Place, Text};
 use std::alloc::Global;
 use std::process::Abort;
 
@@ -32,7 +32,7 @@ fn blanked(rt: &impl Abort, alloc: Global, text: &[u8]) -> Result<Text, FileRefu
 
 fn lined(rt: &impl Abort, alloc: Global, text: &[u8]) -> Result<Lines, FileRefusal> {
     assert!(rt; text.len() <= 1_048_576);
-    plain_lines(alloc, text)
+    plain_lines(alloc, Includes::Assert, text)
 }
 
 #[test]
@@ -86,9 +86,14 @@ fn texts_are_refused(rt: HostRuntime) {
 }
 
 /// The lines and the code of a text.
-fn read(rt: &impl Abort, alloc: Global, text: &[u8]) -> Result<(Lines, Text), FileRefusal> {
+fn read(
+    rt: &impl Abort,
+    alloc: Global,
+    includes: Includes,
+    text: &[u8],
+) -> Result<(Lines, Text), FileRefusal> {
     assert!(rt; text.len() <= 1_048_576);
-    let lines = plain_lines(alloc, text)?;
+    let lines = plain_lines(alloc, includes, text)?;
     let code = code_text(alloc, text, lines.items())?;
     Ok((lines, code))
 }
@@ -112,11 +117,30 @@ fn lines_and_code(rt: HostRuntime) -> Result<(), FileRefusal> {
         line(LineKind::Code, 33, 33, 3, 1),
         line(LineKind::Include, 34, 52, 4, 1),
     ];
-    let (lines, code) = read(&rt, rt.alloc(), text)?;
+    let (lines, code) = read(&rt, rt.alloc(), Includes::Assert, text)?;
     assert_eq!(rt; lines.items(), wanted.as_slice());
     assert_eq!(rt;
         code.bytes(),
         b"                         \nint x;\n\n                  ".as_slice()
+    );
+    Ok(())
+}
+
+#[test]
+fn includes_are_lines(rt: HostRuntime) -> Result<(), FileRefusal> {
+    let text = b"#include <stdint.h>\n \t# include \"a.h\" x\nint x;\n#include\n";
+    let wanted = [
+        line(LineKind::Include, 0, 19, 1, 1),
+        line(LineKind::Include, 20, 39, 2, 3),
+        line(LineKind::Code, 40, 46, 3, 1),
+        line(LineKind::Include, 47, 55, 4, 1),
+        line(LineKind::Code, 56, 56, 5, 1),
+    ];
+    let (lines, code) = read(&rt, rt.alloc(), Includes::Skip, text)?;
+    assert_eq!(rt; lines.items(), wanted.as_slice());
+    assert_eq!(rt;
+        code.bytes(),
+        b"                   \n                   \nint x;\n        \n".as_slice()
     );
     Ok(())
 }

@@ -5,9 +5,10 @@ ghost use Rattle.cpp_conditions.specs.Distinct.{HaveFewAtoms};
 ghost use Rattle.cpp_conditions.specs.Naming.{AreFeatures};
 ghost use Rattle.cpp_conditions.specs.Validity.{plain, AreFit};
 
+use crate::family_reading::usual;
 use cpp_conditions::Model;
 use cpp_lines::{Sections, preprocessed_text, read_sections};
-use fam_outer::{FileRefusal, Place};
+use fam_outer::{FileRefusal, Place, Unknown};
 use feature_model::read_model;
 use std::alloc::Global;
 use std::process::Abort;
@@ -23,7 +24,7 @@ fn model(alloc: Global) -> Result<Model, Fail>
     ensures fit { IfOk result (λ made. AreFit (length made.features) made.constraints) }
     ensures few { IfOk result (λ made. HaveFewAtoms 64 (plain made).constraints) }
 {
-    match read_model(alloc, MODEL) {
+    match read_model(alloc, Unknown::Zero, MODEL) {
         Ok(model) => Ok(model),
         Err(_) => Err("no model")?,
     }
@@ -37,7 +38,7 @@ fn read(
 ) -> Result<Result<Sections, FileRefusal>, Fail> {
     assert!(rt; text.len() <= 1_048_576);
     let model = model(alloc)?;
-    Ok(read_sections(alloc, &model, text))
+    Ok(read_sections(alloc, usual(), &model, text))
 }
 
 /// A text that is read as these kinds of lines, these conditions over numbers of atoms, and so many atoms. A number `e` that
@@ -201,7 +202,7 @@ fn variant(
 ) -> Result<(), Fail> {
     assert!(rt; text.len() <= 1_048_576);
     let model = model(alloc)?;
-    match read_sections(alloc, &model, text) {
+    match read_sections(alloc, usual(), &model, text) {
         Ok(sections) => {
             let made = preprocessed_text(alloc, text, sections.lines.items(), truths)?;
             assert_eq!(rt; made.bytes(), wanted);

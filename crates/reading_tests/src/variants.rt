@@ -15,12 +15,12 @@ ghost use Rattle.c_parser.specs.FamilyReading.{IsFamilyOf};
 ghost use Rattle.variant_projector.specs.Variant.{IsVariant};
 
 use crate::family_limits::{QUEUE, front};
-use crate::family_reading::{SWITCH, model};
+use crate::family_reading::{SWITCH, model, skipping, usual};
 use c_parser::variants::{family_names_are_few, variants_are_projections};
 use c_parser::{Family, read_family, read_plain_with};
 use c_tree::project;
 use cpp_conditions::Model;
-use fam_outer::Text;
+use fam_outer::{Dialect, Includes, Text};
 use feature_model::read_config;
 use linear_atoms::Config;
 use std::alloc::Global;
@@ -45,31 +45,37 @@ fn config(alloc: Global, model: &Model, words: &[&str]) -> Result<Config, Fail>
 }
 
 /// The family that a file is read as.
-fn family(alloc: Global, model: &Model, file: &[u8]) -> Result<Family, Fail>
+fn family(alloc: Global, dialect: Dialect, model: &Model, file: &[u8]) -> Result<Family, Fail>
     requires features { AreFeatures model.now.features }
     requires fit { AreFit (length model.now.features) model.now.constraints }
     requires few { HaveFewAtoms 64 (plain model.now).constraints }
-    ensures reads { IfOk result (λ f. IsFamilyOf model.now file.now f) }
+    ensures reads { IfOk result (λ f. IsFamilyOf dialect model.now file.now f) }
     ensures program { IfOk result (λ f. IsProgram (whole f.code)) }
     ensures conditioned { IfOk result (λ f. IsConditioned (length f.conditions) (whole f.code)) }
     ensures atoms { IfOk result (λ f. AreAtoms (length model.now.features) f.atoms) }
     ensures below { IfOk result (λ f. All (λ c. IsBelow (length f.atoms) (formula c)) f.conditions) }
 {
-    match read_family(alloc, model, file) {
+    match read_family(alloc, dialect, model, file) {
         Ok(family) => Ok(family),
         Err(_) => Err("no family")?,
     }
 }
 
 /// The text of a variant.
-fn text(alloc: Global, model: &Model, file: &[u8], config: &Config) -> Result<Text, Fail>
+fn text(
+    alloc: Global,
+    dialect: Dialect,
+    model: &Model,
+    file: &[u8],
+    config: &Config,
+) -> Result<Text, Fail>
     requires features { AreFeatures model.now.features }
     requires fit { AreFit (length model.now.features) model.now.constraints }
     requires few { HaveFewAtoms 64 (plain model.now).constraints }
     requires config { IsConfig model.now.features config.now.values }
-    ensures { IfOk result (λ text. IsVariant (plain model.now) config.now.values file.now text) }
+    ensures { IfOk result (λ text. IsVariant dialect (plain model.now) config.now.values file.now text) }
 {
-    match variant_text(alloc, file, model, config) {
+    match variant_text(alloc, dialect, file, model, config) {
         Ok(text) => Ok(text),
         Err(_) => Err("no text")?,
     }
@@ -78,6 +84,7 @@ fn text(alloc: Global, model: &Model, file: &[u8], config: &Config) -> Result<Te
 /// The program that the text of a variant is read as over the names of its family.
 fn variant(
     alloc: Global,
+    dialect: Dialect,
     model: &Model,
     file: &[u8],
     family: &Family,
@@ -86,13 +93,18 @@ fn variant(
     requires features { AreFeatures model.now.features }
     requires fit { AreFit (length model.now.features) model.now.constraints }
     requires few { HaveFewAtoms 64 (plain model.now).constraints }
-    requires family { IsFamilyOf model.now file.now family.now }
+    requires family { IsFamilyOf dialect model.now file.now family.now }
     requires config { IsConfig model.now.features config.now.values }
 {
     family_names_are_few();
     variants_are_projections();
-    let text = text(alloc, model, file, config)?;
-    match read_plain_with(alloc, family.code.names.items(), text.bytes()) {
+    let text = text(alloc, dialect, model, file, config)?;
+    match read_plain_with(
+        alloc,
+        Includes::Assert,
+        family.code.names.items(),
+        text.bytes(),
+    ) {
         Ok(program) => Ok(format!(in alloc; "{program:?}")?),
         Err(_) => Err("refused")?,
     }
@@ -115,14 +127,15 @@ fn projection(alloc: Global, family: &Family, config: &Config) -> Result<String,
 /// What the text of a variant is read as, and the projection of its family.
 fn both_ways(
     alloc: Global,
+    dialect: Dialect,
     features: &str,
     file: &str,
     words: &[&str],
 ) -> Result<(String, String), Fail> {
     let model = model(alloc, features)?;
     let config = config(alloc, &model, words)?;
-    let family = family(alloc, &model, file.as_bytes())?;
-    let read = variant(alloc, &model, file.as_bytes(), &family, &config)?;
+    let family = family(alloc, dialect, &model, file.as_bytes())?;
+    let read = variant(alloc, dialect, &model, file.as_bytes(), &family, &config)?;
     let projected = projection(alloc, &family, &config)?;
     Ok((read, projected))
 }
@@ -155,7 +168,7 @@ fn variants_are_read_over_the_names_of_the_family(rt: HostRuntime) -> Result<(),
         ),
     ];
     for (file, word, wanted) in cases {
-        let (read, projected) = both_ways(rt.alloc(), SWITCH, file, &[word])?;
+        let (read, projected) = both_ways(rt.alloc(), usual(), SWITCH, file, &[word])?;
         assert_eq!(rt; read.as_str(), wanted);
         assert_eq!(rt; projected.as_str(), wanted);
     }
@@ -175,8 +188,22 @@ fn variants_are_projections_of_their_family(rt: HostRuntime) -> Result<(), Fail>
         &["SIZE=16", "LIMIT=0", "RETRY", "BULK", "FAST", "LOG"],
     ];
     for words in cases {
-        let (read, projected) = both_ways(alloc, QUEUE, file.as_str(), words)?;
+        let (read, projected) = both_ways(alloc, usual(), QUEUE, file.as_str(), words)?;
         assert_eq!(rt; read.as_str(), projected.as_str());
+    }
+    Ok(())
+}
+
+#[test]
+fn variants_have_no_includes(rt: HostRuntime) -> Result<(), Fail> {
+    let file =
+        "#include <stdint.h>\nint x;\n#ifdef A\n#include \"a.h\"\n#endif\nint main(void) {\n# include X\nx = 1;\n}\n";
+    let wanted =
+        "Program { names: Names { list: [Text { bytes: [120] }] }, start: Values { list: [0] }, declared: Declarations { list: [] }, body: [Assign { place: Place { line: 8, column: 1 }, target: 0, value: Number(1) }], end: Place { line: 9, column: 1 } }";
+    for word in ["A=0", "A=1"] {
+        let (read, projected) = both_ways(rt.alloc(), skipping(), SWITCH, file, &[word])?;
+        assert_eq!(rt; read.as_str(), wanted);
+        assert_eq!(rt; projected.as_str(), wanted);
     }
     Ok(())
 }

@@ -1,57 +1,20 @@
 //! Regions of small trees over `A` (Boolean) and `N` (from 0 to 7) with the constraint `A || N >= 3`.
 
-ghost use Rattle.std.specs.Prelude.{◌≡◌, ◌<◌, ◌≤◌, length, unsigned_abs, IfOk};
-ghost use Rattle.linear_atoms.specs.Atoms.{AreRanges, AreAtoms, IsAtom};
-ghost use Rattle.cpp_conditions.specs.Validity.{AreFit};
+ghost use Rattle.std.specs.Prelude.{◌≡◌, IfOk};
+ghost use Rattle.linear_atoms.specs.Atoms.{AreAtoms};
 
 use alarm_report::alarms::alarms_of;
 use alarm_report::finding::regions;
 use alarm_report::region::Region;
 use atom_solver::Prepared;
 use c_tree::Kind;
-use cpp_conditions::{Condition, Conditions, Features, Model};
 use decision_tree::Tree;
-use fam_outer::{Place, Text};
+use fam_outer::Place;
 use lifted_analysis::AlarmTree;
-use linear_atoms::{Atom, Feature, Linear};
+use linear_atoms::Atom;
 use std::alloc::Global;
 use std::test::Fail;
-
-/// The test "the feature's value is at least the bound".
-fn at_least(alloc: Global, number: u32, bound: i64) -> Result<Atom, Fail>
-    requires number { number < 2 }
-    requires bound { unsigned_abs bound ≤ 7 }
-    ensures { IfOk result (λ made. IsAtom 2 made) }
-{
-    let form = Linear::feature(alloc, number)?;
-    let terms = form.terms.copy(alloc)?;
-    Ok(Atom { terms, bound })
-}
-
-fn model(alloc: Global) -> Result<Model, Fail>
-    ensures two { IfOk result (λ made. length made.features ≡ 2) }
-    ensures ranges { IfOk result (λ made. AreRanges made.features) }
-    ensures fit { IfOk result (λ made. AreFit 2 made.constraints) }
-{
-    let switch = Feature {
-        name: Text::from_bytes(alloc, b"A")?,
-        boolean: true,
-        low: 0,
-        high: 1,
-    };
-    let number = Feature {
-        name: Text::from_bytes(alloc, b"N")?,
-        boolean: false,
-        low: 0,
-        high: 7,
-    };
-    let on = Box::new(alloc, Condition::Test(at_least(alloc, 0, 1)?))?;
-    let three = Box::new(alloc, Condition::Test(at_least(alloc, 1, 3)?))?;
-    Ok(Model {
-        features: Features::from_vec(vec![in alloc; switch, number]?),
-        constraints: Conditions::from_vec(vec![in alloc; Condition::Or(on, three)]?),
-    })
-}
+use test_inputs::models::{at_least, switch_and_number};
 
 /// `A`, `N >= 3` and `N >= 5`.
 fn atoms(alloc: Global) -> Result<[Atom; 3], Fail>
@@ -81,7 +44,7 @@ fn is_region(region: &Region, literals: &[(i64, bool)], example: [i64; 2]) -> bo
 #[test]
 fn a_literal_stays(rt: HostRuntime) -> Result<(), Fail> {
     let alloc = rt.alloc();
-    let model = model(alloc)?;
+    let model = switch_and_number(alloc)?;
     let atoms = atoms(alloc)?;
     let yes = Tree::leaf(alloc, true)?;
     let no = Tree::leaf(alloc, false)?;
@@ -103,7 +66,7 @@ fn a_literal_stays(rt: HostRuntime) -> Result<(), Fail> {
 #[test]
 fn an_implied_literal_goes(rt: HostRuntime) -> Result<(), Fail> {
     let alloc = rt.alloc();
-    let model = model(alloc)?;
+    let model = switch_and_number(alloc)?;
     let atoms = atoms(alloc)?;
     let yes = Tree::leaf(alloc, true)?;
     let no = Tree::leaf(alloc, false)?;
@@ -120,7 +83,7 @@ fn an_implied_literal_goes(rt: HostRuntime) -> Result<(), Fail> {
 #[test]
 fn a_path_without_a_configuration_has_no_region(rt: HostRuntime) -> Result<(), Fail> {
     let alloc = rt.alloc();
-    let model = model(alloc)?;
+    let model = switch_and_number(alloc)?;
     let atoms = atoms(alloc)?;
     let yes = Tree::leaf(alloc, true)?;
     let no = Tree::leaf(alloc, false)?;
@@ -149,7 +112,7 @@ fn stops(line: u32, kind: Kind, tree: Tree<bool>) -> AlarmTree
 #[test]
 fn alarms_with_one_path_have_equal_regions(rt: HostRuntime) -> Result<(), Fail> {
     let alloc = rt.alloc();
-    let model = model(alloc)?;
+    let model = switch_and_number(alloc)?;
     let prepared = Prepared::new(alloc, &model)?;
     let atoms = atoms(alloc)?;
     let yes = Tree::leaf(alloc, true)?;

@@ -3,7 +3,7 @@ use Rattle.std.proofs.lemmas.Int.{ints, to_z-of_z}
 use Rattle.linear_atoms.specs.declared.forms.Linear.{Linear}
 use Rattle.linear_atoms.specs.Atoms.{IsAtom}
 use Rattle.linear_atoms.specs.Divisors.{common_divisor}
-use Rattle.report_tests.proofs.regions.at_least.Goals as goal
+use Rattle.test_inputs.proofs.models.at_least.Goals as goal
 
 one_nonzero : pos 1 ≢ pos 0
 one_nonzero = λ e. omega (arith, ints)

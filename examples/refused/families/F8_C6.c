@@ -1,0 +1,7 @@
+int count;
+int main(void)
+{
+#ifdef FATS
+    count = 1;
+#endif
+}
