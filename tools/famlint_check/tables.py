@@ -35,6 +35,8 @@ OPTIONS = (
     Option("overflow", ("stop", "wrap")),
     Option("widening", ("type", "thresholds"), default="thresholds"),
     Option("regions", ("paths", "merged"), default="merged", needs_model=True),
+    Option("unknown", ("zero", "refuse"), default="refuse", needs_model=True),
+    Option("includes", ("assert", "skip")),
 )
 
 # The commands of famlint. famlint-check takes none, but one is often written in front of the files.
