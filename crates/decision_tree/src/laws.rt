@@ -3,7 +3,15 @@
 
 ghost use Rattle.std.specs.Prelude.{◌≡◌, ℕ, Bool, List, length};
 ghost use Rattle.decision_tree.specs.Paths.{paths_of, TakesOne};
-ghost use Rattle.decision_tree.specs.Plain.{Plain, leaf_of, HasLeaf, IsReduced, TestsBelow};
+ghost use Rattle.decision_tree.specs.Plain.{Plain, leaf_of, AgreeAtAll, HasLeaf, IsReduced, TestsBelow};
+
+/// Reduced trees are the same where they lead each vector to the same leaf (after Bryant). Their tests are below the number of
+/// truths.
+#[tactic(auto, using(crate::proofs::Canon::same_from_agreeing))]
+pub fn agreeing_trees_are_the_same<L>()
+    ensures { (m : ℕ) (t u : Plain L) → IsReduced t → IsReduced u
+        → TestsBelow m t → TestsBelow m u → AgreeAtAll m t u → t ≡ u }
+{}
 
 /// Each leaf of a reduced tree is reached by some vector, of any length that all tests are below.
 #[tactic(auto, using(crate::proofs::Reached::reached))]

@@ -11,13 +11,15 @@ use std::alloc::Global;
 use std::test::Fail;
 
 /// The tree of "not test 1, or test 0".
+#[tactic(auto, using(crate::proofs::Numbers::stays))]
 fn formula_tree(alloc: Global) -> Result<Tree<bool>, NoMemory>
     ensures { IfOk result (λ t. TestsBelow 2 (plain t)) }
 {
-    let on = Tree::leaf(alloc, true)?;
-    let off = Tree::leaf(alloc, false)?;
-    let low = Tree::node(alloc, 1, &on, &off)?;
-    Tree::node(alloc, 0, &low, &on)
+    let mut forest = Forest::new(alloc);
+    let on = forest.leaf(true)?;
+    let off = forest.leaf(false)?;
+    let low = forest.node(1, &on, &off)?;
+    forest.node(0, &low, &on)
 }
 
 /// The same, once more after want of memory.
@@ -64,14 +66,10 @@ fn node_again(
 }
 
 #[test]
-fn nodes_and_leaves(rt: HostRuntime) -> Result<(), Fail> {
+fn leaves_at_vectors(rt: HostRuntime) -> Result<(), Fail> {
     let one = Tree::leaf(rt.alloc(), 1u32)?;
-    let two = Tree::leaf(rt.alloc(), 2u32)?;
-    assert!(rt; !one.equal(&two));
-    let same = Tree::node(rt.alloc(), 0, &one, &one)?;
-    assert!(rt; same.equal(&one) && same.number() == 0);
-    let t = Tree::node(rt.alloc(), 0, &one, &two)?;
-    assert!(rt; !t.equal(&one) && t.share()?.equal(&t) && t.number() == 0);
+    let shared = one.share()?;
+    assert!(rt; shared.number() == 0 && *shared.leaf_at(&[]) == 1);
     let tree = formula_tree_again(rt.alloc())?;
     for (a, b, leaf) in [
         (false, false, true),
@@ -114,10 +112,9 @@ fn forests_make_each_tree_once(rt: HostRuntime) -> Result<(), Fail> {
     let u = node_again(&mut forest, 1, &two, &one)?;
     let same = node_again(&mut forest, 1, &one, &two)?;
     assert!(rt; t.number() == 3 && u.number() == 4 && same.number() == 3);
+    let equal = node_again(&mut forest, 0, &t, &same)?;
+    assert!(rt; equal.number() == 3);
     let top = node_again(&mut forest, 0, &t, &u)?;
-    let child = node_again(&mut forest, 0, &t, &same)?;
-    assert!(rt; top.number() == 5 && child.number() == 3 && child.equal(&t));
-    let kept = Tree::node(rt.alloc(), 1, &one, &two)?;
-    assert!(rt; kept.number() == 0 && kept.equal(&t) && !kept.equal(&u));
+    assert!(rt; top.number() == 5);
     Ok(())
 }

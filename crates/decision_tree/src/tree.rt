@@ -43,7 +43,7 @@ impl<L: Hash> Hash for Kept<L> {
     }
 }
 
-/// A numbered test, with the tree where it is false and that where it is true. The number is 0 outside a forest.
+/// A numbered test, with the tree where it is false and that where it is true. Forests make nodes, each once.
 #[cycle(tree)]
 #[derive(Drop)]
 pub struct Node<L> {
@@ -115,64 +115,5 @@ impl<L: Drop> Tree<L> {
             Tree::Leaf(leaf) => Ok(Tree::Leaf(leaf.clone()?)),
             Tree::Node(node) => Ok(Tree::Node(node.clone()?)),
         }
-    }
-}
-
-impl<L: Eq> Tree<L> {
-    /// Whether the trees are the same, by the values of their leaves and not by numbers. `==` of the leaves must be
-    /// equality of values.
-    ///
-    /// Reduced trees are the same exactly where they lead each vector to one leaf (after Bryant).
-    #[tactic(auto, using(crate::proofs::Canon::same_from_agreeing))]
-    pub fn equal(&self, other: &Tree<L>) -> bool
-        requires { IsExact L.eq }
-        ensures same { IsTrue result ↔ (plain self.now ≡ plain other.now) }
-        ensures agree { (m : ℕ) → IsReduced (plain self.now) → IsReduced (plain other.now)
-            → TestsBelow m (plain self.now) → TestsBelow m (plain other.now)
-            → (IsTrue result ↔ AgreeAtAll m (plain self.now) (plain other.now)) }
-        ensures unique { (m : ℕ) (t u : Plain L) → IsReduced t → IsReduced u
-            → TestsBelow m t → TestsBelow m u → AgreeAtAll m t u → t ≡ u }
-    {
-        match (self, other) {
-            (Tree::Leaf(a), Tree::Leaf(b)) => a.value == b.value,
-            (Tree::Node(a), Tree::Node(b)) => {
-                a.test == b.test && a.no.equal(&b.no) && a.yes.equal(&b.yes)
-            }
-            _ => false,
-        }
-    }
-}
-
-impl<L: Eq + Drop> Tree<L> {
-    /// The tree that tests first and goes on at `no` or `yes`: `no` itself, with its numbers, where they are equal, and
-    /// else a new node with the number 0. The test must be below 64, the children reduced and all their tests greater,
-    /// and `==` of the leaves equality of values.
-    pub fn node(alloc: Global, test: u32, no: &Tree<L>, yes: &Tree<L>) -> Result<Tree<L>, NoMemory>
-        requires small { test < 64 }
-        requires no_reduced { IsReducedFrom (test + 1) (plain no.now) }
-        requires yes_reduced { IsReducedFrom (test + 1) (plain yes.now) }
-        requires exact { IsExact L.eq }
-        ensures made { IfOk result (λ t. IsNodeOf test (plain no.now) (plain yes.now) (plain t)) }
-        ensures number { IfOk result (λ t. (numbered t ≡ numbered no.now)
-            ⊎ (numbered t ≡ branch 0 test (numbered no.now) (numbered yes.now))) }
-        ensures reduced { IfOk result (λ t. IsReducedFrom test (plain t)) }
-        ensures leads { IfOk result (λ t. (v : List Bool)
-            → leaf_of (plain t) v ≡ leaf_of (node test (plain no.now) (plain yes.now)) v) }
-    {
-        if no.equal(yes) {
-            return no.share();
-        }
-        let no = no.share()?;
-        let yes = yes.share()?;
-        let number = 0;
-        Ok(Tree::Node(Rc::new(
-            alloc,
-            Node {
-                number,
-                test,
-                no,
-                yes,
-            },
-        )?))
     }
 }

@@ -1,5 +1,6 @@
 -- How exact octagons are, beyond what every kind of leaf keeps.
-use Rattle.std.specs.Prelude.{◌≡◌, ◌≢◌, ◌↔◌, ℕ, ◌<◌, ℤ, pos, Bool, true, false, ◌&&◌, List, [], ◌∷◌, Some, slice_set}
+use Rattle.std.specs.Prelude.{◌≡◌, ◌≢◌, ◌↔◌, ℕ, ◌<◌, ℤ, pos, negsuc, Bool, true, false, ◌&&◌, ◌||◌, List, [], ◌∷◌, Some, slice_set}
+use Rattle.std.specs.Ordering.{int_eq}
 use Rattle.leaf_domain.specs.declared.form.Form.{Form}
 use Rattle.leaf_domain.specs.declared.range.Range.{Range}
 use Rattle.leaf_domain.specs.declared.compare.Compare.{Compare}
@@ -8,21 +9,24 @@ use Rattle.leaf_domain.specs.Compares.{holds_between}
 use Rattle.leaf_domain.specs.Forms.{form_at, IsForm}
 use Rattle.leaf_domain.specs.Ranges.{Within, IsInInt}
 use Rattle.leaf_domain.specs.Leaves.{LeafValue, Alike, is_nothing_of, at_store}
-use Rattle.octagon_leaf.specs.Shapes.{is_unit}
 use Rattle.octagon_leaf.specs.Octagons.{octagons, IsOctagon, octagon_holds, octagon_leq, octagon_join, octagon_bounds, octagon_form_range, octagon_meet_form, octagon_set_form}
 
--- ---- forms
+-- ---- forms: said anew, and not by the shapes that an octagon sees, so that the laws hold of no fewer forms than these
+-- 1 or -1
+abbrev pub is_plus_or_minus_one : ℤ → Bool
+is_plus_or_minus_one k = int_eq k (pos 1) || int_eq k (negsuc 0)
+
 -- a constant, or one variable or its negation, with a constant
 abbrev pub has_one_unit : List (ℕ × ℤ) → Bool
 has_one_unit [] = true
-has_one_unit (t ∷ []) = is_unit t.1
+has_one_unit (t ∷ []) = is_plus_or_minus_one t.1
 has_one_unit (t ∷ u ∷ ts) = false
 
 -- that, or the sum or difference of two variables or its negation, with a constant
 abbrev pub has_two_units : List (ℕ × ℤ) → Bool
 has_two_units [] = true
-has_two_units (t ∷ []) = is_unit t.1
-has_two_units (t ∷ u ∷ []) = is_unit t.1 && is_unit u.1
+has_two_units (t ∷ []) = is_plus_or_minus_one t.1
+has_two_units (t ∷ u ∷ []) = is_plus_or_minus_one t.1 && is_plus_or_minus_one u.1
 has_two_units (t ∷ u ∷ v ∷ ts) = false
 
 -- ---- the laws

@@ -3,7 +3,7 @@ use Rattle.std.specs.List.{Contains}
 use Rattle.std.proofs.Common.{◌≡◌, ◌⊎◌, inl, inr, ℕ, ◌+◌, ◌*◌, ◌<◌, ◌≤◌, Bool, true, false, not, ◌&&◌, ◌||◌, List, [], ◌∷◌, arith, ap, sym, ◌∙◌, subst, refl, Result, Ok, Err, IfOk}
 use Rattle.std.proofs.lemmas.Result.{IfOk-weaker}
 use Rattle.decision_tree.specs.declared.tree.Tree.{Tree}
-use Rattle.decision_tree.specs.Plain.{Plain, leaf_of, HasTest, IsReduced, IsReducedFrom, TestsBelow}
+use Rattle.decision_tree.specs.Plain.{Plain, leaf_of, HasTest, IsReduced, TestsBelow}
 use Rattle.decision_tree.specs.View.{numbered, plain}
 use Rattle.decision_tree.specs.Listed.{IsTreeIn}
 use Rattle.decision_tree.proofs.Reduced.{tests_below}
@@ -71,12 +71,6 @@ pub disjoined_made : {E : Type 0} (made : Result (Tree Bool) E) (P : Bool → Bo
     → IfOk made (λ r. IsReduced (plain r)) → IfOk made (λ r. TestsAreOfEither t u (plain r)) → IfOk made (λ r. IsTreeOf f (plain r))
 disjoined_made (Ok r) P f p q t u e says w x m reduced tests = subst (λ (g : Proposition ℕ). IsTreeOf g (plain r)) (sym e) (disjoined P p q t u (plain r) says w x m reduced tests)
 disjoined_made (Err i) P f p q t u e says w x m reduced tests = tt
-
-pub reduced_of_one : {E A B : Type 0} (made : Result (Tree B) E) (t : Plain A) → IsReduced t → IfOk made (λ r. (m : ℕ) → IsReducedFrom m t → IsReducedFrom m (plain r)) → IfOk made (λ r. IsReduced (plain r))
-reduced_of_one made t h = IfOk-weaker made (λ r. (m : ℕ) → IsReducedFrom m t → IsReducedFrom m (plain r)) (λ r. IsReduced (plain r)) (λ r k. k 0 h)
-
-pub reduced_of_two : {E A B C : Type 0} (made : Result (Tree C) E) (t : Plain A) (u : Plain B) → IsReduced t → IsReduced u → IfOk made (λ r. (m : ℕ) → IsReducedFrom m t → IsReducedFrom m u → IsReducedFrom m (plain r)) → IfOk made (λ r. IsReduced (plain r))
-reduced_of_two made t u h i = IfOk-weaker made (λ r. (m : ℕ) → IsReducedFrom m t → IsReducedFrom m u → IsReducedFrom m (plain r)) (λ r. IsReduced (plain r)) (λ r k. k 0 h i)
 
 -- ---- in a forest
 

@@ -1,14 +1,10 @@
 pub mod Bound
-pub mod Callable
 pub mod Pairs
 pub mod Places
 pub mod Remembered
 pub mod OneOperand
-pub mod OneTest
-pub mod Selected
 pub mod SideLemmas
 pub mod Making
-pub mod Mapped
 pub mod Unified
 pub mod Within
 pub mod Walked

@@ -1,5 +1,5 @@
 -- A map as an operation whose second operand is one leaf without a value.
-use Rattle.std.proofs.Common.{◌≡◌, ℕ, ◌+◌, ◌*◌, ◌≤◌, [], ◌∷◌, length, refl, subst, inl, inr, arith, Result, Ok, Err, IfOk}
+use Rattle.std.proofs.Common.{◌≡◌, ℕ, ◌+◌, ◌*◌, ◌≤◌, [], ◌∷◌, length, refl, sym, subst, inl, inr, arith, Result, Ok, Err, IfOk}
 use Rattle.std.specs.Borrow.{Bor}
 use Rattle.std.specs.Fn.{Shared, FnReturnsAt}
 use Rattle.std.proofs.lemmas.Fn.{says_at}
@@ -9,12 +9,17 @@ use Rattle.decision_tree.specs.Plain.{Plain, leaf, leaf_of, HasTest}
 use Rattle.decision_tree.specs.View.{plain}
 use Rattle.tree_unify.specs.Leafwise.{IsMapped, IsUnified, LeavesComeFrom, LeavesComeFromBoth, TestsAreOf, TestsAreOfEither}
 use Rattle.tree_unify.specs.Leaves.{HoldsLeaves}
+use Rattle.tree_unify.specs.Subtrees.{HoldsSubtrees}
 
 pub all_units : (u : Plain (Unit {0})) → HoldsLeaves (tt ∷ []) u
 all_units u = record { each = λ x w. (0, omega arith, refl) }
 
-pub one_column : (n s d : ℕ) → d ≤ s + n * length {A = Unit {0}} (tt ∷ []) → d ≤ s + n
-one_column n s d h = omega arith
+-- a leaf has no subtree but itself
+pub the_unit : (u : Plain (Unit {0})) → u ≡ leaf tt → HoldsSubtrees (leaf tt ∷ []) u
+the_unit u e = subst (HoldsSubtrees (leaf tt ∷ [])) (sym e) (record { each = λ s w. (0, omega arith, sym w) })
+
+pub one_column : {X : Type 0} (n s d : ℕ) (x : X) → d ≤ s + n * length (x ∷ []) → d ≤ s + n
+one_column n s d x h = omega arith
 
 pub given_by_map : {F A B E : Type 0} (g : Shared F (Bor A × Unit {0}) (Result B E)) (f : F) (p : Bor A) (r : Result B E) → g.post f (p, tt) r → IfOk r (λ b. FnReturnsAt g f p.now (Ok b))
 given_by_map g f p (Ok b) h = says_at g h refl

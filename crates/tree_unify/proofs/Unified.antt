@@ -1,9 +1,6 @@
 -- What the two sides of a test say of two trees and the tree that is made of them.
-use Rattle.std.proofs.Common.{◌≡◌, ◌⊎◌, ℕ, Bool, true, false, List, cond, slice_index_or, refl, sym, subst, inl, inr, Result, IfOk}
-use Rattle.std.proofs.lemmas.Result.{IfOk-weaker}
-use Rattle.decision_tree.specs.declared.tree.Tree.{Tree}
-use Rattle.decision_tree.specs.Plain.{Plain, leaf, node, leaf_of, HasTest, IsNodeOf}
-use Rattle.decision_tree.specs.View.{plain}
+use Rattle.std.proofs.Common.{◌≡◌, ◌⊎◌, ℕ, Bool, true, false, List, cond, slice_index_or, refl, sym, subst, inl, inr}
+use Rattle.decision_tree.specs.Plain.{Plain, node, leaf_of, HasTest, IsNodeOf}
 use Rattle.tree_unify.specs.Leafwise.{IsUnified, TestsAreOfEither}
 
 -- at a test, t leads on to low or to high
@@ -23,9 +20,6 @@ same_cond false x = refl
 pub split_same : {A : Type 0} (k : ℕ) (t : Plain A) → IsSplit k t t t
 split_same k t = record { leads = λ v. same_cond (slice_index_or v k false) (leaf_of t v); low_tests = λ j w. w; high_tests = λ j w. w }
 
-pub has_of_node : {A : Type 0} (t : Plain A) (k : ℕ) (low high : Plain A) → t ≡ node k low high → HasTest k t
-has_of_node t k low high e = subst (HasTest k) (sym e) (inl refl)
-
 module _ {A B C : Type 0} where
   at_sides : {P : A → B → C → Type 0} (k : ℕ) (t t0 t1 : Plain A) (u u0 u1 : Plain B) (p q : Plain C) → IsSplit k t t0 t1 → IsSplit k u u0 u1 → IsUnified P t0 u0 p → IsUnified P t1 u1 q → (v : List Bool) → P (leaf_of t v) (leaf_of u v) (leaf_of (node k p q) v)
   at_sides {P} k t t0 t1 u u0 u1 p q a b f g v =
@@ -35,17 +29,6 @@ module _ {A B C : Type 0} where
 
   pub unified_of_sides : {P : A → B → C → Type 0} (k : ℕ) (t t0 t1 : Plain A) (u u0 u1 : Plain B) (p q r : Plain C) → IsSplit k t t0 t1 → IsSplit k u u0 u1 → IsUnified P t0 u0 p → IsUnified P t1 u1 q → ((v : List Bool) → leaf_of r v ≡ leaf_of (node k p q) v) → IsUnified P t u r
   unified_of_sides {P} k t t0 t1 u u0 u1 p q r a b f g e = record { at_each = λ v. subst (P (leaf_of t v) (leaf_of u v)) (sym (e v)) (at_sides {P = P} k t t0 t1 u u0 u1 p q a b f g v) }
-
-  pub unified_node : {P : A → B → C → Type 0} {E : Type 0} {k : ℕ} {t t0 t1 : Plain A} {u u0 u1 : Plain B} {p q : Plain C} (made : Result (Tree C) E) → IsSplit k t t0 t1 → IsSplit k u u0 u1 → IsUnified P t0 u0 p → IsUnified P t1 u1 q
-      → IfOk made (λ r. (v : List Bool) → leaf_of (plain r) v ≡ leaf_of (node k p q) v) → IfOk made (λ r. IsUnified P t u (plain r))
-  unified_node {P} {E} {k} {t} {t0} {t1} {u} {u0} {u1} {p} {q} made a b f g h =
-      IfOk-weaker made (λ r. (v : List Bool) → leaf_of (plain r) v ≡ leaf_of (node k p q) v) (λ r. IsUnified P t u (plain r))
-      (λ r e. record { at_each = λ v. subst (P (leaf_of t v) (leaf_of u v)) (sym (e v)) (at_sides k t t0 t1 u u0 u1 p q a b f g v) }) h
-
-  pub unified_leaf : {D : Type 0} (P : A → B → C → Type 0) (t : Plain A) (u : Plain B) (made : Result (Tree C) D) (x : A) (y : B) (z : C) → t ≡ leaf x → u ≡ leaf y → P x y z → IfOk made (λ r. plain r ≡ leaf z) → IfOk made (λ r. IsUnified P t u (plain r))
-  unified_leaf P t u made x y z d e h j =
-      IfOk-weaker made (λ r. plain r ≡ leaf z) (λ r. IsUnified P t u (plain r))
-      (λ r m. subst (λ s. IsUnified P s u (plain r)) (sym d) (subst (λ s. IsUnified P (leaf x) s (plain r)) (sym e) (subst (IsUnified P (leaf x) (leaf y)) (sym m) (record { at_each = λ v. h })))) j
 
   pub tests_of_made : (k : ℕ) (t t0 t1 : Plain A) (u u0 u1 : Plain B) (p q r : Plain C) → IsSplit k t t0 t1 → IsSplit k u u0 u1 → HasTest k t ⊎ HasTest k u → TestsAreOfEither t0 u0 p → TestsAreOfEither t1 u1 q → IsNodeOf k p q r → (j : ℕ) → HasTest j r → HasTest j t ⊎ HasTest j u
   tests_of_made k t t0 t1 u u0 u1 p q r a b here f g (inl h) j w =
@@ -57,9 +40,3 @@ module _ {A B C : Type 0} where
         | inr (inl x) ↦ elim (f.each j x) [ inl y ↦ inl (a.low_tests j y) | inr y ↦ inr (b.low_tests j y) ]
         | inr (inr x) ↦ elim (g.each j x) [ inl y ↦ inl (a.high_tests j y) | inr y ↦ inr (b.high_tests j y) ]
       ]
-
-  pub tests_node_of : {E : Type 0} {k : ℕ} {t t0 t1 : Plain A} {u u0 u1 : Plain B} {p q : Plain C} (made : Result (Tree C) E) → IsSplit k t t0 t1 → IsSplit k u u0 u1 → HasTest k t ⊎ HasTest k u → TestsAreOfEither t0 u0 p → TestsAreOfEither t1 u1 q
-      → IfOk made (λ r. IsNodeOf k p q (plain r)) → IfOk made (λ r. TestsAreOfEither t u (plain r))
-  tests_node_of {E} {k} {t} {t0} {t1} {u} {u0} {u1} {p} {q} made a b here f g h =
-      IfOk-weaker made (λ r. IsNodeOf k p q (plain r)) (λ r. TestsAreOfEither t u (plain r))
-      (λ r e. record { each = tests_of_made k t t0 t1 u u0 u1 p q (plain r) a b here f g e }) h

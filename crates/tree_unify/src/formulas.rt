@@ -8,8 +8,8 @@ ghost use Rattle.decision_tree.specs.Listed.{IsTreeIn, Keeps};
 ghost use Rattle.decision_tree.specs.View.{numbered, plain};
 ghost use Rattle.tree_unify.specs.Formulas.{IsTreeOf, operators};
 
-use crate::leafwise::{map, unify};
-use crate::numbered::{map_in, unify_in};
+use crate::mapped::map_in;
+use crate::numbered::unify_in;
 use crate::steps::Steps;
 use crate::truths::{Both, Either};
 use cpp_conditions::Formula;
@@ -17,48 +17,6 @@ use decision_tree::{Forest, Tree};
 use fam_outer::NoMemory;
 use std::alloc::Global;
 use std::sync::ledger::Ledger;
-
-/// The tree of a single test.
-fn test(alloc: Global, number: u32) -> Result<Tree<bool>, NoMemory>
-    requires { number < 64 }
-    ensures { IfOk result (λ t. IsTreeOf (Test number) (plain t)) }
-{
-    let no = Tree::leaf(alloc, false)?;
-    let yes = Tree::leaf(alloc, true)?;
-    Tree::node(alloc, number, &no, &yes)
-}
-
-/// The reduced tree that is true at exactly the vectors at which the formula is. Its tests are numbers of the formula,
-/// which must be below 64. The leaves and nodes have the number 0. It answers an error only for want of memory.
-///
-/// It walks all paths of the trees that it makes: `test_tree_in` serves formulas of many parts.
-#[tactic(auto, using(crate::proofs::FormulaTrees::tree_below))]
-pub fn test_tree(alloc: Global, f: &Formula) -> Result<Tree<bool>, NoMemory>
-    requires { IsBelow 64 (formula f.now) }
-    ensures { IfOk result (λ t. IsTreeOf (formula f.now) (plain t)) }
-{
-    match f {
-        Formula::Const(truth) => Tree::leaf(alloc, *truth),
-        Formula::Test(number) => test(alloc, *number),
-        Formula::Not(inner) => {
-            let inner = test_tree(alloc, inner)?;
-            let negation = |a: &bool| -> Result<bool, NoMemory>
-                ensures { result ≡ Ok (not a.now) }
-            { Ok(!*a) };
-            map(alloc, &negation, &inner)
-        }
-        Formula::And(left, right) => {
-            let left = test_tree(alloc, left)?;
-            let right = test_tree(alloc, right)?;
-            unify(alloc, &Both, &left, &right)
-        }
-        Formula::Or(left, right) => {
-            let left = test_tree(alloc, left)?;
-            let right = test_tree(alloc, right)?;
-            unify(alloc, &Either, &left, &right)
-        }
-    }
-}
 
 /// The forest's tree of a single test.
 #[tactic(auto, using(decision_tree::proofs::Numbers::stays, decision_tree::proofs::Numbers::keeps_both, decision_tree::proofs::Reduced::reduced_from))]

@@ -1,13 +1,12 @@
 //! Operations on numbered trees, which call the operation once for each pair of different leaves.
-ghost use Rattle.std.specs.Prelude.{◌≡◌, ◌+◌, ◌*◌, ◌<◌, ◌≤◌, List, length, IfOk, OnOk, Ok};
-ghost use Rattle.std.specs.Fn.{FnReturnsAt};
+ghost use Rattle.std.specs.Prelude.{◌≡◌, ◌+◌, ◌*◌, ◌<◌, ◌≤◌, List, length, IfOk, OnOk};
 ghost use Rattle.decision_tree.specs.Plain.{Plain, leaf, IsNodeOf, IsReduced, TestsBelow, IsExact};
 ghost use Rattle.decision_tree.specs.Numbered.{kept, IsWithin, IsNumbered};
 ghost use Rattle.decision_tree.specs.Listed.{IsNumberedTree, IsTreeIn, IsOf, Keeps};
 ghost use Rattle.decision_tree.specs.View.{numbered, plain};
-ghost use Rattle.tree_unify.specs.Calls.{IsCallableAt, TakesLeaves};
+ghost use Rattle.tree_unify.specs.Calls.{TakesLeaves};
 ghost use Rattle.tree_unify.specs.Known.{IsKnown, IsWalked};
-ghost use Rattle.tree_unify.specs.Leafwise.{IsMapped, IsUnified, LeavesComeFrom, LeavesComeFromBoth, TestsAreOf, TestsAreOfEither};
+ghost use Rattle.tree_unify.specs.Leafwise.{IsUnified, LeavesComeFromBoth, TestsAreOfEither};
 ghost use Rattle.tree_unify.specs.Leaves.{HoldsLeaves};
 ghost use Rattle.tree_unify.specs.Subtrees.{HoldsSubtrees};
 ghost use Rattle.tree_unify.specs.Made.{IsMade, IsNoted, IsNotedWithin};
@@ -228,8 +227,11 @@ fn unify_known<A, B, C: Eq + Hash + Drop, K: Ledger, N: Ledger, F: Operation<A, 
 ///
 /// One call of the operation is one step, and there is at most one for each leaf value of `t` with each of `u`, at want
 /// of memory too. One call of `Forest::node` is one step of `nodes`, and there is at most one for each different subtree of `t`
-/// with each of `u`: no pair is taken apart twice. The conditions are those of `unify`, and that `t` and `u` are numbered; they may
-/// be of other forests. After want of memory the forest has all that it had, and may have more.
+/// with each of `u`: no pair is taken apart twice.
+///
+/// The operation must take each leaf of `t` with each of `u`. Both trees must be reduced, with tests below 64, and numbered; they may
+/// be of other forests. `==` of the new leaves must be equality of values. It answers an error only for want of memory; then too the
+/// forest has all that it had, and may have more.
 #[tactic(auto, using(crate::proofs::Making::known_empty, crate::proofs::Walked::walked_empty, crate::proofs::Within::within_self))]
 pub fn unify_counted<A, B, C: Eq + Hash + Drop, K: Ledger, N: Ledger, F: Operation<A, B, C>>(
     alloc: Global,
@@ -309,8 +311,7 @@ fn unify_blank<A, B, C: Eq + Hash + Drop, K: Ledger, N: Ledger, F: Operation<A, 
 /// The forest's tree that has, at every vector, what the operation gives for the leaves of `t` and `u` there.
 ///
 /// One call of the operation is one step, and there is at most one for each leaf value of `t` with each of `u`, at want
-/// of memory too. The conditions are those of `unify`, and that `t` and `u` are numbered; they may be of other forests.
-/// After want of memory the forest has all that it had, and may have more.
+/// of memory too. The conditions are those of `unify_counted`, which it calls, and so is what it may refuse.
 pub fn unify_in<A, B, C: Eq + Hash + Drop, K: Ledger, F: Operation<A, B, C>>(
     alloc: Global,
     forest: &mut Forest<C>,
@@ -335,54 +336,4 @@ pub fn unify_in<A, B, C: Eq + Hash + Drop, K: Ledger, F: Operation<A, B, C>>(
         → steps.new ≤ steps.old + length xs * length ys }
 {
     unify_blank::<A, B, C, K, Brand, F>(alloc, forest, op, t, u, steps, Blank::new(1))
-}
-
-/// A map as an operation whose second operand has no value.
-#[derive(Drop)]
-struct OfFirst<'a, F> {
-    f: &'a F,
-}
-
-impl<A, B, F: Fn(&A) -> Result<B, NoMemory>> Operation<A, (), B> for OfFirst<'_, F> {
-    ghost use Rattle.std.specs.Prelude.{◌≡◌, Ok};
-    ghost use Rattle.std.specs.Borrow.{Bor};
-    ghost use Rattle.std.specs.Fn.{FnReturnsAt};
-
-    ghost takes = { λ op a _. (p : Bor A) → p.now ≡ a → F.pre op.f.now p };
-
-    ghost gives = { λ op a _ b. FnReturnsAt F.Fn op.f.now a (Ok b) };
-
-    fn apply(&self, first: &A, _second: &()) -> Result<B, NoMemory> {
-        (self.f)(first)
-    }
-}
-
-/// The forest's tree that has, at every vector, what the operation gives for the leaf of `t` there.
-///
-/// One call of the operation is one step, and there is at most one for each leaf value of `t`, at want of memory too. The
-/// conditions are those of `map`, and that `t` is numbered; it may be of another forest. After want of memory the forest
-/// has all that it had, and may have more.
-#[tactic(auto, using(crate::proofs::Within::numbered_leaf, decision_tree::proofs::Numbers::keeps_same))]
-pub fn map_in<A, B: Eq + Hash + Drop, K: Ledger, F: Fn(&A) -> Result<B, NoMemory>>(
-    alloc: Global,
-    forest: &mut Forest<B>,
-    f: &F,
-    t: &Tree<A>,
-    steps: &mut Steps<K>,
-) -> Result<Tree<B>, NoMemory>
-    requires callable { IsCallableAt F.Fn f.now (plain t.now) }
-    requires t { IsNumberedTree 0 64 (numbered t.now) }
-    requires exact { IsExact B.eq }
-    ensures mapped { IfOk result
-        (λ r. IsMapped (λ a b. FnReturnsAt F.Fn f.now a (Ok b)) (plain t.now) (plain r)) }
-    ensures leaves { IfOk result
-        (λ r. LeavesComeFrom (λ a b. FnReturnsAt F.Fn f.now a (Ok b)) (plain t.now) (plain r)) }
-    ensures tests { IfOk result (λ r. TestsAreOf (plain t.now) (plain r)) }
-    ensures tree { IfOk result (λ r. IsTreeIn 0 64 forest.new (numbered r)) }
-    ensures keeps { Keeps forest.old forest.new }
-    ensures steps { (xs : List A) → HoldsLeaves xs (plain t.now)
-        → steps.new ≤ steps.old + length xs }
-{
-    let unit = Tree::leaf(alloc, ())?;
-    unify_in(alloc, forest, &OfFirst { f }, t, &unit, steps)
 }
