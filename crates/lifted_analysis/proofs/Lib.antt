@@ -15,3 +15,4 @@ pub mod Answered
 pub mod CanonLaws
 pub mod FinalsLemmas
 pub mod PassAnswered
+pub mod LineIndexLemmas

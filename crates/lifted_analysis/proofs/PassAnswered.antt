@@ -199,6 +199,8 @@ module _ {L : Type 0} (value : L → LeafValue) (exact : (a b : L) → value a �
       alarms = λ m b r. truth_findings family m (small m b r) (λ (a : AlarmTree). (a.place, a.kind)) (λ (a : AlarmTree). a.tree) f.alarms.items (by_kind (program_places p)) (λ q v. pass_stop_at M mode p cs pl lines q v) h.alarm_trees stops_at;
       loops = keys_are (loop_there []) (λ q. inductive_at M mode p cs pl lines q []) loops.items (loop_places p.body) (loops_at []);
       inductive = λ m b r. truth_findings family m (small m b r) (λ (l : LoopTree). l.place) (λ (l : LoopTree). l.tree) loops.items (loop_places p.body) (λ q v. inductive_at M mode p cs pl lines q v) reduced loops_at;
+      alarms_numbered = λ k d lt. (h.alarm_trees k d lt).tree;
+      loops_numbered = λ k d lt. (reduced k d lt).tree;
     }
 
 -- ---- the trees of loops

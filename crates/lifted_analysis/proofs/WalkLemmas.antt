@@ -114,16 +114,16 @@ lifted_longer value family a b z f t r k h = record { state = state_stays value 
 module _ {L : Type 0} (value : L → LeafValue) (M : LeafMeaning) (family : FamilyContext) where
   ruled_stays : (a b : List (Plain L)) (r : Rule L) → Keeps a b → IsRuled value M family a r → IsRuled value M family b r
   ruled_stays a b rule.Rounds k h = tt
-  ruled_stays a b (rule.Lines start) k h = record { state = state_stays value family a b (numbered start) k h.state; valid = h.valid }
+  ruled_stays a b (rule.Lines start index) k h = (record { state = state_stays value family a b (numbered start) k h.0.state; valid = h.0.valid }, h.1)
 
   -- heads are leaves of the kind
   pub ruled_fit : LeafLaws M → TransferAnswers M family.options.now.mode → (forest : List (Plain L)) (r : Rule L) (v : List Bool) → IsRuled value M family forest r
       → All (λ (l : LoopLine). AreVariableBounds family.variables l.bounds) family.lines.now → AreFit M family.options.now.mode family.variables (ruled_heads value M family r v)
   ruled_fit laws A forest rule.Rounds v h i = final_fit M laws family.options.now A family.variables
-  ruled_fit laws A forest (rule.Lines start) v h i =
+  ruled_fit laws A forest (rule.Lines start index) v h i =
       let d = value (leaf_of (plain start) v) in
-      let n : d.variables ≡ family.variables = counted value family forest (numbered start) v h.state in
-      subst (λ m. AreFit M family.options.now.mode m (given_heads M family.lines.now v d)) n (given_fit M laws family.options.now.mode family.lines.now v d (h.valid v) (subst (λ m. All (λ (l : LoopLine). AreVariableBounds m l.bounds) family.lines.now) (sym n) i))
+      let n : d.variables ≡ family.variables = counted value family forest (numbered start) v h.0.state in
+      subst (λ m. AreFit M family.options.now.mode m (given_heads M family.lines.now v d)) n (given_fit M laws family.options.now.mode family.lines.now v d (h.0.valid v) (subst (λ m. All (λ (l : LoopLine). AreVariableBounds m l.bounds) family.lines.now) (sym n) i))
 
   pub known_stays : (r : Rule L) (a b : List (Plain L)) (f : Finals L) → Keeps a b → Knows value M family r a f → Knows value M family r b f
   known_stays r a b f h k = record { memory = memory_stays value M family a b f h k.memory; ruled = ruled_stays a b r h k.ruled }
@@ -147,17 +147,18 @@ module _ {L : Type 0} (value : L → LeafValue) (M : LeafMeaning) (family : Fami
 
   -- ---- the rule that is chosen
 
-  pub rule_known : (is_given : Bool) (forest : List (Plain L)) (start : Tree L) (r : Rule L) → IsRuleOf is_given (numbered start) r → IsState value family forest (numbered start) → ((v : List Bool) → M.valid (value (leaf_of (plain start) v)))
+  pub rule_known : (is_given : Bool) (forest : List (Plain L)) (start : Tree L) (r : Rule L) → IsRuleOf is_given family.lines.now (numbered start) r → IsState value family forest (numbered start) → ((v : List Bool) → M.valid (value (leaf_of (plain start) v)))
       → IsRuled value M family forest r
-  rule_known true forest start (rule.Lines s) e h valid = record { state = state_as value family forest (numbered start) (numbered s) e h; valid = λ v. subst (λ u. M.valid (value (leaf_of (erase u) v))) (sym e) (valid v) }
+  rule_known true forest start (rule.Lines s index) e h valid =
+      (record { state = state_as value family forest (numbered start) (numbered s) e.0 h; valid = λ v. subst (λ u. M.valid (value (leaf_of (erase u) v))) (sym e.0) (valid v) }, e.1)
   rule_known true forest start rule.Rounds e h valid = tt
-  rule_known false forest start (rule.Lines s) e h valid = absurd e
+  rule_known false forest start (rule.Lines s index) e h valid = absurd e
   rule_known false forest start rule.Rounds e h valid = tt
 
-  pub rule_heads : (is_given : Bool) (start : Tree L) (r : Rule L) (v : List Bool) (d : LeafValue) → IsRuleOf is_given (numbered start) r → value (leaf_of (plain start) v) ≡ d → ruled_heads value M family r v ≡ chosen_heads M family is_given v d
-  rule_heads true start (rule.Lines s) v d e f = ap (λ x. given_heads M family.lines.now v x) (ap (λ u. value (leaf_of (erase u) v)) e ∙ f)
+  pub rule_heads : (is_given : Bool) (start : Tree L) (r : Rule L) (v : List Bool) (d : LeafValue) → IsRuleOf is_given family.lines.now (numbered start) r → value (leaf_of (plain start) v) ≡ d → ruled_heads value M family r v ≡ chosen_heads M family is_given v d
+  rule_heads true start (rule.Lines s index) v d e f = ap (λ x. given_heads M family.lines.now v x) (ap (λ u. value (leaf_of (erase u) v)) e.0 ∙ f)
   rule_heads true start rule.Rounds v d e f = absurd e
-  rule_heads false start (rule.Lines s) v d e f = absurd e
+  rule_heads false start (rule.Lines s index) v d e f = absurd e
   rule_heads false start rule.Rounds v d e f = refl
 
   -- a head where its loop is kept, and Nothing elsewhere

@@ -9,6 +9,7 @@ pub mod Conditions
 pub mod Findings
 pub mod Finals
 pub mod Lines
+pub mod LineIndex
 pub mod Rules
 pub mod Turns
 pub mod Pass

@@ -8,7 +8,8 @@ use Rattle.c_tree.specs.Places.{program_places}
 use Rattle.c_tree.specs.Tree.{Whole}
 use Rattle.cpp_conditions.specs.declared.formulas.Formula.{Formula}
 use Rattle.decision_tree.specs.Plain.{leaf_of}
-use Rattle.decision_tree.specs.View.{plain}
+use Rattle.decision_tree.specs.Listed.{IsNumberedTree}
+use Rattle.decision_tree.specs.View.{numbered, plain}
 use Rattle.leaf_domain.specs.Leaves.{LeafValue, LeafMeaning}
 use Rattle.lifted_analysis.specs.declared.findings.AlarmTree.{AlarmTree}
 use Rattle.lifted_analysis.specs.declared.findings.LoopTree.{LoopTree}
@@ -57,3 +58,5 @@ pub record ArePassFindings {L : Type 0} (value : L → LeafValue) (M : LeafMeani
   pub alarms : (m : ℕ) → AreBelow m conditions plausible → AreRegionsBelow m lines → All (λ (a : AlarmTree). IsTreeOf m (pass_stop_at M mode p conditions plausible lines (a.place, a.kind)) (plain a.tree)) f.alarms.items
   pub loops : map (λ (l : LoopTree). l.place) f.loops.items ≡ loop_places p.body
   pub inductive : (m : ℕ) → AreBelow m conditions plausible → AreRegionsBelow m lines → All (λ (l : LoopTree). IsTreeOf m (inductive_at M mode p conditions plausible lines l.place) (plain l.tree)) f.loops.items
+  pub alarms_numbered : All (λ (a : AlarmTree). IsNumberedTree 0 64 (numbered a.tree)) f.alarms.items
+  pub loops_numbered : All (λ (l : LoopTree). IsNumberedTree 0 64 (numbered l.tree)) f.loops.items

@@ -12,9 +12,11 @@ use Rattle.leaf_domain.specs.Transfer.{assumed}
 use Rattle.plain_analysis.specs.Statements.{Heads, passed, final_heads}
 use Rattle.lifted_analysis.specs.declared.family_context.FamilyContext.{FamilyContext}
 use Rattle.lifted_analysis.specs.declared.finals.Finals.{Finals}
+use Rattle.lifted_analysis.specs.declared.lines.LoopLine.{LoopLine}
 use Rattle.lifted_analysis.specs.declared.rule.Rule.{Rule}
 use Rattle.lifted_analysis.specs.declared.rule.Rule.TheVariants as rule
 use Rattle.lifted_analysis.specs.Finals.{Remembers}
+use Rattle.lifted_analysis.specs.LineIndex.{IsIndexOf}
 use Rattle.lifted_analysis.specs.Lines.{given_heads}
 use Rattle.lifted_analysis.specs.States.{IsState, truths_in}
 
@@ -33,14 +35,14 @@ as_wanted want b = if want then b else not b
 -- the heads at a vector: final leaves, or what lines give
 abbrev pub ruled_heads : {L : Type 0} → (L → LeafValue) → LeafMeaning → FamilyContext → Rule L → List Bool → Heads
 ruled_heads value M family rule.Rounds v = final_heads M family.options.now
-ruled_heads value M family (rule.Lines start) v = given_heads M family.lines.now v (value (leaf_of (plain start) v))
+ruled_heads value M family (rule.Lines start index) v = given_heads M family.lines.now v (value (leaf_of (plain start) v))
 
--- the rule by lines over this tree of start values, or that by rounds
-abbrev pub IsRuleOf : {L : Type 0} → Bool → Numbered L → Rule L → Type 0
-IsRuleOf true start (rule.Lines s) = numbered s ≡ start
-IsRuleOf true start rule.Rounds = ⊥
-IsRuleOf false start (rule.Lines s) = ⊥
-IsRuleOf false start rule.Rounds = Unit {0}
+-- the rule by these lines, which it has an index of, over this tree of start values, or that by rounds
+abbrev pub IsRuleOf : {L : Type 0} → Bool → List LoopLine → Numbered L → Rule L → Type 0
+IsRuleOf true lines start (rule.Lines s index) = (numbered s ≡ start) × IsIndexOf lines index
+IsRuleOf true lines start rule.Rounds = ⊥
+IsRuleOf false lines start (rule.Lines s index) = ⊥
+IsRuleOf false lines start rule.Rounds = Unit {0}
 
 -- the heads by such a rule, where the start values have this leaf at a vector
 abbrev pub chosen_heads : LeafMeaning → FamilyContext → Bool → List Bool → LeafValue → Heads
@@ -73,10 +75,10 @@ pub record IsStart {L : Type 0} (value : L → LeafValue) (M : LeafMeaning) (fam
   pub state : IsState value family forest (numbered start)
   pub valid : (v : List Bool) → M.valid (value (leaf_of (plain start) v))
 
--- the tree of start values by which lines give heads is such a state
+-- the tree of start values by which lines give heads is such a state, and the index is of the family's lines
 abbrev pub IsRuled : {L : Type 0} → (L → LeafValue) → LeafMeaning → FamilyContext → List (Plain L) → Rule L → Type 0
 IsRuled value M family forest rule.Rounds = Unit {0}
-IsRuled value M family forest (rule.Lines start) = IsStart value M family forest start
+IsRuled value M family forest (rule.Lines start index) = IsStart value M family forest start × IsIndexOf family.lines.now index
 
 -- what is known of a family's loops
 pub record Knows {L : Type 0} (value : L → LeafValue) (M : LeafMeaning) (family : FamilyContext) (r : Rule L) (forest : List (Plain L)) (f : Finals L) : Type 0 where

@@ -95,7 +95,7 @@ pub(crate) fn noted_in<L: Leaf, K: Ledger>(
     let alloc = tables.alloc;
     let code = family.program;
     let start = start_tree(tables, family, code.start.items(), &code.declared)?;
-    let rule = rule_of(&start, is_given)?;
+    let rule = rule_of(alloc, &start, family.lines, is_given)?;
     let mut noted = Noted {
         places: Vec::new(alloc),
         alarms: Vec::new(alloc),

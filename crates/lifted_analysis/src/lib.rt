@@ -10,6 +10,7 @@ mod family_context;
 mod finals;
 pub mod findings;
 pub mod laws;
+mod line_index;
 pub mod lines;
 mod noted;
 mod operations;

@@ -7,6 +7,7 @@ ghost use Rattle.c_tree.specs.View.{whole};
 ghost use Rattle.c_tree.specs.Whole.{IsProgram};
 ghost use Rattle.c_tree.specs.Places.{program_places};
 ghost use Rattle.c_tree.specs.Project.{IsConditioned};
+ghost use Rattle.decision_tree.specs.Listed.{IsNumberedTree};
 ghost use Rattle.decision_tree.specs.View.{numbered, plain};
 ghost use Rattle.plain_analysis.specs.Promises.{RunsForeseenBy};
 ghost use Rattle.lifted_analysis.specs.declared.noted.TurnTree.{TurnTree};
@@ -140,7 +141,8 @@ fn pass_counted<L: Leaf, K: Ledger>(
 /// its analysis. For each loop of the family, in the order of the text, there is one reduced tree, which is true at exactly the
 /// vectors at which the loop is inductive in that pass: the leaf with which it is entered and the leaf after its body are below
 /// the one at its head; or the vector's program lacks the loop. Where all loops of a vector's program are inductive, the pass
-/// foresees each run from each store that the first leaf of the vector holds. The only refusal is want of memory.
+/// foresees each run from each store that the first leaf of the vector holds. All trees of stops and of loops have numbers. The
+/// only refusal is want of memory.
 pub fn pass_family<L: Leaf>(
     alloc: Global,
     code: &Program,
@@ -173,6 +175,10 @@ pub fn pass_family<L: Leaf>(
         → All (λ (l : LoopTree). IsTreeOf m (inductive_at L.meaning mode
         (whole code.now) conditions.now plausible.now lines.now l.place)
         (plain l.tree)) f.loops.items) }
+    ensures alarms_numbered { IfOk result
+        (λ f. All (λ (a : AlarmTree). IsNumberedTree 0 64 (numbered a.tree)) f.alarms.items) }
+    ensures loops_numbered { IfOk result
+        (λ f. All (λ (l : LoopTree). IsNumberedTree 0 64 (numbered l.tree)) f.loops.items) }
     ensures runs { (v : List Bool)
         → AreInductive L.meaning (turns_at_vector L.meaning mode
         (whole code.now) conditions.now plausible.now lines.now v)

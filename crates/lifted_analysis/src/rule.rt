@@ -1,14 +1,14 @@
 //! What the loops of a family have at their heads.
 #![tactic(auto)]
 
-ghost use Rattle.std.specs.Prelude.{◌≡◌, ◌&&◌, ℕ, IfOk, OnOk, true, if◌then◌else◌};
+ghost use Rattle.std.specs.Prelude.{ℕ, IfOk, OnOk, if◌then◌else◌};
 ghost use Rattle.cpp_conditions.specs.Propositions.{true_on, IsBelow};
 ghost use Rattle.cpp_conditions.specs.View.{formula};
 ghost use Rattle.c_tree.specs.View.{whole};
 ghost use Rattle.decision_tree.specs.View.{numbered, plain};
-ghost use Rattle.plain_analysis.specs.Places.{is_same_place};
 ghost use Rattle.plain_analysis.specs.Stated.{IsLoopOf};
 ghost use Rattle.lifted_analysis.specs.Heads.{head_over};
+ghost use Rattle.lifted_analysis.specs.LineIndex.{IsIndexOf};
 ghost use Rattle.lifted_analysis.specs.Lines.{AreVariableBounds, bounded_by, given_at};
 ghost use Rattle.lifted_analysis.specs.Rules.{Knows, IsRuleOf, heads_in, ruled_heads};
 ghost use Rattle.tree_unify.specs.Formulas.{HasNumber};
@@ -17,6 +17,7 @@ ghost use Rattle.lifted_analysis.specs.States.{IsFamily, IsState, IsLifted, IsJo
 use crate::after::final_tree;
 use crate::family_context::FamilyContext;
 use crate::finals::Finals;
+use crate::line_index::LineIndex;
 use crate::lines::{LoopLine, Ranges};
 use crate::operations::Step;
 use crate::states::{kept, selected, stepped};
@@ -25,33 +26,33 @@ use decision_tree::Tree;
 use fam_outer::{NoMemory, Place};
 use leaf_domain::Leaf;
 use plain_analysis::Loop;
+use std::alloc::Global;
 use std::sync::ledger::Ledger;
 use tree_unify::test_tree_in;
 
-/// What the loops of a family have at their heads: their final trees, or what the family's lines make of the tree of the start
-/// values.
+/// What the loops of a family have at their heads: their final trees, or what the family's lines, with their index, make of the
+/// tree of the start values.
 #[derive(Drop)]
 pub(crate) enum Rule<L> {
     Rounds,
-    Lines(Tree<L>),
+    Lines(Tree<L>, LineIndex),
 }
 
-/// The rule by lines, over the tree of the start values, or that by rounds.
-pub(crate) fn rule_of<L: Leaf>(start: &Tree<L>, is_given: bool) -> Result<Rule<L>, NoMemory>
-    ensures { IfOk result (IsRuleOf is_given (numbered start.now)) }
+/// The rule by these lines, over the tree of the start values, or that by rounds.
+pub(crate) fn rule_of<L: Leaf>(
+    alloc: Global,
+    start: &Tree<L>,
+    lines: &[LoopLine],
+    is_given: bool,
+) -> Result<Rule<L>, NoMemory>
+    ensures { IfOk result (IsRuleOf is_given lines.now (numbered start.now)) }
 {
     if is_given {
         let start = start.share()?;
-        return Ok(Rule::Lines(start));
+        let index = LineIndex::new(alloc, lines)?;
+        return Ok(Rule::Lines(start, index));
     }
     Ok(Rule::Rounds)
-}
-
-/// Whether a line is that of a place.
-fn is_at(line: &LoopLine, place: Place) -> bool
-    ensures { result ≡ is_same_place line.now.place place }
-{
-    line.place.line == place.line && line.place.column == place.column
 }
 
 /// What a line gives where its region holds, and a tree elsewhere.
@@ -78,49 +79,28 @@ fn region_tree<L: Leaf, K: Ledger>(
     selected(tables, family, &region, &bounded, elsewhere)
 }
 
-/// What a line gives the loop at a place where its region holds, and a tree elsewhere. A line at another place gives nothing.
-fn line_tree<L: Leaf, K: Ledger>(
-    tables: &mut Tables<L, K>,
-    family: &FamilyContext,
-    line: &LoopLine,
-    place: Place,
-    start: &Tree<L>,
-    elsewhere: &Tree<L>,
-) -> Result<Tree<L>, NoMemory>
-    requires start { IsState L.value family.now tables.old.leaves (numbered start.now) }
-    requires elsewhere { IsState L.value family.now tables.old.leaves (numbered elsewhere.now) }
-    requires region { IsBelow 64 (formula line.now.region) }
-    requires tests { (k : ℕ) → HasNumber k (formula line.now.region) → IsTest family.now k }
-    requires bounds { AreVariableBounds family.now.variables line.now.bounds }
-    ensures { IfOk result (λ r. IsJoint L.value family.now tables.old.leaves tables.new.leaves
-        (λ v x y. if is_same_place line.now.place place && true_on v (formula line.now.region)
-        then bounded_by L.meaning line.now.bounds x else y)
-        (plain start.now) (plain elsewhere.now) (numbered r)) }
-{
-    let _family = family.variables;
-    if is_at(line, place) {
-        return region_tree(tables, family, line, start, elsewhere);
-    }
-    elsewhere.share()
-}
-
 /// What the lines give the loop at a place: the first of its lines whose region holds counts, so the last one is taken first.
+/// Lines at other places are not looked at.
 fn given_tree<L: Leaf, K: Ledger>(
     tables: &mut Tables<L, K>,
     family: &FamilyContext,
+    index: &LineIndex,
     start: &Tree<L>,
     place: Place,
 ) -> Result<Tree<L>, NoMemory>
     requires family { IsFamily family.now }
+    requires index { IsIndexOf family.now.lines.now index.now }
     requires start { IsState L.value family.now tables.old.leaves (numbered start.now) }
     ensures { IfOk result (λ r. IsLifted L.value family.now tables.old.leaves tables.new.leaves
         (λ v d. given_at L.meaning family.now.lines.now v d place) (plain start.now) (numbered r)) }
 {
+    let positions = index.at(place);
     let unreached: Option<Ranges> = None;
     let mut made = stepped(tables, family, &Step::Bound(&unreached), start)?;
-    for k in (0..family.lines.len()).rev() {
-        let line = &family.lines[k];
-        made = line_tree(tables, family, line, place, start, &made)?;
+    for k in (0..positions.len()).rev() {
+        let position = positions[k];
+        let line = &family.lines[position];
+        made = region_tree(tables, family, line, start, &made)?;
     }
     Ok(made)
 }
@@ -145,7 +125,7 @@ fn ruled_tree<L: Leaf, K: Ledger>(
 {
     match rule {
         Rule::Rounds => final_tree(tables, finals, family, the_loop, t),
-        Rule::Lines(start) => given_tree(tables, family, start, the_loop.place),
+        Rule::Lines(start, index) => given_tree(tables, family, index, start, the_loop.place),
     }
 }
 

@@ -32,3 +32,11 @@ returns-clause-loops g c =
 pub returns-clause-inductive : goal.returns-clause-inductive
 returns-clause-inductive g c =
     if_ok_by c.pass_counted.result (ArePassFindings g.L.Leaf.value g.L.Leaf.meaning c.args.mode (whole c.args.code.now) c.args.conditions.now c.args.plausible.now c.args.lines.now) _ (λ f h. h.inductive) c.pass_counted.ensures
+
+pub returns-clause-alarms_numbered : goal.returns-clause-alarms_numbered
+returns-clause-alarms_numbered g c =
+    if_ok_by c.pass_counted.result (ArePassFindings g.L.Leaf.value g.L.Leaf.meaning c.args.mode (whole c.args.code.now) c.args.conditions.now c.args.plausible.now c.args.lines.now) _ (λ f h. h.alarms_numbered) c.pass_counted.ensures
+
+pub returns-clause-loops_numbered : goal.returns-clause-loops_numbered
+returns-clause-loops_numbered g c =
+    if_ok_by c.pass_counted.result (ArePassFindings g.L.Leaf.value g.L.Leaf.meaning c.args.mode (whole c.args.code.now) c.args.conditions.now c.args.plausible.now c.args.lines.now) _ (λ f h. h.loops_numbered) c.pass_counted.ensures

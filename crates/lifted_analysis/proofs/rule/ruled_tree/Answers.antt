@@ -1,7 +1,7 @@
 use Rattle.std.proofs.Common.{sym, subst, IfOk}
 use Rattle.c_tree.specs.View.{term, code}
 use Rattle.decision_tree.specs.View.{numbered, plain}
-use Rattle.lifted_analysis.specs.Rules.{ruled_heads, head_with}
+use Rattle.lifted_analysis.specs.Rules.{ruled_heads, head_with, IsRuled}
 use Rattle.lifted_analysis.specs.States.{IsLifted}
 use Rattle.lifted_analysis.proofs.WalkLemmas.{known_lifted}
 use Rattle.lifted_analysis.proofs.rule.ruled_tree.Goals as goal
@@ -17,3 +17,7 @@ returns-in-Rounds-clause-lifted g c =
 pub returns-in-Lines-clause-memory : goal.returns-in-Lines-clause-memory
 returns-in-Lines-clause-memory g c =
     known_lifted g.L.Leaf.value g.L.Leaf.meaning c.args.family.now c.args.rule.now c.given_tree.result c.args.tables.now.leaves c.given_tree.new.tables.leaves c.args.finals.now _ _ c.given_tree.ensures c.requires.memory
+
+pub given_tree-requires-clause-index : goal.given_tree-requires-clause-index
+given_tree-requires-clause-index g c =
+    (subst (IsRuled g.L.Leaf.value g.L.Leaf.meaning c.args.family.now c.args.tables.now.leaves) c.in-Lines.is c.requires.memory.ruled).1
