@@ -1,12 +1,11 @@
--- The numbers of tests of trees and of formulas.
-use Rattle.std.proofs.Common.{◌≤◌, ℕ, Bool, List, arith}
+-- The numbers of formulas.
+use Rattle.std.proofs.Common.{◌≤◌, ℕ, List, arith}
 use Rattle.std.specs.List.{All}
 use Rattle.std.proofs.lemmas.List.Elements.{All-weaker}
 use Rattle.cpp_conditions.specs.Propositions.{Proposition, Const, Test, Not, And, Or, IsBelow}
 use Rattle.cpp_conditions.specs.View.{formula}
 use Rattle.cpp_conditions.specs.declared.formulas.Formula.{Formula}
 use Rattle.certificate_format.specs.declared.certificates.AlarmLine.{AlarmLine}
-use Rattle.decision_tree.specs.Plain.{Plain, leaf, node, TestsBelow}
 use Rattle.lifted_analysis.specs.declared.lines.LoopLine.{LoopLine}
 use Rattle.lifted_analysis.specs.Lines.{AreRegionsBelow}
 use Rattle.lifted_analysis.specs.Promises.{AreBelow}
@@ -17,10 +16,6 @@ more_tests m n le (Test x) h = omega (arith, le, h)
 more_tests m n le (Not p) h = more_tests m n le p h
 more_tests m n le (And p q) h = (more_tests m n le p h.0, more_tests m n le q h.1)
 more_tests m n le (Or p q) h = (more_tests m n le p h.0, more_tests m n le q h.1)
-
-pub more_nodes : (m n : ℕ) → m ≤ n → (t : Plain Bool) → TestsBelow m t → TestsBelow n t
-more_nodes m n le (leaf b) h = tt
-more_nodes m n le (node test low high) h = (omega (arith, le, h.0), more_nodes m n le low h.1, more_nodes m n le high h.2)
 
 pub more_lines : (m n : ℕ) → m ≤ n → (ls : List AlarmLine) → All (λ (l : AlarmLine). IsBelow m (formula l.region)) ls → All (λ (l : AlarmLine). IsBelow n (formula l.region)) ls
 more_lines m n le ls h =

@@ -4,6 +4,7 @@ pub mod Inductive
 pub mod First
 pub mod Halves
 pub mod Belows
+pub mod Covering
 pub mod Listed
 pub mod Passed
 pub mod Judged

@@ -12,6 +12,7 @@ ghost use Rattle.cpp_conditions.specs.Numbering.{AreAllAmong};
 ghost use Rattle.cpp_conditions.specs.Propositions.{IsBelow};
 ghost use Rattle.cpp_conditions.specs.Validity.{plain, AreFit};
 ghost use Rattle.cpp_conditions.specs.View.{formula};
+ghost use Rattle.decision_tree.specs.Listed.{IsNumberedTree};
 ghost use Rattle.decision_tree.specs.Plain.{TestsBelow};
 ghost use Rattle.decision_tree.specs.View as tree;
 ghost use Rattle.lifted_analysis.specs.declared.findings.AlarmTree.{AlarmTree};
@@ -48,6 +49,8 @@ fn judged<L: Leaf>(
     requires few { length atoms.now ≤ 64 }
     requires loops { All (λ (l : LoopTree). TestsBelow (length atoms.now) (tree.plain l.tree)) found.now.loops.items }
     requires alarms { All (λ (a : AlarmTree). TestsBelow (length atoms.now) (tree.plain a.tree)) found.now.alarms.items }
+    requires loops_numbered { All (λ (l : LoopTree). IsNumberedTree 0 64 (tree.numbered l.tree)) found.now.loops.items }
+    requires alarms_numbered { All (λ (a : AlarmTree). IsNumberedTree 0 64 (tree.numbered a.tree)) found.now.alarms.items }
     requires lines { All (λ (l : AlarmLine). IsBelow (length atoms.now) (formula l.region)) lines.now }
     ensures { IfOk result (λ verdict. IsJudged prepared.now atoms.now lines.now
         found.now.loops.items found.now.alarms.items verdict) }

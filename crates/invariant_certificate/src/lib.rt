@@ -1,7 +1,6 @@
 //! Certificates, checked against a family without its analysis.
 #![tactic(auto)]
 
-mod asking;
 mod checking;
 mod listing;
 mod settling;

@@ -5,14 +5,13 @@ ghost use Rattle.std.specs.Prelude.{◌≡◌, ◌&&◌, ◌||◌, ◌<◌, ℕ,
 ghost use Rattle.std.specs.List.{All};
 ghost use Rattle.cpp_conditions.specs.Propositions.{Const, IsBelow, true_on};
 ghost use Rattle.cpp_conditions.specs.View.{formula};
-ghost use Rattle.decision_tree.specs.Plain.{TestsBelow, leaf_of};
-ghost use Rattle.decision_tree.specs.View.{plain};
-ghost use Rattle.tree_unify.specs.Formulas.{IsTreeOf};
+ghost use Rattle.decision_tree.specs.Listed.{IsNumberedTree};
+ghost use Rattle.decision_tree.specs.Plain.{TestsBelow, leaf, leaf_of};
+ghost use Rattle.decision_tree.specs.View.{numbered, plain};
 ghost use Rattle.plain_analysis.specs.Places.{is_same_place as same_place};
 ghost use Rattle.certificate_format.specs.declared.certificates.AlarmLine.{AlarmLine};
 ghost use Rattle.invariant_certificate.specs.Passes.{is_same_kind as same_kind, is_listed, lists};
 
-use crate::asking::is_leaf;
 use c_tree::Kind;
 use certificate_format::AlarmLine;
 use cpp_conditions::Formula;
@@ -23,7 +22,7 @@ use lifted_analysis::AlarmTree;
 use std::alloc::Global;
 use std::marker::Brand;
 use std::sync::ledger::{Blank, Ledger};
-use tree_unify::{Steps, test_tree_in, untrue};
+use tree_unify::{Operation, Steps, test_tree_in, unify_in};
 
 /// Whether a line is for this place and kind.
 fn is_for(line: &AlarmLine, place: Place, kind: Kind) -> bool
@@ -98,29 +97,60 @@ fn listed(alloc: Global, lines: &[AlarmLine], place: Place, kind: Kind) -> Resul
     }
 }
 
-/// The reduced tree of a formula, with a counter of its steps.
-fn reduced_counted<K: Ledger>(
+/// Whether a tree is the leaf false.
+fn is_never(tree: &Tree<bool>) -> bool
+    ensures { result ≡ true → plain tree.now ≡ leaf false }
+{
+    match tree {
+        Tree::Leaf(leaf) => !leaf.value,
+        Tree::Node(_) => false,
+    }
+}
+
+/// That the first truth does not hold, or the second does.
+#[derive(Drop)]
+struct QuietOrListed;
+
+impl Operation<bool, bool, bool> for QuietOrListed {
+    ghost takes = { λ _ _ _. Unit {0} };
+
+    ghost gives = { λ _ a b c. c ≡ (not a || b) };
+
+    fn apply(&self, first: &bool, second: &bool) -> Result<bool, NoMemory> {
+        Ok(!*first || *second)
+    }
+}
+
+/// The vectors at which a tree is false or a formula true, with a counter of the steps.
+fn quiet_or_listed<K: Ledger>(
     alloc: Global,
-    f: &Formula,
+    tree: &Tree<bool>,
+    listed: &Formula,
     blank: Blank,
 ) -> Result<Tree<bool>, NoMemory>
     requires name { blank.name ≡ K.name }
     requires parts { blank.parts ≡ K.parts }
     requires some { 0 < K.parts }
-    requires below { IsBelow 64 (formula f.now) }
-    ensures { IfOk result (λ t. IsTreeOf (formula f.now) (plain t)) }
+    requires tree { IsNumberedTree 0 64 (numbered tree.now) }
+    requires listed { IsBelow 64 (formula listed.now) }
+    ensures truth { IfOk result (λ t. (v : List Bool) → leaf_of (plain t) v
+        ≡ (not (leaf_of (plain tree.now) v) || true_on v (formula listed.now))) }
+    ensures tests { IfOk result (λ t. (count : ℕ) → TestsBelow count (plain tree.now)
+        → IsBelow count (formula listed.now) → TestsBelow count (plain t)) }
+    ensures numbered { IfOk result (λ t. IsNumberedTree 0 64 (numbered t)) }
 {
-    let mut forest = Forest::new(alloc);
     let mut steps = Steps::<K>::new(blank);
-    test_tree_in(alloc, &mut forest, f, &mut steps)
-}
-
-/// The reduced tree of a formula.
-fn reduced(alloc: Global, f: &Formula) -> Result<Tree<bool>, NoMemory>
-    requires { IsBelow 64 (formula f.now) }
-    ensures { IfOk result (λ t. IsTreeOf (formula f.now) (plain t)) }
-{
-    reduced_counted::<Brand>(alloc, f, Blank::new(1))
+    let mut regions = Forest::new(alloc);
+    let region = test_tree_in(alloc, &mut regions, listed, &mut steps)?;
+    let mut forest = Forest::new(alloc);
+    unify_in(
+        alloc,
+        &mut forest,
+        &QuietOrListed,
+        tree,
+        &region,
+        &mut steps,
+    )
 }
 
 /// The vectors at which an alarm tree is false, or some line lists its place and kind.
@@ -129,19 +159,18 @@ pub(crate) fn covered(
     alarm: &AlarmTree,
     lines: &[AlarmLine],
 ) -> Result<Tree<bool>, NoMemory>
-    requires tree { TestsBelow 64 (plain alarm.now.tree) }
+    requires tree { IsNumberedTree 0 64 (numbered alarm.now.tree) }
     requires lines { All (λ (l : AlarmLine). IsBelow 64 (formula l.region)) lines.now }
     ensures truth { IfOk result (λ t. (v : List Bool) → leaf_of (plain t) v
         ≡ (not (leaf_of (plain alarm.now.tree) v) || is_listed lines.now (alarm.now.place, alarm.now.kind) v)) }
     ensures tests { IfOk result (λ t. (count : ℕ) → TestsBelow count (plain alarm.now.tree)
         → All (λ (l : AlarmLine). IsBelow count (formula l.region)) lines.now
         → TestsBelow count (plain t)) }
+    ensures numbered { IfOk result (λ t. IsNumberedTree 0 64 (numbered t)) }
 {
-    if is_leaf(&alarm.tree, false) {
+    if is_never(&alarm.tree) {
         return Tree::leaf(alloc, true);
     }
-    let quiet = untrue(alloc, &alarm.tree)?;
     let listed = listed(alloc, lines, alarm.place, alarm.kind)?;
-    let wanted = either(alloc, quiet, listed)?;
-    reduced(alloc, &wanted)
+    quiet_or_listed::<Brand>(alloc, &alarm.tree, &listed, Blank::new(1))
 }

@@ -6,14 +6,14 @@ ghost use Rattle.std.specs.List.{All};
 ghost use Rattle.linear_atoms.specs.Atoms.{AreAtoms};
 ghost use Rattle.cpp_conditions.specs.Propositions.{IsBelow};
 ghost use Rattle.cpp_conditions.specs.View.{formula};
+ghost use Rattle.decision_tree.specs.Listed.{IsNumberedTree};
 ghost use Rattle.decision_tree.specs.Plain.{TestsBelow};
-ghost use Rattle.decision_tree.specs.View.{plain};
+ghost use Rattle.decision_tree.specs.View.{numbered, plain};
 ghost use Rattle.lifted_analysis.specs.declared.findings.AlarmTree.{AlarmTree};
 ghost use Rattle.certificate_format.specs.declared.certificates.AlarmLine.{AlarmLine};
 ghost use Rattle.invariant_certificate.specs.Failing.{AllHold};
 ghost use Rattle.invariant_certificate.specs.FirstFailing.{stop_holds, IsFirstStop};
 
-use crate::asking::least_failing;
 use crate::listing::covered;
 use atom_solver::Prepared;
 use c_tree::Kind;
@@ -22,6 +22,7 @@ use fam_outer::{NoMemory, Place};
 use lifted_analysis::AlarmTree;
 use linear_atoms::{Atom, Config};
 use std::alloc::Global;
+use tree_questions::least_untrue;
 
 /// A place and a kind, and a configuration.
 pub(crate) type UnlistedStop = (Place, Kind, Config);
@@ -38,6 +39,7 @@ pub(crate) fn first_unlisted(
     requires atoms { AreAtoms (length prepared.now.features) atoms.now }
     requires few { length atoms.now ≤ 64 }
     requires tests { All (λ (a : AlarmTree). TestsBelow (length atoms.now) (plain a.tree)) alarms.now }
+    requires trees { All (λ (a : AlarmTree). IsNumberedTree 0 64 (numbered a.tree)) alarms.now }
     requires lines { All (λ (l : AlarmLine). IsBelow (length atoms.now) (formula l.region)) lines.now }
     ensures { IfOk result (λ found. MatchOption found
         (AllHold prepared.now (stop_holds atoms.now lines.now) alarms.now)
@@ -45,7 +47,7 @@ pub(crate) fn first_unlisted(
 {
     'alarms: for alarm in alarms {
         let covered = covered(alloc, alarm, lines)?;
-        if let Some(config) = least_failing(alloc, prepared, atoms, &covered)? {
+        if let Some(config) = least_untrue(alloc, prepared, atoms, &covered)? {
             return Ok(Some((alarm.place, alarm.kind, config)));
         }
     }

@@ -2,12 +2,13 @@ use Rattle.std.proofs.Common.{length, not, take, drop, ◌+◌, refl, ap, sym, s
 use Rattle.std.proofs.lemmas.List.{take_all}
 use Rattle.cpp_conditions.specs.Numbering.{vector_at}
 use Rattle.atom_solver.specs.Solutions.{Finds}
+use Rattle.decision_tree.specs.Listed.{IsNumberedTree}
 use Rattle.decision_tree.specs.Plain.{TestsBelow, leaf_of}
-use Rattle.decision_tree.specs.View.{plain}
+use Rattle.decision_tree.specs.View.{numbered, plain}
 use Rattle.lifted_analysis.specs.declared.findings.AlarmTree.{AlarmTree}
 use Rattle.invariant_certificate.specs.Failing.{AllHold}
 use Rattle.invariant_certificate.specs.FirstFailing.{stop_holds}
-use Rattle.invariant_certificate.proofs.Belows.{more_nodes, more_lines}
+use Rattle.invariant_certificate.proofs.Belows.{more_lines}
 use Rattle.invariant_certificate.proofs.First.{first_as}
 use Rattle.invariant_certificate.proofs.Halves.{splits_at}
 use Rattle.invariant_certificate.proofs.stopping.first_unlisted.Goals as goal
@@ -15,14 +16,13 @@ use Rattle.invariant_certificate.proofs.stopping.first_unlisted.Goals as goal
 pub covered-requires-clause-tree : goal.covered-requires-clause-tree
 covered-requires-clause-tree c =
     let one = c.alarm-item.result in
-    more_nodes (length c.args.atoms.now) 64 c.requires.few (plain one.tree)
-    (subst (λ (a : AlarmTree). TestsBelow (length c.args.atoms.now) (plain a.tree)) (sym c.alarm-item.is) (c.requires.tests c.alarms.alarm-index one c.alarms-test.true))
+    subst (λ (a : AlarmTree). IsNumberedTree 0 64 (numbered a.tree)) (sym c.alarm-item.is) (c.requires.trees c.alarms.alarm-index one c.alarms-test.true)
 
 pub covered-requires-clause-lines : goal.covered-requires-clause-lines
 covered-requires-clause-lines c = more_lines (length c.args.atoms.now) 64 c.requires.few c.args.lines.now c.requires.lines
 
-pub least_failing-requires-clause-tests : goal.least_failing-requires-clause-tests
-least_failing-requires-clause-tests c =
+pub least_untrue-requires-clause-tests : goal.least_untrue-requires-clause-tests
+least_untrue-requires-clause-tests c =
     let one = c.alarm-item.result in
     c.in_ok-covered.ensures.tests (length c.args.atoms.now)
     (subst (λ (a : AlarmTree). TestsBelow (length c.args.atoms.now) (plain a.tree)) (sym c.alarm-item.is) (c.requires.tests c.alarms.alarm-index one c.alarms-test.true))
