@@ -1,0 +1,4 @@
+pub mod Pairs
+pub mod Exchange
+pub mod PairedLeaves
+pub mod Below

@@ -1,0 +1,2 @@
+pub mod BelowParts
+pub mod Answered

@@ -1,0 +1,4 @@
+pub mod SharpLeaves
+pub mod View
+pub mod Hashing
+pub mod Laws
