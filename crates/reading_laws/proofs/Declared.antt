@@ -1,0 +1,247 @@
+-- The names that stand as declared before `main` are the targets of the declarators that the grammar finds.
+use Rattle.std.proofs.Common.{◌≡◌, ℕ, Bool, true, false, not, ◌&&◌, ◌||◌, cond, List, [], ◌∷◌, ◌++◌, Option, None, refl, sym, ap, ◌∙◌, append_assoc, append-nil}
+use Rattle.std.specs.Prelude.{ℤ}
+use Rattle.std.proofs.lemmas.List.{map-append}
+use Rattle.std.proofs.lemmas.List.Elements.{filter-append}
+use Rattle.fam_outer.specs.declared.faults.Place.{Place}
+use Rattle.cpp_groups.specs.declared.directive.GroupDirective.{GroupDirective}
+use Rattle.cpp_groups.specs.declared.section.Section.{Section}
+use Rattle.cpp_groups.specs.declared.section.Section.TheVariants.{Seeking, Keeping, Passed}
+use Rattle.cpp_groups.specs.Kept.{truth, next_group, all_kept, sections_after}
+use Rattle.c_tree.specs.declared.lists.Declared.{Declared}
+use Rattle.c_tree.specs.declared.lists.Guard.{Guard}
+use Rattle.c_tree.specs.declared.tree.Op.TheVariants.{Sub}
+use Rattle.c_tree.specs.Tree.{Code}
+use Rattle.c_tree.specs.Project.{guard_holds, guards_hold}
+use Rattle.c_grammar.specs.declared.items.Item.{Item}
+use Rattle.c_grammar.specs.declared.items.Sign.{Sign}
+use Rattle.c_grammar.specs.declared.items.Sign.TheVariants as signs
+use Rattle.c_grammar.specs.Grammar.{at, Optional, absent, present, Typed, int, int32, signed, signed_int, int_signed, Begins, only_type, then_type, Declarator, bare, positive, negative, with_true, with_false, declared, Part, Outer, Vars, Later, Declares, nothing, variables, prototype, section, last_var, next_var, end_part, else_part, elif_part, Main, main, File, Forms, file, is_group}
+use Rattle.c_grammar.specs.Kept.{directive_of, kept_from, kept}
+use Rattle.c_grammar.proofs.Preprocess.{seeks}
+use Rattle.family_names.specs.Names.{is_main, has_main, until_main, name_of, names_of, declared_by}
+use Rattle.c_parser.specs.Names as alone
+use Rattle.c_parser.specs.Names.{targets}
+use Rattle.reading_laws.specs.Declaring.{holding, DeclarationsAreOfTheGrammar, KeptDeclarationsHold}
+
+-- ---- declared by words of both kinds of files
+
+main_same : (s : Sign) → alone.is_main s ≡ is_main s
+main_same signs.Main = refl
+main_same _ = refl
+
+name_same : (s : Sign) → alone.name_of s ≡ name_of s
+name_same (signs.Name n) = refl
+name_same _ = refl
+
+pub has_same : (xs : List Item) → alone.has_main xs ≡ has_main xs
+has_same [] = refl
+has_same (x ∷ xs) = ap (λ (b : Bool). b || alone.has_main xs) (main_same x.sign) ∙ ap (λ (b : Bool). is_main x.sign || b) (has_same xs)
+
+pub declared_same : (xs : List Item) → alone.declared_by xs ≡ declared_by xs
+declared_same [] = refl
+declared_same (x ∷ xs) =
+    ap (λ (b : Bool). cond b [] (alone.name_of x.sign ++ alone.declared_by xs)) (main_same x.sign)
+    ∙ (elim (is_main x.sign) as (λ b. cond b [] (alone.name_of x.sign ++ alone.declared_by xs) ≡ names_of (cond b [] (x ∷ until_main xs))) [
+      | true ↦ refl
+      | false ↦ ap (λ (ns : List ℕ). ns ++ alone.declared_by xs) (name_same x.sign) ∙ ap (λ (ns : List ℕ). name_of x.sign ++ ns) (declared_same xs)
+    ])
+
+-- what a law of lower crates says of the words of plain files
+abbrev pub DeclaredAlone : Type 0
+DeclaredAlone = (items : List Item) (f : File) → Forms items f → alone.declared_by items ≡ targets f.declared
+
+pub declarations_are_of_the_grammar : DeclaredAlone → DeclarationsAreOfTheGrammar
+declarations_are_of_the_grammar law items f h = sym (declared_same items) ∙ law items f h
+
+-- ---- items that name nothing and are no directive
+
+abbrev IsSilent : List Item → Type 0
+IsSilent [] = Unit {0}
+IsSilent (x ∷ xs) = (is_group x.sign ≡ false) × (directive_of x.sign ≡ None) × (name_of x.sign ≡ []) × (is_main x.sign ≡ false) × IsSilent xs
+
+silent_first : (t : List Bool) (secs : List Section) (x : Item) (w : List Item) → directive_of x.sign ≡ None → name_of x.sign ≡ [] → names_of (kept_from t secs (x ∷ w)) ≡ names_of (kept_from t secs w)
+silent_first t secs x w d n =
+    ap (λ (o : Option GroupDirective). names_of (cond (not (is_group x.sign) && all_kept secs) (x ∷ kept_from t (sections_after t secs o) w) (kept_from t (sections_after t secs o) w))) d
+    ∙ (elim (not (is_group x.sign) && all_kept secs) as (λ b. names_of (cond b (x ∷ kept_from t secs w) (kept_from t secs w)) ≡ names_of (kept_from t secs w)) [
+      | true ↦ ap (λ (ns : List ℕ). ns ++ names_of (kept_from t secs w)) n
+      | false ↦ refl
+    ])
+
+silent : (t : List Bool) (secs : List Section) (us w : List Item) → IsSilent us → names_of (kept_from t secs (us ++ w)) ≡ names_of (kept_from t secs w)
+silent t secs [] w h = refl
+silent t secs (x ∷ us) w h = silent_first t secs x (us ++ w) h.1 h.2 ∙ silent t secs us w h.4
+
+typed_silent : {us : List Item} → Typed us → IsSilent us
+typed_silent (int p) = (refl, refl, refl, refl, tt)
+typed_silent (int32 p) = (refl, refl, refl, refl, tt)
+typed_silent (signed p) = (refl, refl, refl, refl, tt)
+typed_silent (signed_int p q) = (refl, refl, refl, refl, (refl, refl, refl, refl, tt))
+typed_silent (int_signed p q) = (refl, refl, refl, refl, (refl, refl, refl, refl, tt))
+
+static_silent : {us : List Item} → Begins signs.Static us → IsSilent us
+static_silent (only_type _ y) = typed_silent y
+static_silent (then_type p _ y) = (refl, refl, refl, refl, typed_silent y)
+
+extern_silent : {us : List Item} → Begins signs.Extern us → IsSilent us
+extern_silent (only_type _ y) = typed_silent y
+extern_silent (then_type p _ y) = (refl, refl, refl, refl, typed_silent y)
+
+void_silent : {us : List Item} → Optional signs.Void us → IsSilent us
+void_silent (absent _) = tt
+void_silent (present p _) = (refl, refl, refl, refl, tt)
+
+-- ---- guards and sections
+
+holds_then : (t : List Bool) (gs : List Guard) (g : Guard) → guards_hold t (gs ++ g ∷ []) ≡ (guards_hold t gs && guard_holds t g)
+holds_then t [] g = elim (guard_holds t g) as (λ b. (b && true) ≡ (true && b)) [ true ↦ refl | false ↦ refl ]
+holds_then t (x ∷ gs) g = elim (guard_holds t x) as (λ b. (b && guards_hold t (gs ++ g ∷ [])) ≡ ((b && guards_hold t gs) && guard_holds t g)) [ true ↦ holds_then t gs g | false ↦ refl ]
+
+true_matches : (sec : Section) (secs : List Section) (b : Bool) → (seeks sec secs && b) ≡ all_kept (next_group sec b ∷ secs)
+true_matches Seeking secs true = elim (all_kept secs) as (λ k. (k && true) ≡ k) [ true ↦ refl | false ↦ refl ]
+true_matches Seeking secs false = elim (all_kept secs) as (λ k. (k && false) ≡ false) [ true ↦ refl | false ↦ refl ]
+true_matches Keeping secs b = refl
+true_matches Passed secs b = refl
+
+false_matches : (sec : Section) (secs : List Section) (b : Bool) → (seeks sec secs && not b) ≡ seeks (next_group sec b) secs
+false_matches Seeking secs true = elim (all_kept secs) as (λ k. (k && false) ≡ false) [ true ↦ refl | false ↦ refl ]
+false_matches Seeking secs false = elim (all_kept secs) as (λ k. (k && true) ≡ k) [ true ↦ refl | false ↦ refl ]
+false_matches Keeping secs b = refl
+false_matches Passed secs b = refl
+
+else_matches : (sec : Section) (secs : List Section) → seeks sec secs ≡ all_kept (next_group sec true ∷ secs)
+else_matches Seeking secs = refl
+else_matches Keeping secs = refl
+else_matches Passed secs = refl
+
+in_true : (t : List Bool) (gs : List Guard) (n : ℕ) (sec : Section) (secs : List Section) → guards_hold t gs ≡ seeks sec secs → guards_hold t (with_true gs n) ≡ all_kept (next_group sec (truth t n) ∷ secs)
+in_true t gs n sec secs h = holds_then t gs (record { number = n; positive = true }) ∙ ap (λ (b : Bool). b && truth t n) h ∙ true_matches sec secs (truth t n)
+
+in_false : (t : List Bool) (gs : List Guard) (n : ℕ) (sec : Section) (secs : List Section) → guards_hold t gs ≡ seeks sec secs → guards_hold t (with_false gs n) ≡ seeks (next_group sec (truth t n)) secs
+in_false t gs n sec secs h = holds_then t gs (record { number = n; positive = false }) ∙ ap (λ (b : Bool). b && not (truth t n)) h ∙ false_matches sec secs (truth t n)
+
+-- ---- declarators
+
+held_both : (t : List Bool) (ds es : List Declared) → targets (holding t (ds ++ es)) ≡ targets (holding t ds) ++ targets (holding t es)
+held_both t ds es =
+    ap targets (filter-append (λ (d : Declared). guards_hold t d.guards) ds es) ∙ map-append (λ (d : Declared). d.target) (holding t ds) (holding t es)
+
+held_first : (t : List Bool) (x : ℕ) (n : ℤ) (gs : List Guard) (ds : List Declared) (b : Bool) → guards_hold t gs ≡ b → cond b (x ∷ []) [] ++ targets (holding t ds) ≡ targets (holding t (declared x n gs ∷ ds))
+held_first t x n gs ds true e = ap (λ (b : Bool). targets (cond b (declared x n gs ∷ holding t ds) (holding t ds))) (sym e)
+held_first t x n gs ds false e = ap (λ (b : Bool). targets (cond b (declared x n gs ∷ holding t ds) (holding t ds))) (sym e)
+
+name_first : (t : List Bool) (secs : List Section) (p : Place) (x : ℕ) (w : List Item) → names_of (kept_from t secs (at p (signs.Name x) ∷ w)) ≡ cond (all_kept secs) (x ∷ []) [] ++ names_of (kept_from t secs w)
+name_first t secs p x w = elim (all_kept secs) as (λ b. names_of (cond b (at p (signs.Name x) ∷ kept_from t secs w) (kept_from t secs w)) ≡ cond b (x ∷ []) [] ++ names_of (kept_from t secs w)) [ true ↦ refl | false ↦ refl ]
+
+declarator_first : {us : List Item} {x : ℕ} {n : ℤ} (t : List Bool) (secs : List Section) (w : List Item) → Declarator us x n → names_of (kept_from t secs (us ++ w)) ≡ cond (all_kept secs) (x ∷ []) [] ++ names_of (kept_from t secs w)
+declarator_first t secs w (bare p x) = name_first t secs p x w
+declarator_first t secs w (positive p q r x n) =
+    name_first t secs p x (at q signs.Equals ∷ at r (signs.Number n) ∷ w)
+    ∙ ap (λ (ns : List ℕ). cond (all_kept secs) (x ∷ []) [] ++ ns) (silent t secs (at q signs.Equals ∷ at r (signs.Number n) ∷ []) w (refl, refl, refl, refl, (refl, refl, refl, refl, tt)))
+declarator_first t secs w (negative p q r s x n) =
+    name_first t secs p x (at q signs.Equals ∷ at r (signs.Oper Sub) ∷ at s (signs.Number n) ∷ w)
+    ∙ ap (λ (ns : List ℕ). cond (all_kept secs) (x ∷ []) [] ++ ns) (silent t secs (at q signs.Equals ∷ at r (signs.Oper Sub) ∷ at s (signs.Number n) ∷ []) w (refl, refl, refl, refl, (refl, refl, refl, refl, (refl, refl, refl, refl, tt))))
+
+-- ---- declarations
+
+abbrev HoldsAt : List Bool → Part → List Item → List Declared → Type 0
+HoldsAt t (Outer gs) us ds = (secs : List Section) → guards_hold t gs ≡ all_kept secs → (w : List Item) → names_of (kept_from t secs (us ++ w)) ≡ targets (holding t ds) ++ names_of (kept_from t secs w)
+HoldsAt t (Vars gs) us ds = (secs : List Section) → guards_hold t gs ≡ all_kept secs → (w : List Item) → names_of (kept_from t secs (us ++ w)) ≡ targets (holding t ds) ++ names_of (kept_from t secs w)
+HoldsAt t (Later gs) us ds = (sec : Section) (secs : List Section) → guards_hold t gs ≡ seeks sec secs → (w : List Item) → names_of (kept_from t (sec ∷ secs) (us ++ w)) ≡ targets (holding t ds) ++ names_of (kept_from t secs w)
+
+-- one after another
+both_held : (t : List Bool) (ds es : List Declared) (ns : List ℕ) → targets (holding t ds) ++ (targets (holding t es) ++ ns) ≡ targets (holding t (ds ++ es)) ++ ns
+both_held t ds es ns = sym (append_assoc (targets (holding t ds)) (targets (holding t es)) ns) ∙ ap (λ (ms : List ℕ). ms ++ ns) (sym (held_both t ds es))
+
+one_held : (t : List Bool) (x : ℕ) (n : ℤ) (gs : List Guard) (ds : List Declared) (secs : List Section) (ns : List ℕ) → guards_hold t gs ≡ all_kept secs → cond (all_kept secs) (x ∷ []) [] ++ (targets (holding t ds) ++ ns) ≡ targets (holding t (declared x n gs ∷ ds)) ++ ns
+one_held t x n gs ds secs ns h =
+    sym (append_assoc (cond (all_kept secs) (x ∷ []) []) (targets (holding t ds)) ns) ∙ ap (λ (ms : List ℕ). ms ++ ns) (held_first t x n gs ds (all_kept secs) h)
+
+holds : {part : Part} {us : List Item} {ds : List Declared} (t : List Bool) → Declares part us ds → HoldsAt t part us ds
+holds t (nothing gs) = λ secs h w. refl
+holds t (variables gs {us} {vs} {ws} {ds} {es} o v d) = λ secs h w.
+    ap (λ (y : List Item). names_of (kept_from t secs y)) (append_assoc us (vs ++ ws) w)
+    ∙ silent t secs us ((vs ++ ws) ++ w) (static_silent o)
+    ∙ ap (λ (y : List Item). names_of (kept_from t secs y)) (append_assoc vs ws w)
+    ∙ holds t v secs h (ws ++ w)
+    ∙ ap (λ (ns : List ℕ). targets (holding t ds) ++ ns) (holds t d secs h w)
+    ∙ both_held t ds es (names_of (kept_from t secs w))
+holds t (prototype q r s z gs {us} {vs} {ws} {es} o v d) = λ secs h w.
+    let tail : List Item = at s signs.Close ∷ at z signs.Semicolon ∷ ws in
+    ap (λ (y : List Item). names_of (kept_from t secs y)) (append_assoc us (at q signs.Input ∷ at r signs.Open ∷ (vs ++ tail)) w)
+    ∙ silent t secs us (at q signs.Input ∷ at r signs.Open ∷ ((vs ++ tail) ++ w)) (extern_silent o)
+    ∙ silent t secs (at q signs.Input ∷ at r signs.Open ∷ []) ((vs ++ tail) ++ w) (refl, refl, refl, refl, (refl, refl, refl, refl, tt))
+    ∙ ap (λ (y : List Item). names_of (kept_from t secs y)) (append_assoc vs tail w)
+    ∙ silent t secs vs (tail ++ w) (void_silent v)
+    ∙ silent t secs (at s signs.Close ∷ at z signs.Semicolon ∷ []) (ws ++ w) (refl, refl, refl, refl, (refl, refl, refl, refl, tt))
+    ∙ holds t d secs h w
+holds t (section p n gs {us} {vs} {ws} {cs} {ds} {es} a b d) = λ secs h w.
+    let inner = next_group Seeking (truth t n) in
+    let is : (us ++ (vs ++ ws)) ++ w ≡ us ++ (vs ++ (ws ++ w)) = simp append_assoc in
+    ap (λ (y : List Item). names_of (kept_from t (inner ∷ secs) y)) is
+    ∙ holds t a (inner ∷ secs) (in_true t gs n Seeking secs h) (vs ++ (ws ++ w))
+    ∙ ap (λ (ns : List ℕ). targets (holding t cs) ++ ns) (holds t b inner secs (in_false t gs n Seeking secs h) (ws ++ w)
+    ∙ ap (λ (ns : List ℕ). targets (holding t ds) ++ ns) (holds t d secs h w) ∙ both_held t ds es (names_of (kept_from t secs w)))
+    ∙ both_held t cs (ds ++ es) (names_of (kept_from t secs w))
+holds t (last_var p gs {us} {x} {n} d) = λ secs h w.
+    ap (λ (y : List Item). names_of (kept_from t secs y)) (append_assoc us (at p signs.Semicolon ∷ []) w)
+    ∙ declarator_first t secs (at p signs.Semicolon ∷ w) d
+    ∙ ap (λ (ns : List ℕ). cond (all_kept secs) (x ∷ []) [] ++ ns) (silent t secs (at p signs.Semicolon ∷ []) w (refl, refl, refl, refl, tt))
+    ∙ one_held t x n gs [] secs (names_of (kept_from t secs w)) h
+holds t (next_var p gs {us} {vs} {x} {n} {ds} d v) = λ secs h w.
+    ap (λ (y : List Item). names_of (kept_from t secs y)) (append_assoc us (at p signs.Comma ∷ vs) w)
+    ∙ declarator_first t secs (at p signs.Comma ∷ (vs ++ w)) d
+    ∙ ap (λ (ns : List ℕ). cond (all_kept secs) (x ∷ []) [] ++ ns) (silent t secs (at p signs.Comma ∷ []) (vs ++ w) (refl, refl, refl, refl, tt) ∙ holds t v secs h w)
+    ∙ one_held t x n gs ds secs (names_of (kept_from t secs w)) h
+holds t (end_part p gs) = λ sec secs h w. refl
+holds t (else_part p q gs {us} {ds} d) = λ sec secs h w.
+    ap (λ (y : List Item). names_of (kept_from t (next_group sec true ∷ secs) y)) (append_assoc us (at q signs.GroupEnd ∷ []) w)
+    ∙ holds t d (next_group sec true ∷ secs) (h ∙ else_matches sec secs) (at q signs.GroupEnd ∷ w)
+holds t (elif_part p n gs {us} {vs} {cs} {ds} a b) = λ sec secs h w.
+    let inner = next_group sec (truth t n) in
+    ap (λ (y : List Item). names_of (kept_from t (inner ∷ secs) y)) (append_assoc us vs w)
+    ∙ holds t a (inner ∷ secs) (in_true t gs n sec secs h) (vs ++ w)
+    ∙ ap (λ (ns : List ℕ). targets (holding t cs) ++ ns) (holds t b inner secs (in_false t gs n sec secs h) w)
+    ∙ both_held t cs ds (names_of (kept_from t secs w))
+
+-- ---- up to `main`
+
+silent_until : (us w : List Item) → IsSilent us → until_main (us ++ w) ≡ us ++ until_main w
+silent_until [] w h = refl
+silent_until (x ∷ us) w h = ap (λ (b : Bool). cond b [] (x ∷ until_main (us ++ w))) h.3 ∙ ap (λ (y : List Item). x ∷ y) (silent_until us w h.4)
+
+declarator_until : {us : List Item} {x : ℕ} {n : ℤ} (w : List Item) → Declarator us x n → until_main (us ++ w) ≡ us ++ until_main w
+declarator_until w (bare p x) = refl
+declarator_until w (positive p q r x n) = refl
+declarator_until w (negative p q r s x n) = refl
+
+until_both : (us vs w : List Item) → until_main (us ++ (vs ++ w)) ≡ us ++ until_main (vs ++ w) → until_main (vs ++ w) ≡ vs ++ until_main w → until_main ((us ++ vs) ++ w) ≡ (us ++ vs) ++ until_main w
+until_both us vs w h k = ap until_main (append_assoc us vs w) ∙ h ∙ ap (λ (y : List Item). us ++ y) k ∙ sym (append_assoc us vs (until_main w))
+
+no_main : {part : Part} {us : List Item} {ds : List Declared} → Declares part us ds → (w : List Item) → until_main (us ++ w) ≡ us ++ until_main w
+no_main (nothing gs) w = refl
+no_main (variables gs {us} {vs} {ws} o v d) w = until_both us (vs ++ ws) w (silent_until us ((vs ++ ws) ++ w) (static_silent o)) (until_both vs ws w (no_main v (ws ++ w)) (no_main d w))
+no_main (prototype q r s t gs {us} {vs} {ws} o v d) w =
+    let tail : List Item = at s signs.Close ∷ at t signs.Semicolon ∷ ws in
+    until_both us (at q signs.Input ∷ at r signs.Open ∷ (vs ++ tail)) w (silent_until us (at q signs.Input ∷ at r signs.Open ∷ ((vs ++ tail) ++ w)) (extern_silent o))
+    (ap (λ (y : List Item). at q signs.Input ∷ at r signs.Open ∷ y) (until_both vs tail w (silent_until vs (tail ++ w) (void_silent v))
+    (ap (λ (y : List Item). at s signs.Close ∷ at t signs.Semicolon ∷ y) (no_main d w))))
+no_main (section p n gs {us} {vs} {ws} a b d) w =
+    ap (λ (y : List Item). at p (signs.GroupIf n) ∷ y) (until_both us (vs ++ ws) w (no_main a ((vs ++ ws) ++ w)) (until_both vs ws w (no_main b (ws ++ w)) (no_main d w)))
+no_main (last_var p gs {us} d) w = until_both us (at p signs.Semicolon ∷ []) w (declarator_until (at p signs.Semicolon ∷ w) d) refl
+no_main (next_var p gs {us} {vs} d v) w =
+    until_both us (at p signs.Comma ∷ vs) w (declarator_until (at p signs.Comma ∷ (vs ++ w)) d) (ap (λ (y : List Item). at p signs.Comma ∷ y) (no_main v w))
+no_main (end_part p gs) w = refl
+no_main (else_part p q gs {us} d) w = ap (λ (y : List Item). at p signs.GroupElse ∷ y) (until_both us (at q signs.GroupEnd ∷ []) w (no_main d (at q signs.GroupEnd ∷ w)) refl)
+no_main (elif_part p n gs {us} {vs} a b) w = ap (λ (y : List Item). at p (signs.GroupElif n) ∷ y) (until_both us vs w (no_main a (vs ++ w)) (no_main b w))
+
+-- the words of its type stand before it
+in_type : {us : List Item} {c : Code} {p : Place} (t : List Bool) → Main us c p → names_of (kept t (until_main us)) ≡ []
+in_type t (main q r s z u {ts} {us} {vs} y o b) =
+    let rest : List Item = at q signs.Main ∷ at r signs.Open ∷ (us ++ at s signs.Close ∷ at z signs.LeftBrace ∷ vs) in
+    ap (λ (w : List Item). names_of (kept t w)) (silent_until ts rest (typed_silent y)) ∙ silent t [] ts [] (typed_silent y)
+
+pub kept_declarations_hold : KeptDeclarationsHold
+kept_declarations_hold t _ _ (file {us} {vs} {ds} {c} {p} d m) =
+    ap (λ (w : List Item). names_of (kept t w)) (no_main d vs) ∙ holds t d [] refl (until_main vs)
+    ∙ ap (λ (ns : List ℕ). targets (holding t ds) ++ ns) (in_type t m) ∙ append-nil (targets (holding t ds))

@@ -1,0 +1,9 @@
+pub mod Kept
+pub mod Walking
+pub mod Items
+pub mod Variants
+pub mod Declared
+pub mod Numbered
+pub mod KeptMain
+pub mod Early
+pub mod Shown

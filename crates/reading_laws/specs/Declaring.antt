@@ -1,0 +1,43 @@
+-- The names of a family by the grammar's own declarations.
+use Rattle.std.specs.Prelude.{◌≡◌, ℕ, Bool, List, []}
+use Rattle.std.specs.List.{filter}
+use Rattle.fam_outer.specs.declared.dialect.Dialect.{Dialect}
+use Rattle.cpp_conditions.specs.declared.models.Model.{Model}
+use Rattle.cpp_conditions.specs.Validity.{Plain, plain}
+use Rattle.cpp_lines.specs.Sections.{Told}
+use Rattle.c_tree.specs.declared.lists.Declared.{Declared}
+use Rattle.c_tree.specs.Project.{guards_hold}
+use Rattle.c_grammar.specs.declared.items.Item.{Item}
+use Rattle.c_grammar.specs.Grammar.{File, Forms}
+use Rattle.family_names.specs.Names.{declared_by, declared_at}
+use Rattle.c_parser.specs.declared.family.Family.{Family}
+use Rattle.c_parser.specs.FamilyItems.{HasItems}
+use Rattle.c_parser.specs.FamilyReading.{IsFamilyOf}
+use Rattle.c_parser.specs.Items.{Listed}
+use Rattle.c_parser.specs.Names.{targets, names_at, each_once}
+use Rattle.c_parser.specs.Variants.{names_in}
+
+-- the declarators whose guards hold
+abbrev pub holding : List Bool → List Declared → List Declared
+holding truths ds = filter (λ d. guards_hold truths d.guards) ds
+
+-- what stands as declared, each name before `main`, is what the grammar declares
+abbrev pub DeclarationsAreOfTheGrammar : Type 0
+DeclarationsAreOfTheGrammar = (items : List Item) (f : File) → Forms items f → declared_by items ≡ targets f.declared
+
+-- where the conditions have truths, those of it are declared whose guards hold
+abbrev pub KeptDeclarationsHold : Type 0
+KeptDeclarationsHold = (truths : List Bool) (items : List Item) (f : File) → Forms items f → declared_at truths items ≡ targets (holding truths f.declared)
+
+-- the names are those that the spelled file declares, each once, in the order of their first declaration
+pub record AreFamilyNames (dialect : Dialect) (model : Plain) (bytes : List ℕ) (names : List (List ℕ)) : Type 0 where
+  pub told : Told
+  pub listed : Listed
+  pub items : HasItems dialect model bytes told listed
+  pub file : File
+  pub forms : Forms listed.items file
+  pub are : names ≡ each_once [] (names_at listed.names (targets file.declared))
+
+-- so are those of a family
+abbrev pub FamiliesHaveDeclaredNames : Type 0
+FamiliesHaveDeclaredNames = (dialect : Dialect) (model : Model) (bytes : List ℕ) (f : Family) → IsFamilyOf dialect model bytes f → AreFamilyNames dialect (plain model) bytes (names_in f)

@@ -1,0 +1,4 @@
+pub mod Sectioned
+pub mod Staying
+pub mod Declaring
+pub mod Shown
