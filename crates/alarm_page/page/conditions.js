@@ -22,13 +22,20 @@ function truth(holds) {
 }
 
 function tokensOf(text) {
-  const tokens = text.match(/[A-Za-z_][A-Za-z_0-9]*|[0-9]+|&&|\|\||[=!<>]=|[!+\-*<>()]|\S/g) ?? [];
+  const tokens = text.match(/[A-Za-z_][A-Za-z_0-9]*|[0-9][0-9A-Za-z]*|&&|\|\||[=!<>]=|[!+\-*<>()]|\S/g) ?? [];
   return { list: tokens, at: 0 };
 }
 
 function taken(tokens, ...words) {
   if (!words.includes(tokens.list[tokens.at])) return undefined;
   return tokens.list[tokens.at++];
+}
+
+/** An integer constant: decimal, octal or hexadecimal, perhaps with a suffix that says long (ISO/IEC 9899:2011, 6.4.4.1). */
+function numberOf(word) {
+  const [, digits] = /^(0[xX][0-9a-fA-F]+|[0-9]+)(?:l|L|ll|LL)?$/.exec(word) ?? [];
+  if (digits === undefined) throw new Error(`no condition: ${word}`);
+  return BigInt(/^0[0-7]+$/.test(digits) ? `0o${digits.slice(1)}` : digits);
 }
 
 function parseName(tokens) {
@@ -56,9 +63,9 @@ function parsePrimary(tokens) {
     return (names) => truth(names.has(name));
   }
   const word = tokens.list[tokens.at++];
-  if (/^[0-9]+$/.test(word)) return () => BigInt(word);
   if (/^[A-Za-z_]/.test(word)) return (names) => names.get(word) ?? 0n;
-  throw new Error(`no condition: ${word}`);
+  const number = numberOf(word);
+  return () => number;
 }
 
 function parseLevel(tokens, level) {

@@ -265,5 +265,10 @@ function wholeOf(text) {
 if (typeof document === "undefined") {
   module.exports = { bytesOf, reportOf, stateOf, valuesOf, conditionOf, environmentOf, faultsOf, isUnreachable, headline, firstValues };
 } else {
-  new View(reportOf((id) => document.getElementById(id).textContent)).build();
+  try {
+    new View(reportOf((id) => document.getElementById(id).textContent)).build();
+  } catch (fault) {
+    document.getElementById("view").classList.add("failed");
+    throw fault;
+  }
 }

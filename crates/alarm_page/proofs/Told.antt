@@ -95,28 +95,47 @@ closing_tag = ends (text_of part.BeforeScript) (text_of part.Script ++ text_of p
 
 -- ---- pages
 
-readable : (texts : Texts) → HaveBytes texts → AreReadable (sections texts) closing
-readable texts have = (
-  have.alarms,
+-- the texts that stand in a page are of bytes
+pub record AreWritable (texts : Texts) : Type 0 where
+  pub alarms : AreBytes texts.alarms
+  pub numbers : AreBytes (line_numbers texts.file)
+  pub file : AreBytes texts.file
+  pub report : AreBytes texts.report
+  pub model : AreBytes texts.model
+  pub about_is : AreBytes (about texts)
+
+readable : (texts : Texts) → AreWritable texts → AreReadable (sections texts) closing
+readable texts are = (
+  are.alarms,
   begins (text_of part.BeforeNumbers) _ _ closing numbers_tag,
   (
-    lines_bytes texts.file have.few,
+    are.numbers,
     begins (text_of part.BeforeFile) _ _ closing file_tag,
     (
-      have.file,
+      are.file,
       begins (text_of part.BeforeReport) _ _ closing report_tag,
       (
-        have.report,
+        are.report,
         begins (text_of part.BeforeModel) _ _ closing model_tag,
         (
-          have.model,
+          are.model,
           begins (text_of part.BeforeAbout) _ _ closing about_tag,
-          (about_bytes texts have, closing_tag, tt),
+          (are.about_is, closing_tag, tt),
         ),
       ),
     ),
   ),
 )
 
+pub told_back : (texts : Texts) → AreWritable texts → told_by (page_of texts) ≡ texts_told texts
+told_back texts are = sections_back (sections texts) closing (readable texts are)
+
 pub page_told : (texts : Texts) → HaveBytes texts → told_by (page_of texts) ≡ texts_told texts
-page_told texts have = sections_back (sections texts) closing (readable texts have)
+page_told texts have = told_back texts (record {
+  alarms = have.alarms;
+  numbers = lines_bytes texts.file have.few;
+  file = have.file;
+  report = have.report;
+  model = have.model;
+  about_is = about_bytes texts have;
+})

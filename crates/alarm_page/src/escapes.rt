@@ -3,6 +3,7 @@
 
 ghost use Rattle.std.specs.Prelude.{◌≡◌, ◌++◌, ◌<◌, OnOk};
 ghost use Rattle.alarm_page.specs.Escapes as specs;
+ghost use Rattle.alarm_page.specs.Laws.{AreBytes};
 
 use fam_outer::NoMemory;
 
@@ -54,7 +55,8 @@ fn push_escape(text: &mut Vec<u8>, byte: u8) -> Result<(), NoMemory>
 
 /// Adds what these bytes are written as. A byte that stands for itself is written so, and each other as `&#xHH;`, in hexadecimal digits.
 pub fn push_escaped(text: &mut Vec<u8>, bytes: &[u8]) -> Result<(), NoMemory>
-    ensures { OnOk result (text.new.items ≡ text.old.items ++ specs.escaped bytes.now) }
+    ensures written { OnOk result (text.new.items ≡ text.old.items ++ specs.escaped bytes.now) }
+    ensures bytes { OnOk result (AreBytes bytes.now) }
 {
     for byte in bytes {
         push_escape(text, *byte)?;

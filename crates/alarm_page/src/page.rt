@@ -2,6 +2,7 @@
 #![tactic(auto)]
 
 ghost use Rattle.std.specs.Prelude.{◌≡◌, ◌++◌, IfOk, OnOk};
+ghost use Rattle.alarm_page.specs.Laws.{AreBytes};
 ghost use Rattle.alarm_page.specs.Pages as specs;
 ghost use Rattle.alarm_page.specs.Parts.{text_of};
 ghost use Rattle.alarm_page.specs.declared.part.Part.TheVariants as part;
@@ -80,7 +81,8 @@ fn about(alloc: Global, told: &Told) -> Result<Text, NoMemory>
 
 /// Adds a fixed part, and a text behind it.
 fn push_section(text: &mut Vec<u8>, front: Part, section: &[u8]) -> Result<(), NoMemory>
-    ensures { OnOk result (text.new.items ≡ text.old.items ++ specs.written (specs.section (text_of front) section.now)) }
+    ensures written { OnOk result (text.new.items ≡ text.old.items ++ specs.written (specs.section (text_of front) section.now)) }
+    ensures bytes { OnOk result (AreBytes section.now) }
 {
     text.extend_from_slice(part_text(front).as_bytes())?;
     push_escaped(text, section)
@@ -88,7 +90,8 @@ fn push_section(text: &mut Vec<u8>, front: Part, section: &[u8]) -> Result<(), N
 
 /// Adds what stands before the first text, and that text.
 fn push_opening(text: &mut Vec<u8>, alarms: &[u8]) -> Result<(), NoMemory>
-    ensures { OnOk result (text.new.items ≡ text.old.items ++ specs.written (specs.section specs.opening alarms.now)) }
+    ensures written { OnOk result (text.new.items ≡ text.old.items ++ specs.written (specs.section specs.opening alarms.now)) }
+    ensures bytes { OnOk result (AreBytes alarms.now) }
 {
     text.extend_from_slice(part_text(Part::Head).as_bytes())?;
     text.extend_from_slice(part_text(Part::Style).as_bytes())?;
@@ -97,9 +100,10 @@ fn push_opening(text: &mut Vec<u8>, alarms: &[u8]) -> Result<(), NoMemory>
 
 /// Adds the file with the numbers of its lines.
 fn push_file(alloc: Global, text: &mut Vec<u8>, file: &[u8]) -> Result<(), NoMemory>
-    ensures { OnOk result (text.new.items ≡ text.old.items
+    ensures written { OnOk result (text.new.items ≡ text.old.items
         ++ (specs.written (specs.section (text_of part.BeforeNumbers) (specs.line_numbers file.now))
         ++ specs.written (specs.section (text_of part.BeforeFile) file.now))) }
+    ensures bytes { OnOk result (AreBytes (specs.line_numbers file.now) × AreBytes file.now) }
 {
     let numbers = line_numbers(alloc, file)?;
     push_section(text, Part::BeforeNumbers, numbers.bytes())?;
@@ -113,10 +117,11 @@ fn push_others(
     model: &[u8],
     about: &[u8],
 ) -> Result<(), NoMemory>
-    ensures { OnOk result (text.new.items ≡ text.old.items
+    ensures written { OnOk result (text.new.items ≡ text.old.items
         ++ (specs.written (specs.section (text_of part.BeforeReport) report.now)
         ++ (specs.written (specs.section (text_of part.BeforeModel) model.now)
         ++ specs.written (specs.section (text_of part.BeforeAbout) about.now)))) }
+    ensures bytes { OnOk result (AreBytes report.now × AreBytes model.now × AreBytes about.now) }
 {
     push_section(text, Part::BeforeReport, report)?;
     push_section(text, Part::BeforeModel, model)?;
@@ -137,7 +142,8 @@ fn push_closing(text: &mut Vec<u8>) -> Result<(), NoMemory>
 /// The only refusal is want of memory.
 #[tactic(auto, using(crate::proofs::Joined::joined))]
 pub fn page_text(alloc: Global, told: &Told) -> Result<Text, NoMemory>
-    ensures { IfOk result (λ page. page ≡ specs.page_of (specs.texts_of told.now)) }
+    ensures page { IfOk result (λ page. page ≡ specs.page_of (specs.texts_of told.now)) }
+    ensures told { IfOk result (λ page. specs.told_by page ≡ specs.texts_told (specs.texts_of told.now)) }
 {
     let about = about(alloc, told)?;
     let mut text = Vec::new(alloc);

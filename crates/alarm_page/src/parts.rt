@@ -64,6 +64,10 @@ pre { margin: 0.5rem 0; overflow-x: auto; tab-size: 4; }
 .numbered { display: flex; gap: 1rem; }
 #numbers { color: var(--soft); text-align: right; flex: none; }
 #file { flex: 1; min-width: 0; }
+/* the texts are not laid out while the script makes the view; where it fails, they are shown */
+@media (scripting: enabled) {
+  #view[hidden]:not(.failed) ~ #texts { display: none; }
+}
 
 #view { display: grid; grid-template-columns: 19rem minmax(0, 1fr); gap: 0 1.5rem; align-items: start; }
 #view[hidden] { display: none; }
@@ -124,7 +128,7 @@ button.number { color: var(--link); cursor: pointer; text-decoration: underline;
   body { max-width: none; font-size: 10pt; }
   #view { display: block; }
   #panel { position: static; max-height: none; overflow: visible; }
-  .skip, .help, #list button, .note button, #texts { display: none; }
+  .skip, .help, #list button, .note button, #view:not([hidden]) ~ #texts { display: none; }
   .line { content-visibility: visible; min-width: 0; }
   .row code { white-space: pre-wrap; }
   .line, #list li { break-inside: avoid; }
@@ -330,13 +334,20 @@ function truth(holds) {
 }
 
 function tokensOf(text) {
-  const tokens = text.match(/[A-Za-z_][A-Za-z_0-9]*|[0-9]+|&&|\\|\\||[=!<>]=|[!+\\-*<>()]|\\S/g) ?? [];
+  const tokens = text.match(/[A-Za-z_][A-Za-z_0-9]*|[0-9][0-9A-Za-z]*|&&|\\|\\||[=!<>]=|[!+\\-*<>()]|\\S/g) ?? [];
   return { list: tokens, at: 0 };
 }
 
 function taken(tokens, ...words) {
   if (!words.includes(tokens.list[tokens.at])) return undefined;
   return tokens.list[tokens.at++];
+}
+
+/** An integer constant: decimal, octal or hexadecimal, perhaps with a suffix that says long (ISO/IEC 9899:2011, 6.4.4.1). */
+function numberOf(word) {
+  const [, digits] = /^(0[xX][0-9a-fA-F]+|[0-9]+)(?:l|L|ll|LL)?$/.exec(word) ?? [];
+  if (digits === undefined) throw new Error(`no condition: ${word}`);
+  return BigInt(/^0[0-7]+$/.test(digits) ? `0o${digits.slice(1)}` : digits);
 }
 
 function parseName(tokens) {
@@ -364,9 +375,9 @@ function parsePrimary(tokens) {
     return (names) => truth(names.has(name));
   }
   const word = tokens.list[tokens.at++];
-  if (/^[0-9]+$/.test(word)) return () => BigInt(word);
   if (/^[A-Za-z_]/.test(word)) return (names) => names.get(word) ?? 0n;
-  throw new Error(`no condition: ${word}`);
+  const number = numberOf(word);
+  return () => number;
 }
 
 function parseLevel(tokens, level) {
@@ -738,7 +749,12 @@ function wholeOf(text) {
 if (typeof document === \"undefined\") {
   module.exports = { bytesOf, reportOf, stateOf, valuesOf, conditionOf, environmentOf, faultsOf, isUnreachable, headline, firstValues };
 } else {
-  new View(reportOf((id) => document.getElementById(id).textContent)).build();
+  try {
+    new View(reportOf((id) => document.getElementById(id).textContent)).build();
+  } catch (fault) {
+    document.getElementById(\"view\").classList.add(\"failed\");
+    throw fault;
+  }
 }
 ";
 
