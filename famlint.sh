@@ -15,7 +15,7 @@ echo "famlint.sh: an unproved quick run, which compiles for about two minutes, a
 paths_of() {
     case $1 in
     plain | features) echo 1 ;;
-    analyse | invariants | certify | project | variant | run | advise) echo 2 ;;
+    analyse | invariants | page | certify | project | variant | run | advise) echo 2 ;;
     check) echo 3 ;;
     *) echo 0 ;;
     esac

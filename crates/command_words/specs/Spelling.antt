@@ -54,6 +54,39 @@ includes_by name =
     if bytes_eq name (codes "assert") then Some Assert
     else (if bytes_eq name (codes "skip") then Some Skip else None)
 
+-- ---- names
+
+-- the name of a domain
+abbrev pub domain_name : Domain → List ℕ
+domain_name Interval = codes "interval"
+domain_name Octagon = codes "octagon"
+domain_name Stride = codes "stride"
+
+-- the name of a widening
+abbrev pub widening_name : Widening → List ℕ
+widening_name «Type» = codes "type"
+widening_name Thresholds = codes "thresholds"
+
+-- the name of an overflow
+abbrev pub overflow_name : Mode → List ℕ
+overflow_name Stop = codes "stop"
+overflow_name Wrap = codes "wrap"
+
+-- the name of how regions are told
+abbrev pub regions_name : Regions → List ℕ
+regions_name Paths = codes "paths"
+regions_name Merged = codes "merged"
+
+-- the name of what a name is that no model has
+abbrev pub unknown_name : Unknown → List ℕ
+unknown_name Zero = codes "zero"
+unknown_name Refuse = codes "refuse"
+
+-- the name of which includes a file may have
+abbrev pub includes_name : Includes → List ℕ
+includes_name Assert = codes "assert"
+includes_name Skip = codes "skip"
+
 -- ---- numbers
 
 abbrev pub is_digit : ℕ → Bool

@@ -16,7 +16,10 @@ pub mod word;
 pub use laws::{spellings_agree, words_after_dashes, words_with_no_option};
 pub use reading::{Arguments, read_words};
 pub use refusal::{Usage, WordsRefusal};
-pub use settings::{Chosen, Domain, Given, OptionSettings, Widening};
+pub use settings::{
+    Chosen, Domain, Given, OptionSettings, Widening, includes_name, mode_name, regions_name,
+    unknown_name,
+};
 pub use spelling::number_up_to;
 pub use word::{Word, Words};
 

@@ -1,8 +1,9 @@
 //! What the options set.
 #![tactic(auto)]
 
-ghost use Rattle.std.specs.Prelude.{◌≡◌};
+ghost use Rattle.std.specs.Prelude.{◌≡◌, Some};
 ghost use Rattle.command_words.specs.Spelling.{domain_by, includes_by, overflow_by, regions_by, unknown_by, widening_by};
+ghost use Rattle.command_words.specs.Spelling.{domain_name, includes_name, overflow_name, regions_name, unknown_name, widening_name};
 
 use c_tree::Mode;
 use fam_outer::{Includes, Unknown, Values};
@@ -28,6 +29,18 @@ impl Domain {
             _ => None,
         }
     }
+
+    /// Its name.
+    pub fn name(self) -> &'static str
+        ensures name { result.now ≡ domain_name self }
+        ensures back { domain_by result.now ≡ Some self }
+    {
+        match self {
+            Domain::Interval => "interval",
+            Domain::Octagon => "octagon",
+            Domain::Stride => "stride",
+        }
+    }
 }
 
 /// What a loop's bound that grows becomes.
@@ -50,6 +63,17 @@ impl Widening {
             _ => None,
         }
     }
+
+    /// Its name.
+    pub fn name(self) -> &'static str
+        ensures name { result.now ≡ widening_name self }
+        ensures back { widening_by result.now ≡ Some self }
+    {
+        match self {
+            Widening::Type => "type",
+            Widening::Thresholds => "thresholds",
+        }
+    }
 }
 
 /// What comes of an operation whose value is not in `int`, by the name.
@@ -60,6 +84,17 @@ pub fn mode_of(name: &str) -> Option<Mode>
         "stop" => Some(Mode::Stop),
         "wrap" => Some(Mode::Wrap),
         _ => None,
+    }
+}
+
+/// The name of what comes of an operation whose value is not in `int`.
+pub fn mode_name(mode: Mode) -> &'static str
+    ensures name { result.now ≡ overflow_name mode }
+    ensures back { overflow_by result.now ≡ Some mode }
+{
+    match mode {
+        Mode::Stop => "stop",
+        Mode::Wrap => "wrap",
     }
 }
 
@@ -74,6 +109,17 @@ pub fn regions_of(name: &str) -> Option<Regions>
     }
 }
 
+/// The name of how the regions of a report are told.
+pub fn regions_name(regions: Regions) -> &'static str
+    ensures name { result.now ≡ regions_name regions }
+    ensures back { regions_by result.now ≡ Some regions }
+{
+    match regions {
+        Regions::Paths => "paths",
+        Regions::Merged => "merged",
+    }
+}
+
 /// What a name of a condition is that no model has, by the name.
 pub fn unknown_of(name: &str) -> Option<Unknown>
     ensures { result ≡ unknown_by name.now }
@@ -85,6 +131,17 @@ pub fn unknown_of(name: &str) -> Option<Unknown>
     }
 }
 
+/// The name of what a name of a condition is that no model has.
+pub fn unknown_name(unknown: Unknown) -> &'static str
+    ensures name { result.now ≡ unknown_name unknown }
+    ensures back { unknown_by result.now ≡ Some unknown }
+{
+    match unknown {
+        Unknown::Zero => "zero",
+        Unknown::Refuse => "refuse",
+    }
+}
+
 /// Which includes a file may have, by the name.
 pub fn includes_of(name: &str) -> Option<Includes>
     ensures { result ≡ includes_by name.now }
@@ -93,6 +150,17 @@ pub fn includes_of(name: &str) -> Option<Includes>
         "assert" => Some(Includes::Assert),
         "skip" => Some(Includes::Skip),
         _ => None,
+    }
+}
+
+/// The name of which includes a file may have.
+pub fn includes_name(includes: Includes) -> &'static str
+    ensures name { result.now ≡ includes_name includes }
+    ensures back { includes_by result.now ≡ Some includes }
+{
+    match includes {
+        Includes::Assert => "assert",
+        Includes::Skip => "skip",
     }
 }
 

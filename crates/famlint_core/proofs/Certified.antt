@@ -331,6 +331,7 @@ asked_yes law (request.Check model file certificate dialect) told answer asked h
 asked_yes law (request.Plain file includes analysis) told answer asked h = absurd asked
 asked_yes law (request.Variant model file dialect settings t) told answer asked h = absurd asked
 asked_yes law (request.Family model file dialect analysis regions t) told answer asked h = absurd asked
+asked_yes law (request.Page model file dialect analysis regions) told answer asked h = absurd asked
 asked_yes law (request.Generate number analysis regions) told answer asked h = absurd asked
 asked_yes law (request.Advice model file dialect settings analysis) told answer asked h = absurd asked
 asked_yes law (request.Features model unknown) told answer asked h = absurd asked

@@ -13,6 +13,8 @@ use Rattle.alarm_report.specs.declared.alarms.FamilyAlarm.{FamilyAlarm}
 use Rattle.configuration_advice.specs.declared.comparing.Advice.{Advice}
 use Rattle.invariant_certificate.specs.declared.verdicts.Verdict.{Verdict}
 use Rattle.invariant_certificate.specs.declared.verdicts.Verdict.TheVariants.{Yes, NotInductive, Unlisted}
+use Rattle.famlint_families.specs.Pages.{IsPageDone}
+use Rattle.famlint_requests.specs.MadeBy.{made_by}
 use Rattle.famlint_families.specs.Advised.{advice_status}
 use Rattle.famlint_requests.specs.declared.request.Analysis.{Analysis}
 use Rattle.famlint_loads.specs.declared.fault.Done.{Done}
@@ -95,6 +97,9 @@ family_low M o r families.Invariants l done (invariants, alarms, are, have, e) =
 family_low M o r families.Certify l done (loops, alarms, are, have, e) = rw e (family_status_low alarms)
 family_low M o r families.Generate l done (alarms, are, e) = rw e (family_status_low alarms)
 
+page_low : (M : LeafMeaning) (o : Options) (r : Regions) (l : ProductLine) (model made : List ℕ) (done : Done) → IsPageDone M o r l model made done → done.status ≤ 1
+page_low M o r l model made done (invariants, alarms, are, have, e) = rw e (family_status_low alarms)
+
 verdict_low : (verdict : Verdict) (done : Done) → done.status ≡ verdict_status verdict → done.status ≤ 1
 verdict_low Yes done e = omega (arith, e)
 verdict_low (NotInductive place config) done e = omega (arith, e)
@@ -108,6 +113,7 @@ answered_low : (r : Request) (told : Contents) (done : Done) → Answers r told 
 answered_low (request.Plain file includes analysis) told done (p, reads, e) = program_low analysis p p done e
 answered_low (request.Variant model file dialect settings t) told done (s, selected, is) = done_low t s done is
 answered_low (request.Family model file dialect analysis regions t) told done (l, line, is) = family_low (meaning_of analysis.domain) (options_of analysis (whole l.family.code)) regions t l done is
+answered_low (request.Page model file dialect analysis regions) told done (l, line, is) = page_low (meaning_of analysis.domain) (options_of analysis (whole l.family.code)) regions l told.model (made_by dialect analysis regions) done is
 answered_low (request.Generate number analysis regions) told done (l, line, is) = family_low (meaning_of analysis.domain) (options_of analysis (whole l.family.code)) regions families.Generate l done is
 answered_low (request.Check model file certificate dialect) told done (l, line, is) = verdict_low is.verdict done is.status
 answered_low (request.Advice model file dialect settings analysis) told done (s, selected, is) = advice_low is.found done is.status

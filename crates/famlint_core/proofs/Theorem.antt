@@ -1,5 +1,5 @@
 -- What stands in the page `Theorem`, from what is promised.
-use Rattle.std.proofs.Common.{◌≡◌, ◌<◌, ℕ, ℤ, true, List, refl, sym, ap, subst, ◌∙◌}
+use Rattle.std.proofs.Common.{◌≡◌, ◌<◌, ℕ, ℤ, true, List, ◌++◌, refl, sym, ap, subst, ◌∙◌}
 use Rattle.std.specs.Prelude.{Option, Some, None, Ok}
 use Rattle.std.specs.List.{All}
 use Rattle.fam_outer.specs.declared.faults.Place.{Place}
@@ -16,7 +16,9 @@ use Rattle.leaf_domain.specs.Leaves.{LeafMeaning}
 use Rattle.plain_analysis.specs.Places.{alarm_of}
 use Rattle.alarm_report.specs.declared.alarms.FamilyAlarm.{FamilyAlarm}
 use Rattle.alarm_report.specs.Alarms.{TellsOnce}
+use Rattle.alarm_report.specs.LeafTexts.{invariant_text}
 use Rattle.alarm_report.specs.Texts.{alarm_text}
+use Rattle.alarm_page.specs.Pages.{Texts, texts_told}
 use Rattle.certificate_format.specs.declared.certificates.Certificate.{Certificate}
 use Rattle.certificate_format.specs.Certificates.{SpellsCertificate}
 use Rattle.certificate_format.specs.Regions.{piece_of}
@@ -25,6 +27,7 @@ use Rattle.configuration_advice.specs.declared.comparing.Advice as nearest
 use Rattle.configuration_advice.specs.Nearest.{differing}
 use Rattle.configuration_advice.specs.Texts.{advice_text}
 use Rattle.famlint_requests.specs.declared.request.Analysis.{Analysis}
+use Rattle.famlint_requests.specs.MadeBy.{made_by}
 use Rattle.famlint_loads.specs.declared.product_line.ProductLine.{ProductLine}
 use Rattle.famlint_loads.specs.declared.selected.Selected.{Selected}
 use Rattle.famlint_loads.specs.CertificateLoads.{ReadsCertificate}
@@ -33,7 +36,7 @@ use Rattle.famlint_programs.specs.AnalysisOptions.{options_of}
 use Rattle.famlint_programs.specs.ProgramAnswers.{meaning_of}
 use Rattle.famlint_programs.specs.Report.{NeverStops}
 use Rattle.famlint_families.specs.Advised.{HasAlarmAt, IsGood, IsGoodAdvice, advice_status}
-use Rattle.famlint_core.specs.Theorem.{QuietFamiliesAreSafe, ReportsTellEachStop, FamiliesAreRead, QuietProgramsAreSafe, ProgramsAreRead, CheckedCertificatesListEachStop, AdviceIsSafe}
+use Rattle.famlint_core.specs.Theorem.{QuietFamiliesAreSafe, ReportsTellEachStop, FamiliesAreRead, PagesTellEachStop, QuietProgramsAreSafe, ProgramsAreRead, CheckedCertificatesListEachStop, AdviceIsSafe}
 use Rattle.famlint_core.proofs.Answering.{OneReading, one_program as one_plain_program}
 use Rattle.famlint_core.proofs.Certified.{CertifiedLaws, AreSameLines, are_same}
 use Rattle.famlint_core.proofs.VariantOnce.{VariantLaws, AreAlike, alike, program_moved, one_program, AreSame, same_selected}
@@ -72,6 +75,28 @@ told_stops laws model file dialect analysis regions told status text (k, line, r
 pub read_families : FamiliesAreRead
 read_families model file dialect analysis regions told status text (k, line, report) =
     (k, line, λ values valid. let variant = report.2.variants values valid in (variant.0, variant.1))
+
+-- ---- pages
+
+pub paged_stops : VariantLaws → PagesTellEachStop
+paged_stops laws model file dialect analysis regions told status page (k, line, tells) l is =
+    let e : AreAlike k l = alike laws dialect told.model told.file k l line is in
+    let front : List ℕ = invariant_text regions (meaning_of analysis.domain) k.model.features (whole k.family.code).names tells.invariants in
+    let texts : List ℕ → List ℕ → Texts = λ alarms f. record {
+      alarms = alarms;
+      report = front ++ alarms;
+      model = told.model;
+      file = f;
+      made_by = made_by dialect analysis regions;
+    } in (
+      tells.alarms,
+      front,
+      tells.told ∙ (ap (λ f. texts_told (texts (alarm_text regions k.model.features tells.alarms) f)) line.text
+          ∙ ap (λ (m : Plain). texts_told (texts (alarm_text regions m.features tells.alarms) told.file)) e.model),
+      λ values valid p at.
+          let variant = tells.good_alarms.variants values (valid_in k l e values valid) in
+          of_program laws k l e (TellsStops analysis.mode tells.alarms values) values p variant.0 at variant.1 variant.2.stops,
+    )
 
 -- ---- one program
 

@@ -5,12 +5,13 @@ use Rattle.famlint_loads.specs.declared.fault.Fault.{Fault}
 use Rattle.famlint_requests.specs.Guides.{guide_text}
 use Rattle.famlint_requests.specs.declared.request.guide.Guide as guides
 use Rattle.famlint_requests.specs.declared.request.Request.{Request}
-use Rattle.famlint_requests.specs.declared.request.Request.TheVariants.{Plain, Variant, Family, Generate, Check, Advice, Features, Guide}
+use Rattle.famlint_requests.specs.declared.request.Request.TheVariants.{Plain, Variant, Family, Page, Generate, Check, Advice, Features, Guide}
 use Rattle.famlint_loads.specs.CertificateLoads.{IsLoadedForCheck}
 use Rattle.famlint_core.specs.Certified.{IsWrittenByCertify}
 use Rattle.famlint_loads.specs.ProductLines.{IsLoadedFor}
 use Rattle.famlint_programs.specs.ProgramAnswers.{AnswersPlain, AnswersVariant, PromisedPlain, PromisedVariant}
-use Rattle.famlint_families.specs.FamilyAnswers.{AnswersFamily, AnswersGenerate, AnswersAdvice, AnswersFeatures, PromisedFamily, PromisedGenerate, PromisedAdvice}
+use Rattle.famlint_families.specs.FamilyAnswers.{AnswersFamily, AnswersPage, AnswersGenerate, AnswersAdvice, AnswersFeatures}
+use Rattle.famlint_families.specs.FamilyAnswers.{PromisedFamily, PromisedPage, PromisedGenerate, PromisedAdvice}
 use Rattle.famlint_checks.specs.Checked.{AnswersCheck, PromisedCheck}
 use Rattle.famlint_loads.specs.Contents.{Contents}
 
@@ -19,6 +20,7 @@ abbrev pub IsTold : Request → (List ℕ → Option (List ℕ)) → Contents �
 IsTold (Plain file includes analysis) content told = content file ≡ Some told.file
 IsTold (Variant model file dialect settings task) content told = (content model ≡ Some told.model) × (content file ≡ Some told.file)
 IsTold (Family model file dialect analysis regions task) content told = (content model ≡ Some told.model) × (content file ≡ Some told.file)
+IsTold (Page model file dialect analysis regions) content told = (content model ≡ Some told.model) × (content file ≡ Some told.file)
 IsTold (Generate number analysis regions) content told = ⊤
 IsTold (Check model file certificate dialect) content told =
     (content model ≡ Some told.model) × (content file ≡ Some told.file) × (content certificate ≡ Some told.certificate)
@@ -41,6 +43,7 @@ abbrev pub Answers : Request → Contents → Result Done Fault → Type 0
 Answers (Plain file includes analysis) told answer = AnswersPlain includes analysis told.file answer
 Answers (Variant model file dialect settings task) told answer = AnswersVariant dialect task settings told answer
 Answers (Family model file dialect analysis regions task) told answer = AnswersFamily dialect analysis regions task told answer
+Answers (Page model file dialect analysis regions) told answer = AnswersPage dialect analysis regions told answer
 Answers (Generate number analysis regions) told answer = AnswersGenerate analysis regions number answer
 Answers (Check model file certificate dialect) told answer = AnswersCheck dialect told answer
 Answers (Advice model file dialect settings analysis) told answer = AnswersAdvice dialect analysis settings told answer
@@ -56,6 +59,7 @@ abbrev pub IsLoaded : Request → Contents → Option (List ℕ) → Type 0
 IsLoaded (Plain file includes analysis) told failed = failed ≡ Some file
 IsLoaded (Variant model file dialect settings task) told failed = IsLoadedFor dialect.unknown model file told.model failed
 IsLoaded (Family model file dialect analysis regions task) told failed = IsLoadedFor dialect.unknown model file told.model failed
+IsLoaded (Page model file dialect analysis regions) told failed = IsLoadedFor dialect.unknown model file told.model failed
 IsLoaded (Generate number analysis regions) told failed = ⊥
 IsLoaded (Check model file certificate dialect) told failed = IsLoadedForCheck dialect model file certificate told.model told.file failed
 IsLoaded (Advice model file dialect settings analysis) told failed = IsLoadedFor dialect.unknown model file told.model failed
@@ -67,6 +71,7 @@ abbrev pub Promised : Request → Contents → ℕ → List ℕ → Type 0
 Promised (Plain file includes analysis) told status text = PromisedPlain includes analysis told.file status text
 Promised (Variant model file dialect settings task) told status text = PromisedVariant dialect task settings told status text
 Promised (Family model file dialect analysis regions task) told status text = PromisedFamily dialect analysis regions task told status text
+Promised (Page model file dialect analysis regions) told status text = PromisedPage dialect analysis regions told status text
 Promised (Generate number analysis regions) told status text = PromisedGenerate analysis regions number status text
 Promised (Check model file certificate dialect) told status text = PromisedCheck dialect told status
 Promised (Advice model file dialect settings analysis) told status text = PromisedAdvice dialect analysis settings told status text

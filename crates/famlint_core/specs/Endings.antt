@@ -13,7 +13,7 @@ use Rattle.famlint_loads.specs.Loads.{IsReadFault}
 use Rattle.famlint_requests.specs.declared.request.Role.TheVariants as role
 
 abbrev pub usage_line : List ℕ
-usage_line = codes "usage: famlint plain FILE, project MODEL FILE SETTINGS, variant MODEL FILE SETTINGS, run MODEL FILE SETTINGS, analyse MODEL FILE, invariants MODEL FILE, generate NUMBER, certify MODEL FILE, check MODEL FILE CERTIFICATE, advise MODEL FILE SETTINGS, features MODEL\n"
+usage_line = codes "usage: famlint plain FILE, project MODEL FILE SETTINGS, variant MODEL FILE SETTINGS, run MODEL FILE SETTINGS, analyse MODEL FILE, invariants MODEL FILE, page MODEL FILE, generate NUMBER, certify MODEL FILE, check MODEL FILE CERTIFICATE, advise MODEL FILE SETTINGS, features MODEL\n"
 
 -- the line that tells a failed load
 abbrev pub read_fault_line : Role → List ℕ

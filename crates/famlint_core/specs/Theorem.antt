@@ -11,7 +11,7 @@
 -- are a valid configuration of the model, and `IsProgramAt l values p` that the preprocessed text of its variant is read as the program p.
 -- `run_of p inputs n mode` is where at most n steps of p lead from its start, and `StoppedEnd place kind` is a stop: an overflow, a zero
 -- divisor or a failed assertion.
-use Rattle.std.specs.Prelude.{ℕ, ℤ, ◌≡◌, true, List, Some, Ok}
+use Rattle.std.specs.Prelude.{ℕ, ℤ, ◌≡◌, true, List, ◌++◌, Some, Ok}
 use Rattle.std.specs.List.{All}
 use Rattle.fam_outer.specs.declared.dialect.Dialect.{Dialect}
 use Rattle.fam_outer.specs.declared.dialect.Includes.{Includes}
@@ -28,13 +28,15 @@ use Rattle.c_parser.specs.Reading.{IsPlainRead}
 use Rattle.alarm_report.specs.declared.alarms.FamilyAlarm.{FamilyAlarm}
 use Rattle.alarm_report.specs.Alarms.{TellsOnce}
 use Rattle.alarm_report.specs.Texts.{alarm_text}
+use Rattle.alarm_page.specs.Pages.{told_by, texts_told}
 use Rattle.certificate_format.specs.declared.certificates.Certificate.{Certificate}
 use Rattle.invariant_certificate.specs.Passes.{is_listed}
 use Rattle.configuration_advice.specs.declared.comparing.Advice as nearest
 use Rattle.configuration_advice.specs.Texts.{advice_text}
 use Rattle.famlint_requests.specs.declared.request.Analysis.{Analysis}
 use Rattle.famlint_requests.specs.declared.request.FamilyTask.TheVariants.{Analyse}
-use Rattle.famlint_requests.specs.declared.request.Request.TheVariants.{Plain, Family, Check, Advice}
+use Rattle.famlint_requests.specs.declared.request.Request.TheVariants.{Plain, Family, Page, Check, Advice}
+use Rattle.famlint_requests.specs.MadeBy.{made_by}
 use Rattle.famlint_loads.specs.declared.product_line.ProductLine.{ProductLine}
 use Rattle.famlint_loads.specs.declared.selected.Selected.{Selected}
 use Rattle.famlint_loads.specs.CertificateLoads.{ReadsCertificate}
@@ -80,6 +82,28 @@ FamiliesAreRead =
     → Promised (Family model file dialect analysis regions Analyse) told status text
     → (l : ProductLine) × IsProductLine dialect told.model told.file l
     × ((values : List ℤ) → IsValid (plain l.model) values → (p : Whole) × IsProgramAt l values p)
+
+-- ---- pages
+
+-- Where `page` ends with status 0 or 1, what is read back of the page is MODEL and FILE byte for byte, the text of alarms by which each stop of
+-- each such run is told by exactly one, and the report that holds it.
+abbrev pub PagesTellEachStop : Type 0
+PagesTellEachStop =
+    (model file : List ℕ) (dialect : Dialect) (analysis : Analysis) (regions : Regions) (told : Contents) (status : ℕ) (page : List ℕ)
+    → Promised (Page model file dialect analysis regions) told status page
+    → (l : ProductLine) → IsProductLine dialect told.model told.file l
+    → (alarms : List FamilyAlarm) × (front : List ℕ)
+    × (told_by page ≡ texts_told (record {
+      alarms = alarm_text regions l.model.features alarms;
+      report = front ++ alarm_text regions l.model.features alarms;
+      model = told.model;
+      file = told.file;
+      made_by = made_by dialect analysis regions;
+    }))
+    × ((values : List ℤ) → IsValid (plain l.model) values
+    → (p : Whole) → IsProgramAt l values p
+    → (inputs : List ℤ) (n : ℕ) (place : Place) (kind : Kind) → All IsInt inputs
+    → run_of p inputs n analysis.mode ≡ StoppedEnd place kind → TellsOnce alarms place kind values)
 
 -- ---- one program
 

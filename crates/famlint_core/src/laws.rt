@@ -12,7 +12,8 @@ ghost use Rattle.famlint_checks.specs.Checked.{AnswersCheck};
 ghost use Rattle.famlint_programs.specs.ProgramAnswers.{AnswersPlain, AnswersVariant};
 ghost use Rattle.famlint_loads.specs.Contents.{Contents};
 ghost use Rattle.famlint_core.specs.Certified.{IsWrittenByCertify, IsYes};
-ghost use Rattle.famlint_core.specs.Theorem.{QuietFamiliesAreSafe, ReportsTellEachStop, FamiliesAreRead, QuietProgramsAreSafe};
+ghost use Rattle.famlint_core.specs.Theorem.{QuietFamiliesAreSafe, ReportsTellEachStop, FamiliesAreRead, PagesTellEachStop};
+ghost use Rattle.famlint_core.specs.Theorem.{QuietProgramsAreSafe};
 ghost use Rattle.famlint_core.specs.Theorem.{ProgramsAreRead, CheckedCertificatesListEachStop, AdviceIsSafe};
 
 use c_parser::laws::{reads_at_most_once, reads_something};
@@ -74,6 +75,16 @@ pub fn quiet_families_are_safe()
 pub fn reports_tell_each_stop()
     ensures told { ReportsTellEachStop }
     ensures read { FamiliesAreRead }
+{
+    bytes_say_one_model();
+    families_are_read_once();
+    variants_have_one_text();
+    reads_at_most_once();
+}
+
+/// Where `page` ends with status 0 or 1, what is read back of the page is MODEL, FILE and a report as `analyse` tells it.
+pub fn pages_tell_each_stop()
+    ensures { PagesTellEachStop }
 {
     bytes_say_one_model();
     families_are_read_once();

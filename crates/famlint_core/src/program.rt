@@ -44,7 +44,8 @@ pub fn famlint<F: Files, S: Sink, E: Sink>(
         (streams (S.written out.old) (E.written err.old) (S.faults out.old) (E.faults err.old))
         (streams (S.written out.new) (E.written err.new) (S.faults out.new) (E.faults err.new)) }
     // What is promised of the output: each stop of each run of a reported program is printed, and at status 0 no run stops. Under
-    // `analyse` and `invariants` this is so for the variant of each valid configuration, by the lines whose regions it meets.
+    // `analyse` and `invariants` this is so for the variant of each valid configuration, by the lines whose regions it meets, and under
+    // `page` by those that the page tells.
     ensures promise { (request : Request) → reading (texts_of words.now) ≡ Some request
         → (told : Contents) → IsTold request (F.content files.old) told → result ≤ 1
         → (text : List ℕ) × (S.written out.new ≡ append_known (S.written out.old) text) × Promised request told result text }

@@ -14,6 +14,7 @@ use famlint_families::advice::advice;
 use famlint_families::family::family;
 use famlint_families::features::features;
 use famlint_families::generate::generate;
+use famlint_families::page::page;
 use famlint_loads::{Done, Failure};
 use famlint_programs::plain::plain;
 use famlint_programs::variant::variant;
@@ -67,6 +68,13 @@ pub fn work<F: Files>(alloc: Global, request: &Request, files: &mut F) -> Result
         } => family(
             alloc, model, file, *dialect, analysis, *regions, *task, files,
         ),
+        Request::Page {
+            model,
+            file,
+            dialect,
+            analysis,
+            regions,
+        } => page(alloc, model, file, *dialect, analysis, *regions, files),
         Request::Generate {
             number,
             analysis,

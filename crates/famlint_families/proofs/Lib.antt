@@ -4,3 +4,4 @@ pub mod Certifying
 pub mod Told
 pub mod Foretold
 pub mod Generated
+pub mod Paging

@@ -1,5 +1,5 @@
--- What the commands on all variants are answered, and what is promised of it: `analyse`, `invariants`, `certify`, `generate`, `advise` and
--- `features`.
+-- What the commands on all variants are answered, and what is promised of it: `analyse`, `invariants`, `certify`, `page`, `generate`, `advise`
+-- and `features`.
 use Rattle.std.specs.Prelude.{ℕ, List, Result, Ok, Err}
 use Rattle.fam_outer.specs.declared.dialect.Dialect.{Dialect}
 use Rattle.fam_outer.specs.declared.dialect.Unknown.{Unknown}
@@ -7,6 +7,7 @@ use Rattle.c_tree.specs.View.{whole}
 use Rattle.linear_atoms.specs.declared.regions.Regions.{Regions}
 use Rattle.cpp_conditions.specs.declared.models.Model.{Model}
 use Rattle.famlint_requests.specs.declared.request.Analysis.{Analysis}
+use Rattle.famlint_requests.specs.MadeBy.{made_by}
 use Rattle.famlint_loads.specs.declared.fault.Done.{Done}
 use Rattle.famlint_loads.specs.declared.fault.Fault.{Fault}
 use Rattle.famlint_loads.specs.declared.product_line.ProductLine.{ProductLine}
@@ -18,6 +19,7 @@ use Rattle.famlint_families.specs.FamilyReports.{IsFamilyDone}
 use Rattle.famlint_families.specs.FeatureUses.{AreUsesDone}
 use Rattle.famlint_families.specs.Generated.{IsGeneratedLine}
 use Rattle.famlint_families.specs.Headline.{PromisedOfAll}
+use Rattle.famlint_families.specs.Pages.{IsPageDone, TellsOfAll}
 use Rattle.famlint_loads.specs.Loads.{IsModel}
 use Rattle.famlint_loads.specs.ProductLines.{IsProductLine, IsLineRefused}
 use Rattle.famlint_loads.specs.Selected.{AreSelected, IsSelectionRefused}
@@ -30,6 +32,13 @@ abbrev pub AnswersFamily : Dialect → Analysis → Regions → FamilyTask → C
 AnswersFamily dialect analysis r task told (Ok done) =
     (l : ProductLine) × IsProductLine dialect told.model told.file l × IsFamilyDone (meaning_of analysis.domain) (options_of analysis (whole l.family.code)) r task l done
 AnswersFamily dialect analysis r task told (Err fault) = IsLineRefused dialect told.model told.file fault
+
+-- the page, or the refusal of the model or the file
+abbrev pub AnswersPage : Dialect → Analysis → Regions → Contents → Result Done Fault → Type 0
+AnswersPage dialect analysis r told (Ok done) =
+    (l : ProductLine) × IsProductLine dialect told.model told.file l
+    × IsPageDone (meaning_of analysis.domain) (options_of analysis (whole l.family.code)) r l told.model (made_by dialect analysis r) done
+AnswersPage dialect analysis r told (Err fault) = IsLineRefused dialect told.model told.file fault
 
 -- the sizes and the alarms of the family that is generated for a number
 abbrev pub IsGenerateDone : Analysis → Regions → ℕ → Done → Type 0
@@ -56,6 +65,12 @@ AnswersFeatures unknown bytes (Err fault) = IsModel unknown bytes (Err fault)
 abbrev pub PromisedFamily : Dialect → Analysis → Regions → FamilyTask → Contents → ℕ → List ℕ → Type 0
 PromisedFamily dialect analysis r task told status text =
     (l : ProductLine) × IsProductLine dialect told.model told.file l × PromisedOfAll (meaning_of analysis.domain) (options_of analysis (whole l.family.code)) r task l status text
+
+-- what is promised of a page: it tells MODEL and FILE byte for byte, and the report on them
+abbrev pub PromisedPage : Dialect → Analysis → Regions → Contents → ℕ → List ℕ → Type 0
+PromisedPage dialect analysis r told status page =
+    (l : ProductLine) × IsProductLine dialect told.model told.file l
+    × TellsOfAll (meaning_of analysis.domain) (options_of analysis (whole l.family.code)) r l told.model (made_by dialect analysis r) status page
 
 -- what is promised of the report on a generated family: as of each family
 abbrev pub PromisedGenerate : Analysis → Regions → ℕ → ℕ → List ℕ → Type 0

@@ -5,4 +5,5 @@ pub mod FeatureUses
 pub mod Findings
 pub mod Generated
 pub mod Headline
+pub mod Pages
 pub mod Told

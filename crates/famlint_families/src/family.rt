@@ -58,7 +58,7 @@ pub(crate) fn found_in<L: Leaf>(
 }
 
 /// The alarms that were found.
-fn alarms_in<L: Leaf>(
+pub(crate) fn alarms_in<L: Leaf>(
     alloc: Global,
     line: &ProductLine,
     prepared: &Prepared,
@@ -98,14 +98,14 @@ fn invariants_in<L: Leaf>(
 }
 
 /// 1 where there is an alarm.
-fn family_status(alarms: &[FamilyAlarm]) -> u8
+pub(crate) fn family_status(alarms: &[FamilyAlarm]) -> u8
     ensures { result ≡ status_of alarms.now }
 {
     if alarms.is_empty() { 0 } else { 1 }
 }
 
 /// The text of the invariants that were found, and behind it that of the alarms.
-fn invariants_before<L: Leaf>(
+pub(crate) fn invariants_before<L: Leaf>(
     alloc: Global,
     line: &ProductLine,
     regions: Regions,

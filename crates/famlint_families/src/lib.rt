@@ -1,4 +1,4 @@
-//! What the commands on all variants of a family come to: `analyse`, `invariants`, `certify`, `generate`, `advise` and `features`.
+//! What the commands on all variants of a family come to: `analyse`, `invariants`, `certify`, `page`, `generate`, `advise` and `features`.
 #![tactic(auto)]
 
 pub mod advice;
@@ -6,3 +6,4 @@ mod certify;
 pub mod family;
 pub mod features;
 pub mod generate;
+pub mod page;

@@ -18,11 +18,13 @@ use Rattle.famlint_loads.specs.declared.fault.Fault.TheVariants as fault
 use Rattle.famlint_loads.specs.declared.fault.Failure.{Failure}
 use Rattle.famlint_loads.specs.declared.fault.Failure.TheVariants as failure
 use Rattle.famlint_loads.specs.declared.load.FamilyFile.{FamilyFile}
+use Rattle.famlint_loads.specs.declared.load.ModelFile.{ModelFile}
 use Rattle.famlint_loads.specs.declared.product_line.ProductLine.{ProductLine}
+use Rattle.famlint_loads.specs.declared.product_line.ProductLineFiles.{ProductLineFiles}
 use Rattle.famlint_loads.specs.declared.selected.Selected.{Selected}
 use Rattle.famlint_loads.specs.CertificateLoads.{ReadsCertificate}
-use Rattle.famlint_loads.specs.Loads.{Comes, IsReadFault, IsOneOf, IsText, IsFileText, IsModel, IsFamilyFile, IsFamily}
-use Rattle.famlint_loads.specs.ProductLines.{IsProductLine, ReadsProductLine, IsLoadedFor}
+use Rattle.famlint_loads.specs.Loads.{Comes, IsReadFault, IsOneOf, IsText, IsFileText, IsModel, IsModelFile, IsFamilyFile, IsFamily}
+use Rattle.famlint_loads.specs.ProductLines.{IsProductLine, ReadsProductLine, ReadsProductLineFiles, IsLoadedFor}
 use Rattle.famlint_loads.specs.ProductLines as lines
 use Rattle.famlint_loads.specs.Selected.{IsSelected, IsSettled}
 use Rattle.famlint_loads.specs.Selected as refused
@@ -36,13 +38,19 @@ long_blanked : (bytes : List ℕ) → file_bytes < length bytes → blanked_file
 long_blanked bytes h = rw (lt-ltb file_bytes (length bytes) h) refl
 
 -- a model's text that is refused
-pub model_refused : (unknown : Unknown) (bytes : List ℕ) (s : Failure) → Comes {X = List ℕ} (IsText 65536 (fault.Model model_faults.TooLong) bytes) (Err s) → Comes {X = Model} (IsModel unknown bytes) (Err s)
+pub model_refused : (unknown : Unknown) (bytes : List ℕ) (s : Failure) → Comes {X = List ℕ} (IsText 65536 (fault.Model model_faults.TooLong) bytes) (Err s) → Comes {X = ModelFile} (IsModelFile unknown bytes) (Err s)
 model_refused unknown bytes (failure.Refused given) h =
     subst (λ (x : Fault). IsModel unknown bytes (Err x)) (sym h.1) (models.untold model_faults.TooLong (long_model bytes h.0))
 model_refused unknown bytes failure.ReadFault h = h
 model_refused unknown bytes failure.NoMemory h = h
 
--- the same, for a family
+-- a model that is refused, without its bytes
+pub refused_alone : (unknown : Unknown) (bytes : List ℕ) (s : Failure) → Comes {X = ModelFile} (IsModelFile unknown bytes) (Err s) → Comes {X = Model} (IsModel unknown bytes) (Err s)
+refused_alone unknown bytes (failure.Refused given) h = h
+refused_alone unknown bytes failure.ReadFault h = h
+refused_alone unknown bytes failure.NoMemory h = h
+
+-- the same as of a model's text, for a family
 pub family_refused : (dialect : Dialect) (model : Model) (bytes : List ℕ) (s : Failure) → Comes {X = List ℕ} (IsFileText bytes) (Err s) → Comes {X = FamilyFile} (IsFamilyFile dialect model bytes) (Err s)
 family_refused dialect model bytes (failure.Refused given) h =
     subst (λ (x : Fault). IsFamily dialect model bytes (Err x)) (sym h.1) (refl, inl (inl (long_blanked bytes h.0)))
@@ -51,16 +59,24 @@ family_refused dialect model bytes failure.NoMemory h = h
 
 -- ---- MODEL and FILE
 
-pub line_no_model : (dialect : Dialect) (m f : List ℕ) (s : Failure) → Comes {X = Model} (IsModel dialect.unknown m) (Err s) → Comes {X = ProductLine} (ReadsProductLine dialect m f) (Err s)
+pub line_no_model : (dialect : Dialect) (m f : List ℕ) (s : Failure) → Comes {X = ModelFile} (IsModelFile dialect.unknown m) (Err s)
+    → Comes {X = ProductLineFiles} (ReadsProductLineFiles dialect m f) (Err s)
 line_no_model dialect m f (failure.Refused given) h = lines.no_model h
 line_no_model dialect m f failure.ReadFault h = h
 line_no_model dialect m f failure.NoMemory h = h
 
 pub line_no_family : (dialect : Dialect) (m f : List ℕ) (model : Model) (s : Failure) → IsModel dialect.unknown m (Ok model)
-    → Comes {X = FamilyFile} (IsFamilyFile dialect model f) (Err s) → Comes {X = ProductLine} (ReadsProductLine dialect m f) (Err s)
+    → Comes {X = FamilyFile} (IsFamilyFile dialect model f) (Err s) → Comes {X = ProductLineFiles} (ReadsProductLineFiles dialect m f) (Err s)
 line_no_family dialect m f model (failure.Refused given) read h = lines.no_family model read h
 line_no_family dialect m f model failure.ReadFault read h = h
 line_no_family dialect m f model failure.NoMemory read h = h
+
+-- a product line that is refused, without its bytes
+pub line_refused_alone : (dialect : Dialect) (m f : List ℕ) (s : Failure) → Comes {X = ProductLineFiles} (ReadsProductLineFiles dialect m f) (Err s)
+    → Comes {X = ProductLine} (ReadsProductLine dialect m f) (Err s)
+line_refused_alone dialect m f (failure.Refused given) h = h
+line_refused_alone dialect m f failure.ReadFault h = h
+line_refused_alone dialect m f failure.NoMemory h = h
 
 -- FILE is loaded where MODEL is accepted
 second_of : (unknown : Unknown) (failed : Option (List ℕ)) (model_path file_path m : List ℕ) (model : Model) → IsModel unknown m (Ok model) → IsOneOf failed (file_path ∷ [])
@@ -69,7 +85,7 @@ second_of unknown failed model_path file_path m model read (inl e) = inr (e, mod
 second_of unknown failed model_path file_path m model read (inr h) = absurd h
 
 pub loaded_second : (unknown : Unknown) (failed : Option (List ℕ)) (model_path file_path m : List ℕ) (model : Model) (s : Failure) → IsModel unknown m (Ok model)
-    → (IsReadFault {X = FamilyFile} (Err s) → IsOneOf failed (file_path ∷ [])) → IsReadFault {X = ProductLine} (Err s) → IsLoadedFor unknown model_path file_path m failed
+    → (IsReadFault {X = FamilyFile} (Err s) → IsOneOf failed (file_path ∷ [])) → IsReadFault {X = ProductLineFiles} (Err s) → IsLoadedFor unknown model_path file_path m failed
 loaded_second unknown failed model_path file_path m model (failure.Refused given) read path h = absurd h
 loaded_second unknown failed model_path file_path m model failure.ReadFault read path h = second_of unknown failed model_path file_path m model read (path h)
 loaded_second unknown failed model_path file_path m model failure.NoMemory read path h = absurd h

@@ -24,6 +24,7 @@ use Rattle.famlint_loads.specs.declared.fault.Fault.TheVariants as fault
 use Rattle.famlint_loads.specs.declared.fault.Failure.{Failure}
 use Rattle.famlint_loads.specs.declared.fault.Failure.TheVariants as failure
 use Rattle.famlint_loads.specs.declared.load.FamilyFile.{FamilyFile}
+use Rattle.famlint_loads.specs.declared.load.ModelFile.{ModelFile}
 use Rattle.famlint_loads.specs.Faults.{example_of}
 
 -- ---- stages
@@ -72,6 +73,11 @@ abbrev pub IsModel : Unknown → List ℕ → Result Model Fault → Type 0
 IsModel unknown bytes (Ok model) = IsReadAs unknown bytes (Ok (plain model))
 IsModel unknown bytes (Err (fault.Model fault)) = IsReadAs unknown bytes (Err fault)
 IsModel unknown bytes (Err other) = ⊥
+
+-- the same, with the bytes
+abbrev pub IsModelFile : Unknown → List ℕ → Result ModelFile Fault → Type 0
+IsModelFile unknown bytes (Ok made) = IsModel unknown bytes (Ok made.model) × (made.text ≡ bytes)
+IsModelFile unknown bytes (Err fault) = IsModel unknown bytes (Err fault)
 
 -- what is known of a model that was read
 pub record IsUsable (model : Model) : Type 0 where

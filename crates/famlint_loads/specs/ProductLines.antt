@@ -12,6 +12,7 @@ use Rattle.c_parser.specs.Variants.{names_in}
 use Rattle.variant_projector.specs.Variant.{IsVariant}
 use Rattle.famlint_loads.specs.declared.fault.Fault.{Fault}
 use Rattle.famlint_loads.specs.declared.product_line.ProductLine.{ProductLine}
+use Rattle.famlint_loads.specs.declared.product_line.ProductLineFiles.{ProductLineFiles}
 use Rattle.famlint_loads.specs.Loads.{IsModel, IsFamily, IsUsable, IsUsableFamily}
 
 -- the model is refused, or else the file
@@ -30,6 +31,11 @@ pub record IsProductLine (dialect : Dialect) (m f : List ℕ) (l : ProductLine) 
 abbrev pub ReadsProductLine : Dialect → List ℕ → List ℕ → Result ProductLine Fault → Type 0
 ReadsProductLine dialect m f (Ok l) = IsProductLine dialect m f l
 ReadsProductLine dialect m f (Err fault) = IsLineRefused dialect m f fault
+
+-- the same, with the bytes of the model
+abbrev pub ReadsProductLineFiles : Dialect → List ℕ → List ℕ → Result ProductLineFiles Fault → Type 0
+ReadsProductLineFiles dialect m f (Ok made) = IsProductLine dialect m f made.line × (made.model_text ≡ m)
+ReadsProductLineFiles dialect m f (Err fault) = IsLineRefused dialect m f fault
 
 -- a path that is loaded: MODEL, and where it is accepted FILE
 abbrev pub IsLoadedFor : Unknown → List ℕ → List ℕ → List ℕ → Option (List ℕ) → Type 0

@@ -10,5 +10,5 @@ mod selected;
 pub use certificate::load_certificate;
 pub use fault::{Done, Failure, Fault};
 pub use load::{load_file, load_model};
-pub use product_line::{ProductLine, load_product_line};
+pub use product_line::{ProductLine, ProductLineFiles, load_product_line, load_product_line_files};
 pub use selected::{Selected, select};

@@ -3,7 +3,7 @@
 
 ghost use Rattle.std.specs.Prelude.{◌≡◌, ℕ, List, [], ◌∷◌, Some, IfOk, length};
 ghost use Rattle.c_parser.specs.FamilyReading.{IsFamilyOf};
-ghost use Rattle.famlint_loads.specs.Loads.{Comes, IsReadOf, IsText, IsFileText, IsModel, IsFamilyFile, IsUsable, IsUsableFamily, IsReadFault, long_file};
+ghost use Rattle.famlint_loads.specs.Loads.{Comes, IsReadOf, IsText, IsFileText, IsModel, IsModelFile, IsFamilyFile, IsUsable, IsUsableFamily, IsReadFault, long_file};
 
 use crate::fault::{Failure, Fault, file_fault};
 use c_parser::{Family, read_family};
@@ -58,17 +58,48 @@ pub fn load_file<F: Files>(alloc: Global, path: &str, files: &mut F) -> Result<T
     load_text(alloc, path, FILE_BYTES as u32, long_file(), files)
 }
 
+/// A model, and the bytes of its file.
+#[derive(Drop)]
+pub struct ModelFile {
+    pub model: Model,
+    pub text: Text,
+}
+
 /// The model that bytes say.
-fn model_of(alloc: Global, unknown: Unknown, bytes: &[u8]) -> Result<Model, Failure>
-    ensures model { Comes (IsModel unknown bytes.now) result }
-    ensures usable { IfOk result (λ model. IsUsable model) }
+fn model_of(alloc: Global, unknown: Unknown, text: Text) -> Result<ModelFile, Failure>
+    ensures model { Comes (IsModelFile unknown text) result }
+    ensures usable { IfOk result (λ made. IsUsable made.model) }
     ensures read { IsReadFault result → ⊥ }
 {
-    match read_model(alloc, unknown, bytes) {
-        Ok(model) => Ok(model),
+    match read_model(alloc, unknown, text.bytes()) {
+        Ok(model) => Ok(ModelFile { model, text }),
         Err(ModelRefusal::NoMemory) => Err(Failure::NoMemory),
         Err(ModelRefusal::Fault(fault)) => Err(Failure::Refused(Fault::Model(fault))),
     }
+}
+
+/// The model of MODEL, of at most 65,536 bytes, with these.
+pub fn load_model_file<F: Files>(
+    alloc: Global,
+    unknown: Unknown,
+    path: &str,
+    files: &mut F,
+) -> Result<ModelFile, Failure>
+    ensures model { (bytes : List ℕ) → F.content files.old path.now ≡ Some bytes
+        → Comes (IsModelFile unknown bytes) result }
+    ensures usable { IfOk result (λ made. IsUsable made.model) }
+    ensures kept { F.content files.new ≡ F.content files.old }
+    ensures read { IsReadOf (path.now ∷ []) (F.faults files.old) (F.faults files.new)
+        (F.failed files.new) result }
+{
+    let text = load_text(
+        alloc,
+        path,
+        MODEL_BYTES as u32,
+        Fault::Model(ModelFault::TooLong),
+        files,
+    )?;
+    model_of(alloc, unknown, text)
 }
 
 /// The model of MODEL, of at most 65,536 bytes.
@@ -85,14 +116,8 @@ pub fn load_model<F: Files>(
     ensures read { IsReadOf (path.now ∷ []) (F.faults files.old) (F.faults files.new)
         (F.failed files.new) result }
 {
-    let text = load_text(
-        alloc,
-        path,
-        MODEL_BYTES as u32,
-        Fault::Model(ModelFault::TooLong),
-        files,
-    )?;
-    model_of(alloc, unknown, text.bytes())
+    let ModelFile { model, text: _text } = load_model_file(alloc, unknown, path, files)?;
+    Ok(model)
 }
 
 /// A family, and the bytes of its file.

@@ -3,10 +3,10 @@
 
 ghost use Rattle.std.specs.Prelude.{◌≡◌, ℕ, List, [], ◌∷◌, Some, IfOk};
 ghost use Rattle.famlint_loads.specs.Loads.{Comes, IsReadFault, IsReadOf};
-ghost use Rattle.famlint_loads.specs.ProductLines.{ReadsProductLine, IsLoadedFor, IsUsableLine};
+ghost use Rattle.famlint_loads.specs.ProductLines.{ReadsProductLine, ReadsProductLineFiles, IsLoadedFor, IsUsableLine};
 
 use crate::fault::Failure;
-use crate::load::{FamilyFile, load_family, load_model};
+use crate::load::{FamilyFile, ModelFile, load_family, load_model_file};
 use c_parser::Family;
 use cpp_conditions::Model;
 use fam_outer::{Dialect, Files, Text};
@@ -19,6 +19,45 @@ pub struct ProductLine {
     pub model: Model,
     pub family: Family,
     pub text: Text,
+}
+
+/// A product line, and the bytes of both files: those of FILE stand in the line.
+#[derive(Drop)]
+pub struct ProductLineFiles {
+    pub line: ProductLine,
+    pub model_text: Text,
+}
+
+/// Loads MODEL and then FILE, and keeps the bytes of both.
+pub fn load_product_line_files<F: Files>(
+    alloc: Global,
+    dialect: Dialect,
+    model_path: &str,
+    file_path: &str,
+    files: &mut F,
+) -> Result<ProductLineFiles, Failure>
+    ensures line { (m f : List ℕ) → F.content files.old model_path.now ≡ Some m
+        → F.content files.old file_path.now ≡ Some f
+        → Comes (ReadsProductLineFiles dialect m f) result }
+    ensures usable { IfOk result (λ made. IsUsableLine made.line) }
+    ensures kept { F.content files.new ≡ F.content files.old }
+    ensures read { IsReadOf (model_path.now ∷ file_path.now ∷ []) (F.faults files.old) (F.faults files.new)
+        (F.failed files.new) result }
+    ensures order { (m : List ℕ) → F.content files.old model_path.now ≡ Some m → IsReadFault result
+        → IsLoadedFor dialect.unknown model_path.now file_path.now m (F.failed files.new) }
+{
+    let ModelFile {
+        model,
+        text: model_text,
+    } = load_model_file(alloc, dialect.unknown, model_path, files)?;
+    let FamilyFile { family, text } = load_family(alloc, dialect, &model, file_path, files)?;
+    let line = ProductLine {
+        dialect,
+        model,
+        family,
+        text,
+    };
+    Ok(ProductLineFiles { line, model_text })
 }
 
 /// Loads MODEL and then FILE.
@@ -39,12 +78,9 @@ pub fn load_product_line<F: Files>(
     ensures order { (m : List ℕ) → F.content files.old model_path.now ≡ Some m → IsReadFault result
         → IsLoadedFor dialect.unknown model_path.now file_path.now m (F.failed files.new) }
 {
-    let model = load_model(alloc, dialect.unknown, model_path, files)?;
-    let FamilyFile { family, text } = load_family(alloc, dialect, &model, file_path, files)?;
-    Ok(ProductLine {
-        dialect,
-        model,
-        family,
-        text,
-    })
+    let ProductLineFiles {
+        line,
+        model_text: _model_text,
+    } = load_product_line_files(alloc, dialect, model_path, file_path, files)?;
+    Ok(line)
 }

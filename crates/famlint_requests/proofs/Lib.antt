@@ -1,1 +1,2 @@
 pub mod GuideWords
+pub mod PageOptions

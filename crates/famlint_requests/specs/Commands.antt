@@ -15,11 +15,12 @@ command_of word =
     else (if bytes_eq word (codes "run") then Some command.Run
     else (if bytes_eq word (codes "analyse") then Some command.Analyse
     else (if bytes_eq word (codes "invariants") then Some command.Invariants
+    else (if bytes_eq word (codes "page") then Some command.Page
     else (if bytes_eq word (codes "generate") then Some command.Generate
     else (if bytes_eq word (codes "certify") then Some command.Certify
     else (if bytes_eq word (codes "check") then Some command.Check
     else (if bytes_eq word (codes "advise") then Some command.Advise
-    else (if bytes_eq word (codes "features") then Some command.Features else None))))))))))
+    else (if bytes_eq word (codes "features") then Some command.Features else None)))))))))))
 
 -- ---- options
 
@@ -63,6 +64,7 @@ taken_by command.Variant = analysis_options
 taken_by command.Run = run_options
 taken_by command.Analyse = family_options
 taken_by command.Invariants = family_options
+taken_by command.Page = family_options
 taken_by command.Generate = generated_options
 taken_by command.Certify = interval_options
 taken_by command.Check = dialect_options

@@ -43,6 +43,7 @@ about command.Variant = commands.VARIANT.now
 about command.Run = commands.RUN.now
 about command.Analyse = commands.ANALYSE.now
 about command.Invariants = commands.INVARIANTS.now
+about command.Page = commands.PAGE.now
 about command.Generate = commands.GENERATE.now
 about command.Certify = commands.CERTIFY.now
 about command.Check = commands.CHECK.now

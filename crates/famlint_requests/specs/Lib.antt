@@ -1,3 +1,4 @@
 pub mod Commands
 pub mod Guides
+pub mod MadeBy
 pub mod Requests

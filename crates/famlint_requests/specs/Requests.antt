@@ -74,6 +74,13 @@ family_request dialect analysis regions task (model ∷ []) = None
 family_request dialect analysis regions task (model ∷ file ∷ []) = Some (request.Family model file dialect analysis regions task)
 family_request dialect analysis regions task (model ∷ file ∷ more ∷ words) = None
 
+-- what `page` asks for with these words
+abbrev pub page_request : Dialect → Analysis → Regions → List (List ℕ) → Option Request
+page_request dialect analysis regions [] = None
+page_request dialect analysis regions (model ∷ []) = None
+page_request dialect analysis regions (model ∷ file ∷ []) = Some (request.Page model file dialect analysis regions)
+page_request dialect analysis regions (model ∷ file ∷ more ∷ words) = None
+
 -- the number of blocks that the text spells, from 1 to 2000
 abbrev pub blocks_of : List ℕ → Option ℕ
 blocks_of text = if bytes_eq text (codes "0") then None else number_up_to 2000 text
@@ -116,6 +123,7 @@ request_for command.Variant settings words = variant_request (dialect_of setting
 request_for command.Run settings words = variant_request (dialect_of settings.chosen) (run_task settings) words
 request_for command.Analyse settings words = family_request (dialect_of settings.chosen) (analysis_of settings.chosen) settings.chosen.regions family.Analyse words
 request_for command.Invariants settings words = family_request (dialect_of settings.chosen) (analysis_of settings.chosen) settings.chosen.regions family.Invariants words
+request_for command.Page settings words = page_request (dialect_of settings.chosen) (analysis_of settings.chosen) settings.chosen.regions words
 request_for command.Generate settings words = generate_request (analysis_of settings.chosen) settings.chosen.regions words
 request_for command.Certify settings words = family_request (dialect_of settings.chosen) (interval_analysis settings.chosen) settings.chosen.regions family.Certify words
 request_for command.Check settings words = check_request (dialect_of settings.chosen) words
@@ -155,6 +163,7 @@ abbrev pub paths_of : Request → List (List ℕ)
 paths_of (request.Plain file includes analysis) = file ∷ []
 paths_of (request.Variant model file dialect settings task) = model ∷ file ∷ []
 paths_of (request.Family model file dialect analysis regions task) = model ∷ file ∷ []
+paths_of (request.Page model file dialect analysis regions) = model ∷ file ∷ []
 paths_of (request.Generate number analysis regions) = []
 paths_of (request.Check model file certificate dialect) = model ∷ file ∷ certificate ∷ []
 paths_of (request.Advice model file dialect settings analysis) = model ∷ file ∷ []
@@ -181,6 +190,7 @@ abbrev pub role_of : Request → Option (List ℕ) → Role
 role_of (request.Plain file includes analysis) failed = role.File
 role_of (request.Variant model file dialect settings task) failed = role_beside failed model
 role_of (request.Family model file dialect analysis regions task) failed = role_beside failed model
+role_of (request.Page model file dialect analysis regions) failed = role_beside failed model
 role_of (request.Generate number analysis regions) failed = role.File
 role_of (request.Check model file certificate dialect) failed = role_of_three failed model file certificate
 role_of (request.Advice model file dialect settings analysis) failed = role_beside failed model
@@ -200,6 +210,7 @@ abbrev pub IsWithinRanges : Request → Type 0
 IsWithinRanges (request.Plain file includes analysis) = ⊤
 IsWithinRanges (request.Variant model file dialect settings task) = HaveInts task
 IsWithinRanges (request.Family model file dialect analysis regions task) = ⊤
+IsWithinRanges (request.Page model file dialect analysis regions) = ⊤
 IsWithinRanges (request.Generate number analysis regions) = number ≤ 2000
 IsWithinRanges (request.Check model file certificate dialect) = ⊤
 IsWithinRanges (request.Advice model file dialect settings analysis) = ⊤

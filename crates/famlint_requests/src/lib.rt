@@ -6,7 +6,8 @@ mod request;
 
 pub use laws::guides_ask_for_nothing_else;
 pub use request::{
-    Analysis, Command, FamilyTask, Guide, Request, Role, SettingWords, VariantTask, read_request,
+    Analysis, Command, FamilyTask, Guide, Request, Role, SettingWords, VariantTask, made_by,
+    read_request,
 };
 
 #[cfg(test)]

@@ -3,6 +3,7 @@
 
 mod guide;
 mod options;
+mod page_options;
 mod reading;
 
 ghost use Rattle.std.specs.Option.{option_copied};
@@ -15,6 +16,7 @@ use fam_outer::{Dialect, Includes, NoMemory, Text, Unknown, Values};
 pub use guide::Guide;
 use linear_atoms::Regions;
 pub use options::Command;
+pub use page_options::made_by;
 pub use reading::read_request;
 use std::alloc::Global;
 use std::marker::Model;
@@ -44,6 +46,14 @@ pub enum Request {
         analysis: Analysis,
         regions: Regions,
         task: FamilyTask,
+    },
+    /// The report on all variants beside MODEL and FILE, as one page.
+    Page {
+        model: Word,
+        file: Word,
+        dialect: Dialect,
+        analysis: Analysis,
+        regions: Regions,
     },
     /// The alarms of the family of so many blocks that is made for measures, and its size.
     Generate {
@@ -218,6 +228,13 @@ impl Request {
                 analysis: _,
                 regions: _,
                 task: _,
+            } => role_beside(failed, model),
+            Request::Page {
+                model,
+                file: _,
+                dialect: _,
+                analysis: _,
+                regions: _,
             } => role_beside(failed, model),
             Request::Generate {
                 number: _,

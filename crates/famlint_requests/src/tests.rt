@@ -1,8 +1,10 @@
-//! Words that ask for a text about the program.
+//! Words that ask for a text about the program, the words of `page`, and what stands at its foot.
 
 use crate::*;
-use command_words::WordsRefusal;
-use fam_outer::NoMemory;
+use c_tree::Mode;
+use command_words::{Domain, Widening, WordsRefusal};
+use fam_outer::{Dialect, Includes, NoMemory, Unknown};
+use linear_atoms::Regions;
 use std::alloc::Global;
 use std::test::Fail;
 
@@ -62,6 +64,9 @@ const ALL: &str =
 /// The text on the program itself.
 const VERSION: &str = "famlint, proved by rattle-kit-13f logic dac8208d650f15bf";
 
+/// The same, as a line.
+const VERSION_LINE: &str = "famlint, proved by rattle-kit-13f logic dac8208d650f15bf\n";
+
 #[test]
 fn texts_are_asked_for(rt: HostRuntime) -> Result<(), Fail> {
     let cases = [
@@ -87,6 +92,10 @@ fn texts_are_asked_for(rt: HostRuntime) -> Result<(), Fail> {
             "famlint analyse MODEL FILE --domain --delay --narrow --widening --unknown --includes --overflow --regions",
         ),
         (
+            "help page",
+            "famlint page MODEL FILE --domain --delay --narrow --widening --unknown --includes --overflow --regions",
+        ),
+        (
             "help certify",
             "famlint certify MODEL FILE --delay --narrow --widening --unknown --includes --overflow --regions",
         ),
@@ -106,6 +115,12 @@ fn texts_are_asked_for(rt: HostRuntime) -> Result<(), Fail> {
         ),
         ("explain 4", "Status 4: the file is refused."),
         ("plain F", "work"),
+        ("page M F", "work"),
+        ("page --regions=merged M --domain octagon F", "work"),
+        (
+            "page M F --delay 1 --narrow=2 --widening thresholds --overflow=wrap --unknown refuse --includes=skip",
+            "work",
+        ),
         ("plain --overflow wrap F", "work"),
         ("plain --includes skip F", "work"),
         ("features M --unknown refuse", "work"),
@@ -142,6 +157,14 @@ fn other_words_are_refused(rt: HostRuntime) -> Result<(), Fail> {
         "explain 04",
         "explain F1 F2",
         "explain --steps",
+        "page",
+        "page M",
+        "page M F SETTING",
+        "page M F --steps 3",
+        "page M F --inputs=1",
+        "page M F --regions paths --regions merged",
+        "page M F --html",
+        "Page M F",
         "plain F --unknown refuse",
         "features M --includes skip",
         "generate 3 --unknown zero",
@@ -151,6 +174,53 @@ fn other_words_are_refused(rt: HostRuntime) -> Result<(), Fail> {
     for line in cases {
         let text = asked(rt.alloc(), line)?;
         assert_eq!(rt; text.as_str(), "refused", "at {line}");
+    }
+    Ok(())
+}
+
+#[test]
+fn pages_say_by_what_they_were_made(rt: HostRuntime) -> Result<(), Fail> {
+    let usual = Analysis {
+        domain: Domain::Interval,
+        delay: 0,
+        narrow: 1,
+        widening: Widening::Type,
+        mode: Mode::Stop,
+    };
+    let other = Analysis {
+        domain: Domain::Octagon,
+        delay: 16,
+        narrow: 8,
+        widening: Widening::Thresholds,
+        mode: Mode::Wrap,
+    };
+    let lax = Dialect {
+        unknown: Unknown::Zero,
+        includes: Includes::Assert,
+    };
+    let strict = Dialect {
+        unknown: Unknown::Refuse,
+        includes: Includes::Skip,
+    };
+    let cases = [
+        (
+            lax,
+            usual,
+            Regions::Paths,
+            "options: --domain=interval --delay=0 --narrow=1 --widening=type --overflow=stop --regions=paths --unknown=zero --includes=assert\n",
+        ),
+        (
+            strict,
+            other,
+            Regions::Merged,
+            "options: --domain=octagon --delay=16 --narrow=8 --widening=thresholds --overflow=wrap --regions=merged --unknown=refuse --includes=skip\n",
+        ),
+    ];
+    for (dialect, analysis, regions, want) in cases {
+        let text = made_by(rt.alloc(), dialect, &analysis, regions)?;
+        let mut expected = String::from_str(rt.alloc(), VERSION_LINE)?;
+        expected.push_str(want)?;
+        assert_eq!(rt; text.bytes(), expected.as_bytes(), "at {want}");
     }
     Ok(())
 }

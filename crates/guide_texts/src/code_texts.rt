@@ -185,7 +185,7 @@ pub const CODES: [(&str, &str); 55] = [
     ),
     (
         "0",
-        "Status 0: done, and no alarm is printed; `project`, `run`, `features`, `help`,\n`explain` and `--version` end with it, `advise` where it has advice, and `check`\nwhere the certificate holds.\nOn the error stream: nothing.\nWhat to do: nothing: under `plain` and `variant` no run of the program stops in\nthe chosen mode, under `analyse` and `invariants` no run of any valid\nconfiguration's variant, and under `advise` no run of the variant of the printed\nconfiguration.\n",
+        "Status 0: done, and no alarm is printed; `project`, `run`, `features`, `help`,\n`explain` and `--version` end with it, `advise` where it has advice, and `check`\nwhere the certificate holds.\nOn the error stream: nothing.\nWhat to do: nothing: under `plain` and `variant` no run of the program stops in\nthe chosen mode, under `analyse`, `invariants` and `page` no run of any valid\nconfiguration's variant, and under `advise` no run of the variant of the printed\nconfiguration.\n",
     ),
     (
         "1",

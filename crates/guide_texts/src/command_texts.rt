@@ -10,6 +10,7 @@ usage: famlint COMMAND WORD.. [OPTION..]
 
   analyse MODEL FILE            the alarms of all variants of a family at once
   invariants MODEL FILE         what is known at each place, and then the alarms
+  page MODEL FILE               the same beside the source, as one HTML page
   certify MODEL FILE            what was found, as a certificate
   check MODEL FILE CERTIFICATE  whether a certificate holds
   plain FILE                    the alarms of one file without groups
@@ -95,6 +96,19 @@ What is known of the variables at each place of all variants: lines
 LINE:COLUMN: if REGION: what is known, and then the alarms, as under analyse.
 
 Example: famlint invariants ring.json ring.c
+";
+
+/// `page`.
+pub const PAGE: &str = "\
+famlint page MODEL FILE
+
+One HTML page that needs no network and no other file: the source with its
+alarms, what is known at each line, and a switch for each feature, which shows
+what a configuration has. It holds MODEL, FILE and what invariants prints of
+them. Status 1 says that there are alarms, and 0 that no run of any variant
+stops.
+
+Example: famlint page --regions=merged queue.json queue.c > queue.html
 ";
 
 /// `generate`.

@@ -68,6 +68,7 @@ fn about(command: Command) -> &'static str
         Command::Run => commands::RUN,
         Command::Analyse => commands::ANALYSE,
         Command::Invariants => commands::INVARIANTS,
+        Command::Page => commands::PAGE,
         Command::Generate => commands::GENERATE,
         Command::Certify => commands::CERTIFY,
         Command::Check => commands::CHECK,

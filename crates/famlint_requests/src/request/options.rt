@@ -18,6 +18,7 @@ pub enum Command {
     Run,
     Analyse,
     Invariants,
+    Page,
     Generate,
     Certify,
     Check,
@@ -37,6 +38,7 @@ impl Command {
             "run" => Some(Command::Run),
             "analyse" => Some(Command::Analyse),
             "invariants" => Some(Command::Invariants),
+            "page" => Some(Command::Page),
             "generate" => Some(Command::Generate),
             "certify" => Some(Command::Certify),
             "check" => Some(Command::Check),
@@ -75,7 +77,7 @@ impl Command {
                 steps: false,
                 inputs: false,
             },
-            Command::Analyse | Command::Invariants => Given {
+            Command::Analyse | Command::Invariants | Command::Page => Given {
                 domain: true,
                 delay: true,
                 narrow: true,

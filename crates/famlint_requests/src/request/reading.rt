@@ -86,6 +86,29 @@ fn family_request(
     }
 }
 
+/// What `page` asks for with these words.
+fn page_request(
+    alloc: Global,
+    dialect: Dialect,
+    analysis: Analysis,
+    regions: Regions,
+    words: &[Word],
+) -> Result<Request, WordsRefusal>
+    ensures answer { AnswersWords (specs.page_request dialect analysis regions words.now) result }
+    ensures ranges { IfOk result (λ request. IsWithinRanges request) }
+{
+    match words {
+        [model, file] => Ok(Request::Page {
+            model: Word::from_str(alloc, model.as_str())?,
+            file: Word::from_str(alloc, file.as_str())?,
+            dialect,
+            analysis,
+            regions,
+        }),
+        _ => Err(WordsRefusal::Fault(Usage)),
+    }
+}
+
 /// The number of blocks that the text spells, from 1 to 2000.
 fn blocks_of(text: &str) -> Option<u32>
     ensures value { result ≡ specs.blocks_of text.now }
@@ -227,6 +250,7 @@ fn request_for(
             FamilyTask::Invariants,
             words,
         ),
+        Command::Page => page_request(alloc, dialect, analysis, regions, words),
         Command::Generate => generate_request(analysis, regions, words),
         Command::Certify => {
             let analysis = interval_analysis(settings.chosen);

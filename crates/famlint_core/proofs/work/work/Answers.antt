@@ -29,6 +29,16 @@ returns-in-Family-clause-promise g c = λ told is_told.
     let content = g.F.Files.content c.args.files.now in
     subst (λ r. IsTold r content told → IfOk c.family.result (λ done. Promised r told done.status done.text)) (sym c.in-Family.is) (λ t. c.family.ensures.promise told t.0 t.1) is_told
 
+pub returns-in-Page-clause-answer : goal.returns-in-Page-clause-answer
+returns-in-Page-clause-answer g c = λ told is_told.
+    let content = g.F.Files.content c.args.files.now in
+    subst (λ r. IsTold r content told → Comes (Answers r told) c.page.result) (sym c.in-Page.is) (λ t. c.page.ensures.answer told t.0 t.1) is_told
+
+pub returns-in-Page-clause-promise : goal.returns-in-Page-clause-promise
+returns-in-Page-clause-promise g c = λ told is_told.
+    let content = g.F.Files.content c.args.files.now in
+    subst (λ r. IsTold r content told → IfOk c.page.result (λ done. Promised r told done.status done.text)) (sym c.in-Page.is) (λ t. c.page.ensures.promise told t.0 t.1) is_told
+
 pub returns-in-Features-clause-answer : goal.returns-in-Features-clause-answer
 returns-in-Features-clause-answer g c = λ told is_told.
     let content = g.F.Files.content c.args.files.now in
