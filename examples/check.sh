@@ -1,5 +1,5 @@
 #!/usr/bin/env bash
-# Compares what `famlint` writes for each example with the file NAME.expected beside it: for a file NAME.c here or in refused/ under
+# Compares what `famlint` writes for each example with the file NAME.expected beside it, or the page NAME.html: for a file NAME.c here or in refused/ under
 # `plain`, and for a file NAME.words here, in families/ or in refused/families/ under its words. What is compared is the output, and behind it the line on
 # the error stream. Ends with 1 where one differs. It runs the proved program where that is built, and else all examples in one quick run of
 # the same code before any proof, which compiles once, for minutes. No gate runs this.
@@ -65,6 +65,11 @@ by_quick_run() {
     fi
 }
 
+# the file with what is expected of an example
+expected_of() {
+    if [ -e "$1.html" ]; then echo "$1.html"; else echo "$1.expected"; fi
+}
+
 # the lines of the program, without those of the quick run
 lines() {
     grep -E '^(usage|model|file|configuration|certificate|read fault|write fault|want of memory)' "$1"
@@ -81,7 +86,7 @@ differing=0
 while read -r example _; do
     key=$(key_of "$example")
     touch "$work/$key.out" "$work/$key.err"
-    if diff -u "$example.expected" <(cat "$work/$key.out"; lines "$work/$key.err"); then
+    if diff -u "$(expected_of "$example")" <(cat "$work/$key.out"; lines "$work/$key.err"); then
         same=$((same + 1))
     else
         differing=$((differing + 1))

@@ -22,7 +22,7 @@ commands() {
     shift
     echo "pub(crate) const $name: [(&str, &str); $#] = ["
     for output in "$@"; do
-        words=${output%.expected}.words
+        words=${output%.*}.words
         if [ -e "$words" ]; then
             pair "$(tr -d '\n' < "$words")" "$output"
         else
@@ -35,7 +35,7 @@ commands() {
 cd "$here"
 files=(*.c refused/*.c {,refused/}families/*.{c,json,certificate})
 # the tests know each file by its name alone
-twice=$(basename -a "${files[@]}" {,refused/}{,families/}*.expected | sort | uniq -d)
+twice=$(basename -a "${files[@]}" {,refused/}{,families/}*.expected families/*.html | sort | uniq -d)
 [ -z "$twice" ] || { echo "to_tests.sh: in two folders: $twice" >&2; exit 1; }
 {
     echo '//! The example files, and the words of commands on them with what is expected, as `examples/to_tests.sh` writes them.'
@@ -51,7 +51,7 @@ twice=$(basename -a "${files[@]}" {,refused/}{,families/}*.expected | sort | uni
     commands PROGRAMS *.expected refused/*.expected
     echo
     echo '/// Those on families.'
-    commands FAMILIES families/*.expected
+    commands FAMILIES families/*.expected families/*.html
     echo
     echo '/// Those on families that are refused.'
     commands REFUSED_FAMILIES refused/families/*.expected

@@ -44,3 +44,10 @@ spread_body =
 abbrev pub restarted_loops : ℕ → Code
 restarted_loops zero = Done
 restarted_loops (suc k) = While (line (47 - 2 * k)) (less_of 0 10) (Input (line (48 - 2 * k)) 0 (restarted_loops k)) Done
+
+-- a loop whose body enters one of two others alike each time
+abbrev pub alike_loops : Code
+alike_loops =
+    While (line 4) (less_of 0 10)
+    (Input (line 5) 0 (Assign (line 6) 1 (Number (pos 0))
+    (Cond 0 (While (line 8) (less_of 1 5) (grown_at 9 1 1) Done) (While (line 12) (less_of 1 7) (grown_at 13 1 1) Done) Done))) Done

@@ -13,7 +13,7 @@ use c_tree::{Declarations, Declared, Expr, Guard, Guards, Names, Op, Program, St
 use fam_outer::{NoMemory, Place, Text, Values};
 use std::alloc::Global;
 
-fn at(line: u32) -> Place
+pub(crate) fn at(line: u32) -> Place
     ensures { result ≡ record { line = line; column = 1 } }
 {
     Place { line, column: 1 }
@@ -27,7 +27,7 @@ fn sum(alloc: Global, x: u32, n: i64) -> Result<Expr, NoMemory>
 }
 
 /// Whether a variable is less than a number.
-fn less(alloc: Global, x: u32, n: i64) -> Result<Expr, NoMemory>
+pub(crate) fn less(alloc: Global, x: u32, n: i64) -> Result<Expr, NoMemory>
     ensures { IfOk result (λ e. term e ≡ Binary op.Lt (Var x) (Number n)) }
 {
     binary(alloc, Op::Lt, Expr::Var(x), Expr::Number(n))
@@ -59,7 +59,7 @@ fn grown(alloc: Global, line: u32, x: u32, n: i64) -> Result<Vec<Stmt>, NoMemory
 }
 
 /// `while (x < n) x = x + 1;` in two lines, alone.
-fn counted(alloc: Global, line: u32, x: u32, n: i64) -> Result<Vec<Stmt>, NoMemory>
+pub(crate) fn counted(alloc: Global, line: u32, x: u32, n: i64) -> Result<Vec<Stmt>, NoMemory>
     requires { line < 1000 }
     ensures { IfOk result (λ made. code made.items
         ≡ While (record { line = line; column = 1 }) (Binary op.Lt (Var x) (Number n))
@@ -97,7 +97,12 @@ fn declared(alloc: Global, value: i64) -> Result<Declarations, NoMemory>
 }
 
 /// A section of groups, alone.
-fn section(alloc: Global, number: u32, yes: Vec<Stmt>, no: Vec<Stmt>) -> Result<Vec<Stmt>, NoMemory>
+pub(crate) fn section(
+    alloc: Global,
+    number: u32,
+    yes: Vec<Stmt>,
+    no: Vec<Stmt>,
+) -> Result<Vec<Stmt>, NoMemory>
     ensures { IfOk result (λ made. code made.items ≡ Cond number (code yes.items) (code no.items) Done) }
 {
     one(alloc, Stmt::Cond { number, yes, no })
@@ -161,7 +166,7 @@ fn rest(alloc: Global) -> Result<Vec<Stmt>, NoMemory>
 }
 
 /// `x = value;`, alone.
-fn set(alloc: Global, line: u32, x: u32, value: Expr) -> Result<Vec<Stmt>, NoMemory>
+pub(crate) fn set(alloc: Global, line: u32, x: u32, value: Expr) -> Result<Vec<Stmt>, NoMemory>
     ensures { IfOk result (λ made. code made.items
         ≡ Assign (record { line = line; column = 1 }) x (term value) Done) }
 {
@@ -262,7 +267,7 @@ fn spread(alloc: Global) -> Result<Vec<Stmt>, NoMemory>
 }
 
 /// A program of the variables `a` and `b`, which start with 0.
-fn over_two(
+pub(crate) fn over_two(
     alloc: Global,
     declared: Declarations,
     body: Vec<Stmt>,

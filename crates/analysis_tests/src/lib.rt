@@ -8,6 +8,8 @@ mod all_variants;
 #[cfg(test)]
 mod bounds;
 #[cfg(test)]
+mod counted_leaf;
+#[cfg(test)]
 mod families;
 #[cfg(test)]
 mod nearest;
@@ -15,6 +17,8 @@ mod nearest;
 mod octagon_programs;
 #[cfg(test)]
 mod passes;
+#[cfg(test)]
+mod repeated_loops;
 #[cfg(test)]
 mod small_programs;
 #[cfg(test)]

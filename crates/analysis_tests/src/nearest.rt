@@ -6,12 +6,13 @@ ghost use Rattle.linear_atoms.specs.Atoms.{AreAtoms, AreRanges, IsAtom, IsWithin
 ghost use Rattle.cpp_conditions.specs.Propositions.{IsFit, Not, Or};
 ghost use Rattle.cpp_conditions.specs.Validity.{AreFit};
 ghost use Rattle.cpp_conditions.specs.View.{proposition};
-ghost use Rattle.decision_tree.specs.Plain.{TestsBelow, IsReducedFrom};
-ghost use Rattle.decision_tree.specs.View.{plain};
+ghost use Rattle.decision_tree.specs.Plain.{TestsBelow};
+ghost use Rattle.decision_tree.specs.Listed.{IsTreeIn, Keeps};
+ghost use Rattle.decision_tree.specs.View.{numbered, plain};
 
 use configuration_advice::{advice_text, nearest};
 use cpp_conditions::{Condition, Conditions, Features, Model};
-use decision_tree::Tree;
+use decision_tree::{Forest, Tree};
 use fam_outer::{Text, Values};
 use linear_atoms::{Atom, Config, Feature, Linear};
 use std::alloc::Global;
@@ -103,17 +104,19 @@ fn atoms(alloc: Global) -> Result<[Atom; 4], Fail>
 
 /// The tree that is true exactly where no test with a number from this one on, up to the second one, is false; or, turned, where
 /// one is.
-fn all_of(alloc: Global, from: u32, to: u32, turned: bool) -> Result<Tree<bool>, Fail>
+#[tactic(auto, using(decision_tree::proofs::Numbers::stays, decision_tree::proofs::Numbers::keeps_both))]
+fn all_of(forest: &mut Forest<bool>, from: u32, to: u32, turned: bool) -> Result<Tree<bool>, Fail>
     requires { to < 4 }
     ensures below { IfOk result (λ t. TestsBelow 4 (plain t)) }
-    ensures reduced { IfOk result (λ t. IsReducedFrom from (plain t)) }
+    ensures tree { IfOk result (λ t. IsTreeIn from 64 forest.new (numbered t)) }
+    ensures keeps { Keeps forest.old forest.new }
 {
     if from > to {
-        return Ok(Tree::leaf(alloc, !turned)?);
+        return Ok(forest.leaf(!turned)?);
     }
-    let no = Tree::leaf(alloc, turned)?;
-    let yes = all_of(alloc, from + 1, to, turned)?;
-    Ok(Tree::node(alloc, from, &no, &yes)?)
+    let no = forest.leaf(turned)?;
+    let yes = all_of(forest, from + 1, to, turned)?;
+    Ok(forest.node(from, &no, &yes)?)
 }
 
 /// The advice for `A=0 B=0 C=0 N=5` where one of the trees is an alarm, as a text.
@@ -134,19 +137,20 @@ fn advises(rt: &impl Abort, alloc: Global, trees: &[Tree<bool>], text: &[u8]) ->
 #[test]
 fn nearest_configurations_are_found(rt: HostRuntime) -> Result<(), Fail> {
     let alloc = rt.alloc();
+    let mut forest = Forest::new(alloc);
     // no alarm: nothing changes
     advises(&rt, alloc, &[], b"advice: A=0 B=0 C=0 N=5; changed 0\n")?;
     // an alarm where `A` is off
-    let off = [all_of(alloc, 0, 0, true)?];
+    let off = [all_of(&mut forest, 0, 0, true)?];
     advises(&rt, alloc, &off, b"advice: A=1 B=0 C=0 N=5; changed 1\n")?;
     // an alarm where `A` or `B` is off
-    let either = [all_of(alloc, 0, 1, true)?];
+    let either = [all_of(&mut forest, 0, 1, true)?];
     advises(&rt, alloc, &either, b"advice: A=1 B=1 C=0 N=5; changed 2\n")?;
     // where one of the three is off: `C` is on only where `N` is not 5, and no fewer changes suffice
-    let any = [all_of(alloc, 0, 2, true)?];
+    let any = [all_of(&mut forest, 0, 2, true)?];
     advises(&rt, alloc, &any, b"advice: A=1 B=1 C=1 N=0; changed 4\n")?;
     // `N` changes as far as the first in order, not the next
-    let large = [all_of(alloc, 3, 3, false)?];
+    let large = [all_of(&mut forest, 3, 3, false)?];
     advises(&rt, alloc, &large, b"advice: A=0 B=0 C=0 N=0; changed 1\n")?;
     // always
     let always = [Tree::leaf(alloc, true)?];
@@ -155,13 +159,15 @@ fn nearest_configurations_are_found(rt: HostRuntime) -> Result<(), Fail> {
 }
 
 #[test]
+#[tactic(auto, using(decision_tree::proofs::Numbers::stays))]
 fn the_first_of_the_nearest_is_found(rt: HostRuntime) -> Result<(), Fail> {
     let alloc = rt.alloc();
+    let mut forest = Forest::new(alloc);
     // an alarm where both `A` and `B` are off: one of them changes
-    let on = Tree::leaf(alloc, true)?;
-    let off = Tree::leaf(alloc, false)?;
-    let second = Tree::node(alloc, 1, &on, &off)?;
-    let neither = [Tree::node(alloc, 0, &second, &off)?];
+    let on = forest.leaf(true)?;
+    let off = forest.leaf(false)?;
+    let second = forest.node(1, &on, &off)?;
+    let neither = [forest.node(0, &second, &off)?];
     advises(
         &rt,
         alloc,
@@ -169,7 +175,7 @@ fn the_first_of_the_nearest_is_found(rt: HostRuntime) -> Result<(), Fail> {
         b"advice: A=0 B=1 C=0 N=5; changed 1\n",
     )?;
     // and one where `C` is off
-    let third = all_of(alloc, 2, 2, true)?;
+    let third = all_of(&mut forest, 2, 2, true)?;
     let both = [neither[0].share()?, third];
     advises(&rt, alloc, &both, b"advice: A=0 B=1 C=1 N=0; changed 3\n")?;
     Ok(())

@@ -168,8 +168,15 @@ fn has_starts(
     Ok(true)
 }
 
-/// Whether the start values of the family of so many chains are right.
-fn is_right(alloc: Global, count: u32, plausible: usize, all: usize) -> Result<bool, NoMemory>
+/// Whether the start values of the family of so many chains are right, and so many leaves and nodes are made of them. The forest
+/// numbers what it makes from 1 on, and makes the root last.
+fn is_right(
+    alloc: Global,
+    count: u32,
+    plausible: usize,
+    all: usize,
+    made: u64,
+) -> Result<bool, NoMemory>
     requires { count ≤ 16 }
 {
     let code = chain_family(alloc, count)?;
@@ -183,16 +190,27 @@ fn is_right(alloc: Global, count: u32, plausible: usize, all: usize) -> Result<b
     };
     let found = analyse_family::<IntervalLeaf>(alloc, &code, &tests, &rule, &options)?;
     match found.places.as_slice() {
-        [end] => has_starts(alloc, &end.tree, count, plausible, all),
+        [end] => {
+            let has_starts = has_starts(alloc, &end.tree, count, plausible, all)?;
+            Ok(has_starts && end.tree.number() == made)
+        }
         _ => Ok(false),
     }
 }
 
-// 3k + 1 plausible paths; and a path with Nothing for each test that fails and a later one that holds: 3k (3k - 1) / 2
+// 3k + 1 plausible paths; and a path with Nothing for each test that fails and a later one that holds: 3k (3k - 1) / 2. Each start
+// values have one leaf, and Nothing has one: 3k + 2. Before test i all tests held, or the first j alone, of i: so it has i + 1 nodes,
+// and all tests have 3k (3k + 1) / 2.
 #[test]
 fn leaves_are_those_of_plausible_vectors(rt: HostRuntime) -> Result<(), Fail> {
-    assert!(rt; is_right(rt.alloc(), 4, 13, 79)?);
-    assert!(rt; is_right(rt.alloc(), 8, 25, 301)?);
-    assert!(rt; is_right(rt.alloc(), 16, 49, 1177)?);
+    let rows = [
+        (4, 13, 79, 92),
+        (8, 25, 301, 326),
+        (12, 37, 667, 704),
+        (16, 49, 1177, 1226),
+    ];
+    for (count, plausible, all, made) in rows {
+        assert!(rt; is_right(rt.alloc(), count, plausible, all, made)?);
+    }
     Ok(())
 }

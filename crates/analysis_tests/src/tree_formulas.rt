@@ -1,7 +1,7 @@
 //! The formulas of small trees, at every vector.
 
 use cpp_conditions::Formula;
-use decision_tree::Tree;
+use decision_tree::Forest;
 use fam_outer::NoMemory;
 use std::alloc::Global;
 use std::test::Fail;
@@ -19,11 +19,13 @@ fn truth(part: &Formula, vector: &[bool; 2]) -> bool {
 }
 
 /// The formula that 'the first test, and not the second' is false, at the four vectors.
+#[tactic(auto, using(decision_tree::proofs::Numbers::stays))]
 fn truths(alloc: Global) -> Result<[bool; 4], NoMemory> {
-    let no = Tree::leaf(alloc, false)?;
-    let yes = Tree::leaf(alloc, true)?;
-    let second = Tree::node(alloc, 1, &yes, &no)?;
-    let tree = Tree::node(alloc, 0, &no, &second)?;
+    let mut forest = Forest::new(alloc);
+    let no = forest.leaf(false)?;
+    let yes = forest.leaf(true)?;
+    let second = forest.node(1, &yes, &no)?;
+    let tree = forest.node(0, &no, &second)?;
     let made = untrue(alloc, &tree)?;
     Ok([
         truth(&made, &[false, false]),

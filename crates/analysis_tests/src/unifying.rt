@@ -16,9 +16,7 @@ use std::hash::Hash;
 use std::marker::Brand;
 use std::sync::ledger::{Blank, Ledger};
 use std::test::Fail;
-use tree_unify::{
-    Operation, Steps, map, map_in, restrict, select, test_tree, test_tree_in, unify, unify_in,
-};
+use tree_unify::{Operation, Steps, map_in, test_tree_in, unify_in};
 
 /// The sum of two numbers.
 #[derive(Drop)]
@@ -34,30 +32,31 @@ impl Operation<u32, u32, u32> for Sum {
     }
 }
 
-/// Whether each operation on small trees answers the tree that is worked out by hand.
-fn are_leafwise(alloc: Global) -> Result<bool, NoMemory> {
-    let one = Tree::leaf(alloc, 1u32)?;
-    let two = Tree::leaf(alloc, 2u32)?;
-    let t = Tree::node(alloc, 0, &one, &two)?;
-    let u = Tree::node(alloc, 0, &two, &one)?;
-    let sum = unify(alloc, &Sum, &t, &u)?;
-    let three = Tree::leaf(alloc, 3u32)?;
-    let turned = map(alloc, &|a: &u32| Ok(3u32.wrapping_sub(*a)), &t)?;
-    let no = Tree::leaf(alloc, false)?;
-    let yes = Tree::leaf(alloc, true)?;
-    let test = Tree::node(alloc, 1, &no, &yes)?;
-    let chosen = select(alloc, &test, &one, &t)?;
-    let low = Tree::node(alloc, 1, &one, &one)?;
-    let high = Tree::node(alloc, 1, &two, &one)?;
-    let wanted = Tree::node(alloc, 0, &low, &high)?;
-    Ok(sum.equal(&three) && turned.equal(&u) && chosen.equal(&wanted))
+/// Whether the sum of two small trees and a map of one are those that are worked out by hand.
+#[tactic(auto, using(decision_tree::proofs::Numbers::stays, decision_tree::proofs::Numbers::keeps_both, decision_tree::proofs::Numbers::numbered_in))]
+fn are_leafwise<K: Ledger>(alloc: Global, blank: Blank) -> Result<bool, NoMemory>
+    requires name { blank.name ≡ K.name }
+    requires parts { blank.parts ≡ K.parts }
+    requires some { 0 < K.parts }
+{
+    let mut steps = Steps::<K>::new(blank);
+    let mut forest = Forest::new(alloc);
+    let one = forest.leaf(1u32)?;
+    let two = forest.leaf(2u32)?;
+    let t = forest.node(0, &one, &two)?;
+    let u = forest.node(0, &two, &one)?;
+    let three = forest.leaf(3u32)?;
+    let sum = unify_in(alloc, &mut forest, &Sum, &t, &u, &mut steps)?;
+    let turn = |a: &u32| Ok(3u32.wrapping_sub(*a));
+    let turned = map_in(alloc, &mut forest, &turn, &t, &mut steps)?;
+    Ok(sum.number() == three.number() && turned.number() == u.number())
 }
 
 #[test]
 fn operations_are_leafwise(rt: HostRuntime) -> Result<(), Fail> {
-    let answers = match are_leafwise(rt.alloc()) {
+    let answers = match are_leafwise::<Brand>(rt.alloc(), Blank::new(1)) {
         Ok(answers) => answers,
-        Err(NoMemory) => are_leafwise(rt.alloc())?,
+        Err(NoMemory) => are_leafwise::<Brand>(rt.alloc(), Blank::new(1))?,
     };
     assert!(rt; answers);
     Ok(())
@@ -97,7 +96,7 @@ fn greater_in<L: Ord + Copy + Hash + Drop, K: Ledger>(
     unify_in(alloc, forest, &Greater, t, u, steps)
 }
 
-/// Whether the greater leaves of small trees are those that are worked out by hand, with a forest and without.
+/// Whether the greater leaves of small trees are those that are worked out by hand.
 #[tactic(auto, using(decision_tree::proofs::Numbers::numbered_in))]
 fn are_greater<K: Ledger>(alloc: Global, blank: Blank) -> Result<bool, NoMemory>
     requires name { blank.name ≡ K.name }
@@ -108,9 +107,8 @@ fn are_greater<K: Ledger>(alloc: Global, blank: Blank) -> Result<bool, NoMemory>
     let mut forest = Forest::new(alloc);
     let t = parity_trees(&mut forest, 0, 1, 3)?;
     let joined = greater_in(alloc, &mut forest, &t.even, &t.odd, &mut steps)?;
-    let plain = unify(alloc, &Greater, &t.even, &t.odd)?;
-    let three = Tree::leaf(alloc, 3u32)?;
-    Ok(joined.equal(&three) && plain.equal(&three))
+    let three = forest.leaf(3u32)?;
+    Ok(joined.number() == three.number())
 }
 
 #[test]
@@ -133,24 +131,29 @@ fn zero_or_not_one(alloc: Global) -> Result<Formula, NoMemory>
     Ok(Formula::Or(zero, not_one))
 }
 
-/// Whether the tree of that formula is the one that is worked out by hand, and its restrictions too.
-fn formula_trees(alloc: Global) -> Result<bool, NoMemory> {
-    let on = Tree::leaf(alloc, true)?;
-    let off = Tree::leaf(alloc, false)?;
-    let low = Tree::node(alloc, 1, &on, &off)?;
-    let tree = Tree::node(alloc, 0, &low, &on)?;
+/// Whether the forest's tree of that formula is the one that is worked out by hand.
+#[tactic(auto, using(decision_tree::proofs::Numbers::stays, decision_tree::proofs::Numbers::keeps_both))]
+fn is_formula_tree<K: Ledger>(alloc: Global, blank: Blank) -> Result<bool, NoMemory>
+    requires name { blank.name ≡ K.name }
+    requires parts { blank.parts ≡ K.parts }
+    requires some { 0 < K.parts }
+{
+    let mut steps = Steps::<K>::new(blank);
+    let mut forest = Forest::new(alloc);
+    let on = forest.leaf(true)?;
+    let off = forest.leaf(false)?;
+    let low = forest.node(1, &on, &off)?;
+    let tree = forest.node(0, &low, &on)?;
     let f = zero_or_not_one(alloc)?;
-    let made = test_tree(alloc, &f)?;
-    let first = restrict(alloc, &tree, 0, false)?;
-    let second = restrict(alloc, &tree, 1, false)?;
-    Ok(made.equal(&tree) && first.equal(&low) && second.equal(&on))
+    let made = test_tree_in(alloc, &mut forest, &f, &mut steps)?;
+    Ok(made.number() == tree.number())
 }
 
 #[test]
-fn formulas_and_restrictions(rt: HostRuntime) -> Result<(), Fail> {
-    let answers = match formula_trees(rt.alloc()) {
+fn formulas_have_their_trees(rt: HostRuntime) -> Result<(), Fail> {
+    let answers = match is_formula_tree::<Brand>(rt.alloc(), Blank::new(1)) {
         Ok(answers) => answers,
-        Err(NoMemory) => formula_trees(rt.alloc())?,
+        Err(NoMemory) => is_formula_tree::<Brand>(rt.alloc(), Blank::new(1))?,
     };
     assert!(rt; answers);
     Ok(())
@@ -285,8 +288,7 @@ impl Operation<u32, u32, u32> for CountedSum<'_> {
 
 /// Whether the sum of the parity of some tests with itself is that with 0 and 2, made by two calls of the addition: one
 /// for two leaves 0, and one for two leaves 1. The double of each leaf takes two calls too, and each call of the
-/// operation after want of memory takes more. Trees of one forest are compared by their numbers, and by all their paths
-/// where these are few.
+/// operation after want of memory takes more. Trees of one forest are compared by their numbers.
 #[tactic(auto, using(decision_tree::proofs::Numbers::numbered_in))]
 fn doubles<K: Ledger>(alloc: Global, blank: Blank, tests: u32) -> Result<bool, NoMemory>
     requires name { blank.name ≡ K.name }
@@ -321,9 +323,8 @@ fn doubles<K: Ledger>(alloc: Global, blank: Blank, tests: u32) -> Result<bool, N
         }
     };
     let same = sum.number() == wanted.number() && mapped.number() == wanted.number();
-    let equal = tests > 10 || (sum.equal(&wanted) && mapped.equal(&wanted));
     let few = calls.get() == 4 || (failures.get() == 1 && calls.get() > 4);
-    Ok(same && equal && few)
+    Ok(same && few)
 }
 
 #[test]

@@ -28,7 +28,7 @@ fn example_files(alloc: Global) -> Result<MemoryFiles, NoMemory> {
 fn written(alloc: Global, line: &str) -> Result<Vec<u8>, NoMemory> {
     let words = words_of(alloc, line)?;
     let mut files = example_files(alloc)?;
-    let mut out = MemorySink::new(alloc, 10000, 10000, Vec::new(alloc))?;
+    let mut out = MemorySink::new(alloc, 60000, 60000, Vec::new(alloc))?;
     let mut err = MemorySink::new(alloc, 1000, 1000, Vec::new(alloc))?;
     famlint(alloc, &words, &mut files, &mut out, &mut err);
     let mut text = Vec::from_slice(alloc, out.taken.as_slice())?;

@@ -30,6 +30,8 @@ mod guide_tests;
 #[cfg(test)]
 mod merged_tests;
 #[cfg(test)]
+mod page_tests;
+#[cfg(test)]
 mod plain_tests;
 #[cfg(test)]
 mod running;

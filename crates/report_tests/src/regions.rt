@@ -8,7 +8,7 @@ use alarm_report::finding::regions;
 use alarm_report::region::Region;
 use atom_solver::Prepared;
 use c_tree::Kind;
-use decision_tree::Tree;
+use decision_tree::{Forest, Tree};
 use fam_outer::Place;
 use lifted_analysis::AlarmTree;
 use linear_atoms::Atom;
@@ -42,13 +42,15 @@ fn is_region(region: &Region, literals: &[(i64, bool)], example: [i64; 2]) -> bo
 }
 
 #[test]
+#[tactic(auto, using(decision_tree::proofs::Numbers::stays))]
 fn a_literal_stays(rt: HostRuntime) -> Result<(), Fail> {
     let alloc = rt.alloc();
     let model = switch_and_number(alloc)?;
     let atoms = atoms(alloc)?;
-    let yes = Tree::leaf(alloc, true)?;
-    let no = Tree::leaf(alloc, false)?;
-    let tree = Tree::node(alloc, 0, &yes, &no)?;
+    let mut forest = Forest::new(alloc);
+    let yes = forest.leaf(true)?;
+    let no = forest.leaf(false)?;
+    let tree = forest.node(0, &yes, &no)?;
     let found = regions(alloc, &model, &atoms, &tree)?;
     match found.items() {
         [region] => assert!(rt; is_region(region, &[(1, false)], [0, 3])),
@@ -64,14 +66,16 @@ fn a_literal_stays(rt: HostRuntime) -> Result<(), Fail> {
 }
 
 #[test]
+#[tactic(auto, using(decision_tree::proofs::Numbers::stays))]
 fn an_implied_literal_goes(rt: HostRuntime) -> Result<(), Fail> {
     let alloc = rt.alloc();
     let model = switch_and_number(alloc)?;
     let atoms = atoms(alloc)?;
-    let yes = Tree::leaf(alloc, true)?;
-    let no = Tree::leaf(alloc, false)?;
-    let high = Tree::node(alloc, 2, &no, &yes)?;
-    let tree = Tree::node(alloc, 1, &no, &high)?;
+    let mut forest = Forest::new(alloc);
+    let yes = forest.leaf(true)?;
+    let no = forest.leaf(false)?;
+    let high = forest.node(2, &no, &yes)?;
+    let tree = forest.node(1, &no, &high)?;
     let found = regions(alloc, &model, &atoms, &tree)?;
     match found.items() {
         [region] => assert!(rt; is_region(region, &[(5, true)], [0, 5])),
@@ -81,14 +85,16 @@ fn an_implied_literal_goes(rt: HostRuntime) -> Result<(), Fail> {
 }
 
 #[test]
+#[tactic(auto, using(decision_tree::proofs::Numbers::stays))]
 fn a_path_without_a_configuration_has_no_region(rt: HostRuntime) -> Result<(), Fail> {
     let alloc = rt.alloc();
     let model = switch_and_number(alloc)?;
     let atoms = atoms(alloc)?;
-    let yes = Tree::leaf(alloc, true)?;
-    let no = Tree::leaf(alloc, false)?;
-    let low = Tree::node(alloc, 1, &yes, &no)?;
-    let tree = Tree::node(alloc, 0, &low, &yes)?;
+    let mut forest = Forest::new(alloc);
+    let yes = forest.leaf(true)?;
+    let no = forest.leaf(false)?;
+    let low = forest.node(1, &yes, &no)?;
+    let tree = forest.node(0, &low, &yes)?;
     let found = regions(alloc, &model, &atoms, &tree)?;
     match found.items() {
         [region] => assert!(rt; is_region(region, &[(1, true)], [1, 0])),
@@ -110,16 +116,18 @@ fn stops(line: u32, kind: Kind, tree: Tree<bool>) -> AlarmTree
 
 // `!A` in both trees, and `A && N >= 3` in the second
 #[test]
+#[tactic(auto, using(decision_tree::proofs::Numbers::stays))]
 fn alarms_with_one_path_have_equal_regions(rt: HostRuntime) -> Result<(), Fail> {
     let alloc = rt.alloc();
     let model = switch_and_number(alloc)?;
     let prepared = Prepared::new(alloc, &model)?;
     let atoms = atoms(alloc)?;
-    let yes = Tree::leaf(alloc, true)?;
-    let no = Tree::leaf(alloc, false)?;
-    let high = Tree::node(alloc, 1, &no, &yes)?;
-    let off = Tree::node(alloc, 0, &yes, &no)?;
-    let either = Tree::node(alloc, 0, &yes, &high)?;
+    let mut forest = Forest::new(alloc);
+    let yes = forest.leaf(true)?;
+    let no = forest.leaf(false)?;
+    let high = forest.node(1, &no, &yes)?;
+    let off = forest.node(0, &yes, &no)?;
+    let either = forest.node(0, &yes, &high)?;
     let trees = [
         stops(4, Kind::Overflow, off),
         stops(6, Kind::ZeroDivisor, either),
