@@ -41,7 +41,7 @@ OPTIONS = (
 
 # The commands of famlint. famlint-check takes none, but one is often written in front of the files.
 COMMANDS = (
-    "analyse", "invariants", "certify", "check", "plain", "project", "variant", "run", "advise", "features", "generate", "explain", "help")
+    "analyse", "invariants", "page", "certify", "check", "plain", "project", "variant", "run", "advise", "features", "generate", "explain", "help")
 
 
 @dataclass(frozen=True)

@@ -1,0 +1,151 @@
+"""Programs whose outcome was worked out by hand from ISO/IEC 9899:2011, and outcomes of which it is known whether they are the same.
+
+The operators are those of 6.5.3.3 and 6.5.5 to 6.5.14, what does not fit `int` is 6.5, paragraph 5, truncation and the sign of a remainder
+6.5.5, paragraph 6, and what `&&` and `||` leave out 6.5.13 and 6.5.14, paragraph 4.
+"""
+from __future__ import annotations
+
+from dataclasses import dataclass
+
+from .families import NO_FEATURES
+
+
+@dataclass(frozen=True)
+class Case:
+    """A program, and its outcome in both modes: `LINE KIND`, or how it ends with the values."""
+    name: str
+    text: str
+    inputs: tuple[int, ...]
+    stop: str
+    wrap: str
+    model: str = NO_FEATURES
+    settings: tuple[str, ...] = ()
+
+
+def case(name: str, declaration: str, statements: str, stop: str, wrap: str | None = None, inputs: tuple[int, ...] = ()) -> Case:
+    """A program with its declaration in line 1, and its statements from line 3 on."""
+    return Case(name, f"{declaration}\nint main(void) {{\n{statements}\n}}\n", inputs, stop, wrap or stop)
+
+
+# What stops in both modes, or in neither, has one outcome.
+PROGRAMS = [
+    case("the least int by -1", "int x = -2147483647, y = -1;", "x = x - 1;\ny = x / y;", "4 overflow"),
+    case("the least int % -1", "int x = -2147483647, y = -1;", "x = x - 1;\ny = x % y;", "4 overflow"),
+    case("the least int /= -1", "int x = -2147483647;", "--x;\nx /= -1;", "4 overflow"),
+    case("the least int %= -1", "int x = -2147483647;", "--x;\nx %= -1;", "4 overflow"),
+    case("/ 0", "int x = 7, y;", "x = x / y;", "3 zero-divisor"),
+    case("% 0", "int x = 7, y;", "x = x % y;", "3 zero-divisor"),
+    case("/= 0", "int x = 7, y;", "x /= y;", "3 zero-divisor"),
+    case("%= 0", "int x = 7, y;", "y++;\nx %= y - 1;", "4 zero-divisor"),
+    case("0 / 0", "int x;", "x = x / x;", "3 zero-divisor"),
+    case("+ above", "int x = 2147483647;", "x = x + 1;", "3 overflow", "ended x=-2147483648"),
+    case("+ below", "int x = -2147483647, y = -2;", "x = x + y;", "3 overflow", "ended x=2147483647 y=-2"),
+    case("- below", "int x = -2147483647;", "x = x - 2;", "3 overflow", "ended x=2147483647"),
+    case("- above", "int x = 2147483647, y = -1;", "x = x - y;", "3 overflow", "ended x=-2147483648 y=-1"),
+    case("* above", "int x = 65536;", "x = x * 32768;", "3 overflow", "ended x=-2147483648"),
+    case("* above, a square", "int x = 46341;", "x = x * x;", "3 overflow", "ended x=-2147479015"),
+    case("* below", "int x = 65536, y = -32769;", "x = x * y;", "3 overflow", "ended x=2147418112 y=-32769"),
+    case("* at the ends", "int x = 65536, y = -32768;", "y = x * y;\nx = 46340 * 46340;", "ended x=2147395600 y=-2147483648"),
+    case("the least int * -1", "int x;", "x = input();\nx = x * -1;", "4 overflow", "ended x=-2147483648", (-2147483648,)),
+    case("- of the least int", "int x = -2147483647;", "x = x - 1;\nx = -x;", "4 overflow", "ended x=-2147483648"),
+    case("- of the greatest", "int x = 2147483647;", "x = -x;", "ended x=-2147483647"),
+    case("x++ at the limit", "int x = 2147483646;", "x++;\nx++;", "4 overflow", "ended x=-2147483648"),
+    case("++x at the limit", "int x = 2147483646;", "++x;\n++x;", "4 overflow", "ended x=-2147483648"),
+    case("x-- at the limit", "int x = -2147483647;", "x--;\nx--;", "4 overflow", "ended x=2147483647"),
+    case("--x at the limit", "int x = -2147483647;", "--x;\n--x;", "4 overflow", "ended x=2147483647"),
+    case("+= above", "int x = 2147483000;", "x += 648;", "3 overflow", "ended x=-2147483648"),
+    case("-= below", "int x = -2147483000;", "x -= 649;", "3 overflow", "ended x=2147483647"),
+    case("*= above", "int x = 1073741824;", "x *= 2;", "3 overflow", "ended x=-2147483648"),
+    case("a part that does not fit", "int x;", "x = 2147483647 + 1 - 1;", "3 overflow", "ended x=2147483647"),
+    case("a test that does not fit", "int x;", "if (2147483647 + 1 < 0)\nx = 1;", "3 overflow", "ended x=1"),
+    case("an assertion that does not fit", "int x;", "assert(2147483647 + 1 < 0);", "3 overflow", "ended x=0"),
+    case("quotients of negatives", "int a, b, c;", "a = -7 / 2;\nb = 7 / -2;\nc = -7 / -2;", "ended a=-3 b=-3 c=3"),
+    case("remainders of negatives", "int a, b, c;", "a = -7 % 2;\nb = 7 % -2;\nc = -7 % -4;", "ended a=-1 b=1 c=-3"),
+    case("&& leaves out", "int x, y;", "if (x != 0 && 10 / x > 1)\ny = 1;\nelse\ny = 2;", "ended x=0 y=2"),
+    case("|| leaves out", "int x, y;", "if (x == 0 || 10 / x > 1)\ny = 1;\nelse\ny = 2;", "ended x=0 y=1"),
+    case("&& takes the left first", "int x, y;", "y = 10 / x > 1 && x != 0;", "3 zero-divisor"),
+    case("|| takes the left first", "int x, y;", "y = 10 / x > 1 || x == 0;", "3 zero-divisor"),
+    case("&& goes on", "int x = 1, y;", "y = x && 1 / (x - 1);", "3 zero-divisor"),
+    case("the left operand first", "int x, y;", "y = 1 / x + (2147483647 + 1);", "3 zero-divisor"),
+    case("the left operand first, turned", "int x, y;", "y = (2147483647 + 1) + 1 / x;", "3 overflow", "3 zero-divisor"),
+    case("the operands before the division", "int x;", "x = (2147483647 + 1) / x;", "3 overflow", "3 zero-divisor"),
+    case("an assertion", "int x;", "assert(x == 0);\nassert(x == 1);\nassert(0);", "4 assertion"),
+    case("an assertion in a loop", "int x;", "while (1) {\nx++;\nassert(x < 3);\n}", "5 assertion"),
+    case("any number but 0 is true", "int x = -5;", "assert(x);\nassert(!!x == 1);\nassert(x - x);", "5 assertion"),
+    case("the test of a loop", "int x = 2;", "while (10 / x)\nx--;", "3 zero-divisor"),
+    case("a statement of two lines", "int x;", "if (x ==\n1 / x)\nx = 1;", "3 zero-divisor"),
+    case("two statements in a line", "int x, y;", "x = 1; y = x / y;", "3 zero-divisor"),
+    case("truths are 1 and 0", "int a, b, c;", "a = 3 && 2;\nb = !5;\nc = (2 < 1) + (1 <= 1) + (0 || -9);", "ended a=1 b=0 c=2"),
+    case("comparisons in a chain", "int a, b, c;", "a = 3 > 2 > 1;\nb = -1 < 0 < 1;\nc = 5 == 5 == 1;", "ended a=0 b=0 c=1"),
+    case("what binds how", "int a, b, c;", "a = 2 + 3 * 4 % 5 - 6 / 4;\nb = 8 - 4 - 2;\nc = 1 || 0 && 0;", "ended a=3 b=2 c=1"),
+    case("signs", "int a, b, c;", "a = - -5;\nb = +-+3;\nc = -2 * -3 - -1;", "ended a=5 b=-3 c=7"),
+    case("! binds first", "int a, b;", "a = !2 + 3;\nb = !0 * 4 < 5;", "ended a=3 b=1"),
+    case("the whole right side", "int a = 10, b = 10, c = 10;", "a -= 3 - 1;\nb *= 2 + 1;\nc /= 1 + 1;", "ended a=8 b=30 c=5"),
+    case("numbers", "int a, b, c;", "a = 'a' + 0x10 + 010;\nb = '\\n' + '\\0' + '\\x41';\nc = 0x7fffffff - 0;", "ended a=121 b=75 c=2147483647"),
+    case("start values", "int a = 017, b = -0x10; static int c;", "a = a + c;", "ended a=15 b=-16 c=0"),
+    case("else of the nearest if", "int x, y, z;", "if (x)\nif (y)\nz = 1;\nelse\nz = 2;", "ended x=0 y=0 z=0"),
+    case("else if", "int x = 2, z;", "if (x == 1) z = 1; else if (x == 2) z = 2; else z = 3;", "ended x=2 z=2"),
+    case("a wait", "int x, y;", "x = input();\ny = input();", "waiting x=-5 y=0", inputs=(-5,)),
+    case("inputs that are left", "int x;", "x = input();", "ended x=1", inputs=(1, 2)),
+    case("no statement", "int x = 1;", ";", "ended x=1"),
+    case("return", "int x;", "x = 4;\nreturn 3;", "ended x=4"),
+    case("words of the type", "int32_t a = 1; signed b = 2; int signed c; static signed int d;", "c = a + b;\nd = c;", "ended a=1 b=2 c=3 d=3"),
+]
+
+GROUPS = """int x = 1;
+int main(void) {
+#ifdef A
+    x = x - 1;
+#endif
+#if N < 0 && !defined(B)
+    x = 1 / x;
+#elif 2 * N == A + 1
+    x = 5;
+#else
+    x = 6;
+#endif
+}
+"""
+MODEL = '{"features": [{"name": "A"}, {"name": "N", "min": -2, "max": 3}, {"name": "B"}], "constraints": ["!B || A"]}\n'
+
+FAMILIES = [
+    Case(f"groups, {' '.join(settings)}", GROUPS, (), outcome, outcome, MODEL, settings)
+    for settings, outcome in [
+        (("A=1", "N=-1"), "7 zero-divisor"), (("N=-1",), "ended x=1"), (("A=1", "N=-2", "B=1"), "ended x=6"),
+        (("A=1", "N=1"), "ended x=5"), (("N=1",), "ended x=6"), (("A=1", "N=3"), "ended x=6")]]
+
+CASES = PROGRAMS + FAMILIES
+
+TWO_LINES = "int x, y;\nint main(void) {\n    x = 1; y = 1 / x;\n    if (x / 2 ==\n        y) x = 9 / y; // a note; and {\n    assert(x == 1);\n}\n"
+REPORT = "t.c:{}:{}: runtime error: {} cannot be represented in type 'int'\nSUMMARY: ..\n"
+BY_ZERO = "t.c:{}:{}: runtime error: division by zero\nSUMMARY: ..\n"
+FAILED = "t: ./t.c:{}: int main(void): Assertion `x == 1' failed.\n"
+
+# What famlint prints of a run of that text, what the compiled program writes to its output and its error stream, and whether that is the same.
+OUTCOMES = [
+    ("ended x=1 y=2\n", "ended x=1 y=2\n", "", True),
+    ("ended x=1 y=2\n", "ended x=1 y=3\n", "", False),
+    ("ended x=1 y=2\n", "ended x=1\n", "", False),
+    ("ended x=1 y=2\n", "waiting x=1 y=2\n", "", False),
+    ("waiting 3:5 x=1 y=2\n", "waiting x=1 y=2\n", "", True),
+    ("waiting 3:5 x=1 y=2\n", "waiting x=0 y=2\n", "", False),
+    ("waiting 3:5 x=1 y=2\n", "ended x=1 y=2\n", "", False),
+    ("ended x=1 y=2\n", "", FAILED.format(6), False),
+    ("stopped 6:5 assertion\n", "", FAILED.format(6), True),
+    ("stopped 6:5 assertion\n", "", FAILED.format(5), False),
+    ("stopped 6:5 assertion\n", "ended x=2 y=1\n", "", False),
+    ("stopped 6:5 assertion\n", "", BY_ZERO.format(6, 5), False),
+    ("stopped 3:12 zero-divisor\n", "", BY_ZERO.format(3, 18), True),
+    ("stopped 3:12 overflow\n", "", BY_ZERO.format(3, 18), False),
+    ("stopped 3:5 zero-divisor\n", "", BY_ZERO.format(3, 18), False),
+    ("stopped 4:5 zero-divisor\n", "", BY_ZERO.format(3, 18), False),
+    ("stopped 4:5 overflow\n", "", REPORT.format(4, 11, "division of -2147483648 by -1"), True),
+    ("stopped 4:5 zero-divisor\n", "", REPORT.format(4, 11, "division of -2147483648 by -1"), False),
+    ("stopped 4:5 zero-divisor\n", "", BY_ZERO.format(5, 18), False),
+    ("stopped 5:12 zero-divisor\n", "", BY_ZERO.format(5, 18), True),
+    ("stopped 5:12 overflow\n", "", REPORT.format(5, 18, "signed integer overflow: 2147483647 + 1"), True),
+    ("stopped 5:12 overflow\n", "", REPORT.format(5, 18, "negation of -2147483648"), True),
+    ("stopped 6:5 zero-divisor\n", "", BY_ZERO.format(5, 18), False),
+    ("file: F12 at 1:1\n", "file: F12 at 1:1\n", "", False),
+    ("", "", "Segmentation fault\n", False),
+]

@@ -1,0 +1,126 @@
+"""Compiles the text of a family, or of a variant, by clang with its checks of undefined behaviour, and runs it."""
+from __future__ import annotations
+
+import re
+import shutil
+import subprocess
+from dataclasses import dataclass
+from pathlib import Path
+
+from .outcomes import RUNNING, Outcome, seen
+
+SECONDS = 20
+CHECKS = ["-fsanitize=signed-integer-overflow,integer-divide-by-zero", "-fno-sanitize-recover=all"]
+# In both modes the least int divided by -1 stops: clang looks at it under -fwrapv too, and at no other overflow.
+MODES = {"stop": [], "wrap": ["-fwrapv"]}
+
+# What stands beside the text: `input`, which takes the words of the command one after another, and at the end of a run, or where no word
+# is left, the values of the variables. The names of the text can hide none of its own, since it is compiled apart.
+BESIDE = r"""
+#include <stdio.h>
+#include <stdlib.h>
+#include <unistd.h>
+
+extern const char *const check_runs_names[];
+extern const int *const check_runs_places[];
+
+static char **words;
+
+static void tell(const char *how)
+{
+    printf("%s", how);
+    for (int k = 0; check_runs_names[k]; k++)
+        printf(" %s=%d", check_runs_names[k], *check_runs_places[k]);
+    printf("\n");
+    fflush(stdout);
+}
+
+int input(void)
+{
+    if (!*words) {
+        tell("waiting");
+        _exit(0);
+    }
+    return (int)strtol(*words++, NULL, 10);
+}
+
+static void end(void)
+{
+    tell("ended");
+}
+
+__attribute__((constructor)) static void begin(int count, char **all)
+{
+    (void)count;
+    words = all + 1;
+    atexit(end);
+}
+"""
+
+TYPE = r"(?:int32_t|signed\s+int|int\s+signed|signed|int)"
+DECLARATION = re.compile(rf"\s*(?:static\s+)?{TYPE}\s+([^()]+)", re.DOTALL)
+
+
+class NotCompiled(Exception):
+    """What clang says of a text that it refuses."""
+
+
+def declared(preprocessed: str) -> list[str]:
+    """The variables of a text behind the preprocessor: what its declarations before `main` make."""
+    before = re.split(rf"{TYPE}\s+main\s*\(", preprocessed)[0]
+    found = (DECLARATION.fullmatch(piece) for piece in before.split(";"))
+    return [variable.split("=")[0].strip() for it in found if it for variable in it[1].split(",")]
+
+
+@dataclass(frozen=True)
+class Program:
+    path: Path
+
+    def run(self, inputs: list[int]) -> Outcome:
+        words = [str(self.path), *map(str, inputs)]
+        try:
+            ran = subprocess.run(words, stdin=subprocess.DEVNULL, capture_output=True, timeout=SECONDS, check=False)
+        except subprocess.TimeoutExpired:
+            return Outcome(RUNNING, text=f"still running after {SECONDS} seconds")
+        return seen(ran.stdout.decode(), ran.stderr.decode(errors="replace"))
+
+
+class Clang:
+    """A clang, which compiles into a folder."""
+
+    def __init__(self, name: str, folder: Path):
+        self.path = shutil.which(name)
+        if not self.path:
+            raise NotCompiled(f"there is no {name}: the package clang of Debian")
+        self.folder = folder
+        (folder / "beside.c").write_text(BESIDE)
+        self.called("-O1", "-c", "beside.c", "-o", "beside.o")
+        (folder / "empty.c").write_text("int main(void) { }\n")
+        try:
+            self.called(*CHECKS, "empty.c", "-o", "empty")
+        except NotCompiled as fault:
+            raise NotCompiled(f"the checks can't be linked: the package libclang-rt-14-dev of Debian, for clang 14\n{fault}") from None
+
+    def called(self, *words: str) -> str:
+        ran = subprocess.run([self.path, *words], cwd=self.folder, stdin=subprocess.DEVNULL, capture_output=True, check=False)
+        if ran.returncode:
+            raise NotCompiled(ran.stderr.decode(errors="replace"))
+        return ran.stdout.decode(errors="replace")
+
+    def compiled(self, name: str, text: str, macros: dict[str, int], constraints: list[str], mode: str) -> Program:
+        """A program of a text with these macros, in which each constraint of its model must be true. What a file need not include, and
+        famlint knows, is included before it."""
+        (self.folder / f"{name}.c").write_text(text)
+        given = ["-w", "-std=c11", *(f"-D{macro}={value}" for macro, value in macros.items())]
+        for header, word in (("assert.h", "assert"), ("stdint.h", "int32_t")):
+            given += ["-include", header] if re.search(rf"\b{word}\b", text) else []
+        names = declared(self.called(*given, "-E", "-P", f"{name}.c"))
+        listed = "".join(f'"{it}", ' for it in names), "".join(f"&{it}, " for it in names)
+        wrong = "".join(f'#if !({it})\n#error "a constraint is false"\n#endif\n' for it in constraints)
+        (self.folder / f"{name}-{mode}.c").write_text(
+            f'{wrong}#include "{name}.c"\n'
+            f"const char *const check_runs_names[] = {{{listed[0]}0}};\n"
+            f"const int *const check_runs_places[] = {{{listed[1]}0}};\n")
+        # (hidden, so that a variable with the name of a function of the C library does not take its place)
+        self.called("-O0", "-fvisibility=hidden", *MODES[mode], *CHECKS, *given, f"{name}-{mode}.c", "beside.o", "-o", f"{name}-{mode}")
+        return Program(self.folder / f"{name}-{mode}")
