@@ -13,7 +13,7 @@ module _ (M N : LeafMeaning) (L : LeafLaws M) (K : LeafLaws N) where
   pub at_like : (v : LeafValue) (x : ℕ) (r : Range) → M.valid v → x < v.variables → IsInInt r → IsLeafLike M v (limited_at M v x r)
   at_like v x r p l i = of_either (IsLeafLike M v) (is_tighter r (M.bounds_of v x)) (M.meet_range v x r) v (L.meet_answers v x r p l i) (record { valid = p; same = refl })
 
-  at_holds : (v : LeafValue) (x : ℕ) (r : Range) (s : List ℤ) → M.valid v → x < v.variables → IsInInt r → M.holds v s → Within (at_store s x) r → M.holds (limited_at M v x r) s
+  pub at_holds : (v : LeafValue) (x : ℕ) (r : Range) (s : List ℤ) → M.valid v → x < v.variables → IsInInt r → M.holds v s → Within (at_store s x) r → M.holds (limited_at M v x r) s
   at_holds v x r s p l i h w = of_either (λ u. M.holds u s) (is_tighter r (M.bounds_of v x)) (M.meet_range v x r) v (L.meet_holds v x r s p l i h w) h
 
   below_step : (v u : LeafValue) (k : ℕ) → suc k ≤ v.variables → u.variables ≡ v.variables → k < u.variables
@@ -45,7 +45,7 @@ module _ (M N : LeafMeaning) (L : LeafLaws M) (K : LeafLaws N) where
   limited_holds v w s p q e h g = below_holds v w s p q e h g v.variables (omega arith)
 
   module _ (E : LeafExactness M) where
-    at_only : (v : LeafValue) (x : ℕ) (r : Range) (s : List ℤ) → M.valid v → x < v.variables → IsInInt r → M.holds (limited_at M v x r) s → M.holds v s
+    pub at_only : (v : LeafValue) (x : ℕ) (r : Range) (s : List ℤ) → M.valid v → x < v.variables → IsInInt r → M.holds (limited_at M v x r) s → M.holds v s
     at_only v x r s p l i =
         of_either (λ u. M.holds u s → M.holds v s) (is_tighter r (M.bounds_of v x)) (M.meet_range v x r) v (λ h. (E.meet_only v x r s p l i h).0) (λ h. h)
 

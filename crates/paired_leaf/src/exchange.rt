@@ -19,7 +19,7 @@ fn is_tighter(range: Range, known: Range) -> bool
 }
 
 /// The leaf with the range of a variable met, where it is tighter than the leaf's own: a meet of an octagon closes it.
-fn limited_at<L: Leaf>(alloc: Global, leaf: L, x: u32, range: Range) -> Result<L, NoMemory>
+pub fn limited_at<L: Leaf>(alloc: Global, leaf: L, x: u32, range: Range) -> Result<L, NoMemory>
     requires x { x < (L.value leaf).variables }
     requires range { IsInInt range }
     ensures value { IfOk result (λ met. L.value met ≡ limited_at L.meaning (L.value leaf) x range) }

@@ -5,5 +5,5 @@
 mod exchange;
 mod parts;
 
-pub use exchange::exchanged;
+pub use exchange::{exchanged, limited_at};
 pub use parts::{Parts, settled, widened_to};

@@ -91,7 +91,7 @@ impl StrideLeaf {
     }
 
     /// The parts by their best bounds, where it is not Nothing.
-    fn best_parts(&self) -> Option<&[Strided]>
+    pub fn best_parts(&self) -> Option<&[Strided]>
         ensures nothing { IfNone result (self.now ≡ nothing_of self.now.variables) }
         ensures best { IfSome result (λ bs. IsBestOf self.now bs.now) }
         ensures few { self.now.variables ≤ 16 }
@@ -136,7 +136,7 @@ impl StrideLeaf {
     }
 
     /// The leaf with this part for `x`, by its best bounds; Nothing where it has none.
-    fn with(&self, alloc: Global, x: u32, part: Option<Strided>) -> Result<StrideLeaf, NoMemory>
+    pub fn with(&self, alloc: Global, x: u32, part: Option<Strided>) -> Result<StrideLeaf, NoMemory>
         requires x { x < self.now.variables }
         requires own { IfSome part IsOwn }
         requires best { IfSome part (λ b. b ≡ reduced b) }

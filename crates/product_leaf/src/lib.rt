@@ -2,10 +2,10 @@
 //! congruences (after Granger): Nothing, or a low, a high and a stride for each variable.
 #![tactic(auto)]
 
-mod form_stride;
+pub mod form_stride;
 pub mod laws;
 mod leaf;
-mod parts;
+pub mod parts;
 
 pub use laws::{stride_join_is_least, strides_are_exact, strides_are_ordered_by_stores};
 pub use leaf::StrideLeaf;

@@ -95,7 +95,7 @@ pub(crate) fn reduced(alloc: Global, parts: &[Strided]) -> Result<Vec<Strided>, 
 }
 
 /// The part by its best bounds, where it has a number.
-pub(crate) fn best_part(part: Strided) -> Option<Strided>
+pub fn best_part(part: Strided) -> Option<Strided>
     ensures { result ≡ best_part part }
 {
     if part.is_bare() {
@@ -113,7 +113,7 @@ pub(crate) fn copied(alloc: Global, parts: &[Strided]) -> Result<Vec<Strided>, A
 }
 
 /// The part with its bounds met by the range.
-pub(crate) fn met_part(part: Strided, r: Range) -> Strided
+pub fn met_part(part: Strided, r: Range) -> Strided
     ensures { result ≡ met_part part r }
 {
     Strided {

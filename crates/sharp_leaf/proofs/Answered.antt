@@ -6,8 +6,8 @@ use Rattle.leaf_domain.specs.Forms.{IsForm}
 use Rattle.leaf_domain.specs.Leaves.{LeafValue, Alike, IsLeafLike, is_nothing_of}
 use Rattle.octagon_leaf.specs.Octagons.{octagons}
 use Rattle.octagon_leaf.specs.Laws.{octagon_laws}
-use Rattle.product_leaf.specs.StrideLeaves.{strides}
-use Rattle.product_leaf.specs.Laws.{stride_laws}
+use Rattle.congruence_leaf.specs.Congruences.{congruences as strides}
+use Rattle.congruence_leaf.specs.Laws.{congruence_laws as stride_laws}
 use Rattle.paired_leaf.specs.Pairs.{pair_of, first_of, second_of, IsPair}
 use Rattle.paired_leaf.specs.Exchange.{exchanged}
 use Rattle.paired_leaf.specs.PairedLeaves.{joined}

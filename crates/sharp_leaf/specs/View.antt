@@ -1,9 +1,9 @@
 -- A leaf as plain data.
 use Rattle.leaf_domain.specs.Leaves.{LeafValue}
 use Rattle.octagon_leaf.specs.Octagons.{octagons}
-use Rattle.product_leaf.specs.StrideLeaves.{strides}
+use Rattle.congruence_leaf.specs.Congruences.{congruences as strides}
 use Rattle.paired_leaf.specs.Pairs.{pair_of, AreParts}
-use Rattle.sharp_leaf.specs.declared.leaf.SharpLeaf.TheInside.{Inside}
+use Rattle.sharp_leaf.specs.declared.reduced.ReducedLeaf.TheInside.{Inside}
 
 abbrev pub view_of : Inside → LeafValue
 view_of s = pair_of s.octagon s.strides

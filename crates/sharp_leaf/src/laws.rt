@@ -2,7 +2,7 @@
 #![tactic(auto)]
 
 ghost use Rattle.octagon_leaf.specs.Octagons.{octagons};
-ghost use Rattle.product_leaf.specs.StrideLeaves.{strides};
+ghost use Rattle.congruence_leaf.specs.Congruences.{congruences as strides};
 ghost use Rattle.paired_leaf.specs.Below.{IsBelowParts};
 ghost use Rattle.sharp_leaf.specs.SharpLeaves.{sharp};
 

@@ -1,36 +1,30 @@
-//! A leaf of an octagon together with intervals and strides.
+//! A leaf of an octagon together with intervals and strides, linearised.
 #![tactic(auto)]
 
-ghost use Rattle.std.specs.Prelude.{◌≡◌, ◌≤◌, IfOk, refl};
-ghost use Rattle.leaf_domain.specs.Forms.{IsForm};
+ghost use Rattle.std.specs.Prelude.{◌≡◌, refl};
 ghost use Rattle.leaf_domain.specs.Leaves.{same_leaf};
 ghost use Rattle.leaf_domain.proofs.LeafEquality.{leaf_decides, leaf_partial, leaf_equiv};
-ghost use Rattle.octagon_leaf.specs.Octagons.{octagons};
-ghost use Rattle.product_leaf.specs.StrideLeaves.{strides};
-ghost use Rattle.paired_leaf.specs.Pairs.{pair_of, first_of, second_of, IsPair, AreParts};
-ghost use Rattle.paired_leaf.specs.Exchange.{exchanged};
-ghost use Rattle.paired_leaf.specs.PairedLeaves.{both_ranges, both_bounds, both_compared, either_side};
 ghost use Rattle.sharp_leaf.specs.SharpLeaves.{sharp};
 ghost use Rattle.sharp_leaf.specs.Laws.{sharp_laws, leaf_alike};
 ghost use Rattle.sharp_leaf.specs.Hashing.{fed_leaf};
 
+use crate::reduced::ReducedLeaf;
 use fam_outer::NoMemory;
 use leaf_domain::{Compare, Form, Leaf, Operation, Range, Thresholds};
-use octagon_leaf::OctagonLeaf;
-use paired_leaf::{Parts, exchanged, settled, widened_to};
-use product_leaf::StrideLeaf;
+use linearised_leaf::{linear_met, linear_set};
 use std::alloc::Global;
 use std::hash::{Hash, Hasher};
 use std::marker::Model;
 
 /// A leaf of an octagon together with intervals and strides, which holds the stores of both; or Nothing, which holds no store.
 ///
-/// Each operation is that of both parts, and then each part has the ranges of the other. What was widened or narrowed stays as
-/// it is, since the next iterate begins with it; the operations on it give each part the ranges of the other.
+/// Each operation is that of both parts, and then each part has the ranges of the other. A test of a linear form and an assignment of one
+/// are linearised too: where an octagon does not have all of the form, what its terms are is met two by two and one by one, with the others
+/// in their ranges. What was widened or narrowed stays as it is, since the next iterate begins with it; the operations on it give each part
+/// the ranges of the other.
 #[derive(Drop)]
 pub struct SharpLeaf {
-    octagon: OctagonLeaf,
-    strides: StrideLeaf,
+    reduced: ReducedLeaf,
 }
 
 impl Model for SharpLeaf {
@@ -38,130 +32,27 @@ impl Model for SharpLeaf {
 
     ghost Value = { LeafValue };
 
-    ghost use Rattle.sharp_leaf.specs.View.{view_of, IsSound};
-
-    ghost view = { view_of };
-
-    ghost invariant = { IsSound };
+    ghost view = { λ leaf. leaf.reduced };
 }
 
 impl SharpLeaf {
-    /// The leaf of its parts.
-    fn of(parts: Parts<OctagonLeaf, StrideLeaf>) -> SharpLeaf
-        requires { AreParts octagons strides parts.first parts.second }
-        ensures { result ≡ pair_of parts.first parts.second }
+    fn of(reduced: ReducedLeaf) -> SharpLeaf
+        ensures { result ≡ reduced }
     {
-        let Parts { first, second } = parts;
-        SharpLeaf {
-            octagon: first,
-            strides: second,
-        }
+        SharpLeaf { reduced }
     }
 
-    /// The leaf of two parts as they are.
-    fn settled(alloc: Global, first: OctagonLeaf, second: StrideLeaf) -> Result<SharpLeaf, NoMemory>
-        requires { first.variables ≡ second.variables }
-        ensures { IfOk result (λ leaf. leaf ≡ pair_of first second) }
+    fn reduced(&self) -> &ReducedLeaf
+        ensures { result.now ≡ self.now }
     {
-        Ok(SharpLeaf::of(settled(alloc, first, second)?))
+        &self.reduced
     }
 
-    /// The leaf of two parts once each has the ranges of the other.
-    fn exchanged(
-        alloc: Global,
-        first: OctagonLeaf,
-        second: StrideLeaf,
-    ) -> Result<SharpLeaf, NoMemory>
-        requires { first.variables ≡ second.variables }
-        ensures { IfOk result (λ leaf. leaf ≡ exchanged octagons strides first second) }
+    fn into_reduced(self) -> ReducedLeaf
+        ensures { result ≡ self }
     {
-        Ok(SharpLeaf::of(exchanged(alloc, first, second)?))
+        self.reduced
     }
-
-    /// Both parts.
-    fn into_parts(self) -> Parts<OctagonLeaf, StrideLeaf>
-        ensures first { result.first ≡ first_of self }
-        ensures second { result.second ≡ second_of self }
-        ensures valid { IsPair octagons strides self }
-    {
-        Parts {
-            first: self.octagon,
-            second: self.strides,
-        }
-    }
-
-    /// The octagon.
-    fn octagon(&self) -> &OctagonLeaf
-        ensures value { result.now ≡ first_of self.now }
-        ensures few { self.now.variables ≤ 16 }
-        ensures valid { IsPair octagons strides self.now }
-    {
-        &self.octagon
-    }
-
-    /// The intervals with strides.
-    fn strides(&self) -> &StrideLeaf
-        ensures value { result.now ≡ second_of self.now }
-        ensures valid { IsPair octagons strides self.now }
-    {
-        &self.strides
-    }
-}
-
-/// What lies in both ranges, as far as there are any.
-fn both_ranges(first: Option<Range>, second: Option<Range>) -> Option<Range>
-    ensures { result ≡ both_ranges first second }
-{
-    match (first, second) {
-        (None, second) => second,
-        (Some(first), None) => Some(first),
-        (Some(first), Some(second)) => Some(first.meet(second)),
-    }
-}
-
-/// What lies in both ranges, and the first where nothing does.
-fn both_bounds(first: Range, second: Range) -> Range
-    ensures { result ≡ both_bounds first second }
-{
-    let both = first.meet(second);
-    if both.is_empty() { first } else { both }
-}
-
-/// Two parts met with a comparison.
-fn both_compared(
-    alloc: Global,
-    first: &OctagonLeaf,
-    second: &StrideLeaf,
-    f: &Form,
-    op: Compare,
-) -> Result<SharpLeaf, NoMemory>
-    requires same { first.now.variables ≡ second.now.variables }
-    requires form { IsForm first.now.variables f.now }
-    ensures value { IfOk result
-        (λ leaf. leaf ≡ both_compared octagons strides first.now second.now f.now op) }
-    ensures same { IfOk result (λ leaf. leaf.variables ≡ first.now.variables) }
-{
-    let _valid = (first.variables(), second.variables());
-    let octagon = first.meet_form(alloc, f, op)?;
-    let strides = second.meet_form(alloc, f, op)?;
-    SharpLeaf::exchanged(alloc, octagon, strides)
-}
-
-/// Two parts where the form is below 0, and where it is above 0.
-fn either_side(
-    alloc: Global,
-    first: &OctagonLeaf,
-    second: &StrideLeaf,
-    f: &Form,
-) -> Result<SharpLeaf, NoMemory>
-    requires same { first.now.variables ≡ second.now.variables }
-    requires form { IsForm first.now.variables f.now }
-    ensures { IfOk result
-        (λ leaf. leaf ≡ either_side octagons strides first.now second.now f.now) }
-{
-    let below = both_compared(alloc, first, second, f, Compare::Lt)?;
-    let above = both_compared(alloc, first, second, f, Compare::Gt)?;
-    below.join(alloc, &above)
 }
 
 impl PartialEq for SharpLeaf {
@@ -170,7 +61,7 @@ impl PartialEq for SharpLeaf {
     ghost laws = { leaf_partial };
 
     fn eq(&self, other: &SharpLeaf) -> bool {
-        self.octagon() == other.octagon() && self.strides() == other.strides()
+        self.reduced() == other.reduced()
     }
 }
 
@@ -184,8 +75,7 @@ impl Hash for SharpLeaf {
     ghost respects_eq = { leaf_alike };
 
     fn hash<H: Hasher>(&self, state: &mut H) {
-        self.octagon().hash(state);
-        self.strides().hash(state);
+        self.reduced().hash(state);
     }
 }
 
@@ -201,55 +91,40 @@ impl Leaf for SharpLeaf {
     ghost laws = { sharp_laws };
 
     fn nothing(alloc: Global, variables: u32) -> Result<SharpLeaf, NoMemory> {
-        let octagon = OctagonLeaf::nothing(alloc, variables)?;
-        let strides = StrideLeaf::nothing(alloc, variables)?;
-        SharpLeaf::settled(alloc, octagon, strides)
+        Ok(SharpLeaf::of(ReducedLeaf::nothing(alloc, variables)?))
     }
 
     fn start(alloc: Global, values: &[i64]) -> Result<SharpLeaf, NoMemory> {
-        let octagon = OctagonLeaf::start(alloc, values)?;
-        let strides = StrideLeaf::start(alloc, values)?;
-        SharpLeaf::settled(alloc, octagon, strides)
+        Ok(SharpLeaf::of(ReducedLeaf::start(alloc, values)?))
     }
 
     fn bound_count(variables: u32) -> u32 {
-        4 * (variables * variables) + 35 * variables
+        ReducedLeaf::bound_count(variables)
     }
 
     fn variables(&self) -> u32 {
-        self.octagon().variables()
+        self.reduced().variables()
     }
 
     fn is_nothing(&self) -> bool {
-        self.octagon().is_nothing()
+        self.reduced().is_nothing()
     }
 
     fn copy(&self, alloc: Global) -> Result<SharpLeaf, NoMemory> {
-        let octagon = self.octagon().copy(alloc)?;
-        let strides = self.strides().copy(alloc)?;
-        SharpLeaf::settled(alloc, octagon, strides)
+        Ok(SharpLeaf::of(self.reduced().copy(alloc)?))
     }
 
     fn best(&self, alloc: Global) -> Result<SharpLeaf, NoMemory> {
-        let octagon = self.octagon().best(alloc)?;
-        let strides = self.strides().best(alloc)?;
-        SharpLeaf::exchanged(alloc, octagon, strides)
+        Ok(SharpLeaf::of(self.reduced().best(alloc)?))
     }
 
     fn leq(&self, other: &SharpLeaf) -> bool {
-        self.octagon().leq(other.octagon()) && self.strides().leq(other.strides())
+        self.reduced().leq(other.reduced())
     }
 
     fn join(&self, alloc: Global, other: &SharpLeaf) -> Result<SharpLeaf, NoMemory> {
-        if self.is_nothing() {
-            return other.copy(alloc);
-        }
-        if other.is_nothing() {
-            return self.copy(alloc);
-        }
-        let octagon = self.octagon().join(alloc, other.octagon())?;
-        let strides = self.strides().join(alloc, other.strides())?;
-        SharpLeaf::settled(alloc, octagon, strides)
+        let joined = self.reduced().join(alloc, other.reduced())?;
+        Ok(SharpLeaf::of(joined))
     }
 
     fn widen(
@@ -258,9 +133,8 @@ impl Leaf for SharpLeaf {
         other: &SharpLeaf,
         thresholds: &Thresholds,
     ) -> Result<SharpLeaf, NoMemory> {
-        let octagon = widened_to(alloc, self.octagon(), other.octagon(), thresholds)?;
-        let strides = widened_to(alloc, self.strides(), other.strides(), thresholds)?;
-        SharpLeaf::settled(alloc, octagon, strides)
+        let widened = self.reduced().widen(alloc, other.reduced(), thresholds)?;
+        Ok(SharpLeaf::of(widened))
     }
 
     fn narrow(
@@ -269,55 +143,36 @@ impl Leaf for SharpLeaf {
         other: &SharpLeaf,
         thresholds: &Thresholds,
     ) -> Result<SharpLeaf, NoMemory> {
-        let octagon = self.octagon().narrow(alloc, other.octagon(), thresholds)?;
-        let strides = self.strides().narrow(alloc, other.strides(), thresholds)?;
-        SharpLeaf::settled(alloc, octagon, strides)
+        let narrowed = self.reduced().narrow(alloc, other.reduced(), thresholds)?;
+        Ok(SharpLeaf::of(narrowed))
     }
 
     fn bounds_of(&self, x: u32) -> Range {
-        both_bounds(self.octagon().bounds_of(x), self.strides().bounds_of(x))
+        self.reduced().bounds_of(x)
     }
 
     fn form_range(&self, f: &Form) -> Option<Range> {
-        both_ranges(self.octagon().form_range(f), self.strides().form_range(f))
+        self.reduced().form_range(f)
     }
 
     fn meet_range(&self, alloc: Global, x: u32, r: Range) -> Result<SharpLeaf, NoMemory> {
-        let octagon = self.octagon().meet_range(alloc, x, r)?;
-        let strides = self.strides().meet_range(alloc, x, r)?;
-        SharpLeaf::exchanged(alloc, octagon, strides)
+        Ok(SharpLeaf::of(self.reduced().meet_range(alloc, x, r)?))
     }
 
     fn meet_form(&self, alloc: Global, f: &Form, op: Compare) -> Result<SharpLeaf, NoMemory> {
-        match op {
-            Compare::Ne => {
-                let octagon = self.octagon().meet_form(alloc, f, op)?;
-                let strides = self.strides().meet_form(alloc, f, op)?;
-                either_side(alloc, &octagon, &strides, f)
-            }
-            Compare::Lt | Compare::Le | Compare::Gt | Compare::Ge | Compare::Eq => {
-                both_compared(alloc, self.octagon(), self.strides(), f, op)
-            }
-        }
+        Ok(SharpLeaf::of(linear_met(alloc, self.reduced(), f, op)?))
     }
 
     fn set_range(&self, alloc: Global, x: u32, r: Range) -> Result<SharpLeaf, NoMemory> {
-        let octagon = self.octagon().set_range(alloc, x, r)?;
-        let strides = self.strides().set_range(alloc, x, r)?;
-        SharpLeaf::exchanged(alloc, octagon, strides)
+        Ok(SharpLeaf::of(self.reduced().set_range(alloc, x, r)?))
     }
 
     fn set_form(&self, alloc: Global, x: u32, f: &Form, r: Range) -> Result<SharpLeaf, NoMemory> {
-        let octagon = self.octagon().set_form(alloc, x, f, r)?;
-        let strides = self.strides().set_form(alloc, x, f, r)?;
-        SharpLeaf::exchanged(alloc, octagon, strides)
+        Ok(SharpLeaf::of(linear_set(alloc, self.reduced(), x, f, r)?))
     }
 
     fn operation_range(&self, p: &Operation) -> Option<Range> {
-        both_ranges(
-            self.octagon().operation_range(p),
-            self.strides().operation_range(p),
-        )
+        self.reduced().operation_range(p)
     }
 
     fn meet_operation(
@@ -327,10 +182,8 @@ impl Leaf for SharpLeaf {
         op: Compare,
         r: Range,
     ) -> Result<SharpLeaf, NoMemory> {
-        let Parts { first, second } = self.into_parts();
-        let octagon = first.meet_operation(alloc, p, op, r)?;
-        let strides = second.meet_operation(alloc, p, op, r)?;
-        SharpLeaf::exchanged(alloc, octagon, strides)
+        let reduced = self.into_reduced().meet_operation(alloc, p, op, r)?;
+        Ok(SharpLeaf::of(reduced))
     }
 
     fn set_operation(
@@ -340,8 +193,6 @@ impl Leaf for SharpLeaf {
         p: &Operation,
         r: Range,
     ) -> Result<SharpLeaf, NoMemory> {
-        let octagon = self.octagon().set_operation(alloc, x, p, r)?;
-        let strides = self.strides().set_operation(alloc, x, p, r)?;
-        SharpLeaf::exchanged(alloc, octagon, strides)
+        Ok(SharpLeaf::of(self.reduced().set_operation(alloc, x, p, r)?))
     }
 }

@@ -1,8 +1,9 @@
-//! Leaves of octagons together with intervals and strides: the reduced product of both kinds.
+//! Leaves of octagons together with intervals and strides: the reduced product of both kinds, linearised.
 #![tactic(auto)]
 
 pub mod laws;
 pub mod leaf;
+mod reduced;
 
 pub use laws::sharp_is_below_its_parts;
 pub use leaf::SharpLeaf;

@@ -1,0 +1,6 @@
+use Rattle.std.proofs.Common.{ap, ◌∙◌}
+use Rattle.product_leaf.specs.StrideLeaves.{strides}
+use Rattle.congruence_leaf.proofs.leaf.CongruenceLeafLeaf.meet_range.Goals as goal
+
+pub returns : goal.returns
+returns c = c.of.ensures ∙ c.in_ok-strides.ensures ∙ ap (λ u. strides.meet_range u c.args.x c.args.r) c.strides.ensures

@@ -1,0 +1,148 @@
+-- A pair of kinds of leaf that is below both is below both linearised too.
+use Rattle.std.proofs.Common.{◌≡◌, ℕ, ◌<◌, ℤ, pos, negsuc, Bool, true, false, ◌||◌, if◌then◌else◌, Option, Some, None, refl, sym}
+use Rattle.leaf_domain.specs.declared.form.Form.{Form}
+use Rattle.leaf_domain.specs.declared.range.Range.{Range}
+use Rattle.leaf_domain.specs.declared.compare.Compare.{Compare}
+use Rattle.leaf_domain.specs.declared.compare.Compare.TheVariants.{Lt, Le, Gt, Ge, Eq, Ne}
+use Rattle.leaf_domain.specs.Ranges.{IsInInt}
+use Rattle.leaf_domain.specs.Forms.{IsForm, multiple_form}
+use Rattle.leaf_domain.specs.Leaves.{LeafValue, LeafMeaning, LeafLaws, Alike, IsLeafLike, is_nothing_of}
+use Rattle.leaf_domain.specs.Exactness.{LeafExactness}
+use Rattle.paired_leaf.specs.Pairs.{first_of, second_of}
+use Rattle.paired_leaf.specs.Exchange.{is_tighter, limited_at}
+use Rattle.paired_leaf.specs.Below.{JoinIsLeast, IsBelow, IsBelowParts}
+use Rattle.paired_leaf.proofs.PairLemmas.{of_either}
+use Rattle.linearised_leaf.specs.Sides.{side_met}
+use Rattle.linearised_leaf.specs.Linearised.{side_of, other_side_met, sides_met, is_octagonal, tightened, has_variable, form_less_variable, set_difference, tightened_where, linearised}
+use Rattle.linearised_leaf.proofs.SideLaws.{IsKept, side_kept, side_like, like_kept, form_over, below_count}
+use Rattle.linearised_leaf.proofs.LinearisedLaws.{negated_is, less_is, own_alike, sides_alike, over, counted}
+
+-- the parts of a leaf of the one kind are leaves of the two others
+abbrev pub HasParts : LeafMeaning → LeafMeaning → LeafMeaning → Type 0
+HasParts A B P = (v : LeafValue) → P.valid v → A.valid (first_of v) × B.valid (second_of v)
+
+module _ (A B P : LeafMeaning) (L : LeafLaws P) (E : LeafExactness A) (F : LeafExactness B) (K : IsBelowParts A B P) (V : HasParts A B P) where
+  -- a leaf whose parts hold no store that those of the other lack
+  abbrev pub IsUnder : LeafValue → LeafValue → Type 0
+  IsUnder v w = IsBelow A B w (first_of v) (second_of v)
+
+  self_under : (v : LeafValue) → IsUnder v v
+  self_under v = record { first = λ s h. h; second = λ s h. h }
+
+  under_under : (v w u : LeafValue) → IsUnder v w → IsUnder w u → IsUnder v u
+  under_under v w u i j = record { first = λ s h. i.first s (j.first s h); second = λ s h. i.second s (j.second s h) }
+
+  form_under : (w : LeafValue) (g : Form) (op : Compare) → P.valid w → IsForm w.variables g → IsUnder w (P.meet_form w g op)
+  form_under w g op p i =
+      let b = K.meet_form w g op p i in
+      let q = V w p in
+      record { first = λ s h. E.meet_form_only (first_of w) g op s q.0 i (b.first s h); second = λ s h. F.meet_form_only (second_of w) g op s q.1 i (b.second s h) }
+
+  range_under : (w : LeafValue) (x : ℕ) (r : Range) → P.valid w → x < w.variables → IsInInt r → IsUnder w (limited_at P w x r)
+  range_under w x r p l i =
+      let b = K.meet_range w x r p l i in
+      let q = V w p in
+      of_either (IsUnder w) (is_tighter r (P.bounds_of w x)) (P.meet_range w x r) w
+      (record { first = λ s h. (E.meet_only (first_of w) x r s q.0 l i (b.first s h)).0; second = λ s h. (F.meet_only (second_of w) x r s q.1 l i (b.second s h)).0 })
+      (self_under w)
+
+  module _ (v : LeafValue) (p : P.valid v) (f : Form) (m : ℤ) where
+    record IsLess (w : LeafValue) : Type 0 where
+      like : IsLeafLike P v w
+      under : IsUnder v w
+
+    less_kept : IsKept P L v p f m IsLess
+    less_kept = record {
+      form = λ w g r k. record {
+        like = (like_kept P L v p f m).form w g r.like k;
+        under = under_under v w (P.meet_form w g Le) r.under (form_under w g Le r.like.valid (form_over P L v p f m w g r.like k));
+      };
+      range = λ w x q r k. record {
+        like = (like_kept P L v p f m).range w x q r.like k;
+        under = under_under v w (limited_at P w x q) r.under (range_under w x q r.like.valid (below_count P L v p f m w x r.like k.variable) k.int);
+      };
+    }
+
+    side_under : IsForm v.variables f → IsUnder v (side_met P v f m)
+    side_under i = (side_kept P L v p f m IsLess less_kept i (record { like = record { valid = p; same = refl }; under = self_under v })).under
+
+  other_under : (v : LeafValue) (f : Form) (n : ℤ) → P.valid v → IsForm v.variables f → IsUnder v (other_side_met P v f n)
+  other_under v f n p i = by_form (multiple_form (negsuc 0) (Some f)) refl
+    where
+      by_form : (o : Option Form) → multiple_form (negsuc 0) (Some f) ≡ o → IsUnder v (side_of P v o n)
+      by_form None e = self_under v
+      by_form (Some g) e = side_under v p g n (negated_is v.variables f g i e)
+
+  module _ (least : JoinIsLeast A) (lowest : JoinIsLeast B) where
+    join_under : (v a b : LeafValue) → P.valid v → IsLeafLike P v a → Alike P a b → IsUnder v a → IsUnder v b → IsUnder v (P.join a b)
+    join_under v a b p i k x y =
+        let c = K.join a b k in
+        let q = V v p in
+        let r = V a k.first in
+        let t = V b k.second in
+        record {
+          first = λ s h. least (first_of a) (first_of b) (first_of v) (record { first = r.0; second = t.0; same = k.same }) q.0 (sym i.same) x.first y.first s (c.first s h);
+          second = λ s h. lowest (second_of a) (second_of b) (second_of v) (record { first = r.1; second = t.1; same = k.same }) q.1 (sym i.same) x.second y.second s (c.second s h);
+        }
+
+    sides_under : (v : LeafValue) (f : Form) (op : Compare) → P.valid v → IsForm v.variables f → IsUnder v (sides_met P v f op)
+    unfolding sides_met
+    sides_under v f Lt p i = side_under v p f (pos 1) i
+    sides_under v f Le p i = side_under v p f (pos 0) i
+    sides_under v f Gt p i = other_under v f (pos 1) p i
+    sides_under v f Ge p i = other_under v f (pos 0) p i
+    sides_under v f Eq p i =
+        let w = side_met P v f (pos 0) in
+        let j = side_like P L v p f (pos 0) i in
+        under_under v w (other_side_met P w f (pos 0)) (side_under v p f (pos 0) i) (other_under w f (pos 0) j.valid (over P L v w f j i))
+    sides_under v f Ne p i =
+        join_under v (side_met P v f (pos 1)) (other_side_met P v f (pos 1)) p (side_like P L v p f (pos 1) i) (sides_alike P L v f p i) (side_under v p f (pos 1) i) (other_under v f (pos 1) p i)
+
+    tightened_under : (v : LeafValue) (f : Form) (op : Compare) → P.valid v → IsForm v.variables f → IsUnder v (tightened P v f op)
+    tightened_under v f op p i = of_either (IsUnder v) (is_nothing_of v || is_octagonal f.terms) v (sides_met P v f op) (self_under v) (sides_under v f op p i)
+
+    where_under : (v : LeafValue) (x : ℕ) (f : Form) → P.valid v → x < v.variables → IsForm v.variables f → IsUnder v (tightened_where P v (set_difference x f))
+    where_under v x f p l i = by_test (has_variable x f.terms)
+      where
+        by_form : (o : Option Form) → form_less_variable x f ≡ o → IsUnder v (tightened_where P v o)
+        by_form None e = self_under v
+        by_form (Some g) e = tightened_under v g Eq p (less_is v.variables x f g l i e)
+
+        by_test : (t : Bool) → IsUnder v (tightened_where P v (if t then None else form_less_variable x f))
+        by_test true = self_under v
+        by_test false = by_form (form_less_variable x f) refl
+
+    within : (v w a b : LeafValue) → IsBelow A B v a b → IsUnder v w → IsBelow A B w a b
+    within v w a b i j = record { first = λ s h. i.first s (j.first s h); second = λ s h. i.second s (j.second s h) }
+
+    meet_form_below : (v : LeafValue) (f : Form) (op : Compare) → P.valid v → IsForm v.variables f → IsBelow A B ((linearised P).meet_form v f op) (A.meet_form (first_of v) f op) (B.meet_form (second_of v) f op)
+    meet_form_below v f op p i =
+        let w = P.meet_form v f op in
+        let j = L.meet_form_answers v f op p i in
+        within w (tightened P w f op) (A.meet_form (first_of v) f op) (B.meet_form (second_of v) f op) (K.meet_form v f op p i) (tightened_under w f op j.valid (over P L v w f j i))
+
+    set_form_below : (v : LeafValue) (x : ℕ) (f : Form) (r : Range) → P.valid v → x < v.variables → IsForm v.variables f → IsInInt r → IsBelow A B ((linearised P).set_form v x f r) (A.set_form (first_of v) x f r) (B.set_form (second_of v) x f r)
+    set_form_below v x f r p l i k =
+        let w = P.set_form v x f r in
+        let j = L.set_form_answers v x f r p l i k in
+        within w (tightened_where P w (set_difference x f)) (A.set_form (first_of v) x f r) (B.set_form (second_of v) x f r) (K.set_form v x f r p l i k)
+        (where_under w x f j.valid (counted P L v w x j l) (over P L v w f j i))
+
+    pub linearised_below : IsBelowParts A B (linearised P)
+    linearised_below = record {
+      start = K.start;
+      best = K.best;
+      leq = K.leq;
+      join = λ v w k. K.join v w (own_alike P L v w k);
+      widen = λ ts v w k. K.widen ts v w (own_alike P L v w k);
+      narrow = λ ts v w k. K.narrow ts v w (own_alike P L v w k);
+      bounds = K.bounds;
+      form_range = K.form_range;
+      meet_range = K.meet_range;
+      meet_form = meet_form_below;
+      set_range = K.set_range;
+      set_form = set_form_below;
+      operation_range = K.operation_range;
+      meet_operation = K.meet_operation;
+      set_operation = K.set_operation;
+    }

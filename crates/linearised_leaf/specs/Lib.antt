@@ -1,0 +1,4 @@
+pub mod Sizes
+pub mod LeastValues
+pub mod Sides
+pub mod Linearised

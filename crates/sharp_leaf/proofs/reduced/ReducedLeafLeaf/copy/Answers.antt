@@ -1,0 +1,15 @@
+use Rattle.std.proofs.Common.{◌≡◌, ℕ, IfOk, ap, sym, subst, ◌∙◌}
+use Rattle.leaf_domain.specs.Leaves.{LeafValue}
+use Rattle.sharp_leaf.proofs.Answered.{pair_same}
+use Rattle.sharp_leaf.proofs.reduced.ReducedLeafLeaf.copy.Goals as goal
+
+abbrev count_of : LeafValue → ℕ
+count_of v = v.variables
+
+pub settled-requires : goal.settled-requires
+settled-requires c = ap count_of (c.in_ok-octagon.ensures ∙ c.octagon.ensures.value) ∙ sym (ap count_of (c.in_ok-strides.ensures ∙ c.strides.ensures.value))
+
+pub returns : goal.returns
+returns c =
+    let P : LeafValue → Type 0 = λ u. IfOk c.settled.result (λ leaf. leaf ≡ u) in
+    subst P (pair_same _ _ _ _ (c.in_ok-octagon.ensures ∙ c.octagon.ensures.value) (c.in_ok-strides.ensures ∙ c.strides.ensures.value) ∙ c.octagon.ensures.valid.is) c.settled.ensures
