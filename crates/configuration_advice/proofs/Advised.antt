@@ -28,11 +28,11 @@ use Rattle.configuration_advice.proofs.FirstFound.{within_length}
 
 -- ---- the tests behind the atoms
 
-get_there : (xs ys : List Atom) (a : Atom) → slice_get (xs ++ a ∷ ys) (length xs) ≡ Some a
+pub get_there : (xs ys : List Atom) (a : Atom) → slice_get (xs ++ a ∷ ys) (length xs) ≡ Some a
 get_there [] ys a = refl
 get_there (x ∷ xs) ys a = get_there xs ys a
 
-get_next : (xs ys : List Atom) (a b : Atom) → slice_get (xs ++ a ∷ b ∷ ys) (length xs + 1) ≡ Some b
+pub get_next : (xs ys : List Atom) (a b : Atom) → slice_get (xs ++ a ∷ b ∷ ys) (length xs + 1) ≡ Some b
 get_next [] ys a b = refl
 get_next (x ∷ xs) ys a b = let e : suc (length xs) + 1 ≡ suc (length xs + 1) = omega arith in ap (slice_get ((x ∷ xs) ++ a ∷ b ∷ ys)) e ∙ get_next xs ys a b
 
@@ -56,7 +56,7 @@ pub pairs_length : (n : ℕ) (gs : List ℤ) → length (pairs n gs) ≡ 2 * len
 pairs_length n [] = refl
 pairs_length n (g ∷ gs) = let e = pairs_length (n + 1) gs in omega arith
 
-small_more : (g : ℤ) → unsigned_abs g ≤ 1048576 → unsigned_abs (g +ℤ pos 1) ≤ 2147483649
+pub small_more : (g : ℤ) → unsigned_abs g ≤ 1048576 → unsigned_abs (g +ℤ pos 1) ≤ 2147483649
 small_more g h = omega (arith, ints)
 
 pairs_fit : (count n : ℕ) (gs : List ℤ) → n + length gs ≤ count → AreValues gs → AreAtoms count (pairs n gs)
@@ -70,7 +70,7 @@ atoms_fit count (x ∷ atoms) gs a h v = (a.0, atoms_fit count atoms gs a.1 h v)
 
 -- ---- trees read no test behind the atoms
 
-same_truth : (atoms more : List Atom) (values : List ℤ) (n : ℕ) → n < length atoms → slice_index_or (vector_at (atoms ++ more) values) n false ≡ slice_index_or (vector_at atoms values) n false
+pub same_truth : (atoms more : List Atom) (values : List ℤ) (n : ℕ) → n < length atoms → slice_index_or (vector_at (atoms ++ more) values) n false ≡ slice_index_or (vector_at atoms values) n false
 same_truth [] more values n h = absurd (omega arith)
 same_truth (a ∷ atoms) more values zero h = refl
 same_truth (a ∷ atoms) more values (suc n) h = same_truth atoms more values n (omega arith)
@@ -100,7 +100,7 @@ same_quiet atoms more values (t ∷ ts) h =
 number_more : (x m n : ℕ) → m ≤ n → x < m → x < n
 number_more x m n h k = omega arith
 
-below_more : (m n : ℕ) (p : Proposition ℕ) → m ≤ n → IsBelow m p → IsBelow n p
+pub below_more : (m n : ℕ) (p : Proposition ℕ) → m ≤ n → IsBelow m p → IsBelow n p
 below_more m n (Const b) h k = tt
 below_more m n (Test x) h k = number_more x m n h k
 below_more m n (Not p) h k = below_more m n p h k
@@ -128,7 +128,7 @@ asked_of q model atoms e f g below fit features within few =
 
 -- ---- the trees at the question's atoms
 
-all_below : (m : ℕ) (trees : List (Tree Bool)) → All (λ (t : Tree Bool). TestsBelow m (tree.plain t)) trees → AllBelow m (map tree.plain trees)
+pub all_below : (m : ℕ) (trees : List (Tree Bool)) → All (λ (t : Tree Bool). TestsBelow m (tree.plain t)) trees → AllBelow m (map tree.plain trees)
 all_below m [] h = tt
 all_below m (t ∷ trees) h = (h 0 t (omega arith), all_below m trees (λ k d lt. h (suc k) d (omega arith)))
 

@@ -30,7 +30,7 @@ kept_by g v w true false e h k =
 kept_at : (n : ℕ) (g : ℤ) (values : List ℤ) → (holds (at_least n g) values && not (holds (at_least n (g +ℤ pos 1)) values)) ≡ int_eq g (value_of n values)
 kept_at n g values = kept_by g (value_of n values) ((pos 1 *ℤ value_of n values) +ℤ pos 0) _ _ refl refl refl
 
-kept_on : (atoms : List Atom) (values : List ℤ) (place n : ℕ) (g : ℤ) → slice_get atoms place ≡ Some (at_least n g) → slice_get atoms (place + 1) ≡ Some (at_least n (g +ℤ pos 1)) → is_kept_on (vector_at atoms values) place ≡ int_eq g (value_of n values)
+pub kept_on : (atoms : List Atom) (values : List ℤ) (place n : ℕ) (g : ℤ) → slice_get atoms place ≡ Some (at_least n g) → slice_get atoms (place + 1) ≡ Some (at_least n (g +ℤ pos 1)) → is_kept_on (vector_at atoms values) place ≡ int_eq g (value_of n values)
 kept_on atoms values place n g h k =
     ap (λ b. b && not (slice_index_or (vector_at atoms values) (place + 1) false)) (place_truth atoms values place (at_least n g) h)
     ∙ ap (λ b. holds (at_least n g) values && not b) (place_truth atoms values (place + 1) (at_least n (g +ℤ pos 1)) k)

@@ -4,9 +4,12 @@ pub mod Asked
 pub mod Belows
 pub mod Chosen
 pub mod Compared
+pub mod CostTrees
 pub mod Formed
 pub mod FirstFound
 pub mod Halved
+pub mod KeptTests
+pub mod Priced
 pub mod Ranged
 pub mod Searched
 pub mod Untrue

@@ -1,4 +1,6 @@
+pub mod Changes
 pub mod Choices
+pub mod Costs
 pub mod Ends
 pub mod Nearest
 pub mod Searching

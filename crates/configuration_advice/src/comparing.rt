@@ -2,31 +2,16 @@
 #![tactic(auto)]
 
 ghost use Rattle.std.specs.Prelude.{◌≡◌, ◌⊎◌, ℤ, List, true, false, Some, length};
-ghost use Rattle.atom_solver.specs.Solutions.{IsBefore};
 ghost use Rattle.configuration_advice.specs.Searching.{HaveOneLength, IsBeaten, Precedes};
 
 use linear_atoms::Config;
-use linear_atoms::slices::cut;
+use tree_questions::is_before;
 
 /// A configuration, and how many features differ from a given one.
 #[derive(Debug, Drop)]
 pub struct Advice {
     pub config: Config,
     pub changed: u32,
-}
-
-/// Whether values are before others of the same number, by the first in which they differ.
-fn is_before(values: &[i64], others: &[i64]) -> bool
-    requires { length values.now ≡ length others.now }
-    ensures before { result ≡ true → IsBefore values.now others.now }
-    ensures behind { result ≡ false → (others.now ≡ values.now) ⊎ IsBefore others.now values.now }
-{
-    match (cut(values), cut(others)) {
-        (Some((value, more)), Some((other, rest))) => {
-            *value < *other || (*value == *other && is_before(more, rest))
-        }
-        _ => false,
-    }
 }
 
 /// Whether the first advice is nearer than the second: it has fewer changes, or as many, and is before it.

@@ -2,10 +2,13 @@
 #![tactic(auto)]
 
 mod asking;
+mod cheapest;
 mod choices;
 pub mod comparing;
+mod costs;
 mod ends;
 pub mod feature_uses;
+mod keeping;
 pub mod nearness;
 mod question;
 mod quietness;

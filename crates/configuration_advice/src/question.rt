@@ -6,8 +6,8 @@ ghost use Rattle.linear_atoms.specs.Atoms.{AreValues};
 ghost use Rattle.configuration_advice.specs.Searching.{IsAsked, FindsFirst, pairs};
 ghost use Rattle.configuration_advice.specs.Tests.{at_least};
 
-use crate::asking::at_least;
 use crate::choices::{Choice, of_choices};
+use crate::keeping::{copies, push_pair};
 use atom_solver::Prepared;
 use cpp_conditions::Formula;
 use fam_outer::{MOST_VALUE, NoMemory};
@@ -26,17 +26,6 @@ pub(crate) struct Question<'a> {
     pub first: u32,
 }
 
-/// Adds the two tests of a feature: that it has at least the value, and that it has more.
-fn push_pair(alloc: Global, list: &mut Vec<Atom>, number: u32, value: i64) -> Result<(), NoMemory>
-    requires { unsigned_abs value ≤ MOST_VALUE }
-    ensures { IfOk result (λ _. list.new.items
-        ≡ list.old.items ++ (at_least number value ∷ at_least number (value +ℤ pos 1) ∷ [])) }
-{
-    list.push(at_least(alloc, number, value)?)?;
-    list.push(at_least(alloc, number, value + 1)?)?;
-    Ok(())
-}
-
 /// Copies of the atoms, and behind them two tests for each feature.
 pub(crate) fn with_pairs(
     alloc: Global,
@@ -47,10 +36,7 @@ pub(crate) fn with_pairs(
     requires few { length given.now < 2 ^ 32 }
     ensures { IfOk result (λ made. made.items ≡ atoms.now ++ pairs 0 given.now) }
 {
-    let mut list = Vec::new(alloc);
-    for atom in atoms {
-        list.push(atom.copy(alloc)?)?;
-    }
+    let mut list = copies(alloc, atoms)?;
     let mut rest = given;
     let mut number: u32 = 0;
     'features: while let Some((value, behind)) = cut(rest) {

@@ -1,10 +1,7 @@
-use Rattle.std.proofs.Common.{◌≡◌, ◌+◌, ◌<◌, ◌^◌, ◌++◌, length, take}
+use Rattle.std.proofs.Common.{◌≡◌, ◌+◌, ◌<◌, ◌^◌, ◌++◌, length}
 use Rattle.linear_atoms.specs.Atoms.{AreValues}
 use Rattle.configuration_advice.specs.Searching.{pairs}
 use Rattle.configuration_advice.proofs.question.with_pairs.Given as goal
-
-abbrev pub invariant-loop-atom : goal.invariant-loop-atom
-invariant-loop-atom l = l.list.items ≡ take l.atom-index l.atoms
 
 abbrev pub invariant-features : goal.invariant-features
 invariant-features l = record {
