@@ -9,7 +9,7 @@ use Rattle.fam_outer.specs.declared.dialect.Unknown.TheVariants.{Zero, Refuse}
 use Rattle.fam_outer.specs.declared.dialect.Includes.{Includes}
 use Rattle.fam_outer.specs.declared.dialect.Includes.TheVariants.{Assert, Skip}
 use Rattle.command_words.specs.declared.settings.Domain.{Domain}
-use Rattle.command_words.specs.declared.settings.Domain.TheVariants.{Interval, Octagon, Stride}
+use Rattle.command_words.specs.declared.settings.Domain.TheVariants.{Interval, Octagon, Stride, Sharp}
 use Rattle.command_words.specs.declared.settings.Widening.{Widening}
 use Rattle.command_words.specs.declared.settings.Widening.TheVariants.{«Type», Thresholds}
 use Rattle.c_tree.specs.declared.tree.Mode.{Mode}
@@ -22,7 +22,8 @@ abbrev pub domain_by : List ℕ → Option Domain
 domain_by name =
     if bytes_eq name (codes "interval") then Some Interval
     else (if bytes_eq name (codes "octagon") then Some Octagon
-    else (if bytes_eq name (codes "stride") then Some Stride else None))
+    else (if bytes_eq name (codes "stride") then Some Stride
+    else (if bytes_eq name (codes "sharp") then Some Sharp else None)))
 
 -- the widening with the name
 abbrev pub widening_by : List ℕ → Option Widening
@@ -61,6 +62,7 @@ abbrev pub domain_name : Domain → List ℕ
 domain_name Interval = codes "interval"
 domain_name Octagon = codes "octagon"
 domain_name Stride = codes "stride"
+domain_name Sharp = codes "sharp"
 
 -- the name of a widening
 abbrev pub widening_name : Widening → List ℕ

@@ -12,9 +12,14 @@ use linear_atoms::Regions;
 /// The domain of an analysis.
 #[derive(Clone, Copy, Debug, PartialEq, Eq)]
 pub enum Domain {
+    /// Bounds of each variable.
     Interval,
+    /// Bounds of the variables, and of the sum and the difference of each two.
     Octagon,
+    /// Bounds of each variable, with a stride.
     Stride,
+    /// What octagons and bounds with a stride know together: each has the bounds of the other.
+    Sharp,
 }
 
 impl Domain {
@@ -26,6 +31,7 @@ impl Domain {
             "interval" => Some(Domain::Interval),
             "octagon" => Some(Domain::Octagon),
             "stride" => Some(Domain::Stride),
+            "sharp" => Some(Domain::Sharp),
             _ => None,
         }
     }
@@ -39,6 +45,7 @@ impl Domain {
             Domain::Interval => "interval",
             Domain::Octagon => "octagon",
             Domain::Stride => "stride",
+            Domain::Sharp => "sharp",
         }
     }
 }

@@ -101,6 +101,10 @@ fn words_are_read(rt: HostRuntime) -> Result<(), Fail> {
             "x | Stride 0 1 Type Wrap Paths Zero Assert 1000000 | 2147483647 0 | domain overflow steps inputs",
         ),
         (
+            "invariants M --domain=sharp F",
+            "invariants M F | Sharp 0 1 Type Stop Paths Zero Assert 1000 | | domain",
+        ),
+        (
             "--domain=interval --overflow=stop --narrow=0 --steps=0",
             "| Interval 0 0 Type Stop Paths Zero Assert 0 | | domain narrow overflow steps",
         ),
@@ -210,6 +214,7 @@ fn words_are_refused(rt: HostRuntime) -> Result<(), Fail> {
         "--steps=18446744073709551616",
         "--domain=intervals",
         "--domain=Octagon",
+        "--domain=sharper",
         "--domain=",
         "--overflow trap",
         "--widening type --widening type",

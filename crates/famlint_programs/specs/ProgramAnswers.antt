@@ -13,6 +13,7 @@ use Rattle.interval_leaf.specs.Intervals.{intervals}
 use Rattle.leaf_domain.specs.Leaves.{LeafMeaning}
 use Rattle.octagon_leaf.specs.Octagons.{octagons}
 use Rattle.product_leaf.specs.StrideLeaves.{strides}
+use Rattle.sharp_leaf.specs.SharpLeaves.{sharp}
 use Rattle.famlint_requests.specs.declared.request.Analysis.{Analysis}
 use Rattle.command_words.specs.declared.settings.Domain.{Domain}
 use Rattle.command_words.specs.declared.settings.Domain.TheVariants as domains
@@ -33,6 +34,7 @@ abbrev pub meaning_of : Domain → LeafMeaning
 meaning_of domains.Interval = intervals
 meaning_of domains.Octagon = octagons
 meaning_of domains.Stride = strides
+meaning_of domains.Sharp = sharp
 
 -- the report on a program of a file, over leaves of this domain
 abbrev pub program_done : Analysis → Whole → Whole → Done

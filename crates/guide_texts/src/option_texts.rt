@@ -2,10 +2,11 @@
 #![tactic(auto)]
 
 /// `--domain`.
-pub const DOMAIN: &str =
-    "  --domain interval|octagon|stride   what is known of the variables: bounds of
+pub const DOMAIN: &str = "  --domain interval|octagon|stride|sharp
+                                     what is known of the variables: bounds of
                                      each; or of sums and differences too; or
-                                     bounds with a stride; without it interval
+                                     bounds with a stride; or all of these at
+                                     once; without it interval
 ";
 
 /// `--delay`.
