@@ -3,12 +3,9 @@ use Rattle.std.proofs.Common.{◌≡◌, ℕ, zero, suc, ◌+◌, ◌≤◌, ◌
 use Rattle.std.specs.Prelude.{if◌then◌else◌}
 use Rattle.std.specs.List.{AllByRecursion}
 use Rattle.std.proofs.lemmas.Int.{ints}
-use Rattle.std.proofs.lemmas.List.{length-take}
-use Rattle.c_tree.specs.declared.tree.Op.{Op}
 use Rattle.c_tree.specs.declared.tree.Op.TheVariants.{Add, Sub}
 use Rattle.leaf_domain.specs.declared.range.Range.{Range}
-use Rattle.leaf_domain.specs.Forms.{form_at}
-use Rattle.leaf_domain.specs.Leaves.{LeafValue, LeafMeaning, LeafLaws, at_store, is_nothing_of, nothing_of}
+use Rattle.leaf_domain.specs.Leaves.{LeafValue, LeafMeaning, LeafLaws, at_store, is_nothing_of}
 use Rattle.leaf_domain.specs.Ranges.{Within, arithmetic_range}
 use Rattle.alarm_report.specs.LeafTexts.{within_text, variable_items, same_range, new_range, item_of, pair_form, pair_range, pair_items, items_with, all_pairs, items_text, leaf_text}
 use Rattle.alarm_report.proofs.Pairing.{pair_is_form}

@@ -1,1 +1,4 @@
+pub mod Configurations
+pub mod FamilyLines
 pub mod LeafTexts
+pub mod RegionTexts

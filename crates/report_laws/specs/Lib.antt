@@ -1,1 +1,2 @@
+pub mod FamilyReports
 pub mod Stores
