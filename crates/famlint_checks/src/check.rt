@@ -5,12 +5,11 @@ ghost use Rattle.std.specs.Prelude.{◌≡◌, ◌≤◌, ℕ, List, [], ◌∷�
 ghost use Rattle.famlint_checks.specs.Checked.{AnswersCheck, PromisedCheck};
 ghost use Rattle.famlint_loads.specs.Contents.{Contents};
 ghost use Rattle.famlint_loads.specs.CertificateLoads.{ReadsCertificate, IsUsableCertificate, IsLoadedForCheck};
-ghost use Rattle.famlint_checks.specs.Checked.{IsCheckDone, IsCheckPromised, ListsAllStops, no_text, verdict_text, verdict_status as status_of};
+ghost use Rattle.famlint_checks.specs.Checked.{IsCheckDone, IsCheckPromised, IsVerdictFor, no_text, verdict_text, verdict_status as status_of};
 ghost use Rattle.famlint_loads.specs.Loads.{Comes, IsReadFault, IsReadOf};
 ghost use Rattle.famlint_loads.specs.ProductLines.{IsUsableLine};
 ghost use Rattle.c_tree.specs.View.{whole};
 ghost use Rattle.interval_leaf.specs.Intervals.{intervals};
-ghost use Rattle.invariant_certificate.specs.declared.verdicts.Verdict.TheVariants.{Yes};
 ghost use Rattle.invariant_certificate.specs.Verdicts.{IsVerdict};
 
 use alarm_report::kind_text;
@@ -71,7 +70,6 @@ fn verdict_line(
 fn verdict_status(verdict: &Verdict) -> u8
     ensures value { result ≡ status_of verdict.now }
     ensures low { result ≤ 1 }
-    ensures yes { result ≡ 0 → verdict.now ≡ Yes }
 {
     match verdict {
         Verdict::Yes => 0,
@@ -89,7 +87,7 @@ fn verdict_on(
     requires certificate { IsUsableCertificate line.now certificate.now }
     ensures verdict { IfOk result (λ verdict. IsVerdict intervals line.now.model (whole line.now.family.code)
         line.now.family.conditions line.now.family.atoms certificate.now verdict) }
-    ensures sound { IfOk result (λ verdict. verdict ≡ Yes → ListsAllStops line.now certificate.now) }
+    ensures promised { IfOk result (λ verdict. IsVerdictFor line.now certificate.now verdict) }
 {
     variants_are_projections();
     let family = &line.family;
@@ -117,7 +115,7 @@ fn check_done(
     ensures answer { IfOk result (λ done. (bytes : List ℕ) → ReadsCertificate line.now bytes (Ok certificate.now)
         → IsCheckDone line.now bytes done) }
     ensures promise { IfOk result (λ done. (bytes : List ℕ) → ReadsCertificate line.now bytes (Ok certificate.now)
-        → IsCheckPromised line.now bytes done.status) }
+        → IsCheckPromised line.now bytes done.status done.text) }
     ensures status { IfOk result (λ done. done.status ≤ 1) }
 {
     let verdict = verdict_on(alloc, line, certificate)?;
@@ -144,7 +142,7 @@ pub fn check<F: Files>(
     ensures promise { (told : Contents) → F.content files.old model.now ≡ Some told.model
         → F.content files.old file.now ≡ Some told.file
         → F.content files.old certificate.now ≡ Some told.certificate
-        → IfOk result (λ done. PromisedCheck dialect told done.status) }
+        → IfOk result (λ done. PromisedCheck dialect told done.status done.text) }
     ensures status { IfOk result (λ done. done.status ≤ 1) }
     ensures order { (m f : List ℕ) → F.content files.old model.now ≡ Some m
         → F.content files.old file.now ≡ Some f → IsReadFault result

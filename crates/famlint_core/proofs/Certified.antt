@@ -1,8 +1,8 @@
 -- What `certify` writes is answered yes by `check`.
-use Rattle.std.proofs.Common.{◌≡◌, ◌≢◌, ◌⊎◌, ℕ, ℤ, Bool, true, false, not, ◌||◌, List, ◌++◌, map, length, refl, sym, ap, subst, ◌∙◌, inl, inr, nat_eq}
-use Rattle.std.proofs.lemmas.Bool.{eqb-true, eqb-false}
+use Rattle.std.proofs.Common.{◌≡◌, ◌≢◌, ◌⊎◌, ◌≤◌, ℕ, ℤ, Bool, true, false, not, ◌||◌, List, ◌++◌, map, length, refl, sym, ap, subst, ◌∙◌, inl, inr, nat_eq}
+use Rattle.std.proofs.lemmas.Bool.{eqb-true, eqb-false, ltb-false}
 use Rattle.std.proofs.lemmas.List.Elements.{All-weaker}
-use Rattle.std.specs.Prelude.{Option, Some, None, Result, Ok, Err, if◌then◌else◌}
+use Rattle.std.specs.Prelude.{nat_lt, Option, Some, None, Result, Ok, Err, if◌then◌else◌}
 use Rattle.std.specs.List.{All}
 use Rattle.fam_outer.specs.declared.dialect.Dialect.{Dialect}
 use Rattle.fam_outer.specs.declared.dialect.Unknown.{Unknown}
@@ -17,6 +17,7 @@ use Rattle.c_tree.specs.View.{whole}
 use Rattle.linear_atoms.specs.declared.atoms.Atom.{Atom}
 use Rattle.linear_atoms.specs.declared.atoms.Feature.{Feature}
 use Rattle.linear_atoms.specs.declared.regions.Regions.{Regions}
+use Rattle.linear_atoms.specs.Atoms.{AreRanges}
 use Rattle.cpp_conditions.specs.declared.formulas.Formula.{Formula}
 use Rattle.cpp_conditions.specs.declared.models.Model.{Model}
 use Rattle.cpp_conditions.specs.Distinct.{AreAtomsOf}
@@ -27,13 +28,13 @@ use Rattle.cpp_conditions.proofs.Collected.{one_list}
 use Rattle.cpp_lines.specs.Sections.{Told, TextIsRead}
 use Rattle.feature_model.specs.declared.faults.ModelFault.{ModelFault}
 use Rattle.feature_model.specs.declared.faults.ModelFault.TheVariants as model_faults
-use Rattle.feature_model.specs.Features.{AreDistinct, AreNamed, feature, fault_of}
+use Rattle.feature_model.specs.Features.{AreDistinct, AreNamed, HaveSwitches, feature, fault_of}
 use Rattle.feature_model.specs.Models.{Ends, IsReadAs}
 use Rattle.feature_model.specs.Models as models
 use Rattle.feature_model.specs.Shapes.{Outline}
 use Rattle.feature_model.specs.Stages.{◌>>=◌, unless, told_from}
 use Rattle.feature_model.specs.Stages as stages
-use Rattle.feature_model.proofs.Judging.{named_so, distinct_so}
+use Rattle.feature_model.proofs.Judging.{named_so, distinct_so, features_so, switches_so}
 use Rattle.atom_solver.proofs.Ordered.{valid_plausible}
 use Rattle.c_parser.specs.declared.family.Family.{Family}
 use Rattle.c_parser.specs.FamilyReading.{IsFamilyOf}
@@ -91,8 +92,9 @@ pub record CertifiedLaws : Type 0 where
 
 -- ---- the features of a model that was read
 
-record HaveEntries (features : List Feature) : Type 0 where
+pub record HaveEntries (features : List Feature) : Type 0 where
   outline : Outline
+  few : length outline.entries ≤ 32
   sound : fault_of outline.entries ≡ None
   are : features ≡ map feature outline.entries
 
@@ -108,18 +110,25 @@ same_told s t e = let k : told_ok s ≡ told_ok t = e in cc
 not_told : (f : ModelFault) (t : stages.Told) → told_err f ≡ told_ok t → ⊥
 not_told f t e = let k : told_err f ≡ told_ok t = e in cc
 
-by_fault : (o : Outline) (t : stages.Told) (f : Option ModelFault) → fault_of o.entries ≡ f → unless f (record { features = map feature o.entries; texts = o.texts }) ≡ Ok t → HaveEntries t.features
-by_fault o t None e h =
+by_fault : (o : Outline) (t : stages.Told) → length o.entries ≤ 32 → (f : Option ModelFault) → fault_of o.entries ≡ f → unless f (record { features = map feature o.entries; texts = o.texts }) ≡ Ok t → HaveEntries t.features
+by_fault o t few None e h =
     let made : stages.Told = record { features = map feature o.entries; texts = o.texts } in
-    record { outline = o; sound = e; are = ap (λ (x : stages.Told). x.features) (sym (same_told made t h)) }
-by_fault o t (Some f) e h = absurd (not_told f t h)
+    record { outline = o; few = few; sound = e; are = ap (λ (x : stages.Told). x.features) (sym (same_told made t h)) }
+by_fault o t few (Some f) e h = absurd (not_told f t h)
 
-by_size : (o : Outline) (t : stages.Told) (b : Bool) → ((if b then Err model_faults.TooMany else Ok o) >>= stages.told) ≡ Ok t → HaveEntries t.features
-by_size o t true h = absurd (not_told model_faults.TooMany t h)
-by_size o t false h = by_fault o t (fault_of o.entries) refl h
+few_entries : (n : ℕ) (b : Bool) → (nat_lt 32 n || b) ≡ false → n ≤ 32
+few_entries n b e = ltb-false 32 n (or_first (nat_lt 32 n) b e)
+  where
+    or_first : (x y : Bool) → (x || y) ≡ false → x ≡ false
+    or_first true y e = e
+    or_first false y e = refl
+
+by_size : (o : Outline) (t : stages.Told) (b : Bool) → (nat_lt 32 (length o.entries) || nat_lt 256 (length o.texts)) ≡ b → ((if b then Err model_faults.TooMany else Ok o) >>= stages.told) ≡ Ok t → HaveEntries t.features
+by_size o t true e h = absurd (not_told model_faults.TooMany t h)
+by_size o t false e h = by_fault o t (few_entries (length o.entries) (nat_lt 256 (length o.texts)) e) (fault_of o.entries) refl h
 
 by_outline : (r : Result Outline ModelFault) (t : stages.Told) → (r >>= told_from) ≡ Ok t → HaveEntries t.features
-by_outline (Ok o) t h = by_size o t _ h
+by_outline (Ok o) t h = by_size o t _ refl h
 by_outline (Err f) t h = absurd (not_told f t h)
 
 abbrev read_ok : Plain → Result Plain ModelFault
@@ -146,13 +155,19 @@ have_entries unknown bytes a _ (models.said model end says ends) h =
     subst (λ (x : Plain). HaveEntries x.features) (ended_same model a end ends h)
     (by_outline (stages.outlined bytes) (record { features = model.features; texts = says.texts }) says.told)
 
-model_entries : (unknown : Unknown) (bytes : List ℕ) (model : Model) → IsModel unknown bytes (Ok model) → HaveEntries model.features
+pub model_entries : (unknown : Unknown) (bytes : List ℕ) (model : Model) → IsModel unknown bytes (Ok model) → HaveEntries model.features
 model_entries unknown bytes model h = have_entries unknown bytes (plain model) (Ok (plain model)) h refl
 
-are_named : (features : List Feature) → HaveEntries features → AreNamed features
+pub are_named : (features : List Feature) → HaveEntries features → AreNamed features
 are_named features h = named_so h.outline.entries h.outline.entries h.outline.entries features refl refl (sym h.sound) h.are
 
-are_distinct : (features : List Feature) → HaveEntries features → AreDistinct features
+pub are_ranges : (features : List Feature) → HaveEntries features → AreRanges features
+are_ranges features h = (features_so h.outline.entries h.outline.entries h.outline.entries features refl refl (sym h.sound) h.are h.few).ranges
+
+pub have_switches : (features : List Feature) → HaveEntries features → HaveSwitches features
+have_switches features h = switches_so h.outline.entries features h.are
+
+pub are_distinct : (features : List Feature) → HaveEntries features → AreDistinct features
 are_distinct features h = distinct_so h.outline.entries h.outline.entries h.outline.entries features refl refl (sym h.sound) h.are
 
 -- ---- two product lines of the same bytes

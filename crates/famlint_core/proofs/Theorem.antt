@@ -1,5 +1,5 @@
 -- What stands in the page `Theorem`, from what is promised.
-use Rattle.std.proofs.Common.{◌≡◌, ◌<◌, ℕ, ℤ, true, List, ◌++◌, refl, sym, ap, subst, ◌∙◌}
+use Rattle.std.proofs.Common.{◌≡◌, ◌⊎◌, ◌<◌, ℕ, ℤ, true, false, List, ◌++◌, codes, length, refl, sym, ap, subst, ◌∙◌, inl, inr}
 use Rattle.std.specs.Prelude.{Option, Some, None, Ok}
 use Rattle.std.specs.List.{All}
 use Rattle.fam_outer.specs.declared.faults.Place.{Place}
@@ -17,11 +17,13 @@ use Rattle.plain_analysis.specs.Places.{alarm_of}
 use Rattle.alarm_report.specs.declared.alarms.FamilyAlarm.{FamilyAlarm}
 use Rattle.alarm_report.specs.Alarms.{TellsOnce}
 use Rattle.alarm_report.specs.LeafTexts.{invariant_text}
-use Rattle.alarm_report.specs.Texts.{alarm_text}
+use Rattle.alarm_report.specs.Texts.{alarm_text, kind_text}
 use Rattle.alarm_page.specs.Pages.{Texts, texts_told}
 use Rattle.certificate_format.specs.declared.certificates.Certificate.{Certificate}
 use Rattle.certificate_format.specs.Certificates.{SpellsCertificate}
 use Rattle.certificate_format.specs.Regions.{piece_of}
+use Rattle.invariant_certificate.specs.declared.verdicts.Verdict.{Verdict}
+use Rattle.invariant_certificate.specs.declared.verdicts.Verdict.TheVariants.{Yes, NotInductive, Unlisted}
 use Rattle.invariant_certificate.specs.Passes.{is_listed}
 use Rattle.configuration_advice.specs.declared.comparing.Advice as nearest
 use Rattle.configuration_advice.specs.Nearest.{differing}
@@ -35,8 +37,9 @@ use Rattle.famlint_loads.specs.ProductLines.{IsProgramAt}
 use Rattle.famlint_programs.specs.AnalysisOptions.{options_of}
 use Rattle.famlint_programs.specs.ProgramAnswers.{meaning_of}
 use Rattle.famlint_programs.specs.Report.{NeverStops}
-use Rattle.famlint_families.specs.Advised.{HasAlarmAt, IsGood, IsGoodAdvice, advice_status}
-use Rattle.famlint_core.specs.Theorem.{QuietFamiliesAreSafe, ReportsTellEachStop, FamiliesAreRead, PagesTellEachStop, QuietProgramsAreSafe, ProgramsAreRead, CheckedCertificatesListEachStop, AdviceIsSafe}
+use Rattle.famlint_checks.specs.Checked.{no_text, verdict_text, verdict_status, is_inductive_at, may_stop_at, HasLooseLoop, HasUnlistedStop, IsVerdictFor, ListsAllStops}
+use Rattle.famlint_families.specs.Advised.{HasAlarmAt, HasNoAlarmAt, IsGood, IsGoodAdvice, advice_status}
+use Rattle.famlint_core.specs.Theorem.{QuietFamiliesAreSafe, ReportsTellEachStop, FamiliesAreRead, PagesTellEachStop, QuietProgramsAreSafe, ProgramsAreRead, CheckedCertificatesListEachStop, RefusedCertificatesDoNotHold, AdviceIsSafe}
 use Rattle.famlint_core.proofs.Answering.{OneReading, one_program as one_plain_program}
 use Rattle.famlint_core.proofs.Certified.{CertifiedLaws, AreSameLines, are_same}
 use Rattle.famlint_core.proofs.VariantOnce.{VariantLaws, AreAlike, alike, program_moved, one_program, AreSame, same_selected}
@@ -121,18 +124,72 @@ abbrev ListsStops : Certificate → List Atom → List ℤ → Whole → Type 0
 ListsStops c atoms values p = (inputs : List ℤ) (n : ℕ) (place : Place) (kind : Kind) → All IsInt inputs
     → run_of p inputs n c.mode ≡ StoppedEnd place kind → is_listed c.alarms.items (place, kind) (vector_at atoms values) ≡ true
 
+-- at status 0 the verdict is yes
+listed_at_0 : (l : ProductLine) (c : Certificate) (verdict : Verdict) → 0 ≡ verdict_status verdict → IsVerdictFor l c verdict → ListsAllStops l c
+listed_at_0 l c Yes zero h = h
+listed_at_0 l c (NotInductive place config) zero h = cc
+listed_at_0 l c (Unlisted place kind config) zero h = cc
+
 pub listed_stops : CertifiedLaws → CheckedCertificatesListEachStop
 listed_stops laws model file certificate dialect told text (k, line, promised) l is =
     let e : AreAlike k l = alike laws.once dialect told.model told.file k l line is in
     let same : AreSameLines k l = are_same laws dialect told.model told.file k l line is in
-    let found = promised refl in (
-      found.0,
-      read_over k l told.certificate found.0 same found.1,
+    let c : Certificate = promised.certificate in
+    let lists : ListsAllStops k c = listed_at_0 k c promised.verdict promised.status_is promised.holds in (
+      c,
+      read_over k l told.certificate c same promised.is,
       λ values valid p at.
-          let variant = found.2 values (valid_in k l e values valid) in
-          of_program laws.once k l e (ListsStops found.0 l.family.atoms values) values p variant.0 at variant.1
-          (subst (λ (atoms : List Atom). ListsStops found.0 atoms values variant.0) same.atoms variant.2),
+          let variant = lists values (valid_in k l e values valid) in
+          of_program laws.once k l e (ListsStops c l.family.atoms values) values p variant.0 at variant.1
+          (subst (λ (atoms : List Atom). ListsStops c atoms values variant.0) same.atoms variant.2),
     )
+
+loose_moved : (k l : ProductLine) (c : Certificate) → AreAlike k l → AreSameLines k l → (place : Place) (values : List ℤ) → HasLooseLoop k c place values → HasLooseLoop l c place values
+loose_moved k l c e same place values h = record {
+  valid = subst (λ (m : Plain). IsValid m values) e.model h.valid;
+  program = h.program;
+  is = program_moved k l e values h.program h.is;
+  loose = subst (λ (atoms : List Atom). is_inductive_at c (vector_at atoms values) h.program place ≡ false) same.atoms h.loose;
+}
+
+unlisted_moved : (k l : ProductLine) (c : Certificate) → AreAlike k l → AreSameLines k l → (place : Place) (kind : Kind) (values : List ℤ)
+    → HasUnlistedStop k c place kind values → HasUnlistedStop l c place kind values
+unlisted_moved k l c e same place kind values h = record {
+  valid = subst (λ (m : Plain). IsValid m values) e.model h.valid;
+  program = h.program;
+  is = program_moved k l e values h.program h.is;
+  may_stop = subst (λ (atoms : List Atom). may_stop_at c (vector_at atoms values) h.program place kind ≡ true) same.atoms h.may_stop;
+  unlisted = subst (λ (atoms : List Atom). is_listed c.alarms.items (place, kind) (vector_at atoms values) ≡ false) same.atoms h.unlisted;
+}
+
+-- a place and a configuration that are told, at which the certificate does not hold
+abbrev FailsAt : ProductLine → Certificate → List ℕ → Type 0
+FailsAt l c text = (place : Place) × (values : List ℤ)
+    × (((text ≡ no_text l.model.features place (codes "loop") values) × HasLooseLoop l c place values)
+    ⊎ ((kind : Kind) × (text ≡ no_text l.model.features place (kind_text kind) values) × HasUnlistedStop l c place kind values))
+
+-- at status 1 the verdict is not yes
+fails_at_1 : (k l : ProductLine) (c : Certificate) → AreAlike k l → AreSameLines k l → (alarms : ℕ) (text : List ℕ) (verdict : Verdict) → 1 ≡ verdict_status verdict
+    → text ≡ verdict_text k.model.features alarms verdict → IsVerdictFor k c verdict → FailsAt l c text
+fails_at_1 k l c e same alarms text Yes one text_is h = cc
+fails_at_1 k l c e same alarms text (NotInductive place config) one text_is h = (
+  place,
+  config.values,
+  inl (text_is ∙ ap (λ (m : Plain). no_text m.features place (codes "loop") config.values) e.model, loose_moved k l c e same place config.values h),
+)
+fails_at_1 k l c e same alarms text (Unlisted place kind config) one text_is h = (
+  place,
+  config.values,
+  inr (kind, text_is ∙ ap (λ (m : Plain). no_text m.features place (kind_text kind) config.values) e.model, unlisted_moved k l c e same place kind config.values h),
+)
+
+pub failing_places : CertifiedLaws → RefusedCertificatesDoNotHold
+failing_places laws model file certificate dialect told text (k, line, promised) l is =
+    let e : AreAlike k l = alike laws.once dialect told.model told.file k l line is in
+    let same : AreSameLines k l = are_same laws dialect told.model told.file k l line is in
+    let c : Certificate = promised.certificate in
+    let at : FailsAt l c text = fails_at_1 k l c e same (length c.alarms.items) text promised.verdict promised.status_is promised.text_is promised.holds in
+    (c, read_over k l told.certificate c same promised.is, at.0, at.1, at.2)
 
 -- ---- advice
 
@@ -146,11 +203,20 @@ alarm_moved M analysis k l e values h = record {
   alarm = subst (λ (w : Whole). alarm_of M (options_of analysis w) h.program (M.start h.program.start) h.place h.kind ≡ true) e.code h.alarm;
 }
 
+no_alarm_moved : (M : LeafMeaning) (analysis : Analysis) (k l : ProductLine) → AreAlike k l → (values : List ℤ)
+    → HasNoAlarmAt M (options_of analysis (whole k.family.code)) k values → HasNoAlarmAt M (options_of analysis (whole l.family.code)) l values
+no_alarm_moved M analysis k l e values h = record {
+  program = h.program;
+  is = program_moved k l e values h.program h.is;
+  none = subst (λ (w : Whole). (place : Place) (kind : Kind) → alarm_of M (options_of analysis w) h.program (M.start h.program.start) place kind ≡ false) e.code h.none;
+}
+
 good_moved : (M : LeafMeaning) (analysis : Analysis) (k l : ProductLine) → AreAlike k l → (given others : List ℤ) → given ≡ others → (advice : nearest.Advice)
     → IsGoodAdvice M (options_of analysis (whole k.family.code)) k given advice → IsGoodAdvice M (options_of analysis (whole l.family.code)) l others advice
 good_moved M analysis k l e given others same advice h = record {
   valid = subst (λ (m : Plain). IsValid m advice.config.values) e.model h.valid;
   safe = record { program = h.safe.program; is = program_moved k l e advice.config.values h.safe.program h.safe.is; safe = h.safe.safe };
+  quiet = no_alarm_moved M analysis k l e advice.config.values h.quiet;
   changed = subst (λ (v : List ℤ). advice.changed ≡ differing v advice.config.values) same h.changed;
   fewer = λ values valid less. alarm_moved M analysis k l e values
       (h.fewer values (valid_in k l e values valid) (subst (λ (v : List ℤ). differing v values < advice.changed) (sym same) less));

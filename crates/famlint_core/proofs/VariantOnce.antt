@@ -67,16 +67,16 @@ same_err f g e = let k : model_err f ≡ model_err g = e in cc
 ok_or_err : (a : Plain) (f : ModelFault) → model_ok a ≡ model_err f → ⊥
 ok_or_err a f e = let k : model_ok a ≡ model_err f = e in cc
 
-same_model : VariantLaws → (unknown : Unknown) (m : List ℕ) (a b : Model) → IsModel unknown m (Ok a) → IsModel unknown m (Ok b) → plain a ≡ plain b
+pub same_model : VariantLaws → (unknown : Unknown) (m : List ℕ) (a b : Model) → IsModel unknown m (Ok a) → IsModel unknown m (Ok b) → plain a ≡ plain b
 same_model laws unknown m a b h k = same_ok (plain a) (plain b) (laws.models unknown m (Ok (plain a)) (Ok (plain b)) h k)
 
-no_model_fault : VariantLaws → (unknown : Unknown) (m : List ℕ) (a : Model) (f : Fault) → IsModel unknown m (Ok a) → IsModel unknown m (Err f) → ⊥
+pub no_model_fault : VariantLaws → (unknown : Unknown) (m : List ℕ) (a : Model) (f : Fault) → IsModel unknown m (Ok a) → IsModel unknown m (Err f) → ⊥
 no_model_fault laws unknown m a (fault.Model f) h k = ok_or_err (plain a) f (laws.models unknown m (Ok (plain a)) (Err f) h k)
 no_model_fault laws unknown m a (fault.File code place example) h k = absurd k
 no_model_fault laws unknown m a (fault.Settings given name) h k = absurd k
 no_model_fault laws unknown m a (fault.Certificate given) h k = absurd k
 
-same_model_fault : VariantLaws → (unknown : Unknown) (m : List ℕ) (f g : Fault) → IsModel unknown m (Err f) → IsModel unknown m (Err g) → f ≡ g
+pub same_model_fault : VariantLaws → (unknown : Unknown) (m : List ℕ) (f g : Fault) → IsModel unknown m (Err f) → IsModel unknown m (Err g) → f ≡ g
 same_model_fault laws unknown m (fault.Model f) (fault.Model g) h k = ap (λ (x : ModelFault). fault.Model x) (same_err f g (laws.models unknown m (Err f) (Err g) h k))
 same_model_fault laws unknown m (fault.Model f) (fault.File code place example) h k = absurd k
 same_model_fault laws unknown m (fault.Model f) (fault.Settings given name) h k = absurd k
@@ -157,12 +157,12 @@ same_line_refusal laws dialect m f x y (lines.no_model h) (lines.no_family b i k
 same_line_refusal laws dialect m f x y (lines.no_family a i h) (lines.no_model k) = absurd (no_model_fault laws dialect.unknown m a y i k)
 same_line_refusal laws dialect m f x y (lines.no_family a i h) (lines.no_family b j k) = same_family_fault laws dialect a b (same_model laws dialect.unknown m a b i j) f x y h k
 
-no_refusal : VariantLaws → (dialect : Dialect) (m f : List ℕ) (words : List (List ℕ)) (s : Selected) (g : Fault) → AreSelected dialect m f words s → IsSelectionRefused dialect m f words g → ⊥
+pub no_refusal : VariantLaws → (dialect : Dialect) (m f : List ℕ) (words : List (List ℕ)) (s : Selected) (g : Fault) → AreSelected dialect m f words s → IsSelectionRefused dialect m f words g → ⊥
 no_refusal laws dialect m f words s g h (selected.no_line k) = no_line_refusal laws dialect m f s.line g h.line k
 no_refusal laws dialect m f words s g h (selected.no_settings l i k) =
     no_settings_fault s.line.model l.model (same_line_model laws dialect m f s.line l h.line i) words s.config.values g h.config k
 
-same_refusal : VariantLaws → (dialect : Dialect) (m f : List ℕ) (words : List (List ℕ)) (x y : Fault) → IsSelectionRefused dialect m f words x → IsSelectionRefused dialect m f words y → x ≡ y
+pub same_refusal : VariantLaws → (dialect : Dialect) (m f : List ℕ) (words : List (List ℕ)) (x y : Fault) → IsSelectionRefused dialect m f words x → IsSelectionRefused dialect m f words y → x ≡ y
 same_refusal laws dialect m f words x y (selected.no_line h) (selected.no_line k) = same_line_refusal laws dialect m f x y h k
 same_refusal laws dialect m f words x y (selected.no_line h) (selected.no_settings l i k) = absurd (no_line_refusal laws dialect m f l x i h)
 same_refusal laws dialect m f words x y (selected.no_settings l i h) (selected.no_line k) = absurd (no_line_refusal laws dialect m f l y i k)
@@ -238,7 +238,7 @@ same_program laws s t e p q h k =
     one_program laws t.line t.config.values p q
     (subst (λ (v : List ℤ). IsProgramAt t.line v p) e.values (program_moved s.line t.line e.line s.config.values p h)) k
 
-abbrev done : List ℕ → ℕ → Done
+abbrev pub done : List ℕ → ℕ → Done
 done text status = record { text = text; status = status }
 
 same_done : VariantLaws → (task : VariantTask) (s t : Selected) → AreSame s t → (x y : Done) → IsDone task s x → IsDone task t y → x ≡ y

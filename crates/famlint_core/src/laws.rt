@@ -4,23 +4,29 @@
 ghost use Rattle.std.specs.Prelude.{◌≡◌, ℕ, List, Result};
 ghost use Rattle.fam_outer.specs.declared.dialect.Dialect.{Dialect};
 ghost use Rattle.fam_outer.specs.declared.dialect.Includes.{Includes};
+ghost use Rattle.fam_outer.specs.declared.dialect.Unknown.{Unknown};
 ghost use Rattle.famlint_requests.specs.declared.request.Analysis.{Analysis};
 ghost use Rattle.famlint_requests.specs.declared.request.VariantTask.{VariantTask};
 ghost use Rattle.famlint_loads.specs.declared.fault.Done.{Done};
 ghost use Rattle.famlint_loads.specs.declared.fault.Fault.{Fault};
 ghost use Rattle.famlint_checks.specs.Checked.{AnswersCheck};
+ghost use Rattle.famlint_families.specs.FamilyAnswers.{AnswersAdvice, AnswersFeatures};
 ghost use Rattle.famlint_programs.specs.ProgramAnswers.{AnswersPlain, AnswersVariant};
 ghost use Rattle.famlint_loads.specs.Contents.{Contents};
 ghost use Rattle.famlint_core.specs.Certified.{IsWrittenByCertify, IsYes};
 ghost use Rattle.famlint_core.specs.Theorem.{QuietFamiliesAreSafe, ReportsTellEachStop, FamiliesAreRead, PagesTellEachStop};
 ghost use Rattle.famlint_core.specs.Theorem.{QuietProgramsAreSafe};
-ghost use Rattle.famlint_core.specs.Theorem.{ProgramsAreRead, CheckedCertificatesListEachStop, AdviceIsSafe};
+ghost use Rattle.famlint_core.specs.Theorem.{ProgramsAreRead, CheckedCertificatesListEachStop, RefusedCertificatesDoNotHold};
+ghost use Rattle.famlint_core.specs.Theorem.{AdviceIsSafe, ReportsTellOneList, RegionsAreConditions};
 
+use advice_laws::{advice_is_one, uses_are_one};
 use c_parser::laws::{reads_at_most_once, reads_something};
 use c_parser::variants::families_are_read_once;
 use certificate_laws::laws::{families_are_of_files, written_analyses_are_accepted};
 use cpp_lines::laws::{texts_are_read_once, variants_have_one_text};
 use feature_model::laws::bytes_say_one_model;
+use region_laws::{region_texts_are_conditions, region_texts_have_the_meaning_of_regions};
+use report_laws::reports_of_families_tell_their_alarms;
 
 /// `plain` has one answer, whatever its path holds.
 pub fn plain_has_one_answer()
@@ -43,6 +49,31 @@ pub fn variants_have_one_answer()
     families_are_read_once();
     variants_have_one_text();
     reads_at_most_once();
+}
+
+/// `features` has at most one answer, whatever MODEL holds: what the model leaves open, or one refusal.
+pub fn features_have_one_answer()
+    ensures { (unknown : Unknown) (bytes : List ℕ) (a b : Result Done Fault)
+        → AnswersFeatures unknown bytes a → AnswersFeatures unknown bytes b → a ≡ b }
+{
+    bytes_say_one_model();
+    families_are_read_once();
+    variants_have_one_text();
+    reads_at_most_once();
+    uses_are_one();
+}
+
+/// `advise` has at most one answer, whatever MODEL and FILE hold: one nearest configuration, or none, or one refusal of the
+/// model, the file or the settings.
+pub fn advice_has_one_answer()
+    ensures { (dialect : Dialect) (analysis : Analysis) (settings : List (List ℕ)) (told : Contents) (a b : Result Done Fault)
+        → AnswersAdvice dialect analysis settings told a → AnswersAdvice dialect analysis settings told b → a ≡ b }
+{
+    bytes_say_one_model();
+    families_are_read_once();
+    variants_have_one_text();
+    reads_at_most_once();
+    advice_is_one();
 }
 
 /// What `certify` writes of a model and a file, if it is not too long, `check` of these has no answer to but yes, where both
@@ -82,6 +113,26 @@ pub fn reports_tell_each_stop()
     reads_at_most_once();
 }
 
+/// The text of a report on a family, as `analyse` ends with status 0 or 1, is that of one list of alarms.
+pub fn reports_tell_one_list()
+    ensures { ReportsTellOneList }
+{
+    bytes_say_one_model();
+    families_are_read_once();
+    variants_have_one_text();
+    reads_at_most_once();
+    families_are_of_files();
+    reports_of_families_tell_their_alarms();
+}
+
+/// A printed region, read as a condition of the model, is true at exactly the configurations that meet it.
+pub fn printed_regions_are_conditions()
+    ensures { RegionsAreConditions }
+{
+    region_texts_are_conditions();
+    region_texts_have_the_meaning_of_regions();
+}
+
 /// Where `page` ends with status 0 or 1, what is read back of the page is MODEL, FILE and a report as `analyse` tells it.
 pub fn pages_tell_each_stop()
     ensures { PagesTellEachStop }
@@ -103,6 +154,19 @@ pub fn quiet_programs_are_safe()
 /// Where `check` ends with status 0, the certificate lists each stop of each run of each valid configuration's variant.
 pub fn checked_certificates_list_each_stop()
     ensures { CheckedCertificatesListEachStop }
+{
+    bytes_say_one_model();
+    families_are_read_once();
+    variants_have_one_text();
+    reads_at_most_once();
+    texts_are_read_once();
+    families_are_of_files();
+    written_analyses_are_accepted();
+}
+
+/// Where `check` ends with status 1, the text tells a place and a valid configuration at which the certificate does not hold.
+pub fn refused_certificates_do_not_hold()
+    ensures { RefusedCertificatesDoNotHold }
 {
     bytes_say_one_model();
     families_are_read_once();

@@ -3,7 +3,7 @@ use Rattle.std.proofs.Common.{◌≡◌, ◌⊎◌, ◌≤◌, ◌<◌, ℕ, zer
 use Rattle.std.proofs.lemmas.Bool.{lt-ltb}
 use Rattle.std.proofs.lemmas.List.{length-map}
 use Rattle.std.proofs.lemmas.List.Elements.{Contains-append_cases}
-use Rattle.std.proofs.lemmas.Option.{none-some}
+use Rattle.std.proofs.lemmas.Option.{none-some, same_Some}
 use Rattle.std.specs.Prelude.{slice_get, Option, Some, None}
 use Rattle.std.specs.List.{All, Contains}
 use Rattle.fam_outer.specs.declared.faults.Place.{Place}
@@ -17,6 +17,7 @@ use Rattle.c_tree.specs.View.{whole}
 use Rattle.c_tree.specs.Whole.{IsRising}
 use Rattle.linear_atoms.specs.declared.atoms.Atom.{Atom}
 use Rattle.linear_atoms.specs.declared.regions.Regions.{Regions}
+use Rattle.linear_atoms.specs.Atoms.{AreLiterals}
 use Rattle.linear_atoms.specs.declared.regions.Regions.TheVariants.{Paths}
 use Rattle.cpp_conditions.specs.declared.models.Model.{Model}
 use Rattle.cpp_conditions.specs.Numbering.{vector_at}
@@ -27,7 +28,7 @@ use Rattle.leaf_domain.specs.Leaves.{LeafValue, LeafMeaning, LeafLaws, nothing_o
 use Rattle.lifted_analysis.specs.declared.findings.AlarmTree.{AlarmTree}
 use Rattle.lifted_analysis.specs.declared.findings.FamilyFindings.{FamilyFindings}
 use Rattle.lifted_analysis.specs.declared.findings.PlaceTree.{PlaceTree}
-use Rattle.lifted_analysis.specs.Promises.{begin_at, leaf_at, stop_at}
+use Rattle.lifted_analysis.specs.Promises.{begin_at, leaf_at, stop_at, by_kind}
 use Rattle.plain_analysis.specs.declared.alarm.Alarm.{Alarm}
 use Rattle.plain_analysis.specs.declared.options.Options.{Options}
 use Rattle.plain_analysis.specs.Places.{at_of, alarm_of, alarms_of, alarm_where, alarms_at, alarms_over}
@@ -40,16 +41,16 @@ use Rattle.alarm_report.specs.Invariants.{LeafTree, leaf_tree, Invariant, AreInv
 use Rattle.configuration_advice.specs.declared.comparing.Advice.{Advice}
 use Rattle.configuration_advice.specs.Nearest.{differing, are_false, is_quiet, Advises}
 use Rattle.famlint_loads.specs.declared.product_line.ProductLine.{ProductLine}
-use Rattle.famlint_families.specs.Advised.{HasAlarmAt, IsNearestWithoutAlarms, IsGood, trees_of}
+use Rattle.famlint_families.specs.Advised.{HasAlarmAt, HasNoAlarmAt, IsNearestWithoutAlarms, IsGood, trees_of}
 use Rattle.famlint_programs.specs.Report.{NeverStops}
 use Rattle.famlint_requests.specs.declared.request.FamilyTask.{FamilyTask}
 use Rattle.famlint_requests.specs.declared.request.FamilyTask.TheVariants as tasks
 use Rattle.famlint_families.specs.FamilyReports.{IsAlarmTreeOf, IsLeafTree, IsFamilyDone, family_status}
-use Rattle.famlint_families.specs.Findings.{IsFound, AreGoodAlarms, AreGoodInvariants, IsGoodText}
+use Rattle.famlint_families.specs.Findings.{IsFound, AreAlarmsWithLiterals, AreGoodAlarms, AreGoodInvariants, IsGoodText}
 use Rattle.famlint_families.specs.Headline.{AreItsAlarms, AreItsInvariants, AreAlarmsOfAll, HasState, Reaches, PromisedOfAll}
 use Rattle.famlint_loads.specs.ProductLines.{IsUsableLine}
 use Rattle.famlint_families.proofs.Told.{told_leads}
-use Rattle.famlint_programs.proofs.Keys.{all_at, keyed, placed, place_there, alarm_tree_there, leaf_tree_there}
+use Rattle.famlint_programs.proofs.Keys.{all_at, key, keyed, placed, place_there, alarm_tree_there, leaf_tree_there}
 use Rattle.famlint_programs.proofs.Reached.{alarm_there, leaf_there}
 use Rattle.famlint_loads.proofs.Selecting.{is_program_at}
 
@@ -116,6 +117,24 @@ not_so_false false h = refl
 not_fewer : (n m : ℕ) → n < m → m ≤ n → ⊥
 not_fewer n m h k = omega arith
 
+-- ---- keys
+
+keyed_at : (ts : List PlainAlarmTree) (n : ℕ) (t : PlainAlarmTree) → slice_get ts n ≡ Some t → slice_get (map key ts) n ≡ Some (t.place, t.kind)
+keyed_at [] n t e = absurd (none-some t e)
+keyed_at (x ∷ ts) zero t e = ap (λ (y : PlainAlarmTree). Some (key y)) (same_Some x t e)
+keyed_at (x ∷ ts) (suc n) t e = keyed_at ts n t e
+
+here_place : (p : Place) (kind : Kind) (k : Place × Kind) → Some (let x : Place × Kind = (p, kind) in x) ≡ Some k → Some p ≡ Some k.0
+here_place p kind k e = ap (λ (x : Place × Kind). Some x.0) (same_Some _ k e)
+
+-- a key has one of the places
+kind_place : (ps : List Place) (n : ℕ) (k : Place × Kind) → slice_get (by_kind ps) n ≡ Some k → (m : ℕ) × (slice_get ps m ≡ Some k.0)
+kind_place [] n k e = absurd (none-some k e)
+kind_place (p ∷ ps) zero k e = (zero, here_place p Overflow k e)
+kind_place (p ∷ ps) (suc zero) k e = (zero, here_place p ZeroDivisor k e)
+kind_place (p ∷ ps) (suc (suc zero)) k e = (zero, here_place p Assertion k e)
+kind_place (p ∷ ps) (suc (suc (suc n))) k e = let later = kind_place ps n k e in (suc later.0, later.1)
+
 -- a tree of the list that is true at the vector
 record IsTrueAt (trees : List PlainAlarmTree) (v : List Bool) : Type 0 where
   index : ℕ
@@ -130,9 +149,6 @@ module _ {L : Type 0} (value : L → LeafValue) (M : LeafMeaning) (laws : LeafLa
   abbrev stops : List PlainAlarmTree
   stops = map plain_alarm_tree f.alarms.items
 
-  abbrev leaves : List LeafTree
-  leaves = map (leaf_tree value) f.places.items
-
   abbrev vector : List ℤ → List Bool
   vector values = vector_at l.family.atoms values
 
@@ -142,10 +158,10 @@ module _ {L : Type 0} (value : L → LeafValue) (M : LeafMeaning) (laws : LeafLa
   abbrev start : List ℤ → LeafValue
   start values = M.start (program values).start
 
-  begins : (values : List ℤ) → IsValid (plain l.model) values → begin_at M (whole l.family.code) l.family.conditions found.plausible (vector values) ≡ start values
+  pub begins : (values : List ℤ) → IsValid (plain l.model) values → begin_at M (whole l.family.code) l.family.conditions found.plausible (vector values) ≡ start values
   begins values valid = ap (λ b. if b then start values else nothing_of (length (whole l.family.code).names)) (found.valid values valid)
 
-  long : (values : List ℤ) → length (vector values) ≡ length l.family.atoms
+  pub long : (values : List ℤ) → length (vector values) ≡ length l.family.atoms
   long values = length-map l.family.atoms _
 
   stop_says : (values : List ℤ) → IsValid (plain l.model) values → (n : ℕ) (t : PlainAlarmTree) → slice_get stops n ≡ Some t
@@ -155,14 +171,7 @@ module _ {L : Type 0} (value : L → LeafValue) (M : LeafMeaning) (laws : LeafLa
       (all_at (IsAlarmTreeOf M o r l found.plausible) stops n t found.stops there)).leads (vector values) (long values) (found.valid values valid)
       ∙ ap (λ d. alarm_of M o (program values) d t.place t.kind) (begins values valid)
 
-  leaf_says : (values : List ℤ) → IsValid (plain l.model) values → (n : ℕ) (t : LeafTree) → slice_get leaves n ≡ Some t
-      → leaf_of t.tree (vector values) ≡ at_of M o (program values) (start values) t.place
-  leaf_says values valid n t there =
-      (told_leads r (length l.family.atoms) (leaf_at M o (whole l.family.code) l.family.conditions found.plausible t.place) (formula found.plausible) t.tree
-      (all_at (IsLeafTree M o r l found.plausible) leaves n t found.leaves there)).leads (vector values) (long values) (found.valid values valid)
-      ∙ ap (λ d. at_of M o (program values) d t.place) (begins values valid)
-
-  foreseen : (values : List ℤ) → IsValid (plain l.model) values → (inputs : List ℤ) (n : ℕ) → All IsInt inputs
+  pub foreseen : (values : List ℤ) → IsValid (plain l.model) values → (inputs : List ℤ) (n : ℕ) → All IsInt inputs
       → IsForeseen M (at_of M o (program values) (start values)) (program values).end (alarms_of M o (program values) (start values)) (run_of (program values) inputs n o.mode)
   foreseen values valid inputs n ints =
       let runs : RunsForeseen M o (program values) (start values) = subst (λ d. RunsForeseen M o (program values) d) (begins values valid) (found.runs (vector values)) in
@@ -214,12 +223,22 @@ module _ {L : Type 0} (value : L → LeafValue) (M : LeafMeaning) (laws : LeafLa
       only = told_only values valid;
     }
 
-    pub good_alarms : AreAlarms l.model l.family.atoms stops alarms → AreGoodAlarms M o r l alarms
-    good_alarms regions = record {
+    told_places : (i : ℕ) (a : FamilyAlarm) → slice_get alarms i ≡ Some a → (n : ℕ) × (slice_get (program_places (whole l.family.code)) n ≡ Some a.place)
+    told_places i a there =
+        let known = cover.known i a there in
+        let key_there : slice_get (by_kind (program_places (whole l.family.code))) known.index ≡ Some (known.one.place, known.one.kind) =
+        subst (λ (ks : List (Place × Kind)). slice_get ks known.index ≡ Some (known.one.place, known.one.kind)) found.kinds (keyed_at stops known.index known.one known.there) in
+        let place = kind_place (program_places (whole l.family.code)) known.index (known.one.place, known.one.kind) key_there in
+        (place.0, place.1 ∙ ap (λ (p : Place). Some p) known.place_is)
+
+    pub good_alarms : AreAlarms l.model l.family.atoms stops alarms → AreAlarmsWithLiterals l alarms → AreGoodAlarms M o r l alarms
+    good_alarms regions fit = record {
       are = record { plausible = found.plausible; plausible_is = found.plausible_is; trees = stops; keys = found.kinds; are = found.stops; regions = regions };
       all = record {
         variants = λ values valid. (program values, is_program_at law l values (program values) spelled valid refl, its_alarms values valid);
         examples = cover.least;
+        literals = λ i a there. all_at (λ (x : FamilyAlarm). AreLiterals (length l.model.features) x.region.literals) alarms i a fit there;
+        places = told_places;
       };
     }
 
@@ -238,18 +257,30 @@ module _ {L : Type 0} (value : L → LeafValue) (M : LeafMeaning) (laws : LeafLa
   some_true [] v h = absurd (never_false h)
   some_true (x ∷ trees) v h = some_by x trees v (leaf_of x.tree v) refl h (some_true trees v)
 
-  never_stops : (values : List ℤ) → IsValid (plain l.model) values → is_quiet l.family.atoms (trees_of stops) values ≡ true → NeverStops o.mode (program values)
-  never_stops values valid quiet = λ inputs n place kind ints stopped.
-      let at = at_of M o (program values) (start values) in
-      let listed : Contains (alarms_of M o (program values) (start values)) (record { place = place; kind = kind }) =
-      subst (IsForeseen M at (program values).end (alarms_of M o (program values) (start values))) stopped (foreseen values valid inputs n ints) in
-      let alarm = listed_is (alarm_of M o (program values) (start values)) (program_places (program values)) (record { place = place; kind = kind }) listed in
+  never_alarms : (values : List ℤ) → IsValid (plain l.model) values → is_quiet l.family.atoms (trees_of stops) values ≡ true → (place : Place) (kind : Kind)
+      → alarm_of M o (program values) (start values) place kind ≡ true → ⊥
+  never_alarms values valid quiet place kind alarm =
       let there = alarm_tree_there stops (program_places (whole l.family.code)) found.kinds place kind
       (alarm_there M o (whole l.family.code) (truths_in l.family values) (start values) place kind alarm) in
       let t = there.one in
       let at_tree : alarm_of M o (program values) (start values) t.place t.kind ≡ true =
       ap (λ p. alarm_of M o (program values) (start values) p t.kind) there.place_is ∙ (ap (λ k. alarm_of M o (program values) (start values) place k) there.kind_is ∙ alarm) in
       never_both (leaf_of t.tree (vector values)) (stop_says values valid there.index t there.there ∙ at_tree) (false_at stops (vector values) quiet there.index t there.there)
+
+  no_alarm : (values : List ℤ) → IsValid (plain l.model) values → is_quiet l.family.atoms (trees_of stops) values ≡ true → HasNoAlarmAt M o l values
+  no_alarm values valid quiet = record {
+    program = program values;
+    is = is_program_at law l values (program values) spelled valid refl;
+    none = λ place kind. not_so_false (alarm_of M o (program values) (start values) place kind) (never_alarms values valid quiet place kind);
+  }
+
+  never_stops : (values : List ℤ) → IsValid (plain l.model) values → is_quiet l.family.atoms (trees_of stops) values ≡ true → NeverStops o.mode (program values)
+  never_stops values valid quiet = λ inputs n place kind ints stopped.
+      let at = at_of M o (program values) (start values) in
+      let listed : Contains (alarms_of M o (program values) (start values)) (record { place = place; kind = kind }) =
+      subst (IsForeseen M at (program values).end (alarms_of M o (program values) (start values))) stopped (foreseen values valid inputs n ints) in
+      never_alarms values valid quiet place kind
+      (listed_is (alarm_of M o (program values) (start values)) (program_places (program values)) (record { place = place; kind = kind }) listed)
 
   has_alarm : (values : List ℤ) → IsValid (plain l.model) values → is_quiet l.family.atoms (trees_of stops) values ≡ false → HasAlarmAt M o l values
   has_alarm values valid loud =
@@ -270,62 +301,21 @@ module _ {L : Type 0} (value : L → LeafValue) (M : LeafMeaning) (laws : LeafLa
   good_advice given (Some advice) h = record {
     valid = h.valid;
     safe = record { program = program advice.config.values; is = is_program_at law l advice.config.values (program advice.config.values) spelled h.valid refl; safe = never_stops advice.config.values h.valid h.quiet };
+    quiet = no_alarm advice.config.values h.valid h.quiet;
     changed = h.changed;
     fewer = λ others valid less. has_alarm others valid (loud_by others (λ quiet. not_fewer (differing given others) advice.changed less (h.fewest others valid quiet)));
     before = λ others valid same earlier. has_alarm others valid (loud_by others (λ quiet. h.first others valid quiet same earlier));
   }
 
-  -- ---- invariants
-
-  module _ (invariants : List Invariant) (cover : CoversPlaces l.model l.family.atoms leaves invariants) where
-    has_once : (values : List ℤ) → IsValid (plain l.model) values → (n : ℕ) (place : Place) → slice_get (program_places (whole l.family.code)) n ≡ Some place
-        → HasOnce invariants place (at_of M o (program values) (start values) place) values
-    has_once values valid n place h =
-        let there = leaf_tree_there leaves (program_places (whole l.family.code)) found.places n place h in
-        let t = there.one in
-        subst (λ p. HasOnce invariants p (at_of M o (program values) (start values) p) values) there.place_is
-        (subst (λ v. HasOnce invariants t.place v values) (leaf_says values valid there.index t there.there) (cover.one values there.index t valid there.there))
-
-    has_state : (values : List ℤ) → IsValid (plain l.model) values → (place : Place) (store : List ℤ) → M.holds (at_of M o (program values) (start values) place) store
-        → HasState M o invariants values (program values) place store
-    has_state values valid place store h =
-        let there = place_there (program_places (whole l.family.code)) place (leaf_there M o (whole l.family.code) (truths_in l.family values) (start values) laws place store h) in
-        record { once = has_once values valid there.0 place there.1; holds = h }
-
-    reaches : (values : List ℤ) → IsValid (plain l.model) values → (alarms : List Alarm) (e : End)
-        → IsForeseen M (at_of M o (program values) (start values)) (program values).end alarms e → Reaches (HasState M o invariants values (program values)) (program values).end e
-    reaches values valid alarms (AtEnd place store) h = has_state values valid place store h
-    reaches values valid alarms (WaitingEnd place store) h = has_state values valid place store h
-    reaches values valid alarms (EndedEnd store) h = has_state values valid (program values).end store h
-    reaches values valid alarms (StoppedEnd place kind) h = tt
-
-    its_invariants : (values : List ℤ) → IsValid (plain l.model) values → AreItsInvariants M o (program_places (whole l.family.code)) invariants values (program values)
-    its_invariants values valid = record {
-      states = λ inputs n ints. reaches values valid (alarms_of M o (program values) (start values)) (run_of (program values) inputs n o.mode) (foreseen values valid inputs n ints);
-      leaves = has_once values valid;
-    }
-
-    pub good_invariants : AreInvariants l.model l.family.atoms leaves invariants → AreGoodInvariants M o r l invariants
-    good_invariants regions = record {
-      are = record { plausible = found.plausible; plausible_is = found.plausible_is; trees = leaves; keys = found.places; are = found.leaves; regions = regions };
-      all = λ values valid. (program values, is_program_at law l values (program values) spelled valid refl, its_invariants values valid);
-    }
-
   pub stops_keyed : AreKeyed stops
   stops_keyed = keyed stops (program_places (whole l.family.code)) found.kinds rising
-
-  pub leaves_placed : ArePlaced leaves
-  leaves_placed = placed leaves (program_places (whole l.family.code)) found.places rising
 
 -- ---- what a call has answered, over the atoms of the product line
 
 pub record AreAlarmsFrom (model : Model) (atoms : List Atom) (trees : List AlarmTree) (alarms : List FamilyAlarm) : Type 0 where
   pub regions : AreAlarms model atoms (map plain_alarm_tree trees) alarms
   pub cover : AreKeyed (map plain_alarm_tree trees) → CoversStops model atoms (map plain_alarm_tree trees) alarms
-
-pub record AreInvariantsFrom {L : Type 0} (value : L → LeafValue) (model : Model) (atoms : List Atom) (trees : List (PlaceTree L)) (invariants : List Invariant) : Type 0 where
-  pub regions : AreInvariants model atoms (map (leaf_tree value) trees) invariants
-  pub cover : ArePlaced (map (leaf_tree value) trees) → CoversPlaces model atoms (map (leaf_tree value) trees) invariants
+  pub fit : All (λ (a : FamilyAlarm). AreLiterals (length model.features) a.region.literals) alarms
 
 module _ {L : Type 0} (value : L → LeafValue) (M : LeafMeaning) (laws : LeafLaws M) (l : ProductLine) (u : IsUsableLine l) (law : VariantsAreRead) (f : FamilyFindings L)
     (model : Model) (atoms : List Atom) (same_model : model ≡ l.model) (same_atoms : atoms ≡ l.family.atoms) where
@@ -335,15 +325,7 @@ module _ {L : Type 0} (value : L → LeafValue) (M : LeafMeaning) (laws : LeafLa
       let here : AreAlarmsFrom l.model l.family.atoms f.alarms.items alarms =
       subst (λ m. AreAlarmsFrom m l.family.atoms f.alarms.items alarms) same_model
       (subst (λ xs. AreAlarmsFrom model xs f.alarms.items alarms) same_atoms (subst (λ ts. AreAlarmsFrom model atoms ts alarms) same from)) in
-      good_alarms value M laws o r l f found u.family.program.rising law u.spelled alarms (here.cover (stops_keyed value M laws o r l f found u.family.program.rising law u.spelled)) here.regions
-
-  pub invariants_from : (trees : List (PlaceTree L)) → trees ≡ f.places.items → (invariants : List Invariant) → AreInvariantsFrom value model atoms trees invariants
-      → (o : Options) (r : Regions) → IsFound value M o r l f → AreGoodInvariants M o r l invariants
-  invariants_from trees same invariants from o r found =
-      let here : AreInvariantsFrom value l.model l.family.atoms f.places.items invariants =
-      subst (λ m. AreInvariantsFrom value m l.family.atoms f.places.items invariants) same_model
-      (subst (λ xs. AreInvariantsFrom value model xs f.places.items invariants) same_atoms (subst (λ ts. AreInvariantsFrom value model atoms ts invariants) same from)) in
-      good_invariants value M laws o r l f found u.family.program.rising law u.spelled invariants (here.cover (leaves_placed value M laws o r l f found u.family.program.rising law u.spelled)) here.regions
+      good_alarms value M laws o r l f found u.family.program.rising law u.spelled alarms (here.cover (stops_keyed value M laws o r l f found u.family.program.rising law u.spelled)) here.regions here.fit
 
 -- ---- advice
 
@@ -369,7 +351,7 @@ pub done_as : (M : LeafMeaning) (o : Options) (r : Regions) (task : FamilyTask) 
     → AreGoodAlarms M o r l alarms → IsGoodText M o r task l alarms text → status ≡ family_status alarms → IsFamilyDone M o r task l (record { text = text; status = status })
 done_as M o r tasks.Analyse l alarms text status good is e = (alarms, good.are, rw (is, e) refl)
 done_as M o r tasks.Invariants l alarms text status good is e = (is.invariants, alarms, is.good.are, good.are, rw (is.is, e) refl)
-done_as M o r tasks.Certify l alarms text status good is e = (is.loops, alarms, is.are, good.are, rw (is.is, e) refl)
+done_as M o r tasks.Certify l alarms text status good is e = (is.loops, alarms, is.good.are, good.are, rw (is.is, e) refl)
 done_as M o r tasks.Generate l alarms text status good is e = (alarms, good.are, rw (is, e) refl)
 
 pub promised_as : (M : LeafMeaning) (o : Options) (r : Regions) (task : FamilyTask) (l : ProductLine) (alarms : List FamilyAlarm) (text : List ℕ) (status : ℕ)
@@ -378,5 +360,5 @@ promised_as M o r tasks.Analyse l alarms text status good is e = (alarms, is, su
 promised_as M o r tasks.Invariants l alarms text status good is e =
     (is.invariants, alarms, is.is, is.good.all, subst (λ n. AreAlarmsOfAll M o l alarms n) (sym e) good.all)
 promised_as M o r tasks.Certify l alarms text status good is e =
-    (is.loops, alarms, is.is, subst (λ n. AreAlarmsOfAll M o l alarms n) (sym e) good.all)
+    (is.loops, alarms, is.is, is.good.all, subst (λ n. AreAlarmsOfAll M o l alarms n) (sym e) good.all)
 promised_as M o r tasks.Generate l alarms text status good is e = (alarms, is, subst (λ n. AreAlarmsOfAll M o l alarms n) (sym e) good.all)

@@ -1,7 +1,7 @@
 pub mod Advising
 pub mod Analysed
-pub mod Certifying
 pub mod Told
 pub mod Foretold
 pub mod Generated
 pub mod Paging
+pub mod States

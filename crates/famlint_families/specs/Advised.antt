@@ -1,5 +1,5 @@
 -- What a product line and a given configuration are answered under `advise`, and what is promised of it.
-use Rattle.std.specs.Prelude.{ℕ, ℤ, ◌≡◌, ◌<◌, true, Bool, List, map, Option, Some, None}
+use Rattle.std.specs.Prelude.{ℕ, ℤ, ◌≡◌, ◌<◌, true, false, Bool, List, map, Option, Some, None}
 use Rattle.std.specs.List.{All}
 use Rattle.fam_outer.specs.declared.faults.Place.{Place}
 use Rattle.c_tree.specs.declared.tree.Kind.{Kind}
@@ -57,6 +57,12 @@ pub record NeverStopsAt (o : Options) (l : ProductLine) (values : List ℤ) : Ty
   pub is : IsProgramAt l values program
   pub safe : NeverStops o.mode program
 
+-- the analysis of the program of the configuration's variant alone has no alarm, at no place and of no kind
+pub record HasNoAlarmAt (M : LeafMeaning) (o : Options) (l : ProductLine) (values : List ℤ) : Type 0 where
+  pub program : Whole
+  pub is : IsProgramAt l values program
+  pub none : (place : Place) (kind : Kind) → alarm_of M o program (M.start program.start) place kind ≡ false
+
 -- the analysis of the program of the configuration's variant alone has an alarm
 pub record HasAlarmAt (M : LeafMeaning) (o : Options) (l : ProductLine) (values : List ℤ) : Type 0 where
   pub program : Whole
@@ -65,11 +71,12 @@ pub record HasAlarmAt (M : LeafMeaning) (o : Options) (l : ProductLine) (values 
   pub kind : Kind
   pub alarm : alarm_of M o program (M.start program.start) place kind ≡ true
 
--- the configuration is valid and no run of its variant stops; each valid configuration that differs from the given one in fewer
--- features has an alarm, and so has each that differs in as many and comes before it
+-- the configuration is valid, no run of its variant stops, and the analysis of that has no alarm; each valid configuration that
+-- differs from the given one in fewer features has an alarm, and so has each that differs in as many and comes before it
 pub record IsGoodAdvice (M : LeafMeaning) (o : Options) (l : ProductLine) (given : List ℤ) (advice : Advice) : Type 0 where
   pub valid : IsValid (plain l.model) advice.config.values
   pub safe : NeverStopsAt o l advice.config.values
+  pub quiet : HasNoAlarmAt M o l advice.config.values
   pub changed : advice.changed ≡ differing given advice.config.values
   pub fewer : (others : List ℤ) → IsValid (plain l.model) others → differing given others < advice.changed → HasAlarmAt M o l others
   pub before : (others : List ℤ) → IsValid (plain l.model) others → differing given others ≡ advice.changed → IsBefore others advice.config.values → HasAlarmAt M o l others

@@ -30,7 +30,7 @@ use Rattle.famlint_loads.specs.declared.product_line.ProductLine.{ProductLine}
 use Rattle.famlint_requests.specs.declared.request.FamilyTask.{FamilyTask}
 use Rattle.famlint_requests.specs.declared.request.FamilyTask.TheVariants.{Analyse, Invariants, Certify, Generate}
 use Rattle.famlint_families.specs.FamilyReports.{IsPlausibleFor, IsAlarmTreeOf, IsLeafTree, AreAlarmsOf, AreInvariantsOf, AreLoopsOf, sizes_text, family_status}
-use Rattle.famlint_families.specs.Headline.{AreAlarmsOfAll, AreInvariantsOfAll}
+use Rattle.famlint_families.specs.Headline.{AreAlarmsOfAll, AreInvariantsOfAll, AreLoopsOfAll}
 
 -- the trees of stops and of leaves that are told of one analysis
 pub record IsFound {L : Type 0} (value : L → LeafValue) (M : LeafMeaning) (o : Options) (r : Regions) (l : ProductLine) (f : FamilyFindings L) : Type 0 where
@@ -67,6 +67,11 @@ pub record AreGoodInvariants (M : LeafMeaning) (o : Options) (r : Regions) (l : 
   pub are : AreInvariantsOf M o r l invariants
   pub all : AreInvariantsOfAll M o l invariants
 
+-- the same of the invariants of the loops
+pub record AreGoodLoops (M : LeafMeaning) (o : Options) (r : Regions) (l : ProductLine) (loops : List Invariant) : Type 0 where
+  pub are : AreLoopsOf M o r l loops
+  pub all : AreLoopsOfAll M o l loops
+
 -- the text of such invariants, and behind it this text
 pub record AreInvariantsBefore (M : LeafMeaning) (o : Options) (r : Regions) (l : ProductLine) (behind text : List ℕ) : Type 0 where
   pub invariants : List Invariant
@@ -76,7 +81,7 @@ pub record AreInvariantsBefore (M : LeafMeaning) (o : Options) (r : Regions) (l 
 -- the text of the certificate of the loops' invariants and of these alarms
 pub record IsCertificateText (M : LeafMeaning) (o : Options) (r : Regions) (l : ProductLine) (alarms : List FamilyAlarm) (text : List ℕ) : Type 0 where
   pub loops : List Invariant
-  pub are : AreLoopsOf M o r l loops
+  pub good : AreGoodLoops M o r l loops
   pub is : text ≡ certificate_text r M l.model.features (whole l.family.code).names o.mode loops alarms
 
 -- the whole text that is asked for

@@ -5,6 +5,7 @@ ghost use Rattle.std.specs.Prelude.{◌≡◌, ◌≤◌, ◌<◌, ℕ, List, []
 ghost use Rattle.c_tree.specs.View.{whole};
 ghost use Rattle.std.specs.List.{All};
 ghost use Rattle.cpp_conditions.specs.Validity.{IsConfig};
+ghost use Rattle.decision_tree.specs.Listed.{IsNumberedTree};
 ghost use Rattle.decision_tree.specs.Plain.{TestsBelow};
 ghost use Rattle.decision_tree.specs.View as tree;
 ghost use Rattle.lifted_analysis.specs.declared.findings.AlarmTree.{AlarmTree};
@@ -40,6 +41,8 @@ fn trees_of(alloc: Global, alarms: &[AlarmTree]) -> Result<Vec<Tree<bool>>, NoMe
     ensures tests { IfOk result (λ made. (count : ℕ)
         → All (λ (t : AlarmTree). TestsBelow count (tree.plain t.tree)) alarms.now
         → All (λ (t : Tree Bool). TestsBelow count (tree.plain t)) made.items) }
+    ensures numbered { IfOk result (λ made. All (λ (t : AlarmTree). IsNumberedTree 0 64 (tree.numbered t.tree)) alarms.now
+        → All (λ (t : Tree Bool). IsNumberedTree 0 64 (tree.numbered t)) made.items) }
 {
     let mut trees = Vec::new(alloc);
     for alarm in alarms {

@@ -2,8 +2,13 @@
 #![tactic(auto)]
 
 ghost use Rattle.std.specs.Prelude.{◌≡◌, ◌≤◌, ◌++◌, ℕ, List, [], ◌∷◌, Some, IfOk, map};
+ghost use Rattle.std.specs.List.{All};
 ghost use Rattle.c_tree.specs.View.{whole};
+ghost use Rattle.decision_tree.specs.Listed.{IsNumberedTree};
+ghost use Rattle.decision_tree.specs.View.{numbered};
+ghost use Rattle.lifted_analysis.specs.declared.findings.AlarmTree.{AlarmTree};
 ghost use Rattle.linear_atoms.specs.declared.regions.Regions.{Regions};
+ghost use Rattle.linear_atoms.specs.declared.regions.Regions.TheVariants.{Paths};
 ghost use Rattle.plain_analysis.specs.declared.options.Options.{Options};
 ghost use Rattle.alarm_report.specs.Invariants.{invariant};
 ghost use Rattle.famlint_families.specs.FamilyAnswers.{AnswersFamily, PromisedFamily};
@@ -29,11 +34,12 @@ use famlint_loads::{Done, Failure, ProductLine, load_product_line};
 use famlint_programs::options::options_of;
 use famlint_programs::over_domain;
 use famlint_requests::{Analysis, FamilyTask};
-use leaf_domain::Leaf;
+use leaf_domain::{Leaf, transfer_is_sound};
 use lifted_analysis::{FamilyFindings, analyse_family};
 use linear_atoms::Regions;
 use merged_findings::merged_findings;
 use plain_analysis::Options;
+use report_laws::leaf_texts_tell_stores;
 use std::alloc::Global;
 
 /// What the analysis of all variants finds, over a kind of leaf.
@@ -46,6 +52,8 @@ pub(crate) fn found_in<L: Leaf>(
     requires { IsUsableLine line.now }
     ensures found { IfOk result (λ f. IsFound L.value L.meaning options.now regions line.now f) }
     ensures tested { IfOk result (λ f. AreTested line.now f) }
+    ensures numbered { regions ≡ Paths → IfOk result
+        (λ f. All (λ (a : AlarmTree). IsNumberedTree 0 64 (numbered a.tree)) f.alarms.items) }
 {
     let family = &line.family;
     let plausible = plausible(alloc, &line.model, family.atoms.items())?;
@@ -92,6 +100,8 @@ fn invariants_in<L: Leaf>(
     ensures fit { IfOk result (λ made. AreInvariantsWithLiterals line.now made.items) }
 {
     variants_are_projections();
+    transfer_is_sound::<L>();
+    leaf_texts_tell_stores::<L>();
     let atoms = line.family.atoms.items();
     let invariants = invariants_of(alloc, prepared, atoms, findings.places.as_slice())?;
     Ok(invariants)

@@ -1,8 +1,9 @@
 use Rattle.std.proofs.Common.{Bool, List, ap, length, map, refl, subst, sym, ◌∙◌}
 use Rattle.std.specs.List.{All}
 use Rattle.decision_tree.specs.declared.tree.Tree.{Tree}
+use Rattle.decision_tree.specs.Listed.{IsNumberedTree}
 use Rattle.decision_tree.specs.Plain.{TestsBelow}
-use Rattle.decision_tree.specs.View.{plain}
+use Rattle.decision_tree.specs.View.{numbered, plain}
 use Rattle.linear_atoms.specs.declared.atoms.Atom.{Atom}
 use Rattle.lifted_analysis.specs.declared.findings.AlarmTree.{AlarmTree}
 use Rattle.alarm_report.specs.Alarms.{plain_alarm_tree}
@@ -18,6 +19,12 @@ nearest-requires-clause-tests g c =
     subst (λ (atoms : List Atom). All (λ (t : Tree Bool). TestsBelow (length atoms) (plain t)) c.deref-2.result.now) (sym c.items-atoms.ensures)
     (subst (All (λ (t : Tree Bool). TestsBelow (length l.family.atoms) (plain t))) (sym c.deref-2.ensures.value)
     (c.in_ok-trees.ensures.tests (length l.family.atoms) alarms))
+
+pub nearest-requires-clause-trees : goal.nearest-requires-clause-trees
+nearest-requires-clause-trees g c =
+    subst (All (λ (t : Tree Bool). IsNumberedTree 0 64 (numbered t))) (sym c.deref-2.ensures.value)
+    (c.in_ok-trees.ensures.numbered
+    (subst (All (λ (t : AlarmTree). IsNumberedTree 0 64 (numbered t.tree))) (sym c.deref.ensures.value) (c.in_ok-findings.ensures.numbered refl)))
 
 pub returns-clause-good : goal.returns-clause-good
 returns-clause-good g c =

@@ -1,8 +1,7 @@
 use Rattle.std.proofs.Common.{◌≡◌, map, take}
-use Rattle.decision_tree.specs.View.{plain}
-use Rattle.alarm_report.specs.Alarms.{plain_alarm_tree}
-use Rattle.famlint_families.specs.Advised.{trees_of}
+use Rattle.decision_tree.specs.View.{numbered}
+use Rattle.famlint_families.proofs.Advising.{numbered_trees}
 use Rattle.famlint_families.proofs.advice.trees_of.Given as goal
 
 abbrev pub invariant-loop-alarm : goal.invariant-loop-alarm
-invariant-loop-alarm l = map plain l.trees.items ≡ trees_of (map plain_alarm_tree (take l.alarm-index l.alarms))
+invariant-loop-alarm l = map numbered l.trees.items ≡ numbered_trees (take l.alarm-index l.alarms)
