@@ -7,7 +7,7 @@ ghost use Rattle.cpp_conditions.specs.Propositions.{IsFit, Not, Or};
 ghost use Rattle.cpp_conditions.specs.Validity.{AreFit};
 ghost use Rattle.cpp_conditions.specs.View.{proposition};
 ghost use Rattle.decision_tree.specs.Plain.{TestsBelow};
-ghost use Rattle.decision_tree.specs.Listed.{IsTreeIn, Keeps};
+ghost use Rattle.decision_tree.specs.Listed.{IsNumberedTree, IsTreeIn, Keeps};
 ghost use Rattle.decision_tree.specs.View.{numbered, plain};
 
 use configuration_advice::{advice_text, nearest};
@@ -121,7 +121,8 @@ fn all_of(forest: &mut Forest<bool>, from: u32, to: u32, turned: bool) -> Result
 
 /// The advice for `A=0 B=0 C=0 N=5` where one of the trees is an alarm, as a text.
 fn advises(rt: &impl Abort, alloc: Global, trees: &[Tree<bool>], text: &[u8]) -> Result<(), Fail>
-    requires { All (λ (t : Tree Bool). TestsBelow 4 (plain t)) trees.now }
+    requires tests { All (λ (t : Tree Bool). TestsBelow 4 (plain t)) trees.now }
+    requires numbered { All (λ (t : Tree Bool). IsNumberedTree 0 64 (numbered t)) trees.now }
 {
     let model = model(alloc)?;
     let atoms = atoms(alloc)?;

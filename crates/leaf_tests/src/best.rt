@@ -53,8 +53,8 @@ fn are_strides<L: Leaf>(
     Ok(true)
 }
 
-/// Whether a leaf is the best of its kind over these stores: its bounds are those of the model, and its strides. The numbers of the
-/// stores are at most 25 in size.
+/// Whether a leaf is the best of its kind over these stores: its bounds, where the kind finds the best ones, are those of the model,
+/// and its strides. The numbers of the stores are at most 25 in size.
 pub(crate) fn is_best_over<L: Leaf>(
     alloc: Global,
     template: Template,
@@ -65,9 +65,9 @@ pub(crate) fn is_best_over<L: Leaf>(
         return Ok(leaf.is_nothing());
     };
     for (times, bound) in template.sums().iter().zip(model.bounds.as_slice()) {
-        if greatest(alloc, leaf, *times)? != Some(*bound) {
+        if template.is_best_of(*times) && greatest(alloc, leaf, *times)? != Some(*bound) {
             return Ok(false);
         }
     }
-    Ok(template != Template::Strides || are_strides(alloc, leaf, &model, *first)?)
+    Ok(!template.has_strides() || are_strides(alloc, leaf, &model, *first)?)
 }

@@ -1,4 +1,4 @@
-//! Tests of runs and of the three kinds of leaf, over their contracts; among them every operation over small leaves of two variables, against
+//! Tests of runs and of the four kinds of leaf, over their contracts; among them every operation over small leaves of two variables, against
 //! the stores that it must hold.
 #![tactic(auto)]
 

@@ -103,6 +103,8 @@ pub(crate) enum Template {
     Intervals,
     Strides,
     Octagons,
+    /// Octagons together with strides.
+    Sharp,
 }
 
 /// How often both variables are in each sum of which intervals have an upper bound.
@@ -135,17 +137,30 @@ fn is_small(times: i8) -> bool {
 }
 
 impl Template {
+    /// Whether the kind has bounds of sums of both variables.
+    pub(crate) fn has_pairs(self) -> bool {
+        self == Template::Octagons || self == Template::Sharp
+    }
+
+    /// Whether the kind has a stride for each variable.
+    pub(crate) fn has_strides(self) -> bool {
+        self == Template::Strides || self == Template::Sharp
+    }
+
     /// How often both variables are in each sum of which the kind has an upper bound.
     pub(crate) fn sums(self) -> &'static [(i8, i8)] {
-        match self {
-            Template::Octagons => &SIGNED,
-            _ => &SINGLE,
-        }
+        if self.has_pairs() { &SIGNED } else { &SINGLE }
+    }
+
+    /// Whether the kind finds the least upper bound of the sum over the stores that its bounds and strides have in common. Octagons
+    /// and strides tell each other the bounds of variables, and not those of sums.
+    pub(crate) fn is_best_of(self, times: (i8, i8)) -> bool {
+        self != Template::Sharp || times.0 == 0 || times.1 == 0
     }
 
     /// The stride of a number alone.
     fn point(self, n: i64) -> Stride {
-        if self == Template::Strides {
+        if self.has_strides() {
             Stride {
                 modulus: 0,
                 residue: n,
@@ -157,12 +172,12 @@ impl Template {
 
     /// Whether the kind has the range of the sum, and meets a comparison of it with 0 exactly, unless that is `!=`.
     pub(crate) fn has_sum(self, sum: Sum) -> bool {
-        self == Template::Octagons && is_small(sum.x) && is_small(sum.y)
+        self.has_pairs() && is_small(sum.x) && is_small(sum.y)
     }
 
     /// Whether the kind answers the best leaf over the stores with a variable put as the sum, where it is given the range of the sum.
     pub(crate) fn sets_sum(self, sum: Sum) -> bool {
-        self != Template::Octagons || (self.has_sum(sum) && (sum.x == 0 || sum.y == 0))
+        !self.has_pairs() || (self.has_sum(sum) && (sum.x == 0 || sum.y == 0))
     }
 }
 

@@ -173,7 +173,7 @@ pub(crate) fn set_range_is_exact<L: Leaf>(
 }
 
 /// Each store at which a sum lies in a range, with a variable's number replaced by the value of the sum, is held behind the
-/// assignment. Where that is asked, the assignment is the best leaf over these stores; an octagon then holds no other.
+/// assignment. Where that is asked, the assignment is the best leaf over these stores; a kind with sums of both variables then holds no other.
 pub(crate) fn set_form_holds<L: Leaf>(
     alloc: Global,
     small: &Small<L>,
@@ -199,7 +199,7 @@ pub(crate) fn set_form_holds<L: Leaf>(
     if !is_best {
         return holds_all(alloc, &set, &wanted);
     }
-    let is_exact = small.template == Template::Octagons;
+    let is_exact = small.template.has_pairs();
     Ok(
         holds_all(alloc, &set, &wanted)?
             && (!is_exact || are_among(&held_by(alloc, &set)?, &wanted))

@@ -13,6 +13,7 @@ use interval_leaf::IntervalLeaf;
 use leaf_domain::{Compare, Leaf, Thresholds};
 use octagon_leaf::OctagonLeaf;
 use product_leaf::StrideLeaf;
+use sharp_leaf::SharpLeaf;
 use std::alloc::Global;
 use std::test::Fail;
 
@@ -42,7 +43,7 @@ const RANGES: [(i64, i64); 4] = [(-4, 4), (0, 2), (-1, -1), (3, 2)];
 
 /// A variable is put as a sum: where the sum may have any value, where just its values are given, and where only some of them are.
 fn sets_pass<L: Leaf>(alloc: Global, small: &Small<L>, x: u32, sum: Sum) -> Result<bool, NoMemory> {
-    let is_exact = small.template == Template::Octagons && small.template.sets_sum(sum);
+    let is_exact = small.template.has_pairs() && small.template.sets_sum(sum);
     let values = values_of(small.held, sum);
     let values = between(values.low, values.high);
     Ok(
@@ -127,13 +128,21 @@ fn pair_passes<L: Leaf>(alloc: Global, template: Template, a: &L, b: &L) -> Resu
     )
 }
 
-/// Everything, over all small leaves of a kind.
-fn all_pass<L: Leaf>(alloc: Global, template: Template) -> Result<bool, NoMemory> {
+/// The operations on one leaf, over all small leaves of a kind.
+fn singles_pass<L: Leaf>(alloc: Global, template: Template) -> Result<bool, NoMemory> {
     let leaves: Vec<L> = small_leaves(alloc)?;
-    for a in &leaves {
-        if !single_passes(alloc, a, template)? {
+    for leaf in &leaves {
+        if !single_passes(alloc, leaf, template)? {
             return Ok(false);
         }
+    }
+    Ok(leaves.len() == 35)
+}
+
+/// The operations on two leaves, over all pairs of small leaves of a kind.
+fn pairs_pass<L: Leaf>(alloc: Global, template: Template) -> Result<bool, NoMemory> {
+    let leaves: Vec<L> = small_leaves(alloc)?;
+    for a in &leaves {
         for b in &leaves {
             if !pair_passes(alloc, template, a, b)? {
                 return Ok(false);
@@ -141,6 +150,11 @@ fn all_pass<L: Leaf>(alloc: Global, template: Template) -> Result<bool, NoMemory
         }
     }
     Ok(leaves.len() == 35)
+}
+
+/// Everything, over all small leaves of a kind.
+fn all_pass<L: Leaf>(alloc: Global, template: Template) -> Result<bool, NoMemory> {
+    Ok(singles_pass::<L>(alloc, template)? && pairs_pass::<L>(alloc, template)?)
 }
 
 #[test]
@@ -158,5 +172,18 @@ fn strides_hold_what_they_must(rt: HostRuntime) -> Result<(), Fail> {
 #[test]
 fn octagons_hold_what_they_must(rt: HostRuntime) -> Result<(), Fail> {
     assert!(rt; all_pass::<OctagonLeaf>(rt.alloc(), Template::Octagons)?);
+    Ok(())
+}
+
+// two tests, since each has a limit of time
+#[test]
+fn octagons_with_strides_hold_what_they_must(rt: HostRuntime) -> Result<(), Fail> {
+    assert!(rt; singles_pass::<SharpLeaf>(rt.alloc(), Template::Sharp)?);
+    Ok(())
+}
+
+#[test]
+fn pairs_of_octagons_with_strides_hold_what_they_must(rt: HostRuntime) -> Result<(), Fail> {
+    assert!(rt; pairs_pass::<SharpLeaf>(rt.alloc(), Template::Sharp)?);
     Ok(())
 }

@@ -117,6 +117,66 @@ fn thirty_switches_with_alarms_on_six(rt: HostRuntime) -> Result<(), Fail> {
     compares(&rt, alloc, line.as_str(), &contents, (0, told, b""))
 }
 
+/// A model of 24 switches, a file that counts those that are on and has an alarm where more than twelve are, and the words with
+/// all switches on.
+fn counted(alloc: Global) -> Result<(String, String, String), Fail> {
+    let mut model = String::from_str(alloc, "{\"features\":[{\"name\":\"F1\"}")?;
+    let mut file = String::from_str(
+        alloc,
+        "int x = 0;\nint main(void) {\n#ifdef F1\nx++;\n#endif\n",
+    )?;
+    let mut words = String::from_str(alloc, "advise m f F1")?;
+    for number in 2..25 {
+        let feature = format!(in alloc; ",{{\"name\":\"F{number}\"}}")?;
+        model.push_str(feature.as_str())?;
+        let word = format!(in alloc; " F{number}")?;
+        words.push_str(word.as_str())?;
+        let group = format!(in alloc; "#ifdef F{number}\nx++;\n#endif\n")?;
+        file.push_str(group.as_str())?;
+    }
+    model.push_str("]}\n")?;
+    file.push_str("assert(x <= 12);\n}\n")?;
+    Ok((model, file, words))
+}
+
+#[test]
+fn half_of_the_switches_that_count_change(rt: HostRuntime) -> Result<(), Fail> {
+    let alloc = rt.alloc();
+    let (model, file, line) = counted(alloc)?;
+    let contents = two_files(model.as_bytes(), file.as_bytes());
+    let told =
+        b"advice: F1=0 F2=0 F3=0 F4=0 F5=0 F6=0 F7=0 F8=0 F9=0 F10=0 F11=0 F12=0 F13=1 F14=1 F15=1 F16=1 F17=1 F18=1 F19=1 F20=1 F21=1 F22=1 F23=1 F24=1; changed 12\n".as_slice();
+    compares(&rt, alloc, line.as_str(), &contents, (0, told, b""))
+}
+
+/// A model of 32 numbers, which take more tests than trees have, and the words with each number 3.
+fn numbers(alloc: Global) -> Result<(String, String), Fail> {
+    let mut model = String::from_str(
+        alloc,
+        "{\"features\":[{\"name\":\"N1\",\"min\":0,\"max\":7}",
+    )?;
+    let mut words = String::from_str(alloc, "advise m f N1=3")?;
+    for number in 2..33 {
+        let feature = format!(in alloc; ",{{\"name\":\"N{number}\",\"min\":0,\"max\":7}}")?;
+        model.push_str(feature.as_str())?;
+        let word = format!(in alloc; " N{number}=3")?;
+        words.push_str(word.as_str())?;
+    }
+    model.push_str("]}\n")?;
+    Ok((model, words))
+}
+
+#[test]
+fn one_of_many_numbers_changes(rt: HostRuntime) -> Result<(), Fail> {
+    let alloc = rt.alloc();
+    let (model, line) = numbers(alloc)?;
+    let file = b"int main(void) {\n#if N5 < 4\nassert(0);\n#endif\n}\n".as_slice();
+    let contents = two_files(model.as_bytes(), file);
+    let told =
+        b"advice: N1=3 N2=3 N3=3 N4=3 N5=4 N6=3 N7=3 N8=3 N9=3 N10=3 N11=3 N12=3 N13=3 N14=3 N15=3 N16=3 N17=3 N18=3 N19=3 N20=3 N21=3 N22=3 N23=3 N24=3 N25=3 N26=3 N27=3 N28=3 N29=3 N30=3 N31=3 N32=3; changed 1\n".as_slice();
+    compares(&rt, alloc, line.as_str(), &contents, (0, told, b""))
+}
+
 #[test]
 fn a_model_that_is_not_loaded(rt: HostRuntime) -> Result<(), Fail> {
     let alloc = rt.alloc();

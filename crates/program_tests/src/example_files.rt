@@ -1,7 +1,7 @@
 //! The example files, and the words of commands on them with what is expected, as `examples/to_tests.sh` writes them.
 
 /// Each file under its path.
-pub(crate) const FILES: [(&str, &str); 65] = [
+pub(crate) const FILES: [(&str, &str); 66] = [
     (
         "assertion.c",
         "int level = 900;\nint limit = 1000;\nint main(void)\n{\n    level = level - limit;\n    assert(level > 0 - 200);\n    assert(level >= 0);\n    level = 0;\n}\n",
@@ -9,6 +9,10 @@ pub(crate) const FILES: [(&str, &str); 65] = [
     (
         "digits.c",
         "/* Counts the digits of a line, and stops at 16 of them. */\nint byte, digits, hexadecimal;\n\nstatic int most = 0x10;\n\nint main(void)\n{\n    byte = input();\n    while (byte != '\\n' && digits < most) {\n        if (byte >= '0' && byte <= '9')\n            digits++;\n        else if (byte >= 'a' && byte <= '\\x66')\n            hexadecimal = 1;\n        byte = input();\n    }\n    assert(digits <= 020);\n    assert(hexadecimal >= '\\0');\n}\n",
+    ),
+    (
+        "frame.c",
+        "#include <assert.h>\n/* Fills a frame with samples of two bytes, and sends each at once. */\nstatic int filled;\nstatic int sent;\n\nint main(void)\n{\n    while (filled < 99) {\n        filled += 2;\n        sent += 2;\n    }\n    assert(sent == 100);\n}\n",
     ),
     (
         "includes.c",
@@ -259,9 +263,22 @@ pub(crate) const FILES: [(&str, &str); 65] = [
 ];
 
 /// The words of each command on a program without variants, with its output and then its line on the error stream.
-pub(crate) const PROGRAMS: [(&str, &str); 23] = [
+pub(crate) const PROGRAMS: [(&str, &str); 27] = [
     ("plain assertion.c", "7:5: assertion\nalarms: 1\n"),
     ("plain digits.c", "alarms: 0\n"),
+    (
+        "plain frame.c",
+        "10:9: overflow\n12:5: assertion\nalarms: 2\n",
+    ),
+    (
+        "plain --domain=octagon frame.c",
+        "12:5: assertion\nalarms: 1\n",
+    ),
+    ("plain --domain=sharp frame.c", "alarms: 0\n"),
+    (
+        "plain --domain=stride frame.c",
+        "10:9: overflow\n12:5: assertion\nalarms: 2\n",
+    ),
     ("plain --includes=skip includes.c", "alarms: 0\n"),
     ("plain logger.c", "20:9: overflow\nalarms: 1\n"),
     ("plain logger_mended.c", "alarms: 0\n"),

@@ -92,6 +92,11 @@ fn alarms_with_options(rt: HostRuntime) -> Result<(), Fail> {
             "10:1: assertion if !A; example A=0\nalarms: 1\n",
         ),
         (
+            "analyse --domain sharp ma f38",
+            1,
+            "10:1: assertion if !A; example A=0\nalarms: 1\n",
+        ),
+        (
             "analyse queue.json queue.c",
             1,
             "22:9: overflow if LOG && !FAST; example LOG=1 FAST=0 RETRY=0 SAFE=0 BULK=0 SIZE=1 LIMIT=0\n22:9: overflow if LOG && FAST; example LOG=1 FAST=1 RETRY=0 SAFE=0 BULK=0 SIZE=1 LIMIT=0\n26:5: overflow if !SAFE && BULK; example LOG=0 FAST=0 RETRY=0 SAFE=0 BULK=1 SIZE=1 LIMIT=0\n34:5: zero-divisor if FAST && RETRY && LIMIT >= 1; example LOG=0 FAST=1 RETRY=1 SAFE=0 BULK=0 SIZE=1 LIMIT=1\nalarms: 4\n",
@@ -121,6 +126,11 @@ fn invariants_of_all_variants(rt: HostRuntime) -> Result<(), Fail> {
             "invariants --domain octagon m0 f7",
             0,
             "4:1: if 1: x in [0,0], y in [0,0]\n5:1: if 1: x in [0,100], y in [0,100], x-y in [0,0]\n5:17: if 1: x in [0,99], y in [0,99], x-y in [0,0]\n6:1: if 1: x in [0,99], y in [0,99], x-y in [0,0]\n7:1: if 1: x in [1,100], y in [0,99], x-y in [1,1]\n9:1: if 1: x in [100,100], y in [100,100]\n10:1: if 1: x in [100,100], y in [100,100]\nalarms: 0\n",
+        ),
+        (
+            "invariants --domain=sharp m0 f42",
+            0,
+            "4:1: if 1: x in [0,10], y in [0,10], x-y in [0,0]\n4:15: if 1: x in [0,8], y in [0,8], x-y in [0,0]\n5:1: if 1: x in [0,8], y in [0,8], x-y in [0,0]\n6:1: if 1: x in [2,10], y in [0,8], x-y in [2,2]\n8:1: if 1: x in [10,10], y in [10,10]\n9:1: if 1: x in [10,10], y in [10,10]\nalarms: 0\n",
         ),
         (
             "invariants ma f31",

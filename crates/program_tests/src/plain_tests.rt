@@ -19,6 +19,9 @@ const ROW_6: &[u8] = b"int x;\nint main(void) {\nwhile (x < 10) x++;\nassert(x =
 const STEPS_OF_TWO: &[u8] =
     b"int x;\nint main(void) {\nwhile (x < 10) x += 2;\nassert(x == 10);\n}\n";
 
+const TWO_COUNTS: &[u8] =
+    b"int x;\nint y;\nint main(void) {\nwhile (x < 9) {\nx += 2;\ny += 2;\n}\nassert(y == 10);\n}\n";
+
 const ROW_7: &[u8] =
     b"int x;\nint y;\nint main(void) {\ny = x;\nwhile (x < 100) {\nx++;\ny++;\n}\nassert(x == y);\n}\n";
 
@@ -140,7 +143,7 @@ fn refuses_files(rt: HostRuntime) -> Result<(), Fail> {
 #[test]
 fn reports(rt: HostRuntime) -> Result<(), Fail> {
     let none: &[u8] = b"alarms: 0\n";
-    let cases: [(&str, &[u8], u8, &[u8]); 26] = [
+    let cases: [(&str, &[u8], u8, &[u8]); 29] = [
         ("plain f", ROW_1, 0, none),
         (
             "plain f",
@@ -186,6 +189,19 @@ fn reports(rt: HostRuntime) -> Result<(), Fail> {
         ("plain --domain octagon f", ROW_7, 0, none),
         ("plain f", STEPS_OF_TWO, 1, b"4:1: assertion\nalarms: 1\n"),
         ("plain --domain stride f", STEPS_OF_TWO, 0, none),
+        (
+            "plain --domain octagon f",
+            TWO_COUNTS,
+            1,
+            b"8:1: assertion\nalarms: 1\n",
+        ),
+        (
+            "plain --domain stride f",
+            TWO_COUNTS,
+            1,
+            b"6:1: overflow\n8:1: assertion\nalarms: 2\n",
+        ),
+        ("plain --domain=sharp f", TWO_COUNTS, 0, none),
         ("plain --domain=octagon f", ROW_11, 0, none),
         (
             "plain --domain octagon f",
