@@ -36,7 +36,7 @@ int main(void) {
 END
 runs=${RUNS:-20}
 declare -A took
-for domain in interval stride octagon; do
+for domain in interval stride octagon sharp; do
     start=$(date +%s%N)
     for _ in $(seq "$runs"); do
         "$program" plain --overflow=wrap --delay=2 --narrow=2 --domain="$domain" "$work/nest.c" > "$work/$domain" || [ $? = 1 ]
@@ -46,6 +46,7 @@ for domain in interval stride octagon; do
 done
 echo "stride to interval: $((100 * took[stride] / took[interval])) in a hundred"
 echo "octagon to interval: $((100 * took[octagon] / took[interval])) in a hundred"
+echo "sharp to interval: $((100 * took[sharp] / took[interval])) in a hundred"
 
 # A matrix is closed in full by `standing_as`, which is called by a widening (in a step that moves a loop's head) and by a narrowing,
 # and a meet closes by `close_after_one`. A pass over the entries ends with one sweep, and each closing with one sweep more: so the

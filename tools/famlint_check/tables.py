@@ -29,7 +29,7 @@ class Option:
 # One line for each option of `analyse` and `plain`, and the one place for a new one. An option with a default is given to famlint in each
 # run, unless the words have it; an older famlint, which does not have the option, then refuses all words, with status 2.
 OPTIONS = (
-    Option("domain", ("interval", "octagon", "stride")),
+    Option("domain", ("interval", "octagon", "stride", "sharp")),
     Option("delay", (0, 16)),
     Option("narrow", (0, 8)),
     Option("overflow", ("stop", "wrap")),

@@ -29,8 +29,8 @@ class Completions(InFolder):
         self.assertEqual(self.completed("_famlint", "famlint", "analyse", "--do"), "--domain=")
         self.assertEqual(self.completed("_famlint", "famlint", "run", "--st"), "--steps=")
         # bash has three words for `--domain=s`
-        self.assertEqual(self.completed("_famlint", "famlint", "analyse", "--domain", "=", "s"), "stride")
-        self.assertEqual(self.completed("_famlint", "famlint", "analyse", "--domain", "="), "interval octagon stride")
+        self.assertEqual(self.completed("_famlint", "famlint", "analyse", "--domain", "=", "s"), "stride sharp")
+        self.assertEqual(self.completed("_famlint", "famlint", "analyse", "--domain", "="), "interval octagon stride sharp")
         self.assertEqual(self.completed("_famlint", "famlint", "plain", "ri"), "ring.c")
 
     def test_of_famlint_check(self):

@@ -65,7 +65,7 @@ class Words(InFolder):
         self.refused("famlint has no option --dommain; is --domain meant?", "--dommain=octagon", "quiet.c")
 
     def test_value_that_famlint_refuses(self):
-        self.refused("--domain=polyhedra: the values are interval, octagon, stride", "--domain=polyhedra", "quiet.c")
+        self.refused("--domain=polyhedra: the values are interval, octagon, stride, sharp", "--domain=polyhedra", "quiet.c")
         self.refused("--delay=17: the values are 0 to 16", "--delay=17", "quiet.c")
 
     def test_option_of_famlint_twice(self):
