@@ -41,7 +41,7 @@ class Text(InFolder):
         self.has(ended, 4, "alarms: 0; errors: 1\n", (
             "at.c:3:14: error: F10 at '@'\n    3 |     /* \u00e4 */ @@\n      |             ^\n"
             "  F10: a byte that begins no token\n"
-            "  to do: leave out strings, character constants, [, ?, :, a lone &, ., and bytes that are not ASCII\n"))
+            "  to do: leave out strings, [, ?, :, a lone &, ., and bytes that are not ASCII\n"))
 
     def test_a_failed_load(self):
         os.symlink("nowhere", self.folder / "link.c")
