@@ -12,8 +12,6 @@ mod counted_leaf;
 #[cfg(test)]
 mod families;
 #[cfg(test)]
-mod nearest;
-#[cfg(test)]
 mod octagon_programs;
 #[cfg(test)]
 mod passes;
