@@ -12,6 +12,8 @@ mod counted_leaf;
 #[cfg(test)]
 mod families;
 #[cfg(test)]
+mod nearest;
+#[cfg(test)]
 mod octagon_programs;
 #[cfg(test)]
 mod passes;
