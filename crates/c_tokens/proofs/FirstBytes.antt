@@ -3,7 +3,7 @@ use Rattle.std.proofs.Common.{◌≡◌, ℕ, zero, suc, ◌<◌, ◌≤◌, inl
 use Rattle.std.specs.Prelude.{◌||◌, ◌&&◌, codes}
 use Rattle.std.specs.List.{list_all}
 use Rattle.std.proofs.lemmas.Bool.{and_parts, or_cases, or_right, eqb-true, leb-true, false_from_ne_true}
-use Rattle.c_words.specs.Bytes.{is_space, is_digit, is_nondigit, is_word_byte}
+use Rattle.c_words.specs.Bytes.{is_space, is_digit, is_letter, is_nondigit, is_word_byte}
 use Rattle.c_tokens.specs.Lexemes.{is_one_of}
 use Rattle.c_tokens.specs.Lexemes.{is_lexeme, is_run, is_mark, is_pair, is_quoted, is_empty, closes, is_number_behind}
 
@@ -18,9 +18,9 @@ within_above low high b h e = let p = and_parts (leb low b) (leb b high) e in om
 
 word_above : (b : ℕ) → is_word_byte b ≡ true → 33 ≤ b
 word_above b e = elim (or_cases (is_nondigit b) (is_digit b) e) [
-  | inl h ↦ elim (or_cases ((eqb b 95) || (leb 97 b && leb b 122)) (leb 65 b && leb b 90) h) [
-    | inl i ↦ elim (or_cases (eqb b 95) (leb 97 b && leb b 122) i) [ inl j ↦ omega (arith, eqb-true b 95 j) | inr j ↦ within_above 97 122 b (omega arith) j ]
-    | inr i ↦ within_above 65 90 b (omega arith) i
+  | inl h ↦ elim (or_cases (is_letter b) (eqb b 95) h) [
+    | inl i ↦ elim (or_cases (leb 97 b && leb b 122) (leb 65 b && leb b 90) i) [ inl j ↦ within_above 97 122 b (omega arith) j | inr j ↦ within_above 65 90 b (omega arith) j ]
+    | inr i ↦ omega (arith, eqb-true b 95 i)
   ]
   | inr h ↦ within_above 48 57 b (omega arith) h
 ]

@@ -13,9 +13,17 @@ is_gap b = (b == 32) || (b == 9) || (nat_le 11 b && nat_le b 13)
 abbrev pub is_digit : ℕ → Bool
 is_digit b = nat_le 48 b && nat_le b 57
 
--- ISO/IEC 9899:2011, 6.4.2.1: a nondigit (an underscore or a letter)
+-- a small or a capital letter
+abbrev pub is_letter : ℕ → Bool
+is_letter b = (nat_le 97 b && nat_le b 122) || (nat_le 65 b && nat_le b 90)
+
+-- a letter or a digit
+abbrev pub is_alphanumeric : ℕ → Bool
+is_alphanumeric b = is_letter b || is_digit b
+
+-- ISO/IEC 9899:2011, 6.4.2.1: a nondigit (a letter or an underscore)
 abbrev pub is_nondigit : ℕ → Bool
-is_nondigit b = (b == 95) || (nat_le 97 b && nat_le b 122) || (nat_le 65 b && nat_le b 90)
+is_nondigit b = is_letter b || (b == 95)
 
 -- a letter, a digit or an underscore
 abbrev pub is_word_byte : ℕ → Bool

@@ -1,5 +1,5 @@
 -- Numbers as C writes them: digits in a base, integer constants, and how far a preprocessing number goes.
-use Rattle.std.specs.Prelude.{ℕ, ◌+◌, ◌*◌, ◌^◌, Bool, false, ◌&&◌, ◌||◌, ◌==◌, nat_lt, nat_le, List, [], ◌∷◌, length, drop, Option, Some, None, if◌then◌else◌}
+use Rattle.std.specs.Prelude.{ℕ, ◌+◌, ◌*◌, ◌^◌, Bool, false, not, ◌&&◌, ◌||◌, ◌==◌, nat_lt, nat_le, List, [], ◌∷◌, length, drop, Option, Some, None, if◌then◌else◌}
 use Rattle.std.specs.List.{list_all}
 use Rattle.std.specs.Char.{digit_value}
 use Rattle.c_words.specs.Bytes.{is_word_byte}
@@ -25,17 +25,29 @@ up_to most n = if nat_le n most then Some n else None
 abbrev pub numeral_up_to : ℕ → ℕ → List ℕ → Option ℕ
 numeral_up_to most base ds = if is_numeral base ds then up_to most (value_in base ds) else None
 
+-- `0` comes first
+abbrev pub begins_with_zero : List ℕ → Bool
+begins_with_zero [] = false
+begins_with_zero (b ∷ bs) = b == 48
+
+-- `0` comes first, and is not all
+abbrev pub is_padded : List ℕ → Bool
+is_padded ds = begins_with_zero ds && nat_lt 1 (length ds)
+
+-- `0`, or decimal digits that do not begin with `0`
+abbrev pub is_decimal : List ℕ → Bool
+is_decimal ds = is_numeral 10 ds && not (is_padded ds)
+
+-- the number that they write, up to a bound
+abbrev pub decimal_up_to : ℕ → List ℕ → Option ℕ
+decimal_up_to most ds = if is_decimal ds then up_to most (value_in 10 ds) else None
+
 -- ---- integer constants without a suffix (ISO/IEC 9899:2011, 6.4.4.1)
 
 -- `0x` or `0X` comes first
 abbrev pub is_prefixed : List ℕ → Bool
 is_prefixed (a ∷ b ∷ bs) = (a == 48) && ((b == 120) || (b == 88))
 is_prefixed _ = false
-
--- `0` comes first
-abbrev pub begins_with_zero : List ℕ → Bool
-begins_with_zero [] = false
-begins_with_zero (b ∷ bs) = b == 48
 
 -- hexadecimal behind `0x` or `0X`, else octal where `0` comes first, else decimal
 abbrev pub base_of : List ℕ → ℕ

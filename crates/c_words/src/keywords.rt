@@ -64,7 +64,7 @@ fn is(word: &[u8], text: &str) -> bool
 }
 
 /// Whether a word is one of these.
-fn is_among(words: &[&str], word: &[u8]) -> bool
+pub fn is_among(words: &[&str], word: &[u8]) -> bool
     ensures { result ≡ tables.is_among (map (λ w. w.now) words.now) word.now }
 {
     for other in words {

@@ -69,6 +69,25 @@ pub fn numeral(base: u32, digits: &[u8], most: u32) -> Option<u32>
     }
 }
 
+/// Whether `0` comes first.
+pub fn begins_with_zero(bytes: &[u8]) -> bool
+    ensures { result ≡ specs.begins_with_zero bytes.now }
+{
+    matches!(bytes, [b'0', ..])
+}
+
+/// The number of decimal digits, up to a bound; none where it is greater, where `0` comes first and is not all, or where
+/// the bytes are nothing such.
+pub fn decimal(digits: &[u8], most: u32) -> Option<u32>
+    ensures { result ≡ specs.decimal_up_to most digits.now }
+{
+    if begins_with_zero(digits) && digits.len() > 1 {
+        None
+    } else {
+        numeral(10, digits, most)
+    }
+}
+
 /// The base of an integer constant, and its digits.
 fn parts(word: &[u8]) -> (u32, &[u8])
     ensures base { result.0 ≡ specs.base_of word.now }

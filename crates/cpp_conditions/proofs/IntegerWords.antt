@@ -1,6 +1,6 @@
 -- Integer constants of conditions begin with a digit and are letters and digits.
-use Rattle.std.proofs.Common.{◌≡◌, ℕ, zero, suc, ◌+◌, ◌-◌, ◌^◌, ◌<◌, ◌≤◌, inl, inr, nat_eq, nat_lt, nat_le, ltb, leb, eqb, Bool, true, false, not, ◌&&◌, ◌||◌, cond, List, [], ◌∷◌, length, take, drop, slice_index_or, Option, Some, None, refl, sym, ap, subst, ◌∙◌, arith}
-use Rattle.std.proofs.lemmas.Bool.{false≢true, eqb-true, ltb-true, and_parts, or_cases, cases_lt, lt-ltb, le-leb, lt-leb}
+use Rattle.std.proofs.Common.{◌≡◌, ℕ, zero, suc, ◌-◌, ◌^◌, ◌<◌, ◌≤◌, inl, inr, nat_eq, nat_lt, Bool, true, false, ◌||◌, cond, List, [], ◌∷◌, length, take, drop, slice_index_or, refl, sym, ap, subst, ◌∙◌, arith}
+use Rattle.std.proofs.lemmas.Bool.{false≢true, eqb-true, ltb-true, and_parts, or_cases, le-leb}
 use Rattle.std.proofs.lemmas.Str.Parse.{digit_from_value}
 use Rattle.std.specs.List.{list_all, prefix_len}
 use Rattle.std.specs.Char.{digit_value}
@@ -9,8 +9,8 @@ use Rattle.std.proofs.Math.ListN.{drop_of_length-le}
 use Rattle.std.proofs.Math.Seq.{take-length}
 use Rattle.c_words.proofs.Decimals.{decimal_digits, decimal_constant, decimal_value}
 use Rattle.c_words.specs.Numbers.{is_digit_in, is_numeral, is_prefixed, begins_with_zero, base_of, digits_of, is_constant, constant_value, is_exponent}
-use Rattle.cpp_conditions.specs.Integers.{is_long, is_short, is_suffix, unsuffixed, suffix_of, is_integer, integer_value, ends_in_exponent, begins_with_sign, goes_on_behind}
-use Rattle.cpp_conditions.specs.Tokens.{is_digit, is_alphabetic, is_alphanumeric}
+use Rattle.cpp_conditions.specs.Integers.{is_long, is_short, is_suffix, unsuffixed, suffix_of, is_integer, integer_value, ends_in_exponent, goes_on_behind}
+use Rattle.c_words.specs.Bytes.{is_digit, is_alphanumeric}
 
 letter : (b : ℕ) → digit_value b < 36 → is_alphanumeric b ≡ true
 letter b h = grind arith

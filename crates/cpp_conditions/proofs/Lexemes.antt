@@ -1,9 +1,11 @@
 -- One step of the scanner is one step of the spelling.
-use Rattle.std.proofs.Common.{◌≡◌, ℕ, suc, ◌<◌, ◌≤◌, ◌+◌, nat_eq, Bool, true, false, not, ◌&&◌, ◌||◌, cond, if◌then◌else◌, List, [], ◌∷◌, ◌++◌, length, take, drop, get_or, map, Option, Some, None, option_map, refl, sym, ap, subst, ◌∙◌, append_assoc, arith}
+use Rattle.std.proofs.Common.{◌≡◌, ℕ, suc, ◌<◌, ◌≤◌, ◌+◌, nat_eq, Bool, true, false, not, ◌&&◌, ◌||◌, cond, if◌then◌else◌, List, [], ◌∷◌, ◌++◌, length, take, drop, map, Option, Some, None, option_map, refl, sym, ap, subst, ◌∙◌, append_assoc, arith}
 use Rattle.std.proofs.lemmas.Bool.{false≢true, eqb-true}
 use Rattle.std.proofs.lemmas.List.{append-nil, map-append}
 use Rattle.std.specs.List.{list_all, prefix_len}
-use Rattle.cpp_conditions.specs.Tokens.{Token, Digits, is_space, is_digit, is_alphabetic, is_alphanumeric, is_first, is_word, StopsAt, is_identifier, word_token, pair_of, single_of, NoPair, SpellsTokens, none, space, number, word, pair, single}
+use Rattle.c_words.specs.Bytes.{is_gap, is_digit, is_letter, is_alphanumeric, is_nondigit, is_word_byte}
+use Rattle.c_words.specs.Identifiers.{is_identifier}
+use Rattle.cpp_conditions.specs.Tokens.{Token, Digits, StopsAt, word_token, pair_of, single_of, NoPair, SpellsTokens, none, space, number, word, pair, single}
 use Rattle.cpp_conditions.specs.declared.tokens.Token as coded
 use Rattle.cpp_conditions.specs.Integers.{is_integer, integer_value, goes_on_behind}
 use Rattle.cpp_conditions.proofs.IntegerWords.{integer_letters, integer_digit}
@@ -83,21 +85,21 @@ or_left : (a b : Bool) → a ≡ true → (a || b) ≡ true
 or_left true b e = refl
 or_left false b e = absurd (false≢true e)
 
-digit_space : (b : ℕ) → is_digit b ≡ true → is_space b ≡ false
+digit_space : (b : ℕ) → is_digit b ≡ true → is_gap b ≡ false
 digit_space b h = grind arith
 
-first_space : (b : ℕ) → is_first b ≡ true → is_space b ≡ false
+first_space : (b : ℕ) → is_nondigit b ≡ true → is_gap b ≡ false
 first_space b h = grind arith
 
-first_digit : (b : ℕ) → is_first b ≡ true → is_digit b ≡ false
+first_digit : (b : ℕ) → is_nondigit b ≡ true → is_digit b ≡ false
 first_digit b h = grind arith
 
 -- ---- marks
 
 record IsOther (b : ℕ) : Type 0 where
-  pub no_space : is_space b ≡ false
+  pub no_space : is_gap b ≡ false
   pub no_digit : is_digit b ≡ false
-  pub no_first : is_first b ≡ false
+  pub no_first : is_nondigit b ≡ false
 
 chosen : {P : Type 0} (x : Bool) (t a : Token) (o : Option Token) → (if x then Some a else o) ≡ Some t → (x ≡ true → P) → (o ≡ Some t → P) → P
 chosen true t a o h f g = f refl
@@ -139,24 +141,24 @@ lexeme_number d ds bs h s n =
     let digit = integer_digit d ds h in
     let is = whole_run is_alphanumeric (d ∷ ds) bs all s in
     let rest = behind_run is_alphanumeric (d ∷ ds) bs all s in
-    ap (λ (x : Bool). if x then number_at (d ∷ (ds ++ bs)) else (if is_first d then word_at (d ∷ (ds ++ bs)) else mark_at d (ds ++ bs))) digit
+    ap (λ (x : Bool). if x then number_at (d ∷ (ds ++ bs)) else (if is_nondigit d then word_at (d ∷ (ds ++ bs)) else mark_at d (ds ++ bs))) digit
     ∙ ap (λ (xs : List ℕ). number_by (is_whole xs (behind is_alphanumeric (d ∷ (ds ++ bs)))) xs (behind is_alphanumeric (d ∷ (ds ++ bs)))) is
     ∙ ap (λ (xs : List ℕ). number_by (is_whole (d ∷ ds) xs) (d ∷ ds) xs) rest
     ∙ ap (λ (x : Bool). number_by (x && not (goes_on_behind (d ∷ ds) bs)) (d ∷ ds) bs) h
     ∙ ap (λ (x : Bool). number_by (not x) (d ∷ ds) bs) n
 
-lexeme_word : (d : ℕ) (ds bs : List ℕ) → is_identifier (d ∷ ds) ≡ true → StopsAt is_word bs → lexeme_at d (ds ++ bs) ≡ Some (word_token (d ∷ ds), bs)
+lexeme_word : (d : ℕ) (ds bs : List ℕ) → is_identifier (d ∷ ds) ≡ true → StopsAt is_word_byte bs → lexeme_at d (ds ++ bs) ≡ Some (word_token (d ∷ ds), bs)
 lexeme_word d ds bs h s =
-    let first = and_left (is_first d) (list_all is_word ds) h in
-    let all : list_all is_word (d ∷ ds) ≡ true = rw (or_left (is_first d) (is_digit d) first) (and_right (is_first d) (list_all is_word ds) h) in
-    ap (λ (x : Bool). if x then number_at (d ∷ (ds ++ bs)) else (if is_first d then word_at (d ∷ (ds ++ bs)) else mark_at d (ds ++ bs))) (first_digit d first)
+    let first = and_left (is_nondigit d) (list_all is_word_byte ds) h in
+    let all : list_all is_word_byte (d ∷ ds) ≡ true = rw (or_left (is_nondigit d) (is_digit d) first) (and_right (is_nondigit d) (list_all is_word_byte ds) h) in
+    ap (λ (x : Bool). if x then number_at (d ∷ (ds ++ bs)) else (if is_nondigit d then word_at (d ∷ (ds ++ bs)) else mark_at d (ds ++ bs))) (first_digit d first)
     ∙ ap (λ (x : Bool). if x then word_at (d ∷ (ds ++ bs)) else mark_at d (ds ++ bs)) first
-    ∙ ap (λ (xs : List ℕ). Some (word_token xs, behind is_word (d ∷ (ds ++ bs)))) (whole_run is_word (d ∷ ds) bs all s)
-    ∙ ap (λ (xs : List ℕ). Some (word_token (d ∷ ds), xs)) (behind_run is_word (d ∷ ds) bs all s)
+    ∙ ap (λ (xs : List ℕ). Some (word_token xs, behind is_word_byte (d ∷ (ds ++ bs)))) (whole_run is_word_byte (d ∷ ds) bs all s)
+    ∙ ap (λ (xs : List ℕ). Some (word_token (d ∷ ds), xs)) (behind_run is_word_byte (d ∷ ds) bs all s)
 
 lexeme_other : (b : ℕ) (bs : List ℕ) → IsOther b → lexeme_at b bs ≡ mark_at b bs
 lexeme_other b bs o =
-    ap (λ (x : Bool). if x then number_at (b ∷ bs) else (if is_first b then word_at (b ∷ bs) else mark_at b bs)) o.no_digit
+    ap (λ (x : Bool). if x then number_at (b ∷ bs) else (if is_nondigit b then word_at (b ∷ bs) else mark_at b bs)) o.no_digit
     ∙ ap (λ (x : Bool). if x then word_at (b ∷ bs) else mark_at b bs) o.no_first
 
 lexeme_pair : (b c : ℕ) (t : Token) (bs : List ℕ) → pair_of b c ≡ Some t → lexeme_at b (c ∷ bs) ≡ Some (t, bs)
@@ -182,9 +184,9 @@ NextBy false o bs ts = Follows o ts
 
 abbrev Next : List ℕ → List Token → Type 0
 Next [] ts = ts ≡ []
-Next (b ∷ bs) ts = NextBy (is_space b) (lexeme_at b bs) bs ts
+Next (b ∷ bs) ts = NextBy (is_gap b) (lexeme_at b bs) bs ts
 
-followed : (b : ℕ) (bs rest : List ℕ) (t : Token) (ts : List Token) → is_space b ≡ false → lexeme_at b bs ≡ Some (t, rest) → SpellsTokens rest ts → Next (b ∷ bs) (t ∷ ts)
+followed : (b : ℕ) (bs rest : List ℕ) (t : Token) (ts : List Token) → is_gap b ≡ false → lexeme_at b bs ≡ Some (t, rest) → SpellsTokens rest ts → Next (b ∷ bs) (t ∷ ts)
 followed b bs rest t ts h e s = subst (λ (x : Bool). NextBy x (lexeme_at b bs) bs (t ∷ ts)) (sym h) (subst (λ (o : Option (Token × List ℕ)). Follows o (t ∷ ts)) (sym e) (ts, refl, s))
 
 steps : {bytes : List ℕ} {ts : List Token} → SpellsTokens bytes ts → Next bytes ts
@@ -193,16 +195,16 @@ steps (space b {bs} {ts} h s) = subst (λ (x : Bool). NextBy x (lexeme_at b bs) 
 steps (number [] h n o s) = absurd (false≢true h)
 steps (number (d ∷ ds) {bs} {ts} h n o s) = followed d (ds ++ bs) bs _ ts (digit_space d (integer_digit d ds h)) (lexeme_number d ds bs h n o) s
 steps (word [] h n s) = absurd (false≢true h)
-steps (word (d ∷ ds) {bs} {ts} h n s) = followed d (ds ++ bs) bs _ ts (first_space d (and_left (is_first d) (list_all is_word ds) h)) (lexeme_word d ds bs h n) s
+steps (word (d ∷ ds) {bs} {ts} h n s) = followed d (ds ++ bs) bs _ ts (first_space d (and_left (is_nondigit d) (list_all is_word_byte ds) h)) (lexeme_word d ds bs h n) s
 steps (pair b c t {bs} {ts} h s) = followed b (c ∷ bs) bs t ts (pair_other b c t h).no_space (lexeme_pair b c t bs h) s
 steps (single b t {bs} {ts} h n s) = followed b bs bs t ts (single_other b t h).no_space (lexeme_single b t bs h n) s
 
-pub spaced : (b : ℕ) (bs : List ℕ) (ts : List Token) → is_space b ≡ true → SpellsTokens (b ∷ bs) ts → SpellsTokens bs ts
+pub spaced : (b : ℕ) (bs : List ℕ) (ts : List Token) → is_gap b ≡ true → SpellsTokens (b ∷ bs) ts → SpellsTokens bs ts
 spaced b bs ts h s = subst (λ (x : Bool). NextBy x (lexeme_at b bs) bs ts) h (steps s)
 
 -- ---- bytes spell at most one list of tokens
 
-same_rest : (b : ℕ) (bs rest : List ℕ) (t : Token) (ts us : List Token) → is_space b ≡ false → lexeme_at b bs ≡ Some (t, rest) → ((vs : List Token) → SpellsTokens rest vs → ts ≡ vs) → SpellsTokens (b ∷ bs) us → t ∷ ts ≡ us
+same_rest : (b : ℕ) (bs rest : List ℕ) (t : Token) (ts us : List Token) → is_gap b ≡ false → lexeme_at b bs ≡ Some (t, rest) → ((vs : List Token) → SpellsTokens rest vs → ts ≡ vs) → SpellsTokens (b ∷ bs) us → t ∷ ts ≡ us
 same_rest b bs rest t ts us h e same s =
     let n : NextBy false (Some (t, rest)) bs us = subst (λ (o : Option (Token × List ℕ)). NextBy false o bs us) e (subst (λ (x : Bool). NextBy x (lexeme_at b bs) bs us) h (steps s)) in
     ap (λ (xs : List Token). t ∷ xs) (same n.0 n.2) ∙ sym n.1
@@ -213,7 +215,7 @@ one_list (space b {bs} {ts} h s) us t = one_list s us (spaced b bs us h t)
 one_list (number [] h n o s) us t = absurd (false≢true h)
 one_list (number (d ∷ ds) {bs} {ts} h n o s) us t = same_rest d (ds ++ bs) bs _ ts us (digit_space d (integer_digit d ds h)) (lexeme_number d ds bs h n o) (one_list s) t
 one_list (word [] h n s) us t = absurd (false≢true h)
-one_list (word (d ∷ ds) {bs} {ts} h n s) us t = same_rest d (ds ++ bs) bs _ ts us (first_space d (and_left (is_first d) (list_all is_word ds) h)) (lexeme_word d ds bs h n) (one_list s) t
+one_list (word (d ∷ ds) {bs} {ts} h n s) us t = same_rest d (ds ++ bs) bs _ ts us (first_space d (and_left (is_nondigit d) (list_all is_word_byte ds) h)) (lexeme_word d ds bs h n) (one_list s) t
 one_list (pair b c p {bs} {ts} h s) us t = same_rest b (c ∷ bs) bs p ts us (pair_other b c p h).no_space (lexeme_pair b c p bs h) (one_list s) t
 one_list (single b p {bs} {ts} h n s) us t = same_rest b bs bs p ts us (single_other b p h).no_space (lexeme_single b p bs h n) (one_list s) t
 
@@ -229,13 +231,13 @@ made_number b bs ts true e f =
     (number (run is_alphanumeric (b ∷ bs)) (and_left (is_integer word) (not (goes_on_behind word rest)) e) (run_stops is_alphanumeric (b ∷ bs))
     (not_true (goes_on_behind word rest) (and_right (is_integer word) (not (goes_on_behind word rest)) e)) f.2))
 
-identifies : (b : ℕ) (bs : List ℕ) → is_first b ≡ true → is_identifier (run is_word (b ∷ bs)) ≡ true
-identifies b bs h = rw (or_left (is_first b) (is_digit b) h) (rw h (run_passes is_word bs))
+identifies : (b : ℕ) (bs : List ℕ) → is_nondigit b ≡ true → is_identifier (run is_word_byte (b ∷ bs)) ≡ true
+identifies b bs h = rw (or_left (is_nondigit b) (is_digit b) h) (rw h (run_passes is_word_byte bs))
 
-made_word : (b : ℕ) (bs : List ℕ) (ts : List Token) → is_first b ≡ true → Follows (word_at (b ∷ bs)) ts → SpellsTokens (b ∷ bs) ts
+made_word : (b : ℕ) (bs : List ℕ) (ts : List Token) → is_nondigit b ≡ true → Follows (word_at (b ∷ bs)) ts → SpellsTokens (b ∷ bs) ts
 made_word b bs ts h f =
-    subst (λ (us : List Token). SpellsTokens (b ∷ bs) us) (sym f.1) (subst (λ (xs : List ℕ). SpellsTokens xs (word_token (run is_word (b ∷ bs)) ∷ f.0)) (run_parts is_word (b ∷ bs))
-    (word (run is_word (b ∷ bs)) (identifies b bs h) (run_stops is_word (b ∷ bs)) f.2))
+    subst (λ (us : List Token). SpellsTokens (b ∷ bs) us) (sym f.1) (subst (λ (xs : List ℕ). SpellsTokens xs (word_token (run is_word_byte (b ∷ bs)) ∷ f.0)) (run_parts is_word_byte (b ∷ bs))
+    (word (run is_word_byte (b ∷ bs)) (identifies b bs h) (run_stops is_word_byte (b ∷ bs)) f.2))
 
 made_single : (b : ℕ) (bs : List ℕ) (ts : List Token) (o : Option Token) → single_of b ≡ o → NoPair b bs → Follows (option_map (λ t. (t, bs)) o) ts → SpellsTokens (b ∷ bs) ts
 made_single b bs ts None e n f = absurd f
@@ -249,13 +251,13 @@ made_mark : (b : ℕ) (bs : List ℕ) (ts : List Token) → Follows (mark_at b b
 made_mark b [] ts f = made_single b [] ts (single_of b) refl tt f
 made_mark b (c ∷ bs) ts f = made_pair b c bs ts (pair_of b c) refl f
 
-made_other : (b : ℕ) (bs : List ℕ) (ts : List Token) (v : Bool) → is_first b ≡ v → Follows (if v then word_at (b ∷ bs) else mark_at b bs) ts → SpellsTokens (b ∷ bs) ts
+made_other : (b : ℕ) (bs : List ℕ) (ts : List Token) (v : Bool) → is_nondigit b ≡ v → Follows (if v then word_at (b ∷ bs) else mark_at b bs) ts → SpellsTokens (b ∷ bs) ts
 made_other b bs ts true e f = made_word b bs ts e f
 made_other b bs ts false e f = made_mark b bs ts f
 
-made_by : (b : ℕ) (bs : List ℕ) (ts : List Token) (v : Bool) → is_digit b ≡ v → Follows (if v then number_at (b ∷ bs) else (if is_first b then word_at (b ∷ bs) else mark_at b bs)) ts → SpellsTokens (b ∷ bs) ts
+made_by : (b : ℕ) (bs : List ℕ) (ts : List Token) (v : Bool) → is_digit b ≡ v → Follows (if v then number_at (b ∷ bs) else (if is_nondigit b then word_at (b ∷ bs) else mark_at b bs)) ts → SpellsTokens (b ∷ bs) ts
 made_by b bs ts true e f = made_number b bs ts (is_whole (run is_alphanumeric (b ∷ bs)) (behind is_alphanumeric (b ∷ bs))) refl f
-made_by b bs ts false e f = made_other b bs ts (is_first b) refl f
+made_by b bs ts false e f = made_other b bs ts (is_nondigit b) refl f
 
 pub made : (b : ℕ) (bs : List ℕ) (ts : List Token) → Follows (lexeme_at b bs) ts → SpellsTokens (b ∷ bs) ts
 made b bs ts f = made_by b bs ts (is_digit b) refl f
@@ -287,13 +289,13 @@ shorter_number : (v : Bool) (ds after : List ℕ) (n : ℕ) → length after ≤
 shorter_number true ds after n h = h
 shorter_number false ds after n h = tt
 
-shorter_other : (v : Bool) (b : ℕ) (bs : List ℕ) → is_first b ≡ v → Shortens (length bs) (if v then word_at (b ∷ bs) else mark_at b bs)
-shorter_other true b bs e = behind_first is_word b bs (or_left (is_first b) (is_digit b) e)
+shorter_other : (v : Bool) (b : ℕ) (bs : List ℕ) → is_nondigit b ≡ v → Shortens (length bs) (if v then word_at (b ∷ bs) else mark_at b bs)
+shorter_other true b bs e = behind_first is_word_byte b bs (or_left (is_nondigit b) (is_digit b) e)
 shorter_other false b bs e = shorter_mark b bs
 
-shorter_by : (v : Bool) (b : ℕ) (bs : List ℕ) → is_digit b ≡ v → Shortens (length bs) (if v then number_at (b ∷ bs) else (if is_first b then word_at (b ∷ bs) else mark_at b bs))
-shorter_by true b bs e = shorter_number (is_whole (run is_alphanumeric (b ∷ bs)) (behind is_alphanumeric (b ∷ bs))) (run is_alphanumeric (b ∷ bs)) (behind is_alphanumeric (b ∷ bs)) (length bs) (behind_first is_alphanumeric b bs (or_right (is_alphabetic b) (is_digit b) e))
-shorter_by false b bs e = shorter_other (is_first b) b bs refl
+shorter_by : (v : Bool) (b : ℕ) (bs : List ℕ) → is_digit b ≡ v → Shortens (length bs) (if v then number_at (b ∷ bs) else (if is_nondigit b then word_at (b ∷ bs) else mark_at b bs))
+shorter_by true b bs e = shorter_number (is_whole (run is_alphanumeric (b ∷ bs)) (behind is_alphanumeric (b ∷ bs))) (run is_alphanumeric (b ∷ bs)) (behind is_alphanumeric (b ∷ bs)) (length bs) (behind_first is_alphanumeric b bs (or_right (is_letter b) (is_digit b) e))
+shorter_by false b bs e = shorter_other (is_nondigit b) b bs refl
 
 pub shorter : (b : ℕ) (bs after rest : List ℕ) (t : Token) → rest ≡ b ∷ bs → Some (t, after) ≡ lexeme_at b bs → length after < length rest
 shorter b bs after rest t cut e =
@@ -306,7 +308,7 @@ pub record Scanning (bytes : List ℕ) (done : List Token) (rest : List ℕ) : T
   pub forward : (us : List Token) → SpellsTokens rest us → SpellsTokens bytes (done ++ us)
   pub back : (ts : List Token) → SpellsTokens bytes ts → (us : List Token) × SpellsTokens rest us
 
-pub scanning_space : (bytes rest bs : List ℕ) (done : List Token) (b : ℕ) → Scanning bytes done rest → rest ≡ b ∷ bs → is_space b ≡ true → Scanning bytes done bs
+pub scanning_space : (bytes rest bs : List ℕ) (done : List Token) (b : ℕ) → Scanning bytes done rest → rest ≡ b ∷ bs → is_gap b ≡ true → Scanning bytes done bs
 scanning_space bytes rest bs done b so_far cut h = record {
   forward = λ us s. so_far.forward us (subst (λ (xs : List ℕ). SpellsTokens xs us) (sym cut) (space b h s));
   back = λ ts s.
@@ -314,10 +316,10 @@ scanning_space bytes rest bs done b so_far cut h = record {
       (r.0, spaced b bs r.0 h (subst (λ (xs : List ℕ). SpellsTokens xs r.0) cut r.1));
 }
 
-pub lexed : (b : ℕ) (bs : List ℕ) (ts : List Token) (o : Option (Token × List ℕ)) → is_space b ≡ false → lexeme_at b bs ≡ o → SpellsTokens (b ∷ bs) ts → Follows o ts
+pub lexed : (b : ℕ) (bs : List ℕ) (ts : List Token) (o : Option (Token × List ℕ)) → is_gap b ≡ false → lexeme_at b bs ≡ o → SpellsTokens (b ∷ bs) ts → Follows o ts
 lexed b bs ts o h e s = subst (λ (o : Option (Token × List ℕ)). Follows o ts) e (subst (λ (x : Bool). NextBy x (lexeme_at b bs) bs ts) h (steps s))
 
-pub scanning_token : (bytes rest bs after : List ℕ) (done : List Token) (t : Token) (b : ℕ) → Scanning bytes done rest → rest ≡ b ∷ bs → is_space b ≡ false → Some (t, after) ≡ lexeme_at b bs → Scanning bytes (done ++ t ∷ []) after
+pub scanning_token : (bytes rest bs after : List ℕ) (done : List Token) (t : Token) (b : ℕ) → Scanning bytes done rest → rest ≡ b ∷ bs → is_gap b ≡ false → Some (t, after) ≡ lexeme_at b bs → Scanning bytes (done ++ t ∷ []) after
 scanning_token bytes rest bs after done t b so_far cut h e = record {
   forward = λ us s.
       subst (λ (xs : List Token). SpellsTokens bytes xs) (sym (append_assoc done (t ∷ []) us))
@@ -328,7 +330,7 @@ scanning_token bytes rest bs after done t b so_far cut h e = record {
       (f.0, f.2);
 }
 
-pub scanning_wrong : (bytes rest bs : List ℕ) (done : List Token) (b : ℕ) → Scanning bytes done rest → rest ≡ b ∷ bs → is_space b ≡ false → None ≡ lexeme_at b bs → (ts : List Token) → SpellsTokens bytes ts → ⊥
+pub scanning_wrong : (bytes rest bs : List ℕ) (done : List Token) (b : ℕ) → Scanning bytes done rest → rest ≡ b ∷ bs → is_gap b ≡ false → None ≡ lexeme_at b bs → (ts : List Token) → SpellsTokens bytes ts → ⊥
 scanning_wrong bytes rest bs done b so_far cut h e ts s =
     let r = so_far.back ts s in lexed b bs r.0 None h (sym e) (subst (λ (xs : List ℕ). SpellsTokens xs r.0) cut r.1)
 
@@ -346,8 +348,8 @@ number_taken bytes ds rest n e f g =
     let q : rest ≡ behind is_alphanumeric bytes = g ∙ ap (λ (i : ℕ). drop i bytes) e ∙ drop_run is_alphanumeric bytes in
     ap (λ (xs : List ℕ). number_by (is_whole xs rest) xs rest) p ∙ ap (λ (xs : List ℕ). number_by (is_whole (run is_alphanumeric bytes) xs) (run is_alphanumeric bytes) xs) q
 
-pub word_taken : (bytes name rest : List ℕ) (n : ℕ) (t : Token) → t ≡ word_token name → n ≡ prefix_len is_word bytes → name ≡ take n bytes → rest ≡ drop n bytes → Some (t, rest) ≡ word_at bytes
+pub word_taken : (bytes name rest : List ℕ) (n : ℕ) (t : Token) → t ≡ word_token name → n ≡ prefix_len is_word_byte bytes → name ≡ take n bytes → rest ≡ drop n bytes → Some (t, rest) ≡ word_at bytes
 word_taken bytes name rest n t h e f g =
-    let p : name ≡ run is_word bytes = f ∙ ap (λ (i : ℕ). take i bytes) e ∙ take_run is_word bytes in
-    let q : rest ≡ behind is_word bytes = g ∙ ap (λ (i : ℕ). drop i bytes) e ∙ drop_run is_word bytes in
-    ap (λ (u : Token). Some (u, rest)) h ∙ ap (λ (xs : List ℕ). Some (word_token xs, rest)) p ∙ ap (λ (xs : List ℕ). Some (word_token (run is_word bytes), xs)) q
+    let p : name ≡ run is_word_byte bytes = f ∙ ap (λ (i : ℕ). take i bytes) e ∙ take_run is_word_byte bytes in
+    let q : rest ≡ behind is_word_byte bytes = g ∙ ap (λ (i : ℕ). drop i bytes) e ∙ drop_run is_word_byte bytes in
+    ap (λ (u : Token). Some (u, rest)) h ∙ ap (λ (xs : List ℕ). Some (word_token xs, rest)) p ∙ ap (λ (xs : List ℕ). Some (word_token (run is_word_byte bytes), xs)) q

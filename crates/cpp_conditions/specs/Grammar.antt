@@ -1,5 +1,6 @@
 -- Which bytes spell a condition, and which refusal the others have.
-use Rattle.std.specs.Prelude.{ℕ, suc, ◌≤◌, ◌<◌, nat_eq, pos, negsuc, Bool, true, false, ◌&&◌, ◌||◌, if◌then◌else◌, List, [], ◌∷◌, ◌++◌, is_none, Result, Ok, Err}
+use Rattle.std.specs.Prelude.{ℕ, suc, ◌≤◌, ◌<◌, pos, negsuc, Bool, true, false, ◌&&◌, ◌||◌, if◌then◌else◌, List, [], ◌∷◌, ◌++◌, is_none, Result, Ok, Err}
+use Rattle.c_words.specs.Identifiers.{begins_with_two_underscores}
 use Rattle.fam_outer.specs.declared.dialect.Unknown.{Unknown}
 use Rattle.fam_outer.specs.declared.dialect.Unknown.TheVariants.{Zero, Refuse}
 use Rattle.fam_outer.specs.declared.faults.ConditionFault.{ConditionFault}
@@ -55,14 +56,11 @@ pub record CSpells (e : Expression) (bytes : List ℕ) : Type 0 where
 
 -- ---- reserved names
 
-abbrev pub is_reserved : List ℕ → Bool
-is_reserved (a ∷ b ∷ bs) = nat_eq a 95 && nat_eq b 95
-is_reserved _ = false
-
+-- a name in it begins with two underscores
 abbrev pub has_reserved : Expression → Bool
 has_reserved (Number n) = false
-has_reserved (Name x) = is_reserved x
-has_reserved (IsDefined x) = is_reserved x
+has_reserved (Name x) = begins_with_two_underscores x
+has_reserved (IsDefined x) = begins_with_two_underscores x
 has_reserved (Unary u e) = has_reserved e
 has_reserved (Binary op a b) = has_reserved a || has_reserved b
 

@@ -7,7 +7,8 @@ use Rattle.cpp_conditions.specs.declared.expression_refusal.ExpressionRefusal.Th
 use Rattle.cpp_conditions.specs.declared.tokens.Token as coded
 use Rattle.cpp_conditions.specs.declared.tokens.Token.TheVariants as tokens
 use Rattle.cpp_conditions.specs.Integers.{is_integer, integer_value, goes_on_behind}
-use Rattle.cpp_conditions.specs.Tokens.{Token, Digits, Word, Defined, Open, Close, Bang, Oper, Twice, is_digit, is_alphanumeric, is_first, is_word, word_token, pair_of, single_of, SpellsTokens}
+use Rattle.c_words.specs.Bytes.{is_digit, is_alphanumeric, is_nondigit, is_word_byte}
+use Rattle.cpp_conditions.specs.Tokens.{Token, Digits, Word, Defined, Open, Close, Bang, Oper, Twice, word_token, pair_of, single_of, SpellsTokens}
 
 -- a token of the scanner as a plain one
 abbrev pub token : coded.Token → Token
@@ -42,7 +43,7 @@ abbrev pub number_at : List ℕ → Option (Token × List ℕ)
 number_at bytes = number_by (is_whole (run is_alphanumeric bytes) (behind is_alphanumeric bytes)) (run is_alphanumeric bytes) (behind is_alphanumeric bytes)
 
 abbrev pub word_at : List ℕ → Option (Token × List ℕ)
-word_at bytes = Some (word_token (run is_word bytes), behind is_word bytes)
+word_at bytes = Some (word_token (run is_word_byte bytes), behind is_word_byte bytes)
 
 abbrev pub mark_by : Option Token → ℕ → ℕ → List ℕ → Option (Token × List ℕ)
 mark_by (Some t) b c bytes = Some (t, bytes)
@@ -55,7 +56,7 @@ mark_at b (c ∷ bytes) = mark_by (pair_of b c) b c bytes
 
 -- the token that begins with the byte
 abbrev pub lexeme_at : ℕ → List ℕ → Option (Token × List ℕ)
-lexeme_at b bytes = if is_digit b then number_at (b ∷ bytes) else (if is_first b then word_at (b ∷ bytes) else mark_at b bytes)
+lexeme_at b bytes = if is_digit b then number_at (b ∷ bytes) else (if is_nondigit b then word_at (b ∷ bytes) else mark_at b bytes)
 
 -- the same as the scanner has it
 abbrev pub plainly : Option (coded.Token × Bor (List ℕ)) → Option (Token × List ℕ)

@@ -1,7 +1,8 @@
 -- Tokens of conditions, by longest match (ISO/IEC 9899:2011, 6.4, paragraph 4).
-use Rattle.std.specs.Prelude.{◌≡◌, ℕ, ◌+◌, nat_le, nat_eq, Bool, true, false, ◌&&◌, ◌||◌, if◌then◌else◌, List, [], ◌∷◌, ◌++◌, codes, Option, Some, None}
+use Rattle.std.specs.Prelude.{◌≡◌, ℕ, ◌+◌, nat_eq, Bool, true, false, ◌&&◌, if◌then◌else◌, List, [], ◌∷◌, ◌++◌, codes, Option, Some, None}
 use Rattle.std.specs.Str.{bytes_eq}
-use Rattle.std.specs.List.{list_all}
+use Rattle.c_words.specs.Bytes.{is_gap, is_alphanumeric, is_word_byte}
+use Rattle.c_words.specs.Identifiers.{is_identifier}
 use Rattle.cpp_conditions.specs.Integers.{is_integer, integer_value, goes_on_behind}
 use Rattle.cpp_conditions.specs.declared.operators.Operator.{Operator}
 use Rattle.cpp_conditions.specs.declared.operators.Operator.TheVariants.{Times, Plus, Minus, Less, AtMost, Greater, AtLeast, Equal, Differs, Both, Either}
@@ -17,34 +18,10 @@ pub data Token : Type 0 where
   Oper : (op : Operator) → Token
   Twice : Token
 
-abbrev pub is_digit : ℕ → Bool
-is_digit b = nat_le 48 b && nat_le b 57
-
-abbrev pub is_alphabetic : ℕ → Bool
-is_alphabetic b = (nat_le 97 b && nat_le b 122) || (nat_le 65 b && nat_le b 90)
-
-abbrev pub is_alphanumeric : ℕ → Bool
-is_alphanumeric b = is_alphabetic b || is_digit b
-
--- a letter or an underscore
-abbrev pub is_first : ℕ → Bool
-is_first b = is_alphabetic b || nat_eq b 95
-
-abbrev pub is_word : ℕ → Bool
-is_word b = is_first b || is_digit b
-
--- space, tab, vertical tab, form feed and carriage return
-abbrev pub is_space : ℕ → Bool
-is_space b = (nat_eq b 32 || nat_eq b 9) || (nat_eq b 11 || (nat_eq b 12 || nat_eq b 13))
-
 -- the first byte fails the test, or there is none
 abbrev pub StopsAt : (ℕ → Bool) → List ℕ → Type 0
 StopsAt test [] = Unit {0}
 StopsAt test (b ∷ bs) = test b ≡ false
-
-abbrev pub is_identifier : List ℕ → Bool
-is_identifier [] = false
-is_identifier (b ∷ bs) = is_first b && list_all is_word bs
 
 abbrev pub word_token : List ℕ → Token
 word_token name = if bytes_eq name (codes "defined") then Defined else Word name
@@ -85,9 +62,9 @@ NoPair b (c ∷ bs) = pair_of b c ≡ None
 -- the tokens of the bytes; none where a byte begins no token, or a run of digits and letters is no integer constant
 pub data SpellsTokens : List ℕ → List Token → Type 0 where
   none : SpellsTokens [] []
-  space : (b : ℕ) {bs : List ℕ} {ts : List Token} → is_space b ≡ true → SpellsTokens bs ts → SpellsTokens (b ∷ bs) ts
+  space : (b : ℕ) {bs : List ℕ} {ts : List Token} → is_gap b ≡ true → SpellsTokens bs ts → SpellsTokens (b ∷ bs) ts
   number : (ds : List ℕ) {bs : List ℕ} {ts : List Token} → is_integer ds ≡ true → StopsAt is_alphanumeric bs → goes_on_behind ds bs ≡ false → SpellsTokens bs ts → SpellsTokens (ds ++ bs) (Digits (integer_value ds) ∷ ts)
-  word : (name : List ℕ) {bs : List ℕ} {ts : List Token} → is_identifier name ≡ true → StopsAt is_word bs → SpellsTokens bs ts → SpellsTokens (name ++ bs) (word_token name ∷ ts)
+  word : (name : List ℕ) {bs : List ℕ} {ts : List Token} → is_identifier name ≡ true → StopsAt is_word_byte bs → SpellsTokens bs ts → SpellsTokens (name ++ bs) (word_token name ∷ ts)
   pair : (b c : ℕ) (t : Token) {bs : List ℕ} {ts : List Token} → pair_of b c ≡ Some t → SpellsTokens bs ts → SpellsTokens (b ∷ c ∷ bs) (t ∷ ts)
   single : (b : ℕ) (t : Token) {bs : List ℕ} {ts : List Token} → single_of b ≡ Some t → NoPair b bs → SpellsTokens bs ts → SpellsTokens (b ∷ bs) (t ∷ ts)
 

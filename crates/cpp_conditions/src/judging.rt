@@ -14,6 +14,7 @@ use crate::expressions::Expression;
 use crate::names::Names;
 use crate::operators::{Operator, Prefix};
 use crate::tokens::Token;
+use c_words::begins_with_two_underscores;
 use fam_outer::Unknown;
 
 /// 1 for an operator or an opening parenthesis that is not that of `defined`, else 0.
@@ -48,23 +49,13 @@ pub(crate) fn count_deep(tokens: &[Token<'_>]) -> usize
     count
 }
 
-/// Whether a name begins with two underscores.
-fn is_reserved(name: &[u8]) -> bool
-    ensures { result ≡ grammar.is_reserved name.now }
-{
-    match name {
-        [first, second, ..] => *first == b'_' && *second == b'_',
-        _ => false,
-    }
-}
-
 /// Whether a name in the expression begins with two underscores.
 pub(crate) fn has_reserved(tree: &Expression<'_>) -> bool
     ensures { result ≡ grammar.has_reserved (expression tree.now) }
 {
     match tree {
         Expression::Number(_) => false,
-        Expression::Name(name) | Expression::IsDefined(name) => is_reserved(name),
+        Expression::Name(name) | Expression::IsDefined(name) => begins_with_two_underscores(name),
         Expression::Unary(_, operand) => has_reserved(operand),
         Expression::Binary(_, left, right) => has_reserved(left) || has_reserved(right),
     }

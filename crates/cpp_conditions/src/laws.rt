@@ -1,7 +1,7 @@
 //! What holds of the definitions alone.
 #![tactic(auto)]
 
-ghost use Rattle.std.specs.Prelude.{◌≡◌, ℕ, ℤ, List, Result, Ok, true};
+ghost use Rattle.std.specs.Prelude.{◌≡◌, ◌↔◌, ℕ, ℤ, List, Result, Ok, true};
 ghost use Rattle.fam_outer.specs.declared.faults.ConditionFault.{ConditionFault};
 ghost use Rattle.fam_outer.specs.declared.dialect.Unknown.{Unknown};
 ghost use Rattle.fam_outer.specs.declared.dialect.Unknown.TheVariants.{Zero, Refuse};
@@ -54,11 +54,10 @@ pub fn few_atoms_are_not_more()
         → HaveMoreAtoms most conditions → ⊥ }
 {}
 
-#[tactic(auto, using(crate::proofs::Within::valid_parts))]
-/// A valid configuration has one value per feature, each in its range, and every constraint is true at it.
-pub fn valid_configurations_are_within()
-    ensures { (model : Plain) (values : List ℤ) → IsValid model values
-        → IsWithin model.features values × (all_true values model.constraints ≡ true) }
+/// A configuration is valid exactly where it has one value per feature, each in its range, and every constraint is true at it.
+pub fn valid_configurations_are_those_within()
+    ensures { (model : Plain) (values : List ℤ)
+        → (IsValid model values) ↔ (IsWithin model.features values × (all_true values model.constraints ≡ true)) }
 {}
 
 /// Bytes are always read in some way.

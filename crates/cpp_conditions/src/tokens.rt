@@ -3,6 +3,7 @@
 
 ghost use Rattle.std.specs.Prelude.{◌≡◌, ◌≤◌, [], ◌∷◌, length, option_map};
 ghost use Rattle.std.specs.List.{prefix_len};
+ghost use Rattle.c_words.specs.Bytes as classes;
 ghost use Rattle.cpp_conditions.specs.Tokens as kinds;
 ghost use Rattle.cpp_conditions.specs.Scanning as scanning;
 ghost use Rattle.cpp_conditions.specs.Scanning.{token, number_at, word_at, mark_at, lexeme_at, plainly, Scans};
@@ -10,6 +11,7 @@ ghost use Rattle.cpp_conditions.specs.Scanning.{token, number_at, word_at, mark_
 use crate::expression_refusal::ExpressionRefusal;
 use crate::integers::{goes_on_behind, is_integer};
 use crate::operators::Operator;
+use c_words::{is_alphanumeric, is_digit, is_gap, is_nondigit, is_word_byte};
 use fam_outer::cut;
 use std::alloc::Global;
 
@@ -24,41 +26,6 @@ pub(crate) enum Token<'a> {
     Bang,
     Oper(Operator),
     Twice,
-}
-
-/// A decimal digit.
-fn is_digit(b: u8) -> bool
-    ensures { result ≡ kinds.is_digit b }
-{
-    matches!(b, b'0'..=b'9')
-}
-
-/// A letter or a digit.
-fn is_alphanumeric(b: u8) -> bool
-    ensures { result ≡ kinds.is_alphanumeric b }
-{
-    matches!(b, b'a'..=b'z' | b'A'..=b'Z' | b'0'..=b'9')
-}
-
-/// A letter or an underscore.
-fn is_first(b: u8) -> bool
-    ensures { result ≡ kinds.is_first b }
-{
-    matches!(b, b'a'..=b'z' | b'A'..=b'Z' | b'_')
-}
-
-/// A letter, an underscore or a digit.
-fn is_word(b: u8) -> bool
-    ensures { result ≡ kinds.is_word b }
-{
-    matches!(b, b'a'..=b'z' | b'A'..=b'Z' | b'_' | b'0'..=b'9')
-}
-
-/// Space, tab, vertical tab, form feed or carriage return.
-fn is_space(b: u8) -> bool
-    ensures { result ≡ kinds.is_space b }
-{
-    matches!(b, b' ' | 9 | 11 | 12 | 13)
 }
 
 /// A mark of two bytes.
@@ -96,7 +63,7 @@ fn single<'a>(byte: u8) -> Option<Token<'a>>
 
 /// How many bytes at the front are letters and digits.
 fn alphanumeric_len(bytes: &[u8]) -> usize
-    ensures value { result ≡ prefix_len kinds.is_alphanumeric bytes.now }
+    ensures value { result ≡ prefix_len classes.is_alphanumeric bytes.now }
     ensures fits { result ≤ length bytes.now }
 {
     bytes.iter().take_while(|b| is_alphanumeric(**b)).count()
@@ -104,10 +71,10 @@ fn alphanumeric_len(bytes: &[u8]) -> usize
 
 /// How many bytes at the front are letters, underscores and digits.
 fn word_len(bytes: &[u8]) -> usize
-    ensures value { result ≡ prefix_len kinds.is_word bytes.now }
+    ensures value { result ≡ prefix_len classes.is_word_byte bytes.now }
     ensures fits { result ≤ length bytes.now }
 {
-    bytes.iter().take_while(|b| is_word(**b)).count()
+    bytes.iter().take_while(|b| is_word_byte(**b)).count()
 }
 
 /// Whether these letters and digits are an integer constant with which no sign behind them goes on.
@@ -171,7 +138,7 @@ fn lexeme<'a>(bytes: &'a [u8], first: u8, behind: &'a [u8]) -> Option<(Token<'a>
 {
     if is_digit(first) {
         number(bytes)
-    } else if is_first(first) {
+    } else if is_nondigit(first) {
         word(bytes)
     } else {
         mark(first, behind)
@@ -186,7 +153,7 @@ pub(crate) fn scan(alloc: Global, bytes: &[u8]) -> Result<Vec<Token<'_>>, Expres
     let mut list = Vec::new(alloc);
     let mut rest = bytes;
     'scan: while let Some((first, behind)) = cut(rest) {
-        if is_space(first) {
+        if is_gap(first) {
             rest = behind;
             continue;
         }

@@ -1,6 +1,6 @@
 -- A blanked text has no comment and no splice, and neither has what stays of its lines.
 use Rattle.std.proofs.Common.{◌≡◌, ℕ, zero, suc, ◌+◌, ◌-◌, ◌≤◌, ◌==◌, Bool, true, false, not, ◌||◌, ◌&&◌, cond, List, [], ◌∷◌, ◌++◌, length, drop, Option, Some, None, refl, sym, ap, ◌∙◌, arith}
-use Rattle.std.specs.Prelude.{is_none, option_map, unwrap_or}
+use Rattle.std.specs.Prelude.{codes, is_none, option_map, unwrap_or}
 use Rattle.std.specs.List.{prefix_len}
 use Rattle.std.proofs.lemmas.Bool.{or_parts, or_from}
 use Rattle.std.proofs.lemmas.Bool.Decides.{nat_tests}
@@ -10,7 +10,7 @@ use Rattle.fam_outer.specs.declared.faults.FileCode.TheVariants.{OpenComment, Sp
 use Rattle.fam_outer.specs.Places.{is_newline, place_at}
 use Rattle.cpp_lines.specs.Bytes.{begins_with, is_line_byte}
 use Rattle.cpp_lines.specs.Comments.{block_len, comment_len, comment_left, blanked_byte, blank_from}
-use Rattle.cpp_lines.specs.Faults.{ends_line, is_splice, touches_directive, comment_fault, fault_at, or_later, first_fault_from}
+use Rattle.cpp_lines.specs.Faults.{ends_line, ends_line_behind, is_splice, touches_directive, comment_fault, fault_at, or_later, first_fault_from}
 use Rattle.cpp_lines.specs.Pieces.{opens}
 use Rattle.cpp_lines.proofs.Blanking.{begins_len}
 
@@ -46,7 +46,7 @@ clean_without_fault whole offset (b ∷ bs) h =
     ∙ ap (λ (n : ℕ). first_fault_from whole (offset + 1) (n - 1) bs) (no_comment (b ∷ bs) h.0)
     ∙ clean_without_fault whole (offset + 1) bs h.2
 
--- ---- a blanked text is so
+-- ---- a blanked text is so: a comment or a splice in it stood in the text before
 
 weaker : (a x y : Bool) → (x ≡ true → y ≡ true) → (a && y) ≡ false → (a && x) ≡ false
 weaker false x y go h = refl
@@ -73,14 +73,8 @@ byte_was (suc k) c y n h = elim (is_newline c) as (λ t. (cond t c 32 == y) ≡ 
 not_slash : (b : ℕ) → (b == 10) ≡ true → (b == 47) ≡ false
 not_slash b e = grind (arith, nat_tests)
 
-not_back : (b : ℕ) → (b == 10) ≡ true → (b == 92) ≡ false
-not_back b e = grind (arith, nat_tests)
-
 blanked_slash : (k b : ℕ) → (blanked_byte (suc k) b == 47) ≡ false
 blanked_slash k b = elim (is_newline b) as (λ t. is_newline b ≡ t → (cond t b 32 == 47) ≡ false) [ true ↦ λ e. not_slash b e | false ↦ λ e. refl ] refl
-
-blanked_back : (k b : ℕ) → (blanked_byte (suc k) b == 92) ≡ false
-blanked_back k b = elim (is_newline b) as (λ t. is_newline b ≡ t → (cond t b 32 == 92) ≡ false) [ true ↦ λ e. not_back b e | false ↦ λ e. refl ] refl
 
 begins_not : (x y b : ℕ) (bs : List ℕ) → (b == x) ≡ false → begins_with x y (b ∷ bs) ≡ false
 begins_not x y b [] e = refl
@@ -88,9 +82,6 @@ begins_not x y b (c ∷ bs) e = ap (λ (t : Bool). t && (c == y)) e
 
 opens_not : (b : ℕ) (bs : List ℕ) → (b == 47) ≡ false → opens (b ∷ bs) ≡ false
 opens_not b bs e = or_from (begins_with 47 42 (b ∷ bs)) (begins_with 47 47 (b ∷ bs)) (begins_not 47 42 b bs e) (begins_not 47 47 b bs e)
-
-splice_not : (b : ℕ) (bs : List ℕ) → (b == 92) ≡ false → is_splice (b ∷ bs) ≡ false
-splice_not b bs e = ap (λ (t : Bool). t && ends_line bs) e
 
 -- where no comment is open, none opens
 is_slash : (b y : ℕ) (bs : List ℕ) → begins_with 47 y (b ∷ bs) ≡ true → (b == 47) ≡ true
@@ -132,18 +123,34 @@ end_was left (c ∷ d ∷ ds) h =
     either (blanked_byte k c == 10) ((blanked_byte k c == 13) && (blanked_byte m d == 10)) (c == 10) ((c == 13) && (d == 10)) (byte_was k c 10 refl)
     (both (blanked_byte k c == 13) (blanked_byte m d == 10) (c == 13) (d == 10) (byte_was k c 13 refl) (byte_was m d 10 refl)) h
 
-splice_was : (b : ℕ) (bs : List ℕ) → is_splice (b ∷ bs) ≡ false → is_splice (b ∷ blank_from 0 bs) ≡ false
-splice_was b bs h = weaker (b == 92) (ends_line (blank_from 0 bs)) (ends_line bs) (end_was 0 bs) h
+-- no byte of the word is a space
+abbrev HasNoSpace : List ℕ → Type 0
+HasNoSpace [] = Unit {0}
+HasNoSpace (c ∷ word) = ((32 == c) ≡ false) × HasNoSpace word
+
+behind_was : (word : List ℕ) → HasNoSpace word → (left : ℕ) (bytes : List ℕ) → ends_line_behind word (blank_from left bytes) ≡ true → ends_line_behind word bytes ≡ true
+behind_was [] n left bytes h = end_was left bytes h
+behind_was (c ∷ word) n left [] h = h
+behind_was (c ∷ word) n left (b ∷ bs) h =
+    let k = comment_left left (b ∷ bs) in
+    both (blanked_byte k b == c) (ends_line_behind word (blank_from (k - 1) bs)) (b == c) (ends_line_behind word bs) (byte_was k b c n.0) (behind_was word n.1 (k - 1) bs) h
+
+splice_was : (left : ℕ) (bytes : List ℕ) → is_splice (blank_from left bytes) ≡ true → is_splice bytes ≡ true
+splice_was left bytes h =
+    either (ends_line_behind (codes "\\") (blank_from left bytes)) (ends_line_behind (codes "??/") (blank_from left bytes)) (ends_line_behind (codes "\\") bytes) (ends_line_behind (codes "??/") bytes)
+    (behind_was (codes "\\") (refl, tt) left bytes) (behind_was (codes "??/") (refl, (refl, (refl, tt))) left bytes) h
+
+no_splice_comes : (left : ℕ) (bytes : List ℕ) → is_splice bytes ≡ false → is_splice (blank_from left bytes) ≡ false
+no_splice_comes left bytes h = weaker true (is_splice (blank_from left bytes)) (is_splice bytes) (splice_was left bytes) h
 
 more_left : (n : ℕ) → (suc n == 0) ≡ false
 more_left n = grind (arith, nat_tests)
 
--- the first byte of a blanked text
-first_clean : (left n b : ℕ) (bs : List ℕ) → comment_left left (b ∷ bs) ≡ n → is_splice (b ∷ bs) ≡ false
-    → (opens (blanked_byte n b ∷ blank_from (n - 1) bs) ≡ false) × (is_splice (blanked_byte n b ∷ blank_from (n - 1) bs) ≡ false)
-first_clean left (suc n) b bs e s = (opens_not (blanked_byte (suc n) b) (blank_from (suc n - 1) bs) (blanked_slash n b), splice_not (blanked_byte (suc n) b) (blank_from (suc n - 1) bs) (blanked_back n b))
-first_clean zero zero b bs e s = (opens_was b bs (none_opens b bs e), splice_was b bs s)
-first_clean (suc left) zero b bs e s = absurd (omega (arith, sym (ap (λ (t : Bool). cond t (comment_len (b ∷ bs)) (suc left)) (more_left left)) ∙ e))
+-- no comment opens at the first byte of a blanked text
+no_comment_comes : (left n b : ℕ) (bs : List ℕ) → comment_left left (b ∷ bs) ≡ n → opens (blanked_byte n b ∷ blank_from (n - 1) bs) ≡ false
+no_comment_comes left (suc n) b bs e = opens_not (blanked_byte (suc n) b) (blank_from (suc n - 1) bs) (blanked_slash n b)
+no_comment_comes zero zero b bs e = opens_was b bs (none_opens b bs e)
+no_comment_comes (suc left) zero b bs e = absurd (omega (arith, sym (ap (λ (t : Bool). cond t (comment_len (b ∷ bs)) (suc left)) (more_left left)) ∙ e))
 
 split_none : (o : Option FileCode) (place : Place) (later : Option (FileCode × Place)) → or_later (option_map (λ code. (code, place)) o) later ≡ None → (o ≡ None) × (later ≡ None)
 split_none None place later h = (refl, h)
@@ -158,9 +165,11 @@ no_splice whole offset left bytes h = elim (is_splice bytes) as (λ t. cond t (S
 pub blanked_clean : (whole : List ℕ) (offset left : ℕ) (text : List ℕ) → first_fault_from whole offset left text ≡ None → IsClean (blank_from left text)
 blanked_clean whole offset left [] h = tt
 blanked_clean whole offset left (b ∷ bs) h =
-    let s = split_none (fault_at whole offset left (b ∷ bs)) (place_at whole offset) (first_fault_from whole (offset + 1) (comment_left left (b ∷ bs) - 1) bs) h in
-    let f = first_clean left (comment_left left (b ∷ bs)) b bs refl (no_splice whole offset left (b ∷ bs) s.0) in
-    (f.0, f.1, blanked_clean whole (offset + 1) (comment_left left (b ∷ bs) - 1) bs s.1)
+    let s = split_none (fault_at whole offset left (b ∷ bs)) (place_at whole offset) (first_fault_from whole (offset + 1) (comment_left left (b ∷ bs) - 1) bs) h in (
+      no_comment_comes left (comment_left left (b ∷ bs)) b bs refl,
+      no_splice_comes left (b ∷ bs) (no_splice whole offset left (b ∷ bs) s.0),
+      blanked_clean whole (offset + 1) (comment_left left (b ∷ bs) - 1) bs s.1,
+    )
 
 -- ---- a line before other lines
 
@@ -175,7 +184,9 @@ pub line_clean : (line rest others : List ℕ) → IsClean (line ++ 10 ∷ rest)
 line_clean [] rest others h k = newline_clean others k
 line_clean (b ∷ []) rest others h k = (h.0, h.1, newline_clean others k)
 line_clean (b ∷ c ∷ []) rest others h k = (h.0, h.1, line_clean (c ∷ []) rest others h.2 k)
-line_clean (b ∷ c ∷ d ∷ ds) rest others h k = (h.0, h.1, line_clean (c ∷ d ∷ ds) rest others h.2 k)
+line_clean (b ∷ c ∷ d ∷ []) rest others h k = (h.0, h.1, line_clean (c ∷ d ∷ []) rest others h.2 k)
+line_clean (b ∷ c ∷ d ∷ e ∷ []) rest others h k = (h.0, h.1, line_clean (c ∷ d ∷ e ∷ []) rest others h.2 k)
+line_clean (b ∷ c ∷ d ∷ e ∷ f ∷ fs) rest others h k = (h.0, h.1, line_clean (c ∷ d ∷ e ∷ f ∷ fs) rest others h.2 k)
 
 pub clean_behind : (line rest : List ℕ) → IsClean (line ++ 10 ∷ rest) → IsClean rest
 clean_behind [] rest h = h.2

@@ -1,5 +1,5 @@
 -- The first fault of a text at its comments and line ends.
-use Rattle.std.specs.Prelude.{◌≡◌, ℕ, zero, suc, ◌+◌, ◌-◌, ◌<◌, ◌≤◌, Bool, false, ◌&&◌, ◌||◌, ◌==◌, List, [], ◌∷◌, length, take, drop, Option, Some, None, is_none, option_map, Result, Ok, Err, if◌then◌else◌}
+use Rattle.std.specs.Prelude.{◌≡◌, ℕ, zero, suc, ◌+◌, ◌-◌, ◌<◌, ◌≤◌, Bool, false, ◌&&◌, ◌||◌, ◌==◌, List, [], ◌∷◌, length, take, drop, codes, Option, Some, None, is_none, option_map, Result, Ok, Err, if◌then◌else◌}
 use Rattle.std.specs.List.{list_any}
 use Rattle.fam_outer.specs.declared.faults.Place.{Place}
 use Rattle.fam_outer.specs.declared.faults.FileCode.{FileCode}
@@ -17,10 +17,15 @@ is_open bytes = begins_with 47 42 bytes && is_none (block_len (drop 2 bytes))
 abbrev pub ends_line : List ℕ → Bool
 ends_line bytes = has_first 10 bytes || begins_with 13 10 bytes
 
--- a backslash directly before the end of a line
+-- this word comes first, and directly behind it a line ends
+abbrev pub ends_line_behind : List ℕ → List ℕ → Bool
+ends_line_behind [] bytes = ends_line bytes
+ends_line_behind (c ∷ word) bytes = has_first c bytes && ends_line_behind word (drop 1 bytes)
+
+-- a backslash, or the trigraph `??/` that means one (ISO/IEC 9899:2011, 5.2.1.1), directly before the end of a line: phase 1 of
+-- translation puts the backslash for the trigraph, and phase 2 splices the next line on (5.1.1.2)
 abbrev pub is_splice : List ℕ → Bool
-is_splice [] = false
-is_splice (b ∷ bs) = (b == 92) && ends_line bs
+is_splice bytes = ends_line_behind (codes "\\") bytes || ends_line_behind (codes "??/") bytes
 
 -- the line of the blanked text at this offset is a directive line; the line begins behind the last newline before it
 abbrev pub is_directive_at : List ℕ → ℕ → Bool
@@ -36,7 +41,8 @@ comment_fault text offset rest =
     if is_open rest then Some OpenComment
     else (if touches_directive text offset (comment_len rest) then Some CommentAtDirective else None)
 
--- the fault at this offset, where so many bytes are left of a comment that opened before; a splice and a comment begin with different bytes
+-- the fault at this offset, where so many bytes are left of a comment that opened before; a splice begins with a backslash or `?`,
+-- and a comment with `/`
 abbrev pub fault_at : List ℕ → ℕ → ℕ → List ℕ → Option FileCode
 fault_at text offset left rest =
     if is_splice rest then Some Splice

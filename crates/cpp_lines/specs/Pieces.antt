@@ -90,8 +90,8 @@ pub record IsAtDirective (text : List ℕ) (ps : List Piece) (offset : ℕ) : Ty
   pub is_comment : IsComment comment
   pub touches : touches_directive text offset (length (spelled comment)) ≡ true
 
--- what is at fault at an offset of a text that is read as these pieces: the end of a line behind a backslash, the comment without
--- its end, or a comment at a directive line
+-- what is at fault at an offset of a text that is read as these pieces: the end of a line behind a backslash or `??/`, the
+-- comment without its end, or a comment at a directive line
 abbrev pub HasFault : List ℕ → List Piece → List ℕ → ℕ → FileCode → Type 0
 HasFault text ps unclosed offset Splice = is_splice (drop offset text) ≡ true
 HasFault text ps unclosed offset OpenComment = (unclosed ≢ []) × (offset ≡ length (all_spelled ps))

@@ -49,8 +49,8 @@ pub fn texts_are_pieces()
         → IsRead text ps unclosed → blank text ≡ joined ps unclosed }
 {}
 
-/// The faults of a text are those of its pieces: the end of a line behind a backslash, a comment without its end, and a
-/// comment with a newline whose first or last line is a directive line.
+/// The faults of a text are those of its pieces: the end of a line behind a backslash or its trigraph `??/`, a comment without
+/// its end, and a comment with a newline whose first or last line is a directive line.
 #[tactic(auto, using(crate::proofs::PieceFaults::faults_of_pieces))]
 pub fn faults_are_of_pieces()
     ensures { (text : List ℕ) (ps : List Piece) (unclosed : List ℕ) (offset : ℕ) (code : FileCode)

@@ -22,15 +22,22 @@ fn is_open(bytes: &[u8]) -> bool
     begins_with(b'/', b'*', bytes) && block_len(&bytes[2..]).is_none()
 }
 
-/// Whether the first byte is a backslash directly before the end of a line.
+/// Whether a line ends at the front: with a newline, or with a carriage return and a newline.
+fn ends_line(bytes: &[u8]) -> bool
+    ensures { result ≡ specs.ends_line bytes.now }
+{
+    has_first(b'\n', bytes) || begins_with(b'\r', b'\n', bytes)
+}
+
+/// Whether a backslash, or the trigraph `??/` that means one, comes first, directly before the end of a line
+/// (ISO/IEC 9899:2011, 5.1.1.2 and 5.2.1.1).
 fn is_splice(bytes: &[u8]) -> bool
     ensures { result ≡ specs.is_splice bytes.now }
 {
-    match cut(bytes) {
-        None => false,
-        Some((b, behind)) => {
-            b == b'\\' && (has_first(b'\n', behind) || begins_with(b'\r', b'\n', behind))
-        }
+    match bytes {
+        [b'\\', behind @ ..] => ends_line(behind),
+        [b'?', b'?', b'/', behind @ ..] => ends_line(behind),
+        _ => false,
     }
 }
 
@@ -131,8 +138,9 @@ fn first_fault(bytes: &[u8], blanked: &[u8]) -> Option<(FileCode, Place)>
 /// The text with each byte of a comment but a newline a space, so that all places stay.
 ///
 /// A comment opens with `/*` and ends with `*/`, or opens with `//` and ends before the newline. It answers `OpenComment`
-/// at a `/*` without its end; `Splice` at a backslash directly before a newline, or before a carriage return and a newline;
-/// and `CommentAtDirective` at a comment with a newline whose first or last line is a directive line of the blanked text.
+/// at a `/*` without its end; `Splice` at a backslash, or at the trigraph `??/` that means one, directly before a newline,
+/// or before a carriage return and a newline, also in a comment (ISO/IEC 9899:2011, 5.1.1.2 and 5.2.1.1); and
+/// `CommentAtDirective` at a comment with a newline whose first or last line is a directive line of the blanked text.
 /// The first place decides, and at one place the lowest code. It answers `NoMemory` for want of memory.
 pub fn blank_comments(alloc: Global, bytes: &[u8]) -> Result<Text, FileRefusal>
     requires { length bytes.now ≤ FILE_BYTES }

@@ -1,21 +1,13 @@
 -- Values that are set, and how many.
-use Rattle.std.proofs.Common.{◌≡◌, ℕ, zero, suc, ◌+◌, ◌*◌, ◌-◌, ◌≤◌, ◌<◌, ℤ, pos, ◌≤ℤ◌, int_le, unsigned_abs, FitsSigned, to_z, of_z, w64, Bool, true, false, ◌&&◌, List, [], ◌∷◌, ◌++◌, length, set, Option, Some, None, refl, sym, ap, subst, ◌∙◌, arith}
+use Rattle.std.proofs.Common.{◌≡◌, ℕ, zero, suc, ◌+◌, ◌-◌, ◌≤◌, ◌<◌, ℤ, pos, ◌≤ℤ◌, int_le, unsigned_abs, FitsSigned, to_z, of_z, w64, Bool, true, false, ◌&&◌, List, [], ◌∷◌, ◌++◌, length, set, Option, Some, None, refl, sym, ap, subst, ◌∙◌, arith}
 use Rattle.std.proofs.lemmas.Int.{ints, to_z-of_z}
 use Rattle.linear_atoms.specs.declared.atoms.Feature.{Feature}
-use Rattle.feature_model.specs.Settings.{number_from}
 use Rattle.std.specs.Prelude.{IfSome, Result, Ok, Err, cond, ⊤}
 use Rattle.std.specs.Str.{bytes_eq}
 use Rattle.linear_atoms.specs.Atoms.{AreRanges, AreValues}
 use Rattle.feature_model.specs.declared.faults.ConfigFault.{ConfigFault}
 use Rattle.feature_model.specs.declared.faults.ConfigFault.TheVariants as faults
 use Rattle.feature_model.specs.Settings.{fits, is_set, count, AreSmall, IsSmallRange, Spells, named, parts, value_of, set_at, set_by, step, Sets, unset, value_by}
-
-grows : (n : ℕ) (ds : List ℕ) → n ≤ number_from n ds
-grows n [] = omega arith
-grows n (b ∷ bs) = let h = grows (n * 10 + (b - 48)) bs in omega arith
-
-pub too_large : (n b : ℕ) (digits behind : List ℕ) → digits ≡ b ∷ behind → 1048576 < n * 10 + (b - 48) → 1048576 < number_from n digits
-too_large n b digits behind e h = let k = grows (n * 10 + (b - 48)) behind in subst (λ ds. 1048576 < number_from n ds) (sym e) (omega arith)
 
 counted : (slots : List (Option ℤ)) (i : ℕ) (v : ℤ) → i < length slots → is_set slots i ≡ false → count (set slots i (Some v)) ≡ count slots + 1
 counted [] i v h k = absurd (omega arith)

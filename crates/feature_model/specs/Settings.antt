@@ -1,10 +1,10 @@
 -- Settings of features, word by word, and the configuration that they give.
-use Rattle.std.specs.Prelude.{◌≡◌, ⊤, ℕ, ◌+◌, ◌-◌, ◌*◌, ◌≤◌, ◌<◌, ◌==◌, nat_lt, nat_eq, ℤ, pos, neg_ℤ, unsigned_abs, Bool, false, not, ◌&&◌, if◌then◌else◌, List, [], ◌∷◌, ◌++◌, map, length, slice_index_or, slice_set, Option, Some, None, is_some, Result, Ok, Err}
-use Rattle.std.specs.List.{before_first, after_first, list_all, position_or_len}
+use Rattle.std.specs.Prelude.{◌≡◌, ⊤, ℕ, ◌+◌, ◌≤◌, ◌<◌, ◌==◌, nat_lt, ℤ, pos, neg_ℤ, unsigned_abs, Bool, false, not, ◌&&◌, if◌then◌else◌, List, [], ◌∷◌, ◌++◌, map, length, slice_index_or, slice_set, Option, Some, None, is_some, Result, Ok, Err}
+use Rattle.std.specs.List.{before_first, after_first, position_or_len}
 use Rattle.std.specs.Str.{bytes_eq}
+use Rattle.c_words.specs.Numbers.{begins_with_zero, is_decimal, value_in}
 use Rattle.linear_atoms.specs.declared.atoms.Feature.{Feature}
 use Rattle.cpp_conditions.specs.declared.models.Model.{Model}
-use Rattle.cpp_conditions.specs.Tokens.{is_digit}
 use Rattle.cpp_conditions.specs.Validity.{plain, is_in_range, is_valid}
 use Rattle.feature_model.specs.declared.faults.ConfigFault.{ConfigFault}
 use Rattle.feature_model.specs.declared.faults.ConfigFault.TheVariants as faults
@@ -24,27 +24,13 @@ parts word =
     if nat_lt (position_or_len is_equals word) (length word)
     then (before_first is_equals word, Some (after_first is_equals word)) else (word, None)
 
-abbrev pub begins_with_zero : List ℕ → Bool
-begins_with_zero [] = false
-begins_with_zero (b ∷ bs) = b == 48
-
--- `0`, or digits without a leading zero
-abbrev pub is_number : List ℕ → Bool
-is_number [] = false
-is_number (b ∷ []) = is_digit b
-is_number (b ∷ c ∷ bs) = not (nat_eq b 48) && list_all is_digit (b ∷ c ∷ bs)
-
-abbrev pub number_from : ℕ → List ℕ → ℕ
-number_from n [] = n
-number_from n (b ∷ bs) = number_from (n * 10 + (b - 48)) bs
-
 -- `0`, or digits that do not begin with 0
 abbrev pub positive : List ℕ → Option ℤ
-positive digits = if is_number digits then Some (pos (number_from 0 digits)) else None
+positive digits = if is_decimal digits then Some (pos (value_in 10 digits)) else None
 
 -- the same, but not `0`, behind `-`
 abbrev pub negative : List ℕ → Option ℤ
-negative digits = if is_number digits && not (begins_with_zero digits) then Some (neg_ℤ (pos (number_from 0 digits))) else None
+negative digits = if is_decimal digits && not (begins_with_zero digits) then Some (neg_ℤ (pos (value_in 10 digits))) else None
 
 abbrev pub spelled : List ℕ → Option ℤ
 spelled [] = None

@@ -6,7 +6,7 @@ ghost use Rattle.serde_json.specs.Find.{as_str};
 ghost use Rattle.serde_json.specs.View.{view, items_view, members_view};
 ghost use Rattle.feature_model.specs.Shapes as shapes;
 
-use crate::names::is_among;
+use c_words::is_among;
 use fam_outer::{NoMemory, Text};
 use serde_json::{Map, Value};
 use std::alloc::Global;
