@@ -5,9 +5,9 @@ use Rattle.c_tree.specs.declared.lists.Declared.{Declared}
 use Rattle.c_tree.specs.Tree.{Term, Var, Binary, Code, Done, Assign, Input, Assert, If, While, Block, Skip, Cond, followed}
 use Rattle.c_grammar.specs.declared.items.Sign.TheVariants as signs
 use Rattle.c_grammar.specs.declared.items.Item.{Item}
-use Rattle.c_grammar.specs.Grammar.{at, tighter, applied, updated, changed_by_one, File, file_of}
+use Rattle.c_grammar.specs.Grammar.{at, tighter, applied, updated, changed_by_one, Qualifier, Unqualified, Constant, File, file_of}
 use Rattle.c_grammar.specs.Ahead.{Loose, NoElse}
-use Rattle.c_grammar.specs.Machine.{Tailing, Another, Final, Frame, Paren, Pre, Left, Stack, Top, Braces, Yes, No, ThenOf, ElseOf, LoopOf, Use, ToAssign, ToUpdate, ToAssert, ToChoose, ToLoop, Sections, Outermost, InPart, InLast, Aim, ToPrototype, ToMain, ReadingState, Outside, AfterStatic, AfterExtern, AfterType, NoWord, StaticWord, ExternWord, Declaring, Bare, Starting, Negating, Started, Parameters, InParameters, AfterVoid, AfterParameters, Ready, Ended, Wants, Has, Counting, Named, Opens, InputOpens, InputCloses, Finishing, Returning, Returned, Closing, Over, with_declared, linked, run}
+use Rattle.c_grammar.specs.Machine.{Tailing, Another, Final, Frame, Paren, Pre, Left, Stack, Top, Braces, Yes, No, ThenOf, ElseOf, LoopOf, Use, ToAssign, ToUpdate, ToAssert, ToChoose, ToLoop, Sections, Outermost, InPart, InLast, Aim, ToPrototype, ToMain, ReadingState, Outside, AfterStatic, AfterExtern, AfterConst, AfterType, NoWord, StaticWord, ExternWord, ConstWord, Declaring, Bare, Starting, Negating, Started, Parameters, InParameters, AfterVoid, AfterParameters, Ready, Ended, Wants, Has, Counting, Named, Opens, InputOpens, InputCloses, Finishing, Returning, Returned, Closing, Over, with_declared, linked, run}
 use Rattle.c_grammar.proofs.Complete.{pre_absorbs, left_absorbs, loop_absorbs, else_absorbs, then_absorbs}
 
 pub nowhere : Place
@@ -84,23 +84,25 @@ after_groups f [] = ([], f, refl)
 after_groups f (Another k ∷ parts) = let h = after_groups f parts in (at nowhere signs.GroupEnd ∷ h.0, h.1, h.2)
 after_groups f (Final k ∷ parts) = let h = after_groups f parts in (at nowhere signs.GroupEnd ∷ h.0, h.1, h.2)
 
-after_declarator : (x : ℕ) (n : ℤ) (secs : Sections) (ds : List Declared) → Rest (Started x n secs ds)
+after_declarator : (kind : Qualifier) (x : ℕ) (n : ℤ) (secs : Sections) (ds : List Declared) → Rest (Started kind x n secs ds)
 unfolding run
-after_declarator x n secs ds = let h = after_declarations secs (with_declared secs ds x n) in (at nowhere signs.Semicolon ∷ h.0, h.1, h.2)
+after_declarator kind x n secs ds = let h = after_declarations secs (with_declared secs ds x n) in (at nowhere signs.Semicolon ∷ h.0, h.1, h.2)
 
 pub completes : (state : ReadingState) → (tail : List Item) × (made : File) × (run state tail ≡ Ok made)
 unfolding run after_declarator
 completes (Outside secs ds) = after_declarations secs ds
-completes (AfterStatic secs ds) = let h = after_declarator 0 (pos 0) secs ds in (at nowhere signs.Int ∷ at nowhere (signs.Name 0) ∷ h.0, h.1, h.2)
+completes (AfterStatic secs ds) = let h = after_declarator Unqualified 0 (pos 0) secs ds in (at nowhere signs.Int ∷ at nowhere (signs.Name 0) ∷ h.0, h.1, h.2)
 completes (AfterExtern secs ds) = let h = after_parameters (ToPrototype secs ds) in (at nowhere signs.Int ∷ at nowhere signs.Input ∷ at nowhere signs.Open ∷ at nowhere signs.Close ∷ h.0, h.1, h.2)
-completes (AfterType NoWord words secs ds) = let h = after_declarator 0 (pos 0) secs ds in (at nowhere (signs.Name 0) ∷ h.0, h.1, h.2)
-completes (AfterType StaticWord words secs ds) = let h = after_declarator 0 (pos 0) secs ds in (at nowhere (signs.Name 0) ∷ h.0, h.1, h.2)
+completes (AfterConst secs ds) = let h = after_declarator Constant 0 (pos 0) secs ds in (at nowhere signs.Int ∷ at nowhere (signs.Name 0) ∷ at nowhere signs.Equals ∷ at nowhere (signs.Number (pos 0)) ∷ h.0, h.1, h.2)
+completes (AfterType NoWord words secs ds) = let h = after_declarator Unqualified 0 (pos 0) secs ds in (at nowhere (signs.Name 0) ∷ h.0, h.1, h.2)
+completes (AfterType StaticWord words secs ds) = let h = after_declarator Unqualified 0 (pos 0) secs ds in (at nowhere (signs.Name 0) ∷ h.0, h.1, h.2)
 completes (AfterType ExternWord words secs ds) = let h = after_parameters (ToPrototype secs ds) in (at nowhere signs.Input ∷ at nowhere signs.Open ∷ at nowhere signs.Close ∷ h.0, h.1, h.2)
-completes (Declaring secs ds) = let h = after_declarator 0 (pos 0) secs ds in (at nowhere (signs.Name 0) ∷ h.0, h.1, h.2)
-completes (Bare x secs ds) = let h = after_declarations secs (with_declared secs ds x (pos 0)) in (at nowhere signs.Semicolon ∷ h.0, h.1, h.2)
-completes (Starting x secs ds) = let h = after_declarator x (pos 0) secs ds in (at nowhere (signs.Number (pos 0)) ∷ h.0, h.1, h.2)
-completes (Negating x secs ds) = let h = after_declarator x (neg_ℤ (pos 0)) secs ds in (at nowhere (signs.Number (pos 0)) ∷ h.0, h.1, h.2)
-completes (Started x n secs ds) = after_declarator x n secs ds
+completes (AfterType ConstWord words secs ds) = let h = after_declarator Constant 0 (pos 0) secs ds in (at nowhere (signs.Name 0) ∷ at nowhere signs.Equals ∷ at nowhere (signs.Number (pos 0)) ∷ h.0, h.1, h.2)
+completes (Declaring kind secs ds) = let h = after_declarator kind 0 (pos 0) secs ds in (at nowhere (signs.Name 0) ∷ at nowhere signs.Equals ∷ at nowhere (signs.Number (pos 0)) ∷ h.0, h.1, h.2)
+completes (Bare kind x secs ds) = let h = after_declarator kind x (pos 0) secs ds in (at nowhere signs.Equals ∷ at nowhere (signs.Number (pos 0)) ∷ h.0, h.1, h.2)
+completes (Starting kind x secs ds) = let h = after_declarator kind x (pos 0) secs ds in (at nowhere (signs.Number (pos 0)) ∷ h.0, h.1, h.2)
+completes (Negating kind x secs ds) = let h = after_declarator kind x (neg_ℤ (pos 0)) secs ds in (at nowhere (signs.Number (pos 0)) ∷ h.0, h.1, h.2)
+completes (Started kind x n secs ds) = after_declarator kind x n secs ds
 completes (Parameters aim) = let h = after_parameters aim in (at nowhere signs.Open ∷ at nowhere signs.Close ∷ h.0, h.1, h.2)
 completes (InParameters aim) = let h = after_parameters aim in (at nowhere signs.Close ∷ h.0, h.1, h.2)
 completes (AfterVoid aim) = let h = after_parameters aim in (at nowhere signs.Close ∷ h.0, h.1, h.2)

@@ -57,7 +57,7 @@ more_guards n m b gs lt h = All-append (IsBelow n) gs (record { number = m; posi
 
 abbrev GuardsOf : Part → List Guard
 GuardsOf (Outer gs) = gs
-GuardsOf (Vars gs) = gs
+GuardsOf (Vars kind gs) = gs
 GuardsOf (Later gs) = gs
 
 declared_numbered : {s : Part} {us : List Item} {ds : List Declared} (n : ℕ) → Declares s us ds → All (IsBelow n) (GuardsOf s) → AreConditionsOf n us → All (IsGuarded n) ds

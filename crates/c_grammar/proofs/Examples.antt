@@ -1,5 +1,5 @@
 -- Lists of items and what they are read as, worked by hand.
-use Rattle.std.proofs.Common.{◌≡◌, ℕ, pos, negsuc, zero, suc, ◌+◌, Bool, true, false, List, [], ◌∷◌, ◌++◌, Ok, Err, refl}
+use Rattle.std.proofs.Common.{◌≡◌, ℕ, pos, negsuc, zero, suc, ◌+◌, Bool, true, false, List, [], ◌∷◌, ◌++◌, Ok, Err, Some, None, refl}
 use Rattle.fam_outer.specs.declared.faults.Place.{Place}
 use Rattle.c_tree.specs.declared.tree.Op.{Op}
 use Rattle.c_tree.specs.declared.tree.Op.TheVariants.{Add, Sub, Mul, Div, Rem, Lt, Le, Gt, Ge, Eq, Ne, And, Or}
@@ -9,6 +9,7 @@ use Rattle.c_grammar.specs.declared.items.Item.{Item}
 use Rattle.c_grammar.specs.declared.items.Sign.{Sign}
 use Rattle.c_grammar.specs.declared.items.Sign.TheVariants as signs
 use Rattle.c_grammar.specs.Grammar.{at, file_of, declared}
+use Rattle.c_grammar.specs.Constants.{of_constants, changed_at}
 use Rattle.c_grammar.specs.Kept.{kept}
 use Rattle.c_grammar.specs.Machine.{run, start}
 use Rattle.c_grammar.specs.Deep.{Wrong, Deep, guarded}
@@ -40,6 +41,62 @@ declarations =
 declared_in_order : run start (items (declarations ++ (head ++ signs.RightBrace ∷ []))) ≡ Ok (file_of (declared 0 (negsuc 2) [] ∷ declared 1 (pos 0) [] ∷ declared 0 (pos 0) [] ∷ []) Done (place 24))
 unfolding run
 declared_in_order = refl
+
+-- static const int x = - 3 , y = 2 ; int const z = 1 ;
+abbrev constants : List Sign
+constants =
+    signs.Static ∷ signs.Const ∷ signs.Int ∷ signs.Name 0 ∷ signs.Equals ∷ signs.Oper Sub ∷ signs.Number (pos 3) ∷ signs.Comma ∷ signs.Name 1 ∷ signs.Equals ∷ signs.Number (pos 2) ∷ signs.Semicolon
+    ∷ signs.Int ∷ signs.Const ∷ signs.Name 2 ∷ signs.Equals ∷ signs.Number (pos 1) ∷ signs.Semicolon ∷ []
+
+constants_have_their_values : run start (items (constants ++ (head ++ signs.RightBrace ∷ []))) ≡ Ok (file_of (declared 0 (negsuc 2) [] ∷ declared 1 (pos 2) [] ∷ declared 2 (pos 1) [] ∷ []) Done (place 23))
+unfolding run
+constants_have_their_values = refl
+
+-- int x ; const int y = 1 ; static int z ; #if 0 signed const a = 2 ; #endif: without the names of variables
+constants_of_a_text : of_constants (items (signs.Int ∷ signs.Name 0 ∷ signs.Semicolon ∷ signs.Const ∷ signs.Int ∷ signs.Name 1 ∷ signs.Equals ∷ signs.Number (pos 1) ∷ signs.Semicolon ∷ signs.Static ∷ signs.Int ∷ signs.Name 2 ∷ signs.Semicolon
+    ∷ signs.GroupIf 0 ∷ signs.Signed ∷ signs.Const ∷ signs.Name 3 ∷ signs.Equals ∷ signs.Number (pos 2) ∷ signs.Semicolon ∷ signs.GroupEnd ∷ []))
+    ≡ at (place 0) signs.Int ∷ at (place 2) signs.Semicolon ∷ at (place 3) signs.Const ∷ at (place 4) signs.Int ∷ at (place 5) (signs.Name 1) ∷ at (place 6) signs.Equals ∷ at (place 7) (signs.Number (pos 1)) ∷ at (place 8) signs.Semicolon
+    ∷ at (place 9) signs.Static ∷ at (place 10) signs.Int ∷ at (place 12) signs.Semicolon ∷ at (place 13) (signs.GroupIf 0) ∷ at (place 14) signs.Signed ∷ at (place 15) signs.Const ∷ at (place 16) (signs.Name 3) ∷ at (place 17) signs.Equals
+    ∷ at (place 18) (signs.Number (pos 2)) ∷ at (place 19) signs.Semicolon ∷ at (place 20) signs.GroupEnd ∷ []
+constants_of_a_text = refl
+
+-- const int x ;: the semicolon is wrong, and so is the comma of const int x = 1 , y , z = 2 ;
+constant_without_a_value : run start (items (signs.Const ∷ signs.Int ∷ signs.Name 0 ∷ signs.Semicolon ∷ (head ++ signs.RightBrace ∷ []))) ≡ Err 7
+unfolding run
+constant_without_a_value = refl
+
+later_constant_without_a_value : run start (items (signs.Const ∷ signs.Int ∷ signs.Name 0 ∷ signs.Equals ∷ signs.Number (pos 1) ∷ signs.Comma ∷ signs.Name 1 ∷ signs.Comma ∷ signs.Name 2 ∷ [])) ≡ Err 2
+unfolding run
+later_constant_without_a_value = refl
+
+-- const int const x, const static int, const int main: the second `const`, `static` and `main` are wrong
+const_twice : run start (items (signs.Const ∷ signs.Int ∷ signs.Const ∷ signs.Name 0 ∷ [])) ≡ Err 2
+unfolding run
+const_twice = refl
+
+const_before_static : run start (items (signs.Const ∷ signs.Static ∷ signs.Int ∷ [])) ≡ Err 2
+unfolding run
+const_before_static = refl
+
+constant_main : run start (items (signs.Const ∷ head)) ≡ Err 4
+unfolding run
+constant_main = refl
+
+-- x = , x %= , x ++ , ++ x change x; x + does not
+changes_of_a_name : changed_at (items (signs.Name 3 ∷ [])) (at (place 1) signs.Equals) ≡ Some (3, place 0)
+changes_of_a_name = refl
+
+update_of_a_name : changed_at (items (signs.Semicolon ∷ signs.Name 3 ∷ [])) (at (place 2) signs.PercentEquals) ≡ Some (3, place 1)
+update_of_a_name = refl
+
+count_of_a_name : changed_at (items (signs.Name 3 ∷ [])) (at (place 1) signs.MinusMinus) ≡ Some (3, place 0)
+count_of_a_name = refl
+
+count_before_a_name : changed_at (items (signs.Semicolon ∷ signs.PlusPlus ∷ [])) (at (place 2) (signs.Name 3)) ≡ Some (3, place 2)
+count_before_a_name = refl
+
+no_change_of_a_name : changed_at (items (signs.Name 3 ∷ [])) (at (place 1) (signs.Oper Add)) ≡ None
+no_change_of_a_name = refl
 
 -- int main ( ) { x += 2 * y - 1 ; return 0 ; }
 updated_by_an_expression : run start (items (head ++ signs.Name 0 ∷ signs.PlusEquals ∷ signs.Number (pos 2) ∷ signs.Oper Mul ∷ signs.Name 1 ∷ signs.Oper Sub ∷ signs.Number (pos 1) ∷ signs.Semicolon ∷ signs.Return ∷ signs.Number (pos 0) ∷ signs.Semicolon ∷ signs.RightBrace ∷ []))

@@ -8,9 +8,9 @@ use Rattle.c_tree.specs.Tree.{Code, Done, followed}
 use Rattle.c_grammar.specs.declared.items.Sign.{Sign}
 use Rattle.c_grammar.specs.declared.items.Sign.TheVariants as signs
 use Rattle.c_grammar.specs.declared.items.Item.{Item}
-use Rattle.c_grammar.specs.Grammar.{at, Optional, absent, present, Typed, int, int32, signed, signed_int, int_signed, Begins, only_type, then_type, Declarator, bare, positive, negative, with_true, with_false, declared, Part, Outer, Vars, Later, Declares, nothing, variables, prototype, section, last_var, next_var, end_part, else_part, elif_part, Returns, no_return, return, Gap, Gaps, GapRest, Empty, no_more, empty_section, empty_end, empty_else, empty_elif, Body, body, Main, main, File, file_of, Forms, file}
+use Rattle.c_grammar.specs.Grammar.{at, Optional, absent, present, Typed, int, int32, signed, signed_int, int_signed, Qualifier, Unqualified, Constant, unqualified, const_before, const_behind, Begins, only_type, then_type, Declarator, bare, positive, negative, with_true, with_false, declared, Part, Outer, Vars, Later, Declares, nothing, variables, prototype, section, last_var, next_var, end_part, else_part, elif_part, Returns, no_return, return, Gap, Gaps, GapRest, Empty, no_more, empty_section, empty_end, empty_else, empty_elif, Body, body, Main, main, File, file_of, Forms, file}
 use Rattle.c_grammar.specs.Ahead.{NoElse}
-use Rattle.c_grammar.specs.Machine.{Tailing, Another, Final, Top, Sections, Outermost, InPart, InLast, guards_of, Aim, ToPrototype, ToMain, ReadingState, Outside, AfterStatic, AfterExtern, AfterType, Leading, NoWord, StaticWord, ExternWord, TypeWords, OneInt, OneSigned, WholeType, Declaring, Parameters, AfterParameters, Ready, Over, with_declared, run, start}
+use Rattle.c_grammar.specs.Machine.{Tailing, Another, Final, Top, Sections, Outermost, InPart, InLast, guards_of, Aim, ToPrototype, ToMain, ReadingState, Outside, AfterStatic, AfterExtern, AfterConst, AfterType, Leading, NoWord, StaticWord, ExternWord, ConstWord, TypeWords, OneInt, OneSigned, WholeType, Declaring, Parameters, AfterParameters, Ready, Over, with_declared, run, start}
 use Rattle.c_grammar.proofs.Complete.{accepted, followed-none}
 
 -- ---- declarations
@@ -24,7 +24,7 @@ abbrev pub NameFirst : List Item → Type 0
 NameFirst [] = ⊥
 NameFirst (x ∷ w) = IsName x.sign
 
-pub vars_first : {gs : List Guard} {ts : List Item} {ds : List Declared} → Declares (Vars gs) ts ds → (w : List Item) → NameFirst (ts ++ w)
+pub vars_first : {gs : List Guard} {ts : List Item} {ds : List Declared} {kind : Qualifier} → Declares (Vars kind gs) ts ds → (w : List Item) → NameFirst (ts ++ w)
 vars_first (last_var p gs (bare q x)) w = tt
 vars_first (last_var p gs (positive q r s x n)) w = tt
 vars_first (last_var p gs (negative q r s t x n)) w = tt
@@ -37,6 +37,7 @@ abbrev pub before_type : Leading → Sections → List Declared → ReadingState
 before_type NoWord secs es = Outside secs es
 before_type StaticWord secs es = AfterStatic secs es
 before_type ExternWord secs es = AfterExtern secs es
+before_type ConstWord secs es = AfterConst secs es
 
 unfoldable pub words_of : {us : List Item} → Typed us → TypeWords
 words_of (int p) = OneInt
@@ -62,47 +63,65 @@ typed_then ExternWord secs es w (int32 p) = refl
 typed_then ExternWord secs es w (signed p) = refl
 typed_then ExternWord secs es w (signed_int p q) = refl
 typed_then ExternWord secs es w (int_signed p q) = refl
+typed_then ConstWord secs es w (int p) = refl
+typed_then ConstWord secs es w (int32 p) = refl
+typed_then ConstWord secs es w (signed p) = refl
+typed_then ConstWord secs es w (signed_int p q) = refl
+typed_then ConstWord secs es w (int_signed p q) = refl
 
-name_then : (words : TypeWords) (secs : Sections) (es : List Declared) (p : Place) (s : Sign) (w : List Item) → IsName s → run (AfterType NoWord words secs es) (at p s ∷ w) ≡ run (Declaring secs es) (at p s ∷ w)
+name_then : (words : TypeWords) (secs : Sections) (es : List Declared) (p : Place) (s : Sign) (w : List Item) → IsName s → run (AfterType NoWord words secs es) (at p s ∷ w) ≡ run (Declaring Unqualified secs es) (at p s ∷ w)
 unfolding run
 name_then words secs es p (signs.Name x) w h = refl
 name_then words secs es p _ w h = absurd h
 
-static_name_then : (words : TypeWords) (secs : Sections) (es : List Declared) (p : Place) (s : Sign) (w : List Item) → IsName s → run (AfterType StaticWord words secs es) (at p s ∷ w) ≡ run (Declaring secs es) (at p s ∷ w)
+static_name_then : (words : TypeWords) (secs : Sections) (es : List Declared) (p : Place) (s : Sign) (w : List Item) → IsName s → run (AfterType StaticWord words secs es) (at p s ∷ w) ≡ run (Declaring Unqualified secs es) (at p s ∷ w)
 unfolding run
 static_name_then words secs es p (signs.Name x) w h = refl
 static_name_then words secs es p _ w h = absurd h
 
-behind_type_then : (words : TypeWords) (secs : Sections) (es : List Declared) (w : List Item) → NameFirst w → run (AfterType NoWord words secs es) w ≡ run (Declaring secs es) w
+const_name_then : (words : TypeWords) (secs : Sections) (es : List Declared) (p : Place) (s : Sign) (w : List Item) → IsName s → run (AfterType ConstWord words secs es) (at p s ∷ w) ≡ run (Declaring Constant secs es) (at p s ∷ w)
+unfolding run
+const_name_then words secs es p (signs.Name x) w h = refl
+const_name_then words secs es p _ w h = absurd h
+
+behind_type_then : (words : TypeWords) (secs : Sections) (es : List Declared) (w : List Item) → NameFirst w → run (AfterType NoWord words secs es) w ≡ run (Declaring Unqualified secs es) w
 behind_type_then words secs es [] h = absurd h
 behind_type_then words secs es (x ∷ w) h = name_then words secs es x.place x.sign w h
 
-behind_static_then : (words : TypeWords) (secs : Sections) (es : List Declared) (w : List Item) → NameFirst w → run (AfterType StaticWord words secs es) w ≡ run (Declaring secs es) w
+behind_static_then : (words : TypeWords) (secs : Sections) (es : List Declared) (w : List Item) → NameFirst w → run (AfterType StaticWord words secs es) w ≡ run (Declaring Unqualified secs es) w
 behind_static_then words secs es [] h = absurd h
 behind_static_then words secs es (x ∷ w) h = static_name_then words secs es x.place x.sign w h
 
-begins_then : {us : List Item} (secs : Sections) (es : List Declared) (w : List Item) → Begins signs.Static us → NameFirst w → run (Outside secs es) (us ++ w) ≡ run (Declaring secs es) w
+behind_const_then : (words : TypeWords) (secs : Sections) (es : List Declared) (w : List Item) → NameFirst w → run (AfterType ConstWord words secs es) w ≡ run (Declaring Constant secs es) w
+behind_const_then words secs es [] h = absurd h
+behind_const_then words secs es (x ∷ w) h = const_name_then words secs es x.place x.sign w h
+
+begins_then : {us : List Item} {kind : Qualifier} (secs : Sections) (es : List Declared) (w : List Item) → Begins signs.Static kind us → NameFirst w → run (Outside secs es) (us ++ w) ≡ run (Declaring kind secs es) w
 unfolding run
-begins_then secs es w (only_type s y) h = typed_then NoWord secs es w y ∙ behind_type_then (words_of y) secs es w h
-begins_then secs es w (then_type q s {us} y) h = typed_then StaticWord secs es w y ∙ behind_static_then (words_of y) secs es w h
+begins_then secs es w (only_type s (unqualified y)) h = typed_then NoWord secs es w y ∙ behind_type_then (words_of y) secs es w h
+begins_then secs es w (only_type s (const_before p y)) h = typed_then ConstWord secs es w y ∙ behind_const_then (words_of y) secs es w h
+begins_then secs es w (only_type s (const_behind p {us} y)) h = ap (run (Outside secs es)) (append_assoc us (at p signs.Const ∷ []) w) ∙ typed_then NoWord secs es (at p signs.Const ∷ w) y
+begins_then secs es w (then_type q s (unqualified y)) h = typed_then StaticWord secs es w y ∙ behind_static_then (words_of y) secs es w h
+begins_then secs es w (then_type q s (const_before p y)) h = typed_then ConstWord secs es w y ∙ behind_const_then (words_of y) secs es w h
+begins_then secs es w (then_type q s (const_behind p {us} y)) h = ap (run (AfterStatic secs es)) (append_assoc us (at p signs.Const ∷ []) w) ∙ typed_then StaticWord secs es (at p signs.Const ∷ w) y
 
 parameters : {us : List Item} (r s : Place) (aim : Aim) (w : List Item) → Optional signs.Void us → run (Parameters aim) (at r signs.Open ∷ (us ++ at s signs.Close ∷ w)) ≡ run (AfterParameters aim) w
 unfolding run
 parameters r s aim w (absent t) = refl
 parameters r s aim w (present q t) = refl
 
-prototyped : {us : List Item} (q : Place) (secs : Sections) (es : List Declared) (w : List Item) → Begins signs.Extern us → run (Outside secs es) (us ++ at q signs.Input ∷ w) ≡ run (Parameters (ToPrototype secs es)) w
+prototyped : {us : List Item} (q : Place) (secs : Sections) (es : List Declared) (w : List Item) → Begins signs.Extern Unqualified us → run (Outside secs es) (us ++ at q signs.Input ∷ w) ≡ run (Parameters (ToPrototype secs es)) w
 unfolding run
-prototyped q secs es w (only_type s y) = typed_then NoWord secs es (at q signs.Input ∷ w) y
-prototyped q secs es w (then_type p s {us} y) = typed_then ExternWord secs es (at q signs.Input ∷ w) y
+prototyped q secs es w (only_type s (unqualified y)) = typed_then NoWord secs es (at q signs.Input ∷ w) y
+prototyped q secs es w (then_type p s (unqualified y)) = typed_then ExternWord secs es (at q signs.Input ∷ w) y
 
-at_comma : {us : List Item} {x : ℕ} {n : ℤ} (p : Place) (secs : Sections) (es : List Declared) (w : List Item) → Declarator us x n → run (Declaring secs es) (us ++ at p signs.Comma ∷ w) ≡ run (Declaring secs (with_declared secs es x n)) w
+at_comma : {us : List Item} {x : ℕ} {n : ℤ} {kind : Qualifier} (p : Place) (secs : Sections) (es : List Declared) (w : List Item) → Declarator kind us x n → run (Declaring kind secs es) (us ++ at p signs.Comma ∷ w) ≡ run (Declaring kind secs (with_declared secs es x n)) w
 unfolding run
 at_comma p secs es w (bare q x) = refl
 at_comma p secs es w (positive q r s x n) = refl
 at_comma p secs es w (negative q r s t x n) = refl
 
-at_end_of : {us : List Item} {x : ℕ} {n : ℤ} (p : Place) (secs : Sections) (es : List Declared) (w : List Item) → Declarator us x n → run (Declaring secs es) (us ++ at p signs.Semicolon ∷ w) ≡ run (Outside secs (with_declared secs es x n)) w
+at_end_of : {us : List Item} {x : ℕ} {n : ℤ} {kind : Qualifier} (p : Place) (secs : Sections) (es : List Declared) (w : List Item) → Declarator kind us x n → run (Declaring kind secs es) (us ++ at p signs.Semicolon ∷ w) ≡ run (Outside secs (with_declared secs es x n)) w
 unfolding run
 at_end_of p secs es w (bare q x) = refl
 at_end_of p secs es w (positive q r s x n) = refl
@@ -110,7 +129,7 @@ at_end_of p secs es w (negative q r s t x n) = refl
 
 abbrev pub Goes : Part → List Item → List Declared → Type 0
 Goes (Outer gs) ts ds = (secs : Sections) → guards_of secs ≡ gs → (es : List Declared) (w : List Item) → run (Outside secs es) (ts ++ w) ≡ run (Outside secs (es ++ ds)) w
-Goes (Vars gs) ts ds = (secs : Sections) → guards_of secs ≡ gs → (es : List Declared) (w : List Item) → run (Declaring secs es) (ts ++ w) ≡ run (Outside secs (es ++ ds)) w
+Goes (Vars kind gs) ts ds = (secs : Sections) → guards_of secs ≡ gs → (es : List Declared) (w : List Item) → run (Declaring kind secs es) (ts ++ w) ≡ run (Outside secs (es ++ ds)) w
 Goes (Later gs) ts ds = (hs : List Guard) (n : ℕ) (outer : Sections) → with_false hs n ≡ gs → (es : List Declared) (w : List Item) → run (Outside (InPart hs n outer) es) (ts ++ w) ≡ run (Outside outer (es ++ ds)) w
 
 regroup : (secs : Sections) (a b c : List Declared) (w : List Item) → run (Outside secs ((a ++ b) ++ c)) w ≡ run (Outside secs (a ++ (b ++ c))) w
@@ -139,12 +158,12 @@ goes (section p n gs {us} {vs} {ws} {cs} {ds} {es = fs} a b d) = λ secs is es w
     ∙ goes b (guards_of secs) n secs (ap (λ (y : List Guard). with_false y n) is) (es ++ cs) (ws ++ w)
     ∙ goes d secs is ((es ++ cs) ++ ds) w
     ∙ ap (λ (y : List Declared). run (Outside secs y) w) (append_assoc (es ++ cs) ds fs ∙ append_assoc es cs (ds ++ fs))
-goes (last_var p gs {us} {x} {n} v) = λ secs is es w.
-    ap (run (Declaring secs es)) (append_assoc us (at p signs.Semicolon ∷ []) w)
+goes (last_var p gs {us} {x} {n} {kind} v) = λ secs is es w.
+    ap (run (Declaring kind secs es)) (append_assoc us (at p signs.Semicolon ∷ []) w)
     ∙ at_end_of p secs es w v
     ∙ ap (λ (y : List Guard). run (Outside secs (es ++ declared x n y ∷ [])) w) is
-goes (next_var p gs {us} {vs} {x} {n} {ds} v d) = λ secs is es w.
-    ap (run (Declaring secs es)) (append_assoc us (at p signs.Comma ∷ vs) w)
+goes (next_var p gs {us} {vs} {x} {n} {ds} {kind} v d) = λ secs is es w.
+    ap (run (Declaring kind secs es)) (append_assoc us (at p signs.Comma ∷ vs) w)
     ∙ at_comma p secs es (vs ++ w) v
     ∙ goes d secs is (with_declared secs es x n) w
     ∙ regroup secs es (declared x n (guards_of secs) ∷ []) ds w

@@ -9,8 +9,8 @@ use Rattle.c_tree.specs.Tree.{Code, Done, Skip, followed}
 use Rattle.c_grammar.specs.declared.items.Sign.{Sign}
 use Rattle.c_grammar.specs.declared.items.Sign.TheVariants as signs
 use Rattle.c_grammar.specs.declared.items.Item.{Item}
-use Rattle.c_grammar.specs.Grammar.{at, Optional, absent, present, Typed, int, int32, signed, signed_int, int_signed, Begins, only_type, then_type, Declarator, bare, positive, negative, with_true, with_false, declared, Part, Outer, Vars, Later, Returns, no_return, return, Gap, Gaps, GapRest, File, file_of}
-use Rattle.c_grammar.specs.Machine.{Tailing, Another, Final, Top, Sections, Outermost, InPart, InLast, guards_of, Aim, ToPrototype, ToMain, ReadingState, Outside, AfterStatic, AfterExtern, AfterType, Leading, NoWord, StaticWord, ExternWord, TypeWords, OneInt, OneSigned, WholeType, first_word, Declaring, Bare, Starting, Negating, Started, Parameters, InParameters, AfterVoid, AfterParameters, Ready, Returning, Returned, Closing, Over, with_declared, step, start}
+use Rattle.c_grammar.specs.Grammar.{at, Optional, absent, present, Typed, int, int32, signed, signed_int, int_signed, Qualifier, Unqualified, Constant, unqualified, const_before, const_behind, Begins, only_type, then_type, Declarator, bare, positive, negative, with_true, with_false, declared, Part, Outer, Vars, Later, Returns, no_return, return, Gap, Gaps, GapRest, File, file_of}
+use Rattle.c_grammar.specs.Machine.{Tailing, Another, Final, Top, Sections, Outermost, InPart, InLast, guards_of, Aim, ToPrototype, ToMain, ReadingState, Outside, AfterStatic, AfterExtern, AfterConst, AfterType, Leading, NoWord, StaticWord, ExternWord, ConstWord, TypeWords, OneInt, OneSigned, WholeType, first_word, Declaring, Bare, Starting, Negating, Started, Parameters, InParameters, AfterVoid, AfterParameters, Ready, Returning, Returned, Closing, Over, with_declared, step, start}
 use Rattle.c_grammar.specs.Deep.{opens_more, tail_depth, guarded}
 use Rattle.c_grammar.specs.Within.{DeclaresIn, nothing, variables, prototype, section, last_var, next_var, end_part, else_part, elif_part, EmptyIn, no_more, empty_section, empty_end, empty_else, empty_elif, BodyWithin, body, MainWithin, main, FormsWithin, file}
 use Rattle.c_grammar.proofs.Complete.{followed-none}
@@ -29,21 +29,25 @@ word : (lead : Leading) (secs : Sections) (es : List Declared) (p : Place) (s : 
 word NoWord secs es p s words w is same plain = token (Outside secs es) (AfterType NoWord words secs es) p s 0 w (same ∙ is) plain refl
 word StaticWord secs es p s words w is same plain = token (AfterStatic secs es) (AfterType StaticWord words secs es) p s 0 w (same ∙ is) plain refl
 word ExternWord secs es p s words w is same plain = token (AfterExtern secs es) (AfterType ExternWord words secs es) p s 0 w (same ∙ is) plain refl
+word ConstWord secs es p s words w is same plain = token (AfterConst secs es) (AfterType ConstWord words secs es) p s 0 w (same ∙ is) plain refl
 
 int_word : (lead : Leading) (secs : Sections) (es : List Declared) (p : Place) (w : List Item) → guarded (before_type lead secs es) 0 (at p signs.Int ∷ w) ≡ guarded (AfterType lead OneInt secs es) 0 w
 int_word NoWord secs es p w = word NoWord secs es p signs.Int OneInt w refl refl refl
 int_word StaticWord secs es p w = word StaticWord secs es p signs.Int OneInt w refl refl refl
 int_word ExternWord secs es p w = word ExternWord secs es p signs.Int OneInt w refl refl refl
+int_word ConstWord secs es p w = word ConstWord secs es p signs.Int OneInt w refl refl refl
 
 int32_word : (lead : Leading) (secs : Sections) (es : List Declared) (p : Place) (w : List Item) → guarded (before_type lead secs es) 0 (at p signs.Int32 ∷ w) ≡ guarded (AfterType lead WholeType secs es) 0 w
 int32_word NoWord secs es p w = word NoWord secs es p signs.Int32 WholeType w refl refl refl
 int32_word StaticWord secs es p w = word StaticWord secs es p signs.Int32 WholeType w refl refl refl
 int32_word ExternWord secs es p w = word ExternWord secs es p signs.Int32 WholeType w refl refl refl
+int32_word ConstWord secs es p w = word ConstWord secs es p signs.Int32 WholeType w refl refl refl
 
 signed_word : (lead : Leading) (secs : Sections) (es : List Declared) (p : Place) (w : List Item) → guarded (before_type lead secs es) 0 (at p signs.Signed ∷ w) ≡ guarded (AfterType lead OneSigned secs es) 0 w
 signed_word NoWord secs es p w = word NoWord secs es p signs.Signed OneSigned w refl refl refl
 signed_word StaticWord secs es p w = word StaticWord secs es p signs.Signed OneSigned w refl refl refl
 signed_word ExternWord secs es p w = word ExternWord secs es p signs.Signed OneSigned w refl refl refl
+signed_word ConstWord secs es p w = word ConstWord secs es p signs.Signed OneSigned w refl refl refl
 
 typed_then : {us : List Item} (lead : Leading) (secs : Sections) (es : List Declared) (w : List Item) (y : Typed us) → guarded (before_type lead secs es) 0 (us ++ w) ≡ guarded (AfterType lead (words_of y) secs es) 0 w
 unfolding words_of
@@ -53,23 +57,46 @@ typed_then lead secs es w (signed p) = signed_word lead secs es p w
 typed_then lead secs es w (signed_int p q) = signed_word lead secs es p (at q signs.Int ∷ w) ∙ token (AfterType lead OneSigned secs es) (AfterType lead WholeType secs es) q signs.Int 0 w refl refl refl
 typed_then lead secs es w (int_signed p q) = int_word lead secs es p (at q signs.Signed ∷ w) ∙ token (AfterType lead OneInt secs es) (AfterType lead WholeType secs es) q signs.Signed 0 w refl refl refl
 
-name_same : (words : TypeWords) (secs : Sections) (es : List Declared) (p : Place) (s : Sign) → IsName s → step (AfterType NoWord words secs es) p s ≡ step (Declaring secs es) p s
+name_same : (words : TypeWords) (secs : Sections) (es : List Declared) (p : Place) (s : Sign) → IsName s → step (AfterType NoWord words secs es) p s ≡ step (Declaring Unqualified secs es) p s
 name_same words secs es p (signs.Name x) h = refl
 name_same words secs es p _ h = absurd h
 
-static_name_same : (words : TypeWords) (secs : Sections) (es : List Declared) (p : Place) (s : Sign) → IsName s → step (AfterType StaticWord words secs es) p s ≡ step (Declaring secs es) p s
+static_name_same : (words : TypeWords) (secs : Sections) (es : List Declared) (p : Place) (s : Sign) → IsName s → step (AfterType StaticWord words secs es) p s ≡ step (Declaring Unqualified secs es) p s
 static_name_same words secs es p (signs.Name x) h = refl
 static_name_same words secs es p _ h = absurd h
 
-behind_type_then : (words : TypeWords) (secs : Sections) (es : List Declared) (w : List Item) → NameFirst w → guarded (AfterType NoWord words secs es) 0 w ≡ guarded (Declaring secs es) 0 w
-behind_type_then words secs es w h = same_within (AfterType NoWord words secs es) (Declaring secs es) 0 refl refl refl w (λ x v is. name_same words secs es x.place x.sign (name_at w x v is h))
+const_name_same : (words : TypeWords) (secs : Sections) (es : List Declared) (p : Place) (s : Sign) → IsName s → step (AfterType ConstWord words secs es) p s ≡ step (Declaring Constant secs es) p s
+const_name_same words secs es p (signs.Name x) h = refl
+const_name_same words secs es p _ h = absurd h
 
-behind_static_then : (words : TypeWords) (secs : Sections) (es : List Declared) (w : List Item) → NameFirst w → guarded (AfterType StaticWord words secs es) 0 w ≡ guarded (Declaring secs es) 0 w
-behind_static_then words secs es w h = same_within (AfterType StaticWord words secs es) (Declaring secs es) 0 refl refl refl w (λ x v is. static_name_same words secs es x.place x.sign (name_at w x v is h))
+behind_type_then : (words : TypeWords) (secs : Sections) (es : List Declared) (w : List Item) → NameFirst w → guarded (AfterType NoWord words secs es) 0 w ≡ guarded (Declaring Unqualified secs es) 0 w
+behind_type_then words secs es w h = same_within (AfterType NoWord words secs es) (Declaring Unqualified secs es) 0 refl refl refl w (λ x v is. name_same words secs es x.place x.sign (name_at w x v is h))
 
-pub begins_then : {us : List Item} (secs : Sections) (es : List Declared) (w : List Item) → Begins signs.Static us → NameFirst w → guarded (Outside secs es) 0 (us ++ w) ≡ guarded (Declaring secs es) 0 w
-begins_then secs es w (only_type s y) h = typed_then NoWord secs es w y ∙ behind_type_then (words_of y) secs es w h
-begins_then secs es w (then_type q s {us} y) h = token (Outside secs es) (AfterStatic secs es) q signs.Static 0 (us ++ w) refl refl refl ∙ typed_then StaticWord secs es w y ∙ behind_static_then (words_of y) secs es w h
+behind_static_then : (words : TypeWords) (secs : Sections) (es : List Declared) (w : List Item) → NameFirst w → guarded (AfterType StaticWord words secs es) 0 w ≡ guarded (Declaring Unqualified secs es) 0 w
+behind_static_then words secs es w h = same_within (AfterType StaticWord words secs es) (Declaring Unqualified secs es) 0 refl refl refl w (λ x v is. static_name_same words secs es x.place x.sign (name_at w x v is h))
+
+behind_const_then : (words : TypeWords) (secs : Sections) (es : List Declared) (w : List Item) → NameFirst w → guarded (AfterType ConstWord words secs es) 0 w ≡ guarded (Declaring Constant secs es) 0 w
+behind_const_then words secs es w h = same_within (AfterType ConstWord words secs es) (Declaring Constant secs es) 0 refl refl refl w (λ x v is. const_name_same words secs es x.place x.sign (name_at w x v is h))
+
+pub begins_then : {us : List Item} {kind : Qualifier} (secs : Sections) (es : List Declared) (w : List Item) → Begins signs.Static kind us → NameFirst w → guarded (Outside secs es) 0 (us ++ w) ≡ guarded (Declaring kind secs es) 0 w
+begins_then secs es w (only_type s (unqualified y)) h = typed_then NoWord secs es w y ∙ behind_type_then (words_of y) secs es w h
+begins_then secs es w (only_type s (const_before p {us} y)) h =
+    token (Outside secs es) (AfterConst secs es) p signs.Const 0 (us ++ w) refl refl refl ∙ typed_then ConstWord secs es w y ∙ behind_const_then (words_of y) secs es w h
+begins_then secs es w (only_type s (const_behind p {us} y)) h =
+    ap (guarded (Outside secs es) 0) (append_assoc us (at p signs.Const ∷ []) w)
+    ∙ typed_then NoWord secs es (at p signs.Const ∷ w) y
+    ∙ token (AfterType NoWord (words_of y) secs es) (Declaring Constant secs es) p signs.Const 0 w refl refl refl
+begins_then secs es w (then_type q s {us} (unqualified y)) h = token (Outside secs es) (AfterStatic secs es) q signs.Static 0 (us ++ w) refl refl refl ∙ typed_then StaticWord secs es w y ∙ behind_static_then (words_of y) secs es w h
+begins_then secs es w (then_type q s (const_before p {us} y)) h =
+    token (Outside secs es) (AfterStatic secs es) q signs.Static 0 (at p signs.Const ∷ (us ++ w)) refl refl refl
+    ∙ token (AfterStatic secs es) (AfterConst secs es) p signs.Const 0 (us ++ w) refl refl refl
+    ∙ typed_then ConstWord secs es w y
+    ∙ behind_const_then (words_of y) secs es w h
+begins_then secs es w (then_type q s (const_behind p {us} y)) h =
+    token (Outside secs es) (AfterStatic secs es) q signs.Static 0 ((us ++ at p signs.Const ∷ []) ++ w) refl refl refl
+    ∙ ap (guarded (AfterStatic secs es) 0) (append_assoc us (at p signs.Const ∷ []) w)
+    ∙ typed_then StaticWord secs es (at p signs.Const ∷ w) y
+    ∙ token (AfterType StaticWord (words_of y) secs es) (Declaring Constant secs es) p signs.Const 0 w refl refl refl
 
 pub parameters : {us : List Item} (r s : Place) (aim : Aim) (w : List Item) → Optional signs.Void us → guarded (Parameters aim) 0 (at r signs.Open ∷ (us ++ at s signs.Close ∷ w)) ≡ guarded (AfterParameters aim) 0 w
 parameters {us} r s aim w (absent t) = token (Parameters aim) (InParameters aim) r signs.Open 0 (at s signs.Close ∷ w) refl refl refl ∙ token (InParameters aim) (AfterParameters aim) s signs.Close 0 w refl refl refl
@@ -78,34 +105,34 @@ parameters {us} r s aim w (present q t) =
     ∙ token (InParameters aim) (AfterVoid aim) q signs.Void 0 (at s signs.Close ∷ w) refl refl refl
     ∙ token (AfterVoid aim) (AfterParameters aim) s signs.Close 0 w refl refl refl
 
-pub prototyped : {us : List Item} (q : Place) (secs : Sections) (es : List Declared) (w : List Item) → Begins signs.Extern us → guarded (Outside secs es) 0 (us ++ at q signs.Input ∷ w) ≡ guarded (Parameters (ToPrototype secs es)) 0 w
-prototyped q secs es w (only_type s y) =
+pub prototyped : {us : List Item} (q : Place) (secs : Sections) (es : List Declared) (w : List Item) → Begins signs.Extern Unqualified us → guarded (Outside secs es) 0 (us ++ at q signs.Input ∷ w) ≡ guarded (Parameters (ToPrototype secs es)) 0 w
+prototyped q secs es w (only_type s (unqualified y)) =
     typed_then NoWord secs es (at q signs.Input ∷ w) y ∙ token (AfterType NoWord (words_of y) secs es) (Parameters (ToPrototype secs es)) q signs.Input 0 w refl refl refl
-prototyped q secs es w (then_type p s {us} y) =
+prototyped q secs es w (then_type p s {us} (unqualified y)) =
     token (Outside secs es) (AfterExtern secs es) p signs.Extern 0 (us ++ at q signs.Input ∷ w) refl refl refl
     ∙ typed_then ExternWord secs es (at q signs.Input ∷ w) y
     ∙ token (AfterType ExternWord (words_of y) secs es) (Parameters (ToPrototype secs es)) q signs.Input 0 w refl refl refl
 
 -- behind a declarator
-pub declarator : {us : List Item} {x : ℕ} {n : ℤ} (secs : Sections) (es : List Declared) (p : Place) (s : Sign) (next : ReadingState) (w : List Item) → step (Started x n secs es) p s ≡ Some next → step (Bare x secs es) p s ≡ step (Started x (pos 0) secs es) p s → opens_more s ≡ false → Declarator us x n
-    → guarded (Declaring secs es) 0 (us ++ at p s ∷ w) ≡ guarded next 0 w
-declarator secs es p s next w is same plain (bare q x) = token (Declaring secs es) (Bare x secs es) q (signs.Name x) 0 (at p s ∷ w) refl refl refl ∙ token (Bare x secs es) next p s 0 w (same ∙ is) plain refl
-declarator secs es p s next w is same plain (positive q r z x n) =
-    token (Declaring secs es) (Bare x secs es) q (signs.Name x) 0 (at r signs.Equals ∷ at z (signs.Number n) ∷ at p s ∷ w) refl refl refl
-    ∙ token (Bare x secs es) (Starting x secs es) r signs.Equals 0 (at z (signs.Number n) ∷ at p s ∷ w) refl refl refl
-    ∙ token (Starting x secs es) (Started x n secs es) z (signs.Number n) 0 (at p s ∷ w) refl refl refl
-    ∙ token (Started x n secs es) next p s 0 w is plain refl
-declarator secs es p s next w is same plain (negative q r z t x n) =
-    token (Declaring secs es) (Bare x secs es) q (signs.Name x) 0 (at r signs.Equals ∷ at z (signs.Oper Sub) ∷ at t (signs.Number n) ∷ at p s ∷ w) refl refl refl
-    ∙ token (Bare x secs es) (Starting x secs es) r signs.Equals 0 (at z (signs.Oper Sub) ∷ at t (signs.Number n) ∷ at p s ∷ w) refl refl refl
-    ∙ token (Starting x secs es) (Negating x secs es) z (signs.Oper Sub) 0 (at t (signs.Number n) ∷ at p s ∷ w) refl refl refl
-    ∙ token (Negating x secs es) (Started x (neg_ℤ n) secs es) t (signs.Number n) 0 (at p s ∷ w) refl refl refl
-    ∙ token (Started x (neg_ℤ n) secs es) next p s 0 w is plain refl
+pub declarator : {us : List Item} {x : ℕ} {n : ℤ} {kind : Qualifier} (secs : Sections) (es : List Declared) (p : Place) (s : Sign) (next : ReadingState) (w : List Item) → step (Started kind x n secs es) p s ≡ Some next → step (Bare Unqualified x secs es) p s ≡ step (Started Unqualified x (pos 0) secs es) p s → opens_more s ≡ false → Declarator kind us x n
+    → guarded (Declaring kind secs es) 0 (us ++ at p s ∷ w) ≡ guarded next 0 w
+declarator secs es p s next w is same plain (bare q x) = token (Declaring Unqualified secs es) (Bare Unqualified x secs es) q (signs.Name x) 0 (at p s ∷ w) refl refl refl ∙ token (Bare Unqualified x secs es) next p s 0 w (same ∙ is) plain refl
+declarator {kind = kind} secs es p s next w is same plain (positive q r z x n) =
+    token (Declaring kind secs es) (Bare kind x secs es) q (signs.Name x) 0 (at r signs.Equals ∷ at z (signs.Number n) ∷ at p s ∷ w) refl refl refl
+    ∙ token (Bare kind x secs es) (Starting kind x secs es) r signs.Equals 0 (at z (signs.Number n) ∷ at p s ∷ w) refl refl refl
+    ∙ token (Starting kind x secs es) (Started kind x n secs es) z (signs.Number n) 0 (at p s ∷ w) refl refl refl
+    ∙ token (Started kind x n secs es) next p s 0 w is plain refl
+declarator {kind = kind} secs es p s next w is same plain (negative q r z t x n) =
+    token (Declaring kind secs es) (Bare kind x secs es) q (signs.Name x) 0 (at r signs.Equals ∷ at z (signs.Oper Sub) ∷ at t (signs.Number n) ∷ at p s ∷ w) refl refl refl
+    ∙ token (Bare kind x secs es) (Starting kind x secs es) r signs.Equals 0 (at z (signs.Oper Sub) ∷ at t (signs.Number n) ∷ at p s ∷ w) refl refl refl
+    ∙ token (Starting kind x secs es) (Negating kind x secs es) z (signs.Oper Sub) 0 (at t (signs.Number n) ∷ at p s ∷ w) refl refl refl
+    ∙ token (Negating kind x secs es) (Started kind x (neg_ℤ n) secs es) t (signs.Number n) 0 (at p s ∷ w) refl refl refl
+    ∙ token (Started kind x (neg_ℤ n) secs es) next p s 0 w is plain refl
 
-pub at_comma : {us : List Item} {x : ℕ} {n : ℤ} (p : Place) (secs : Sections) (es : List Declared) (w : List Item) → Declarator us x n → guarded (Declaring secs es) 0 (us ++ at p signs.Comma ∷ w) ≡ guarded (Declaring secs (with_declared secs es x n)) 0 w
-at_comma {x = x} {n = n} p secs es w d = declarator secs es p signs.Comma (Declaring secs (with_declared secs es x n)) w refl refl refl d
+pub at_comma : {us : List Item} {x : ℕ} {n : ℤ} {kind : Qualifier} (p : Place) (secs : Sections) (es : List Declared) (w : List Item) → Declarator kind us x n → guarded (Declaring kind secs es) 0 (us ++ at p signs.Comma ∷ w) ≡ guarded (Declaring kind secs (with_declared secs es x n)) 0 w
+at_comma {x = x} {n = n} {kind = kind} p secs es w d = declarator secs es p signs.Comma (Declaring kind secs (with_declared secs es x n)) w refl refl refl d
 
-pub at_end_of : {us : List Item} {x : ℕ} {n : ℤ} (p : Place) (secs : Sections) (es : List Declared) (w : List Item) → Declarator us x n → guarded (Declaring secs es) 0 (us ++ at p signs.Semicolon ∷ w) ≡ guarded (Outside secs (with_declared secs es x n)) 0 w
+pub at_end_of : {us : List Item} {x : ℕ} {n : ℤ} {kind : Qualifier} (p : Place) (secs : Sections) (es : List Declared) (w : List Item) → Declarator kind us x n → guarded (Declaring kind secs es) 0 (us ++ at p signs.Semicolon ∷ w) ≡ guarded (Outside secs (with_declared secs es x n)) 0 w
 at_end_of {x = x} {n = n} p secs es w d = declarator secs es p signs.Semicolon (Outside secs (with_declared secs es x n)) w refl refl refl d
 
 -- one more guard
@@ -120,7 +147,7 @@ regroup secs a b c w = ap (λ (y : List Declared). guarded (Outside secs y) 0 w)
 
 abbrev pub GoesIn : ℕ → Part → List Item → List Declared → Type 0
 GoesIn k (Outer gs) ts ds = (secs : Sections) → guards_of secs ≡ gs → k + length gs ≤ 64 → (es : List Declared) (w : List Item) → guarded (Outside secs es) 0 (ts ++ w) ≡ guarded (Outside secs (es ++ ds)) 0 w
-GoesIn k (Vars gs) ts ds = (secs : Sections) → guards_of secs ≡ gs → k + length gs ≤ 64 → (es : List Declared) (w : List Item) → guarded (Declaring secs es) 0 (ts ++ w) ≡ guarded (Outside secs (es ++ ds)) 0 w
+GoesIn k (Vars kind gs) ts ds = (secs : Sections) → guards_of secs ≡ gs → k + length gs ≤ 64 → (es : List Declared) (w : List Item) → guarded (Declaring kind secs es) 0 (ts ++ w) ≡ guarded (Outside secs (es ++ ds)) 0 w
 GoesIn k (Later gs) ts ds = (hs : List Guard) (n : ℕ) (outer : Sections) → with_false hs n ≡ gs → k + length gs ≤ 64 → (es : List Declared) (w : List Item) → guarded (Outside (InPart hs n outer) es) 0 (ts ++ w) ≡ guarded (Outside outer (es ++ ds)) 0 w
 
 pub goes_in : {k : ℕ} {s : Part} {ts : List Item} {ds : List Declared} → DeclaresIn k s ts ds → GoesIn k s ts ds
@@ -149,12 +176,12 @@ goes_in (section p n gs {us} {vs} {ws} {cs} {ds} {es = fs} {k = j} a b d) = λ s
     ∙ goes_in b (guards_of secs) n secs (ap (λ (y : List Guard). with_false y n) is) (omega (arith, g, guards_false gs n)) (es ++ cs) (ws ++ w)
     ∙ goes_in d secs is h ((es ++ cs) ++ ds) w
     ∙ ap (λ (y : List Declared). guarded (Outside secs y) 0 w) (append_assoc (es ++ cs) ds fs ∙ append_assoc es cs (ds ++ fs))
-goes_in (last_var p gs {us} {x} {n} v) = λ secs is h es w.
-    ap (guarded (Declaring secs es) 0) (append_assoc us (at p signs.Semicolon ∷ []) w)
+goes_in (last_var p gs {us} {x} {n} {kind} v) = λ secs is h es w.
+    ap (guarded (Declaring kind secs es) 0) (append_assoc us (at p signs.Semicolon ∷ []) w)
     ∙ at_end_of p secs es w v
     ∙ ap (λ (y : List Guard). guarded (Outside secs (es ++ declared x n y ∷ [])) 0 w) is
-goes_in (next_var p gs {us} {vs} {x} {n} {ds} v d) = λ secs is h es w.
-    ap (guarded (Declaring secs es) 0) (append_assoc us (at p signs.Comma ∷ vs) w)
+goes_in (next_var p gs {us} {vs} {x} {n} {ds} {kind} v d) = λ secs is h es w.
+    ap (guarded (Declaring kind secs es) 0) (append_assoc us (at p signs.Comma ∷ vs) w)
     ∙ at_comma p secs es (vs ++ w) v
     ∙ goes_in d secs is h (with_declared secs es x n) w
     ∙ regroup secs es (declared x n (guards_of secs) ∷ []) ds w

@@ -13,7 +13,7 @@ use Rattle.c_tree.specs.Project.{projected_start}
 use Rattle.c_tree.specs.Whole.{IsDeclaredOf}
 use Rattle.c_grammar.specs.declared.items.Item.{Item}
 use Rattle.c_grammar.specs.declared.items.Sign.TheVariants as signs
-use Rattle.c_grammar.specs.Grammar.{at, Prefix, Positive, Negative, Inverse, applied, Expresses, number, name, group, prefix, loose, binary, Shape, Writes, none, more, choice, ends, otherwise, elif, assign, input, update, count, prefix_count, assert, skip, block, while, if_then, if_else, Declarator, bare, positive, negative, declared, Part, Declares, nothing, variables, prototype, section, last_var, next_var, end_part, else_part, elif_part, Returns, no_return, return, Body, body, Main, main, File, Forms, file, has_groups, zeros}
+use Rattle.c_grammar.specs.Grammar.{at, Prefix, Positive, Negative, Inverse, applied, Expresses, number, name, group, prefix, loose, binary, Shape, Writes, none, more, choice, ends, otherwise, elif, assign, input, update, count, prefix_count, assert, skip, block, while, if_then, if_else, Qualifier, Declarator, bare, positive, negative, declared, Part, Declares, nothing, variables, prototype, section, last_var, next_var, end_part, else_part, elif_part, Returns, no_return, return, Body, body, Main, main, File, Forms, file, has_groups, zeros}
 use Rattle.c_grammar.specs.Facts.{AreFit, WellFormed, PlainWithoutGroups}
 use Rattle.c_tree.proofs.Starts.{length-start, ints-start}
 use Rattle.c_grammar.proofs.Keeping.{no_groups}
@@ -74,7 +74,7 @@ code_fits n (if_else p q r z {b} {ts} {us} {vs} e s t) h =
     let l = fit_split n us (at z signs.Else ∷ vs) k.1.1 in
     (term_fits n e k.0, code_fits n s l.0, code_fits n t l.1.1, tt)
 
-value_fits : {us : List Item} {x : ℕ} {v : ℤ} (n : ℕ) → Declarator us x v → AreFit n us → (x < n) × IsInt v
+value_fits : {us : List Item} {x : ℕ} {v : ℤ} {kind : Qualifier} (n : ℕ) → Declarator kind us x v → AreFit n us → (x < n) × IsInt v
 value_fits n (bare p x) h = (h.0, record { low = omega (arith, ints); high = omega (arith, ints) })
 value_fits n (positive p q r x v) h = (h.0, record { low = omega (arith, ints, h.1.1.0.0, h.1.1.0.1); high = h.1.1.0.1 })
 value_fits n (negative p q r s x v) h = (h.0, record { low = omega (arith, ints, h.1.1.1.0.0, h.1.1.1.0.1); high = omega (arith, ints, h.1.1.1.0.0, h.1.1.1.0.1) })

@@ -12,8 +12,8 @@ use Rattle.c_tree.specs.Whole.{operators, nesting, IsSmall}
 use Rattle.c_grammar.specs.declared.items.Sign.{Sign}
 use Rattle.c_grammar.specs.declared.items.Sign.TheVariants as signs
 use Rattle.c_grammar.specs.declared.items.Item.{Item}
-use Rattle.c_grammar.specs.Grammar.{Count, tighter, Positive, Negative, Inverse, File}
-use Rattle.c_grammar.specs.Machine.{Frame, Paren, Pre, Left, Stack, Top, Braces, Yes, No, ThenOf, ElseOf, LoopOf, Use, ToAssign, ToUpdate, ToAssert, ToChoose, ToLoop, Sections, Outermost, InPart, InLast, Aim, ToPrototype, ToMain, Tailing, Another, ReadingState, Outside, AfterStatic, AfterExtern, AfterType, Leading, NoWord, StaticWord, ExternWord, TypeWords, OneInt, OneSigned, Declaring, Bare, Starting, Negating, Started, Parameters, InParameters, AfterVoid, AfterParameters, Ready, Ended, Wants, Has, Counting, Named, Opens, InputOpens, InputCloses, Finishing, Returning, Returned, Closing, Over, settle, input_of, want, tested, closed_by, assigned, ended_by, have, folded, else_of, linked, opened, braced, returned, next_part, last_part, group_end, begin, on, named, counting, at_open, at_close, at_semicolon, at_input, next_condition, last_section, section_end, outside, declaring, main_of, first_word, naming, behind_type, after_type, started, is_bare, starting, negating, in_parameters, after_parameters, returning, closing, over, step, finish, start}
+use Rattle.c_grammar.specs.Grammar.{Count, tighter, Positive, Negative, Inverse, Qualifier, Unqualified, Constant, File}
+use Rattle.c_grammar.specs.Machine.{Frame, Paren, Pre, Left, Stack, Top, Braces, Yes, No, ThenOf, ElseOf, LoopOf, Use, ToAssign, ToUpdate, ToAssert, ToChoose, ToLoop, Sections, Outermost, InPart, InLast, Aim, ToPrototype, ToMain, Tailing, Another, ReadingState, Outside, AfterStatic, AfterExtern, AfterConst, AfterType, Leading, NoWord, StaticWord, ExternWord, ConstWord, TypeWords, OneInt, OneSigned, Declaring, Bare, Starting, Negating, Started, Parameters, InParameters, AfterVoid, AfterParameters, Ready, Ended, Wants, Has, Counting, Named, Opens, InputOpens, InputCloses, Finishing, Returning, Returned, Closing, Over, settle, input_of, want, tested, closed_by, assigned, ended_by, have, folded, else_of, linked, opened, braced, returned, next_part, last_part, group_end, begin, on, named, counting, at_open, at_close, at_semicolon, at_input, next_condition, last_section, section_end, outside, behind_static, declaring, qualifying, main_of, first_word, naming, behind_type, after_type, started, without_value, is_bare, starting, negating, in_parameters, after_parameters, returning, closing, over, step, finish, start}
 use Rattle.c_grammar.specs.Deep.{depth, opens_more, is_nested, counted, is_long, is_deep, Fault, ended, went, guarded}
 
 max_parts : (a b k m : ℕ) → max a b + k ≤ m → (a + k ≤ m) × (b + k ≤ m)
@@ -332,10 +332,16 @@ first_fits lead secs ds signs.Int32 = tt
 first_fits lead secs ds signs.Signed = tt
 first_fits lead secs ds _ = tt
 
+static_fits : (secs : Sections) (ds : List Declared) (s : Sign) → IfSome (behind_static secs ds s) (λ next. StateFits next 0)
+unfolding StateFits
+static_fits secs ds signs.Const = tt
+static_fits secs ds s = first_fits StaticWord secs ds s
+
 outside_fits : (secs : Sections) (ds : List Declared) (s : Sign) → IfSome (outside secs ds s) (λ next. StateFits next 0)
 unfolding StateFits
 outside_fits secs ds signs.Static = tt
 outside_fits secs ds signs.Extern = tt
+outside_fits secs ds signs.Const = tt
 outside_fits secs ds (signs.GroupIf n) = tt
 outside_fits secs ds (signs.GroupElif n) = condition_fits n secs ds
 outside_fits secs ds signs.GroupElse = last_section_fits secs ds
@@ -353,21 +359,28 @@ main_fits _ ds = tt
 
 naming_fits : (secs : Sections) (ds : List Declared) (s : Sign) → IfSome (naming secs ds s) (λ next. StateFits next 0)
 unfolding StateFits
+naming_fits secs ds signs.Const = tt
 naming_fits secs ds (signs.Name x) = tt
 naming_fits secs ds signs.Input = tt
 naming_fits secs ds signs.Main = main_fits secs ds
 naming_fits secs ds _ = tt
 
-declaring_fits : (secs : Sections) (ds : List Declared) (s : Sign) → IfSome (declaring secs ds s) (λ next. StateFits next 0)
+declaring_fits : (kind : Qualifier) (secs : Sections) (ds : List Declared) (s : Sign) → IfSome (declaring kind secs ds s) (λ next. StateFits next 0)
 unfolding StateFits
-declaring_fits secs ds (signs.Name x) = tt
-declaring_fits secs ds _ = tt
+declaring_fits kind secs ds (signs.Name x) = tt
+declaring_fits kind secs ds _ = tt
+
+qualifying_fits : (secs : Sections) (ds : List Declared) (s : Sign) → IfSome (qualifying secs ds s) (λ next. StateFits next 0)
+unfolding StateFits
+qualifying_fits secs ds signs.Const = tt
+qualifying_fits secs ds s = declaring_fits Unqualified secs ds s
 
 behind_type_fits : (lead : Leading) (secs : Sections) (ds : List Declared) (s : Sign) → IfSome (behind_type lead secs ds s) (λ next. StateFits next 0)
 unfolding StateFits
 behind_type_fits NoWord secs ds s = naming_fits secs ds s
-behind_type_fits StaticWord secs ds s = declaring_fits secs ds s
+behind_type_fits StaticWord secs ds s = qualifying_fits secs ds s
 behind_type_fits ExternWord secs ds s = at_input_fits (Parameters (ToPrototype secs ds)) s tt
+behind_type_fits ConstWord secs ds s = declaring_fits Constant secs ds s
 
 after_type_fits : (lead : Leading) (secs : Sections) (ds : List Declared) (s : Sign) (words : TypeWords) → IfSome (after_type lead secs ds s words) (λ next. StateFits next 0)
 unfolding StateFits
@@ -375,27 +388,32 @@ after_type_fits lead secs ds signs.Signed OneInt = tt
 after_type_fits lead secs ds signs.Int OneSigned = tt
 after_type_fits lead secs ds s words = behind_type_fits lead secs ds s
 
-started_fits : (x : ℕ) (n : ℤ) (secs : Sections) (ds : List Declared) (s : Sign) → IfSome (started x n secs ds s) (λ next. StateFits next 0)
+started_fits : (kind : Qualifier) (x : ℕ) (n : ℤ) (secs : Sections) (ds : List Declared) (s : Sign) → IfSome (started kind x n secs ds s) (λ next. StateFits next 0)
 unfolding StateFits
-started_fits x n secs ds signs.Comma = tt
-started_fits x n secs ds signs.Semicolon = tt
-started_fits x n secs ds _ = tt
+started_fits kind x n secs ds signs.Comma = tt
+started_fits kind x n secs ds signs.Semicolon = tt
+started_fits kind x n secs ds _ = tt
 
-bare_fits : (x : ℕ) (secs : Sections) (ds : List Declared) (s : Sign) → IfSome (is_bare x secs ds s) (λ next. StateFits next 0)
+unvalued_fits : (kind : Qualifier) (x : ℕ) (secs : Sections) (ds : List Declared) (s : Sign) → IfSome (without_value kind x secs ds s) (λ next. StateFits next 0)
 unfolding StateFits
-bare_fits x secs ds signs.Equals = tt
-bare_fits x secs ds s = started_fits x (pos 0) secs ds s
+unvalued_fits Unqualified x secs ds s = started_fits Unqualified x (pos 0) secs ds s
+unvalued_fits Constant x secs ds s = tt
 
-starting_fits : (x : ℕ) (secs : Sections) (ds : List Declared) (s : Sign) → IfSome (starting x secs ds s) (λ next. StateFits next 0)
+bare_fits : (kind : Qualifier) (x : ℕ) (secs : Sections) (ds : List Declared) (s : Sign) → IfSome (is_bare kind x secs ds s) (λ next. StateFits next 0)
 unfolding StateFits
-starting_fits x secs ds (signs.Number n) = tt
-starting_fits x secs ds (signs.Oper Sub) = tt
-starting_fits x secs ds _ = tt
+bare_fits kind x secs ds signs.Equals = tt
+bare_fits kind x secs ds s = unvalued_fits kind x secs ds s
 
-negating_fits : (x : ℕ) (secs : Sections) (ds : List Declared) (s : Sign) → IfSome (negating x secs ds s) (λ next. StateFits next 0)
+starting_fits : (kind : Qualifier) (x : ℕ) (secs : Sections) (ds : List Declared) (s : Sign) → IfSome (starting kind x secs ds s) (λ next. StateFits next 0)
 unfolding StateFits
-negating_fits x secs ds (signs.Number n) = tt
-negating_fits x secs ds _ = tt
+starting_fits kind x secs ds (signs.Number n) = tt
+starting_fits kind x secs ds (signs.Oper Sub) = tt
+starting_fits kind x secs ds _ = tt
+
+negating_fits : (kind : Qualifier) (x : ℕ) (secs : Sections) (ds : List Declared) (s : Sign) → IfSome (negating kind x secs ds s) (λ next. StateFits next 0)
+unfolding StateFits
+negating_fits kind x secs ds (signs.Number n) = tt
+negating_fits kind x secs ds _ = tt
 
 in_parameters_fits : (aim : Aim) (s : Sign) → IfSome (in_parameters aim s) (λ next. StateFits next 0)
 unfolding StateFits
@@ -430,14 +448,15 @@ over_fits f _ _ h = tt
 step_fits : (state : ReadingState) (p : Place) (s : Sign) (k : ℕ) → is_nested state s ≡ false → is_long state s k ≡ false → StateFits state k → IfSome (step state p s) (λ next. StateFits next (counted state s k))
 unfolding StateFits UseFits weight
 step_fits (Outside secs ds) p s k d l h = outside_fits secs ds s
-step_fits (AfterStatic secs ds) p s k d l h = first_fits StaticWord secs ds s
+step_fits (AfterStatic secs ds) p s k d l h = static_fits secs ds s
 step_fits (AfterExtern secs ds) p s k d l h = first_fits ExternWord secs ds s
+step_fits (AfterConst secs ds) p s k d l h = first_fits ConstWord secs ds s
 step_fits (AfterType lead words secs ds) p s k d l h = after_type_fits lead secs ds s words
-step_fits (Declaring secs ds) p s k d l h = declaring_fits secs ds s
-step_fits (Bare x secs ds) p s k d l h = bare_fits x secs ds s
-step_fits (Starting x secs ds) p s k d l h = starting_fits x secs ds s
-step_fits (Negating x secs ds) p s k d l h = negating_fits x secs ds s
-step_fits (Started x n secs ds) p s k d l h = started_fits x n secs ds s
+step_fits (Declaring kind secs ds) p s k d l h = declaring_fits kind secs ds s
+step_fits (Bare kind x secs ds) p s k d l h = bare_fits kind x secs ds s
+step_fits (Starting kind x secs ds) p s k d l h = starting_fits kind x secs ds s
+step_fits (Negating kind x secs ds) p s k d l h = negating_fits kind x secs ds s
+step_fits (Started kind x n secs ds) p s k d l h = started_fits kind x n secs ds s
 step_fits (Parameters aim) p s k d l h = open_fits (InParameters aim) s tt
 step_fits (InParameters aim) p s k d l h = in_parameters_fits aim s
 step_fits (AfterVoid aim) p s k d l h = close_fits (AfterParameters aim) s tt

@@ -9,9 +9,9 @@ use Rattle.c_tree.specs.Tree.{Code}
 use Rattle.c_grammar.specs.declared.items.Sign.{Sign}
 use Rattle.c_grammar.specs.declared.items.Sign.TheVariants as signs
 use Rattle.c_grammar.specs.declared.items.Item.{Item}
-use Rattle.c_grammar.specs.Grammar.{at, none, Optional, absent, present, Typed, int, int32, signed, signed_int, int_signed, Begins, only_type, then_type, bare, positive, negative, with_true, with_false, declared, Outer, Declares, nothing, variables, prototype, section, last_var, next_var, end_part, else_part, elif_part, Gaps, Empty, no_more, empty_section, empty_end, empty_else, empty_elif, main, File, file_of, Forms}
-use Rattle.c_grammar.specs.Machine.{Tailing, Another, Final, Sections, Outermost, InPart, InLast, guards_of, Aim, ToPrototype, ToMain, Outside, AfterStatic, AfterExtern, AfterType, Leading, NoWord, StaticWord, ExternWord, TypeWords, OneInt, OneSigned, WholeType, Declaring, Bare, Starting, Negating, Started, Parameters, InParameters, AfterVoid, AfterParameters, Returning, Returned, Closing, Over, with_declared, at_open, at_close, at_semicolon, at_input, next_condition, last_section, section_end, outside, declaring, main_of, first_word, naming, behind_type, after_type, started, is_bare, starting, negating, in_parameters, after_parameters, returning, closing, over}
-use Rattle.c_grammar.proofs.Standing.{Words, one_int, one_signed, whole_type, Led, no_word, static_word, extern_word, Tail, VarsTail, Trailing, Stands}
+use Rattle.c_grammar.specs.Grammar.{at, none, Optional, absent, present, Typed, int, int32, signed, signed_int, int_signed, Qualifier, Unqualified, Constant, unqualified, const_before, const_behind, Begins, only_type, then_type, bare, positive, negative, with_true, with_false, declared, Outer, Declares, nothing, variables, prototype, section, last_var, next_var, end_part, else_part, elif_part, Gaps, Empty, no_more, empty_section, empty_end, empty_else, empty_elif, main, File, file_of, Forms}
+use Rattle.c_grammar.specs.Machine.{Tailing, Another, Final, Sections, Outermost, InPart, InLast, guards_of, Aim, ToPrototype, ToMain, Outside, AfterStatic, AfterExtern, AfterConst, AfterType, Leading, NoWord, StaticWord, ExternWord, ConstWord, TypeWords, OneInt, OneSigned, WholeType, Declaring, Bare, Starting, Negating, Started, Parameters, InParameters, AfterVoid, AfterParameters, Returning, Returned, Closing, Over, with_declared, at_open, at_close, at_semicolon, at_input, next_condition, last_section, section_end, outside, behind_static, declaring, qualifying, main_of, first_word, naming, behind_type, after_type, started, without_value, is_bare, starting, negating, in_parameters, after_parameters, returning, closing, over}
+use Rattle.c_grammar.proofs.Standing.{Words, one_int, one_signed, whole_type, Consts, const_alone, static_const, Led, no_word, static_word, extern_word, const_word, Tail, VarsTail, Trailing, Stands}
 
 -- ---- one item in front of what may come next
 
@@ -30,14 +30,14 @@ prepends (InPart gs n outer) ds es t w f k r =
 prepends (InLast gs outer) ds es t w f k r =
     (t ++ r.0, r.1, es ++ r.2, r.3, k r.0 r.2 r.4, tail_at outer ((ds ++ es) ++ r.2) (ds ++ (es ++ r.2)) r.1 f (append_assoc ds es r.2) r.5, ap (λ (y : List Item). t ++ y) r.6 ∙ sym (append_assoc t r.0 (at r.3 signs.GroupEnd ∷ r.1)))
 
-vars_tail : {us : List Item} (secs : Sections) (ds : List Declared) (w : List Item) (f : File) → Begins signs.Static us → VarsTail secs ds w f → Tail secs ds (us ++ w) f
+vars_tail : {us : List Item} {kind : Qualifier} (secs : Sections) (ds : List Declared) (w : List Item) (f : File) → Begins signs.Static kind us → VarsTail kind secs ds w f → Tail secs ds (us ++ w) f
 vars_tail {us} secs ds w f o v =
     let is : (us ++ v.0) ++ v.1 ≡ us ++ w = append_assoc us v.0 v.1 ∙ ap (λ (y : List Item). us ++ y) (sym v.5) in
     let k : (ws : List Item) (fs : List Declared) → Declares (Outer (guards_of secs)) ws fs → Declares (Outer (guards_of secs)) ((us ++ v.0) ++ ws) (v.2 ++ fs) =
     λ ws fs d. subst (λ (y : List Item). Declares (Outer (guards_of secs)) y (v.2 ++ fs)) (sym (append_assoc us v.0 ws)) (variables (guards_of secs) o v.3 d) in
     subst (λ (y : List Item). Tail secs ds y f) is (prepends secs ds v.2 (us ++ v.0) v.1 f k v.4)
 
-prototype_tail : {us vs : List Item} (q r s t : Place) (secs : Sections) (ds : List Declared) (w : List Item) (f : File) → Begins signs.Extern us → Optional signs.Void vs → Tail secs ds w f
+prototype_tail : {us vs : List Item} (q r s t : Place) (secs : Sections) (ds : List Declared) (w : List Item) (f : File) → Begins signs.Extern Unqualified us → Optional signs.Void vs → Tail secs ds w f
     → Tail secs ds (us ++ at q signs.Input ∷ at r signs.Open ∷ (vs ++ at s signs.Close ∷ at t signs.Semicolon ∷ w)) f
 prototype_tail {us} {vs} q r s t secs ds w f o v h =
     let text : List Item = us ++ at q signs.Input ∷ at r signs.Open ∷ (vs ++ at s signs.Close ∷ at t signs.Semicolon ∷ []) in
@@ -58,8 +58,8 @@ open_tail p n secs ds w f r =
 
 -- ---- declarators
 
-pub started_keeps : (x : ℕ) (n : ℤ) (secs : Sections) (ds : List Declared) (p : Place) (s : Sign) (a : List Item) → Stands (Started x n secs ds) a → IfSome (started x n secs ds s) (λ next. Stands next (a ++ at p s ∷ []))
-started_keeps x n secs ds p signs.Comma a r = λ w f v. moves a (at p signs.Comma) w (r (at p signs.Comma ∷ w) f (λ us d. (
+pub started_keeps : (kind : Qualifier) (x : ℕ) (n : ℤ) (secs : Sections) (ds : List Declared) (p : Place) (s : Sign) (a : List Item) → Stands (Started kind x n secs ds) a → IfSome (started kind x n secs ds s) (λ next. Stands next (a ++ at p s ∷ []))
+started_keeps kind x n secs ds p signs.Comma a r = λ w f v. moves a (at p signs.Comma) w (r (at p signs.Comma ∷ w) f (λ us d. (
   us ++ at p signs.Comma ∷ v.0,
   v.1,
   declared x n (guards_of secs) ∷ v.2,
@@ -67,7 +67,7 @@ started_keeps x n secs ds p signs.Comma a r = λ w f v. moves a (at p signs.Comm
   tail_at secs (with_declared secs ds x n ++ v.2) (ds ++ declared x n (guards_of secs) ∷ v.2) v.1 f (append_assoc ds (declared x n (guards_of secs) ∷ []) v.2) v.4,
   ap (λ (y : List Item). us ++ at p signs.Comma ∷ y) v.5 ∙ sym (append_assoc us (at p signs.Comma ∷ v.0) v.1),
 )))
-started_keeps x n secs ds p signs.Semicolon a r = λ w f t. moves a (at p signs.Semicolon) w (r (at p signs.Semicolon ∷ w) f (λ us d. (
+started_keeps kind x n secs ds p signs.Semicolon a r = λ w f t. moves a (at p signs.Semicolon) w (r (at p signs.Semicolon ∷ w) f (λ us d. (
   us ++ at p signs.Semicolon ∷ [],
   w,
   declared x n (guards_of secs) ∷ [],
@@ -75,27 +75,31 @@ started_keeps x n secs ds p signs.Semicolon a r = λ w f t. moves a (at p signs.
   t,
   sym (append_assoc us (at p signs.Semicolon ∷ []) w),
 )))
-started_keeps x n secs ds p _ a r = tt
+started_keeps kind x n secs ds p _ a r = tt
 
-bare_started : (x : ℕ) (secs : Sections) (ds : List Declared) (a : List Item) → Stands (Bare x secs ds) a → Stands (Started x (pos 0) secs ds) a
+bare_started : (x : ℕ) (secs : Sections) (ds : List Declared) (a : List Item) → Stands (Bare Unqualified x secs ds) a → Stands (Started Unqualified x (pos 0) secs ds) a
 bare_started x secs ds a r = λ w f k. r w f (λ p. k (at p (signs.Name x) ∷ []) (bare p x))
 
-pub bare_keeps : (x : ℕ) (secs : Sections) (ds : List Declared) (p : Place) (s : Sign) (a : List Item) → Stands (Bare x secs ds) a → IfSome (is_bare x secs ds s) (λ next. Stands next (a ++ at p s ∷ []))
-bare_keeps x secs ds p signs.Equals a r = λ w f k. moves a (at p signs.Equals) w (r (at p signs.Equals ∷ w) f (λ q. k q p))
-bare_keeps x secs ds p s a r = started_keeps x (pos 0) secs ds p s a (bare_started x secs ds a r)
+unvalued_keeps : (kind : Qualifier) (x : ℕ) (secs : Sections) (ds : List Declared) (p : Place) (s : Sign) (a : List Item) → Stands (Bare kind x secs ds) a → IfSome (without_value kind x secs ds s) (λ next. Stands next (a ++ at p s ∷ []))
+unvalued_keeps Unqualified x secs ds p s a r = started_keeps Unqualified x (pos 0) secs ds p s a (bare_started x secs ds a r)
+unvalued_keeps Constant x secs ds p s a r = tt
 
-pub starting_keeps : (x : ℕ) (secs : Sections) (ds : List Declared) (p : Place) (s : Sign) (a : List Item) → Stands (Starting x secs ds) a → IfSome (starting x secs ds s) (λ next. Stands next (a ++ at p s ∷ []))
-starting_keeps x secs ds p (signs.Number n) a r = λ w f k. moves a (at p (signs.Number n)) w (r (at p (signs.Number n) ∷ w) f (λ q t. k (at q (signs.Name x) ∷ at t signs.Equals ∷ at p (signs.Number n) ∷ []) (positive q t p x n)))
-starting_keeps x secs ds p (signs.Oper Sub) a r = λ w f k. moves a (at p (signs.Oper Sub)) w (r (at p (signs.Oper Sub) ∷ w) f (λ q t. k q t p))
-starting_keeps x secs ds p _ a r = tt
+pub bare_keeps : (kind : Qualifier) (x : ℕ) (secs : Sections) (ds : List Declared) (p : Place) (s : Sign) (a : List Item) → Stands (Bare kind x secs ds) a → IfSome (is_bare kind x secs ds s) (λ next. Stands next (a ++ at p s ∷ []))
+bare_keeps kind x secs ds p signs.Equals a r = λ w f k. moves a (at p signs.Equals) w (r (at p signs.Equals ∷ w) f (λ q. k q p))
+bare_keeps kind x secs ds p s a r = unvalued_keeps kind x secs ds p s a r
 
-pub negating_keeps : (x : ℕ) (secs : Sections) (ds : List Declared) (p : Place) (s : Sign) (a : List Item) → Stands (Negating x secs ds) a → IfSome (negating x secs ds s) (λ next. Stands next (a ++ at p s ∷ []))
-negating_keeps x secs ds p (signs.Number n) a r = λ w f k. moves a (at p (signs.Number n)) w (r (at p (signs.Number n) ∷ w) f (λ q t u. k (at q (signs.Name x) ∷ at t signs.Equals ∷ at u (signs.Oper Sub) ∷ at p (signs.Number n) ∷ []) (negative q t u p x n)))
-negating_keeps x secs ds p _ a r = tt
+pub starting_keeps : (kind : Qualifier) (x : ℕ) (secs : Sections) (ds : List Declared) (p : Place) (s : Sign) (a : List Item) → Stands (Starting kind x secs ds) a → IfSome (starting kind x secs ds s) (λ next. Stands next (a ++ at p s ∷ []))
+starting_keeps kind x secs ds p (signs.Number n) a r = λ w f k. moves a (at p (signs.Number n)) w (r (at p (signs.Number n) ∷ w) f (λ q t. k (at q (signs.Name x) ∷ at t signs.Equals ∷ at p (signs.Number n) ∷ []) (positive q t p x n)))
+starting_keeps kind x secs ds p (signs.Oper Sub) a r = λ w f k. moves a (at p (signs.Oper Sub)) w (r (at p (signs.Oper Sub) ∷ w) f (λ q t. k q t p))
+starting_keeps kind x secs ds p _ a r = tt
 
-pub declaring_keeps : (secs : Sections) (ds : List Declared) (p : Place) (s : Sign) (a : List Item) → Stands (Declaring secs ds) a → IfSome (declaring secs ds s) (λ next. Stands next (a ++ at p s ∷ []))
-declaring_keeps secs ds p (signs.Name x) a r = λ w f k. moves a (at p (signs.Name x)) w (r (at p (signs.Name x) ∷ w) f (k p))
-declaring_keeps secs ds p _ a r = tt
+pub negating_keeps : (kind : Qualifier) (x : ℕ) (secs : Sections) (ds : List Declared) (p : Place) (s : Sign) (a : List Item) → Stands (Negating kind x secs ds) a → IfSome (negating kind x secs ds s) (λ next. Stands next (a ++ at p s ∷ []))
+negating_keeps kind x secs ds p (signs.Number n) a r = λ w f k. moves a (at p (signs.Number n)) w (r (at p (signs.Number n) ∷ w) f (λ q t u. k (at q (signs.Name x) ∷ at t signs.Equals ∷ at u (signs.Oper Sub) ∷ at p (signs.Number n) ∷ []) (negative q t u p x n)))
+negating_keeps kind x secs ds p _ a r = tt
+
+pub declaring_keeps : (kind : Qualifier) (secs : Sections) (ds : List Declared) (p : Place) (s : Sign) (a : List Item) → Stands (Declaring kind secs ds) a → IfSome (declaring kind secs ds s) (λ next. Stands next (a ++ at p s ∷ []))
+declaring_keeps kind secs ds p (signs.Name x) a r = λ w f k. moves a (at p (signs.Name x)) w (r (at p (signs.Name x) ∷ w) f (k p))
+declaring_keeps kind secs ds p _ a r = tt
 
 -- ---- the first items of declarations
 
@@ -108,30 +112,46 @@ words_typed (whole_type y) = y
 led_typed : {t : TypeWords} {us : List Item} → Led NoWord t us → Typed us
 led_typed (no_word k) = words_typed k
 
-led_alone : {t : TypeWords} {us : List Item} (s : Sign) → Led NoWord t us → Begins s us
-led_alone s k = only_type s (led_typed k)
+led_alone : {t : TypeWords} {us : List Item} (s : Sign) → Led NoWord t us → Begins s Unqualified us
+led_alone s k = only_type s (unqualified (led_typed k))
 
-led_static : {t : TypeWords} {us : List Item} → Led StaticWord t us → Begins signs.Static us
-led_static (static_word p k) = then_type p signs.Static (words_typed k)
+led_static : {t : TypeWords} {us : List Item} → Led StaticWord t us → Begins signs.Static Unqualified us
+led_static (static_word p k) = then_type p signs.Static (unqualified (words_typed k))
 
-led_extern : {t : TypeWords} {us : List Item} → Led ExternWord t us → Begins signs.Extern us
-led_extern (extern_word p k) = then_type p signs.Extern (words_typed k)
+led_extern : {t : TypeWords} {us : List Item} → Led ExternWord t us → Begins signs.Extern Unqualified us
+led_extern (extern_word p k) = then_type p signs.Extern (unqualified (words_typed k))
+
+led_const : {t : TypeWords} {us : List Item} → Led ConstWord t us → Begins signs.Static Constant us
+led_const (const_word (const_alone p) k) = only_type signs.Static (const_before p (words_typed k))
+led_const (const_word (static_const p q) k) = then_type p signs.Static (const_before q (words_typed k))
+
+-- `const` behind the type
+then_const : {t : TypeWords} {us : List Item} (p : Place) → Led NoWord t us → Begins signs.Static Constant (us ++ at p signs.Const ∷ [])
+then_const p (no_word k) = only_type signs.Static (const_behind p (words_typed k))
+
+static_then_const : {t : TypeWords} {us : List Item} (p : Place) → Led StaticWord t us → Begins signs.Static Constant (us ++ at p signs.Const ∷ [])
+static_then_const p (static_word q k) = then_type q signs.Static (const_behind p (words_typed k))
 
 -- a second word
 then_signed : {lead : Leading} {us : List Item} (p : Place) → Led lead OneInt us → Led lead WholeType (us ++ at p signs.Signed ∷ [])
 then_signed p (no_word (one_int q)) = no_word (whole_type (int_signed q p))
 then_signed p (static_word r (one_int q)) = static_word r (whole_type (int_signed q p))
 then_signed p (extern_word r (one_int q)) = extern_word r (whole_type (int_signed q p))
+then_signed p (const_word (const_alone r) (one_int q)) = const_word (const_alone r) (whole_type (int_signed q p))
+then_signed p (const_word (static_const r t) (one_int q)) = const_word (static_const r t) (whole_type (int_signed q p))
 
 then_int : {lead : Leading} {us : List Item} (p : Place) → Led lead OneSigned us → Led lead WholeType (us ++ at p signs.Int ∷ [])
 then_int p (no_word (one_signed q)) = no_word (whole_type (signed_int q p))
 then_int p (static_word r (one_signed q)) = static_word r (whole_type (signed_int q p))
 then_int p (extern_word r (one_signed q)) = extern_word r (whole_type (signed_int q p))
+then_int p (const_word (const_alone r) (one_signed q)) = const_word (const_alone r) (whole_type (signed_int q p))
+then_int p (const_word (static_const r t) (one_signed q)) = const_word (static_const r t) (whole_type (signed_int q p))
 
 regrouped : (secs : Sections) (ds : List Declared) (us : List Item) (x : Item) (w : List Item) (f : File) → Tail secs ds ((us ++ x ∷ []) ++ w) f → Tail secs ds (us ++ x ∷ w) f
 regrouped secs ds us x w f t = subst (λ (y : List Item). Tail secs ds y f) (append_assoc us (x ∷ []) w) t
 
-pub static_keeps : (secs : Sections) (ds : List Declared) (p : Place) (s : Sign) (a : List Item) → Stands (AfterStatic secs ds) a → IfSome (first_word StaticWord secs ds s) (λ next. Stands next (a ++ at p s ∷ []))
+pub static_keeps : (secs : Sections) (ds : List Declared) (p : Place) (s : Sign) (a : List Item) → Stands (AfterStatic secs ds) a → IfSome (behind_static secs ds s) (λ next. Stands next (a ++ at p s ∷ []))
+static_keeps secs ds p signs.Const a r = λ w f k. moves a (at p signs.Const) w (r (at p signs.Const ∷ w) f (λ q. k (at q signs.Static ∷ at p signs.Const ∷ []) (static_const q p)))
 static_keeps secs ds p signs.Int a r = λ w f k. moves a (at p signs.Int) w (r (at p signs.Int ∷ w) f (λ q. k (at q signs.Static ∷ at p signs.Int ∷ []) (static_word q (one_int p))))
 static_keeps secs ds p signs.Int32 a r = λ w f k. moves a (at p signs.Int32) w (r (at p signs.Int32 ∷ w) f (λ q. k (at q signs.Static ∷ at p signs.Int32 ∷ []) (static_word q (whole_type (int32 p)))))
 static_keeps secs ds p signs.Signed a r = λ w f k. moves a (at p signs.Signed) w (r (at p signs.Signed ∷ w) f (λ q. k (at q signs.Static ∷ at p signs.Signed ∷ []) (static_word q (one_signed p))))
@@ -143,17 +163,25 @@ extern_keeps secs ds p signs.Int32 a r = λ w f k. moves a (at p signs.Int32) w 
 extern_keeps secs ds p signs.Signed a r = λ w f k. moves a (at p signs.Signed) w (r (at p signs.Signed ∷ w) f (λ q. k (at q signs.Extern ∷ at p signs.Signed ∷ []) (extern_word q (one_signed p))))
 extern_keeps secs ds p _ a r = tt
 
+pub const_keeps : (secs : Sections) (ds : List Declared) (p : Place) (s : Sign) (a : List Item) → Stands (AfterConst secs ds) a → IfSome (first_word ConstWord secs ds s) (λ next. Stands next (a ++ at p s ∷ []))
+const_keeps secs ds p signs.Int a r = λ w f k. moves a (at p signs.Int) w (r (at p signs.Int ∷ w) f (λ us c. regrouped secs ds us (at p signs.Int) w f (k (us ++ at p signs.Int ∷ []) (const_word c (one_int p)))))
+const_keeps secs ds p signs.Int32 a r = λ w f k. moves a (at p signs.Int32) w (r (at p signs.Int32 ∷ w) f (λ us c. regrouped secs ds us (at p signs.Int32) w f (k (us ++ at p signs.Int32 ∷ []) (const_word c (whole_type (int32 p))))))
+const_keeps secs ds p signs.Signed a r = λ w f k. moves a (at p signs.Signed) w (r (at p signs.Signed ∷ w) f (λ us c. regrouped secs ds us (at p signs.Signed) w f (k (us ++ at p signs.Signed ∷ []) (const_word c (one_signed p)))))
+const_keeps secs ds p _ a r = tt
+
 main_keeps : (words : TypeWords) (secs : Sections) (ds : List Declared) (p : Place) (a : List Item) → Stands (AfterType NoWord words secs ds) a → IfSome (main_of secs ds) (λ next. Stands next (a ++ at p signs.Main ∷ []))
 main_keeps words Outermost ds p a r = λ w f k. moves a (at p signs.Main) w (r (at p signs.Main ∷ w) f (λ us h. k p us (led_typed h)))
 main_keeps words _ ds p a r = tt
 
 naming_keeps : (words : TypeWords) (secs : Sections) (ds : List Declared) (p : Place) (s : Sign) (a : List Item) → Stands (AfterType NoWord words secs ds) a → IfSome (naming secs ds s) (λ next. Stands next (a ++ at p s ∷ []))
+naming_keeps words secs ds p signs.Const a r = λ w f k. moves a (at p signs.Const) w (r (at p signs.Const ∷ w) f (λ us h. regrouped secs ds us (at p signs.Const) w f (vars_tail secs ds w f (then_const p h) k)))
 naming_keeps words secs ds p (signs.Name x) a r = λ w f k. moves a (at p (signs.Name x)) w (r (at p (signs.Name x) ∷ w) f (λ us h. vars_tail secs ds (at p (signs.Name x) ∷ w) f (led_alone signs.Static h) (k p)))
 naming_keeps words secs ds p signs.Input a r = λ w f k. moves a (at p signs.Input) w (r (at p signs.Input ∷ w) f (λ us h. k p us (led_alone signs.Extern h)))
 naming_keeps words secs ds p signs.Main a r = main_keeps words secs ds p a r
 naming_keeps words secs ds p _ a r = tt
 
-static_name_keeps : (words : TypeWords) (secs : Sections) (ds : List Declared) (p : Place) (s : Sign) (a : List Item) → Stands (AfterType StaticWord words secs ds) a → IfSome (declaring secs ds s) (λ next. Stands next (a ++ at p s ∷ []))
+static_name_keeps : (words : TypeWords) (secs : Sections) (ds : List Declared) (p : Place) (s : Sign) (a : List Item) → Stands (AfterType StaticWord words secs ds) a → IfSome (qualifying secs ds s) (λ next. Stands next (a ++ at p s ∷ []))
+static_name_keeps words secs ds p signs.Const a r = λ w f k. moves a (at p signs.Const) w (r (at p signs.Const ∷ w) f (λ us h. regrouped secs ds us (at p signs.Const) w f (vars_tail secs ds w f (static_then_const p h) k)))
 static_name_keeps words secs ds p (signs.Name x) a r = λ w f k. moves a (at p (signs.Name x)) w (r (at p (signs.Name x) ∷ w) f (λ us h. vars_tail secs ds (at p (signs.Name x) ∷ w) f (led_static h) (k p)))
 static_name_keeps words secs ds p _ a r = tt
 
@@ -161,10 +189,15 @@ extern_name_keeps : (words : TypeWords) (secs : Sections) (ds : List Declared) (
 extern_name_keeps words secs ds p signs.Input a r = λ w f k. moves a (at p signs.Input) w (r (at p signs.Input ∷ w) f (λ us h. k p us (led_extern h)))
 extern_name_keeps words secs ds p _ a r = tt
 
+const_name_keeps : (words : TypeWords) (secs : Sections) (ds : List Declared) (p : Place) (s : Sign) (a : List Item) → Stands (AfterType ConstWord words secs ds) a → IfSome (declaring Constant secs ds s) (λ next. Stands next (a ++ at p s ∷ []))
+const_name_keeps words secs ds p (signs.Name x) a r = λ w f k. moves a (at p (signs.Name x)) w (r (at p (signs.Name x) ∷ w) f (λ us h. vars_tail secs ds (at p (signs.Name x) ∷ w) f (led_const h) (k p)))
+const_name_keeps words secs ds p _ a r = tt
+
 behind_type_keeps : (lead : Leading) (words : TypeWords) (secs : Sections) (ds : List Declared) (p : Place) (s : Sign) (a : List Item) → Stands (AfterType lead words secs ds) a → IfSome (behind_type lead secs ds s) (λ next. Stands next (a ++ at p s ∷ []))
 behind_type_keeps NoWord words secs ds p s a r = naming_keeps words secs ds p s a r
 behind_type_keeps StaticWord words secs ds p s a r = static_name_keeps words secs ds p s a r
 behind_type_keeps ExternWord words secs ds p s a r = extern_name_keeps words secs ds p s a r
+behind_type_keeps ConstWord words secs ds p s a r = const_name_keeps words secs ds p s a r
 
 pub type_keeps : (lead : Leading) (secs : Sections) (ds : List Declared) (p : Place) (s : Sign) (words : TypeWords) (a : List Item) → Stands (AfterType lead words secs ds) a → IfSome (after_type lead secs ds s words) (λ next. Stands next (a ++ at p s ∷ []))
 type_keeps lead secs ds p signs.Signed OneInt a r = λ w f k. moves a (at p signs.Signed) w (r (at p signs.Signed ∷ w) f (λ us h. regrouped secs ds us (at p signs.Signed) w f (k (us ++ at p signs.Signed ∷ []) (then_signed p h))))
@@ -257,6 +290,7 @@ end_keeps (InLast gs outer) ds p a r = λ w f t. moves a (at p signs.GroupEnd) w
 pub outside_keeps : (secs : Sections) (ds : List Declared) (p : Place) (s : Sign) (a : List Item) → Stands (Outside secs ds) a → IfSome (outside secs ds s) (λ next. Stands next (a ++ at p s ∷ []))
 outside_keeps secs ds p signs.Static a r = λ w f k. moves a (at p signs.Static) w (r (at p signs.Static ∷ w) f (k p))
 outside_keeps secs ds p signs.Extern a r = λ w f k. moves a (at p signs.Extern) w (r (at p signs.Extern ∷ w) f (k p))
+outside_keeps secs ds p signs.Const a r = λ w f k. moves a (at p signs.Const) w (r (at p signs.Const ∷ w) f (k (at p signs.Const ∷ []) (const_alone p)))
 outside_keeps secs ds p signs.Int a r = λ w f k. moves a (at p signs.Int) w (r (at p signs.Int ∷ w) f (k (at p signs.Int ∷ []) (no_word (one_int p))))
 outside_keeps secs ds p signs.Int32 a r = λ w f k. moves a (at p signs.Int32) w (r (at p signs.Int32 ∷ w) f (k (at p signs.Int32 ∷ []) (no_word (whole_type (int32 p)))))
 outside_keeps secs ds p signs.Signed a r = λ w f k. moves a (at p signs.Signed) w (r (at p signs.Signed ∷ w) f (k (at p signs.Signed ∷ []) (no_word (one_signed p))))

@@ -22,7 +22,7 @@ use Rattle.c_grammar.proofs.SoundWithin.{opens_few, room_for, writes_back}
 -- declarators open nothing
 abbrev pub DeclaresBack : Part → List Item → List Declared → Type 0
 DeclaresBack (Outer gs) ts ds = (k : ℕ) (secs : Sections) → guards_of secs ≡ gs → k + length gs ≡ 64 → (es : List Declared) (w : List Item) (f : File) → guarded (Outside secs es) 0 (ts ++ w) ≡ Ok f → DeclaresIn k (Outer gs) ts ds
-DeclaresBack (Vars gs) ts ds = (k : ℕ) → DeclaresIn k (Vars gs) ts ds
+DeclaresBack (Vars kind gs) ts ds = (k : ℕ) → DeclaresIn k (Vars kind gs) ts ds
 DeclaresBack (Later gs) ts ds = (k : ℕ) (hs : List Guard) (n : ℕ) (outer : Sections) → with_false hs n ≡ gs → k + length gs ≡ 64 → (es : List Declared) (w : List Item) (f : File) → guarded (Outside (InPart hs n outer) es) 0 (ts ++ w) ≡ Ok f → DeclaresIn k (Later gs) ts ds
 
 declares_back : {s : Part} {ts : List Item} {ds : List Declared} → Declares s ts ds → DeclaresBack s ts ds

@@ -7,8 +7,8 @@ use Rattle.c_tree.specs.Tree.{Code, Done, Skip, followed}
 use Rattle.c_grammar.specs.declared.items.Sign.TheVariants as signs
 use Rattle.c_grammar.specs.declared.items.Item.{Item}
 use Rattle.c_grammar.specs.Ahead.{IsList}
-use Rattle.c_grammar.specs.Grammar.{at, tighter, prefix_sign, Expresses, update_sign, count_sign, Listed, Stated, Writes, Optional, Typed, Begins, Declarator, with_true, with_false, Outer, Vars, Later, Declares, Gaps, GapRest, Empty, Body, Main, File, file_of, Forms}
-use Rattle.c_grammar.specs.Machine.{Tailing, Another, Final, Frame, Paren, Pre, Left, room, Stack, Top, Braces, Yes, No, ThenOf, ElseOf, LoopOf, Use, ToAssign, ToUpdate, ToAssert, ToChoose, ToLoop, Sections, Outermost, InPart, InLast, guards_of, Aim, ToPrototype, ToMain, ReadingState, Outside, AfterStatic, AfterExtern, AfterType, Leading, NoWord, StaticWord, ExternWord, TypeWords, OneInt, OneSigned, WholeType, Declaring, Bare, Starting, Negating, Started, Parameters, InParameters, AfterVoid, AfterParameters, Ready, Ended, Wants, Has, Counting, Named, Opens, InputOpens, InputCloses, Finishing, Returning, Returned, Closing, Over}
+use Rattle.c_grammar.specs.Grammar.{at, tighter, prefix_sign, Expresses, update_sign, count_sign, Listed, Stated, Writes, Optional, Typed, Qualifier, Unqualified, Constant, Begins, Declarator, with_true, with_false, Outer, Vars, Later, Declares, Gaps, GapRest, Empty, Body, Main, File, file_of, Forms}
+use Rattle.c_grammar.specs.Machine.{Tailing, Another, Final, Frame, Paren, Pre, Left, room, Stack, Top, Braces, Yes, No, ThenOf, ElseOf, LoopOf, Use, ToAssign, ToUpdate, ToAssert, ToChoose, ToLoop, Sections, Outermost, InPart, InLast, guards_of, Aim, ToPrototype, ToMain, ReadingState, Outside, AfterStatic, AfterExtern, AfterConst, AfterType, Leading, NoWord, StaticWord, ExternWord, ConstWord, TypeWords, OneInt, OneSigned, WholeType, Declaring, Bare, Starting, Negating, Started, Parameters, InParameters, AfterVoid, AfterParameters, Ready, Ended, Wants, Has, Counting, Named, Opens, InputOpens, InputCloses, Finishing, Returning, Returned, Closing, Over}
 
 -- the parts of a group before this one, and its directive
 abbrev pub Begun : List (ℕ × Code) → ℕ → List Item → Type 0
@@ -70,11 +70,11 @@ Tail Outermost ds w f = (ts us : List Item) × (es : List Declared) × (c : Code
 Tail (InPart gs n outer) ds w f = (ts vs us : List Item) × (es fs : List Declared) × Declares (Outer (with_true gs n)) ts es × Declares (Later (with_false gs n)) vs fs × Tail outer (ds ++ (es ++ fs)) us f × (w ≡ ts ++ (vs ++ us))
 Tail (InLast gs outer) ds w f = (ts us : List Item) × (es : List Declared) × (q : Place) × Declares (Outer gs) ts es × Tail outer (ds ++ es) us f × (w ≡ ts ++ at q signs.GroupEnd ∷ us)
 
-abbrev pub VarsTail : Sections → List Declared → List Item → File → Type 0
-VarsTail secs ds w f = (ts us : List Item) × (es : List Declared) × Declares (Vars (guards_of secs)) ts es × Tail secs (ds ++ es) us f × (w ≡ ts ++ us)
+abbrev pub VarsTail : Qualifier → Sections → List Declared → List Item → File → Type 0
+VarsTail kind secs ds w f = (ts us : List Item) × (es : List Declared) × Declares (Vars kind (guards_of secs)) ts es × Tail secs (ds ++ es) us f × (w ≡ ts ++ us)
 
-abbrev pub StartedTail : ℕ → ℤ → Sections → List Declared → List Item → File → Type 0
-StartedTail x n secs ds w f = (us : List Item) → Declarator us x n → VarsTail secs ds (us ++ w) f
+abbrev pub StartedTail : Qualifier → ℕ → ℤ → Sections → List Declared → List Item → File → Type 0
+StartedTail kind x n secs ds w f = (us : List Item) → Declarator kind us x n → VarsTail kind secs ds (us ++ w) f
 
 -- the words of a type so far
 pub data Words : TypeWords → List Item → Type 0 where
@@ -82,14 +82,20 @@ pub data Words : TypeWords → List Item → Type 0 where
   one_signed : (p : Place) → Words OneSigned (at p signs.Signed ∷ [])
   whole_type : {us : List Item} → Typed us → Words WholeType us
 
+-- `const`, perhaps behind `static`
+pub data Consts : List Item → Type 0 where
+  const_alone : (p : Place) → Consts (at p signs.Const ∷ [])
+  static_const : (p q : Place) → Consts (at p signs.Static ∷ at q signs.Const ∷ [])
+
 -- the same, with what stands before them
 pub data Led : Leading → TypeWords → List Item → Type 0 where
   no_word : {t : TypeWords} {us : List Item} → Words t us → Led NoWord t us
   static_word : (p : Place) {t : TypeWords} {us : List Item} → Words t us → Led StaticWord t (at p signs.Static ∷ us)
   extern_word : (p : Place) {t : TypeWords} {us : List Item} → Words t us → Led ExternWord t (at p signs.Extern ∷ us)
+  const_word : {t : TypeWords} {us vs : List Item} → Consts us → Words t vs → Led ConstWord t (us ++ vs)
 
 abbrev pub ParametersTail : Aim → List Item → File → Type 0
-ParametersTail (ToPrototype secs ds) w f = (q : Place) (us : List Item) → Begins signs.Extern us → Tail secs ds (us ++ at q signs.Input ∷ w) f
+ParametersTail (ToPrototype secs ds) w f = (q : Place) (us : List Item) → Begins signs.Extern Unqualified us → Tail secs ds (us ++ at q signs.Input ∷ w) f
 ParametersTail (ToMain ds) w f = (q : Place) (us : List Item) → Typed us → Tail Outermost ds (us ++ at q signs.Main ∷ w) f
 
 -- the rest of a file behind `main`
@@ -104,12 +110,13 @@ abbrev pub Stands : ReadingState → List Item → Type 0
 Stands (Outside secs ds) a = Follows a (Tail secs ds)
 Stands (AfterStatic secs ds) a = Follows a (λ w f. (p : Place) → Tail secs ds (at p signs.Static ∷ w) f)
 Stands (AfterExtern secs ds) a = Follows a (λ w f. (p : Place) → Tail secs ds (at p signs.Extern ∷ w) f)
+Stands (AfterConst secs ds) a = Follows a (λ w f. (us : List Item) → Consts us → Tail secs ds (us ++ w) f)
 Stands (AfterType lead words secs ds) a = Follows a (λ w f. (us : List Item) → Led lead words us → Tail secs ds (us ++ w) f)
-Stands (Declaring secs ds) a = Follows a (VarsTail secs ds)
-Stands (Bare x secs ds) a = Follows a (λ w f. (p : Place) → VarsTail secs ds (at p (signs.Name x) ∷ w) f)
-Stands (Starting x secs ds) a = Follows a (λ w f. (p q : Place) → VarsTail secs ds (at p (signs.Name x) ∷ at q signs.Equals ∷ w) f)
-Stands (Negating x secs ds) a = Follows a (λ w f. (p q r : Place) → VarsTail secs ds (at p (signs.Name x) ∷ at q signs.Equals ∷ at r (signs.Oper Sub) ∷ w) f)
-Stands (Started x n secs ds) a = Follows a (StartedTail x n secs ds)
+Stands (Declaring kind secs ds) a = Follows a (VarsTail kind secs ds)
+Stands (Bare kind x secs ds) a = Follows a (λ w f. (p : Place) → VarsTail kind secs ds (at p (signs.Name x) ∷ w) f)
+Stands (Starting kind x secs ds) a = Follows a (λ w f. (p q : Place) → VarsTail kind secs ds (at p (signs.Name x) ∷ at q signs.Equals ∷ w) f)
+Stands (Negating kind x secs ds) a = Follows a (λ w f. (p q r : Place) → VarsTail kind secs ds (at p (signs.Name x) ∷ at q signs.Equals ∷ at r (signs.Oper Sub) ∷ w) f)
+Stands (Started kind x n secs ds) a = Follows a (StartedTail kind x n secs ds)
 Stands (Parameters aim) a = Follows a (ParametersTail aim)
 Stands (InParameters aim) a = Follows a (λ w f. (r : Place) → ParametersTail aim (at r signs.Open ∷ w) f)
 Stands (AfterVoid aim) a = Follows a (λ w f. (r t : Place) → ParametersTail aim (at r signs.Open ∷ at t signs.Void ∷ w) f)

@@ -32,7 +32,7 @@ AreRising (x ∷ w) = IsBeforeItems x.place w × AreRising w
 
 -- a file within the limits is a well-formed program
 abbrev pub WellFormed : Type 0
-WellFormed = (names : List (List ℕ)) (items : List Item) (f : File) → length names ≤ 16 → AreFit (length names) items → AreRising items → FormsWithin items f → IsProgram (whole_of names items f)
+WellFormed = (names : List (List ℕ)) (items : List Item) (f : File) → length names ≤ 48 → AreFit (length names) items → AreRising items → FormsWithin items f → IsProgram (whole_of names items f)
 
 -- a file without groups is a plain program
 abbrev pub PlainWithoutGroups : Type 0

@@ -145,16 +145,27 @@ pub data Typed : List Item → Type 0 where
   signed_int : (p q : Place) → Typed (at p signs.Signed ∷ at q signs.Int ∷ [])
   int_signed : (p q : Place) → Typed (at p signs.Int ∷ at q signs.Signed ∷ [])
 
--- what a declaration begins with: its type, and before it at most one item with this sign
-pub data Begins : Sign → List Item → Type 0 where
-  only_type : (s : Sign) {us : List Item} → Typed us → Begins s us
-  then_type : (p : Place) (s : Sign) {us : List Item} → Typed us → Begins s (at p s ∷ us)
+-- what a declaration declares: variables, or constants
+pub data Qualifier : Type 0 where
+  Unqualified : Qualifier
+  Constant : Qualifier
 
--- a variable with its start value, which is 0 where none stands
-pub data Declarator : List Item → ℕ → ℤ → Type 0 where
-  bare : (p : Place) (x : ℕ) → Declarator (at p (signs.Name x) ∷ []) x (pos 0)
-  positive : (p q r : Place) (x : ℕ) (n : ℤ) → Declarator (at p (signs.Name x) ∷ at q signs.Equals ∷ at r (signs.Number n) ∷ []) x n
-  negative : (p q r s : Place) (x : ℕ) (n : ℤ) → Declarator (at p (signs.Name x) ∷ at q signs.Equals ∷ at r (signs.Oper Sub) ∷ at s (signs.Number n) ∷ []) x (neg_ℤ n)
+-- a type, and for constants `const` once, before or behind it (6.7.3)
+pub data Qualified : Qualifier → List Item → Type 0 where
+  unqualified : {us : List Item} → Typed us → Qualified Unqualified us
+  const_before : (p : Place) {us : List Item} → Typed us → Qualified Constant (at p signs.Const ∷ us)
+  const_behind : (p : Place) {us : List Item} → Typed us → Qualified Constant (us ++ at p signs.Const ∷ [])
+
+-- what a declaration begins with: its type, and before it at most one item with this sign
+pub data Begins : Sign → Qualifier → List Item → Type 0 where
+  only_type : (s : Sign) {us : List Item} {kind : Qualifier} → Qualified kind us → Begins s kind us
+  then_type : (p : Place) (s : Sign) {us : List Item} {kind : Qualifier} → Qualified kind us → Begins s kind (at p s ∷ us)
+
+-- a variable with its start value, which is 0 where none stands; a constant has one
+pub data Declarator : Qualifier → List Item → ℕ → ℤ → Type 0 where
+  bare : (p : Place) (x : ℕ) → Declarator Unqualified (at p (signs.Name x) ∷ []) x (pos 0)
+  positive : (p q r : Place) (x : ℕ) (n : ℤ) {kind : Qualifier} → Declarator kind (at p (signs.Name x) ∷ at q signs.Equals ∷ at r (signs.Number n) ∷ []) x n
+  negative : (p q r s : Place) (x : ℕ) (n : ℤ) {kind : Qualifier} → Declarator kind (at p (signs.Name x) ∷ at q signs.Equals ∷ at r (signs.Oper Sub) ∷ at s (signs.Number n) ∷ []) x (neg_ℤ n)
 
 -- the guards of what stands where a condition is true, and where it is false, within these guards
 abbrev pub with_true : List Guard → ℕ → List Guard
@@ -169,17 +180,17 @@ declared x n gs = record { target = x; value = n; guards = gs }
 -- declarations within guards; declarators up to a semicolon; what closes a group, where these guards hold in its later parts
 pub data Part : Type 0 where
   Outer : (gs : List Guard) → Part
-  Vars : (gs : List Guard) → Part
+  Vars : (kind : Qualifier) (gs : List Guard) → Part
   Later : (gs : List Guard) → Part
 
 -- the declarators that a list of items declares, in its order; a declaration of `input` leaves nothing
 pub data Declares : Part → List Item → List Declared → Type 0 where
   nothing : (gs : List Guard) → Declares (Outer gs) [] []
-  variables : (gs : List Guard) {us vs ws : List Item} {ds es : List Declared} → Begins signs.Static us → Declares (Vars gs) vs ds → Declares (Outer gs) ws es → Declares (Outer gs) (us ++ (vs ++ ws)) (ds ++ es)
-  prototype : (q r s t : Place) (gs : List Guard) {us vs ws : List Item} {es : List Declared} → Begins signs.Extern us → Optional signs.Void vs → Declares (Outer gs) ws es → Declares (Outer gs) (us ++ at q signs.Input ∷ at r signs.Open ∷ (vs ++ at s signs.Close ∷ at t signs.Semicolon ∷ ws)) es
+  variables : (gs : List Guard) {us vs ws : List Item} {ds es : List Declared} {kind : Qualifier} → Begins signs.Static kind us → Declares (Vars kind gs) vs ds → Declares (Outer gs) ws es → Declares (Outer gs) (us ++ (vs ++ ws)) (ds ++ es)
+  prototype : (q r s t : Place) (gs : List Guard) {us vs ws : List Item} {es : List Declared} → Begins signs.Extern Unqualified us → Optional signs.Void vs → Declares (Outer gs) ws es → Declares (Outer gs) (us ++ at q signs.Input ∷ at r signs.Open ∷ (vs ++ at s signs.Close ∷ at t signs.Semicolon ∷ ws)) es
   section : (p : Place) (n : ℕ) (gs : List Guard) {us vs ws : List Item} {cs ds es : List Declared} → Declares (Outer (with_true gs n)) us cs → Declares (Later (with_false gs n)) vs ds → Declares (Outer gs) ws es → Declares (Outer gs) (at p (signs.GroupIf n) ∷ (us ++ (vs ++ ws))) (cs ++ (ds ++ es))
-  last_var : (p : Place) (gs : List Guard) {us : List Item} {x : ℕ} {n : ℤ} → Declarator us x n → Declares (Vars gs) (us ++ at p signs.Semicolon ∷ []) (declared x n gs ∷ [])
-  next_var : (p : Place) (gs : List Guard) {us vs : List Item} {x : ℕ} {n : ℤ} {ds : List Declared} → Declarator us x n → Declares (Vars gs) vs ds → Declares (Vars gs) (us ++ at p signs.Comma ∷ vs) (declared x n gs ∷ ds)
+  last_var : (p : Place) (gs : List Guard) {us : List Item} {x : ℕ} {n : ℤ} {kind : Qualifier} → Declarator kind us x n → Declares (Vars kind gs) (us ++ at p signs.Semicolon ∷ []) (declared x n gs ∷ [])
+  next_var : (p : Place) (gs : List Guard) {us vs : List Item} {x : ℕ} {n : ℤ} {ds : List Declared} {kind : Qualifier} → Declarator kind us x n → Declares (Vars kind gs) vs ds → Declares (Vars kind gs) (us ++ at p signs.Comma ∷ vs) (declared x n gs ∷ ds)
   end_part : (p : Place) (gs : List Guard) → Declares (Later gs) (at p signs.GroupEnd ∷ []) []
   else_part : (p q : Place) (gs : List Guard) {us : List Item} {ds : List Declared} → Declares (Outer gs) us ds → Declares (Later gs) (at p signs.GroupElse ∷ (us ++ at q signs.GroupEnd ∷ [])) ds
   elif_part : (p : Place) (n : ℕ) (gs : List Guard) {us vs : List Item} {cs ds : List Declared} → Declares (Outer (with_true gs n)) us cs → Declares (Later (with_false gs n)) vs ds → Declares (Later gs) (at p (signs.GroupElif n) ∷ (us ++ vs)) (cs ++ ds)

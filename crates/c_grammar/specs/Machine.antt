@@ -9,7 +9,7 @@ use Rattle.c_tree.specs.Tree.{Term, Number, Var, Binary, Code, Done, Assign, Inp
 use Rattle.c_grammar.specs.declared.items.Sign.{Sign}
 use Rattle.c_grammar.specs.declared.items.Sign.TheVariants as signs
 use Rattle.c_grammar.specs.declared.items.Item.{Item}
-use Rattle.c_grammar.specs.Grammar.{tighter, Prefix, Positive, Negative, Inverse, applied, Update, Sum, Difference, Product, Quotient, Remainder, updated, Count, Raise, Lower, changed_by_one, with_true, with_false, declared, File, file_of}
+use Rattle.c_grammar.specs.Grammar.{tighter, Prefix, Positive, Negative, Inverse, applied, Update, Sum, Difference, Product, Quotient, Remainder, updated, Count, Raise, Lower, changed_by_one, Qualifier, Unqualified, Constant, with_true, with_false, declared, File, file_of}
 
 -- what waits for an operand
 pub data Frame : Type 0 where
@@ -60,6 +60,7 @@ pub data Leading : Type 0 where
   NoWord : Leading
   StaticWord : Leading
   ExternWord : Leading
+  ConstWord : Leading
 
 -- the words of a type so far: another one may come behind the first two
 pub data TypeWords : Type 0 where
@@ -82,13 +83,14 @@ pub data ReadingState : Type 0 where
   Outside : (secs : Sections) (ds : List Declared) → ReadingState
   AfterStatic : (secs : Sections) (ds : List Declared) → ReadingState
   AfterExtern : (secs : Sections) (ds : List Declared) → ReadingState
+  AfterConst : (secs : Sections) (ds : List Declared) → ReadingState
   AfterType : (lead : Leading) (words : TypeWords) (secs : Sections) (ds : List Declared) → ReadingState
-  -- a declarator comes
-  Declaring : (secs : Sections) (ds : List Declared) → ReadingState
-  Bare : (x : ℕ) (secs : Sections) (ds : List Declared) → ReadingState
-  Starting : (x : ℕ) (secs : Sections) (ds : List Declared) → ReadingState
-  Negating : (x : ℕ) (secs : Sections) (ds : List Declared) → ReadingState
-  Started : (x : ℕ) (n : ℤ) (secs : Sections) (ds : List Declared) → ReadingState
+  -- a declarator comes, of a variable or of a constant
+  Declaring : (kind : Qualifier) (secs : Sections) (ds : List Declared) → ReadingState
+  Bare : (kind : Qualifier) (x : ℕ) (secs : Sections) (ds : List Declared) → ReadingState
+  Starting : (kind : Qualifier) (x : ℕ) (secs : Sections) (ds : List Declared) → ReadingState
+  Negating : (kind : Qualifier) (x : ℕ) (secs : Sections) (ds : List Declared) → ReadingState
+  Started : (kind : Qualifier) (x : ℕ) (n : ℤ) (secs : Sections) (ds : List Declared) → ReadingState
   -- parentheses after the name of a function: before them, in them, after `void`, and behind them
   Parameters : (aim : Aim) → ReadingState
   InParameters : (aim : Aim) → ReadingState
@@ -310,32 +312,45 @@ first_word lead secs ds _ = None
 abbrev pub outside : Sections → List Declared → Sign → Option ReadingState
 outside secs ds signs.Static = Some (AfterStatic secs ds)
 outside secs ds signs.Extern = Some (AfterExtern secs ds)
+outside secs ds signs.Const = Some (AfterConst secs ds)
 outside secs ds (signs.GroupIf n) = Some (Outside (InPart (guards_of secs) n secs) ds)
 outside secs ds (signs.GroupElif n) = next_condition n secs ds
 outside secs ds signs.GroupElse = last_section secs ds
 outside secs ds signs.GroupEnd = section_end secs ds
 outside secs ds s = first_word NoWord secs ds s
 
-abbrev pub declaring : Sections → List Declared → Sign → Option ReadingState
-declaring secs ds (signs.Name x) = Some (Bare x secs ds)
-declaring secs ds _ = None
+-- `const`, or the first word of a type
+abbrev pub behind_static : Sections → List Declared → Sign → Option ReadingState
+behind_static secs ds signs.Const = Some (AfterConst secs ds)
+behind_static secs ds s = first_word StaticWord secs ds s
+
+abbrev pub declaring : Qualifier → Sections → List Declared → Sign → Option ReadingState
+declaring kind secs ds (signs.Name x) = Some (Bare kind x secs ds)
+declaring kind secs ds _ = None
+
+-- `const` behind the type, or the name of a variable
+abbrev pub qualifying : Sections → List Declared → Sign → Option ReadingState
+qualifying secs ds signs.Const = Some (Declaring Constant secs ds)
+qualifying secs ds s = declaring Unqualified secs ds s
 
 -- `main` stands outside every group
 abbrev pub main_of : Sections → List Declared → Option ReadingState
 main_of Outermost ds = Some (Parameters (ToMain ds))
 main_of _ ds = None
 
--- the name of a variable or of a function
+-- `const`, or the name of a variable or of a function
 abbrev pub naming : Sections → List Declared → Sign → Option ReadingState
-naming secs ds (signs.Name x) = Some (Bare x secs ds)
+naming secs ds signs.Const = Some (Declaring Constant secs ds)
+naming secs ds (signs.Name x) = Some (Bare Unqualified x secs ds)
 naming secs ds signs.Input = Some (Parameters (ToPrototype secs ds))
 naming secs ds signs.Main = main_of secs ds
 naming secs ds _ = None
 
 abbrev pub behind_type : Leading → Sections → List Declared → Sign → Option ReadingState
 behind_type NoWord secs ds s = naming secs ds s
-behind_type StaticWord secs ds s = declaring secs ds s
+behind_type StaticWord secs ds s = qualifying secs ds s
 behind_type ExternWord secs ds s = at_input (Parameters (ToPrototype secs ds)) s
+behind_type ConstWord secs ds s = declaring Constant secs ds s
 
 -- another word of the type, or what follows it
 abbrev pub after_type : Leading → Sections → List Declared → Sign → TypeWords → Option ReadingState
@@ -347,23 +362,28 @@ after_type lead secs ds s words = behind_type lead secs ds s
 abbrev pub with_declared : Sections → List Declared → ℕ → ℤ → List Declared
 with_declared secs ds x n = ds ++ declared x n (guards_of secs) ∷ []
 
-abbrev pub started : ℕ → ℤ → Sections → List Declared → Sign → Option ReadingState
-started x n secs ds signs.Comma = Some (Declaring secs (with_declared secs ds x n))
-started x n secs ds signs.Semicolon = Some (Outside secs (with_declared secs ds x n))
-started x n secs ds _ = None
+abbrev pub started : Qualifier → ℕ → ℤ → Sections → List Declared → Sign → Option ReadingState
+started kind x n secs ds signs.Comma = Some (Declaring kind secs (with_declared secs ds x n))
+started kind x n secs ds signs.Semicolon = Some (Outside secs (with_declared secs ds x n))
+started kind x n secs ds _ = None
 
-abbrev pub is_bare : ℕ → Sections → List Declared → Sign → Option ReadingState
-is_bare x secs ds signs.Equals = Some (Starting x secs ds)
-is_bare x secs ds s = started x (pos 0) secs ds s
+-- a variable starts at 0; a constant has a value
+abbrev pub without_value : Qualifier → ℕ → Sections → List Declared → Sign → Option ReadingState
+without_value Unqualified x secs ds s = started Unqualified x (pos 0) secs ds s
+without_value Constant x secs ds s = None
 
-abbrev pub starting : ℕ → Sections → List Declared → Sign → Option ReadingState
-starting x secs ds (signs.Number n) = Some (Started x n secs ds)
-starting x secs ds (signs.Oper Sub) = Some (Negating x secs ds)
-starting x secs ds _ = None
+abbrev pub is_bare : Qualifier → ℕ → Sections → List Declared → Sign → Option ReadingState
+is_bare kind x secs ds signs.Equals = Some (Starting kind x secs ds)
+is_bare kind x secs ds s = without_value kind x secs ds s
 
-abbrev pub negating : ℕ → Sections → List Declared → Sign → Option ReadingState
-negating x secs ds (signs.Number n) = Some (Started x (neg_ℤ n) secs ds)
-negating x secs ds _ = None
+abbrev pub starting : Qualifier → ℕ → Sections → List Declared → Sign → Option ReadingState
+starting kind x secs ds (signs.Number n) = Some (Started kind x n secs ds)
+starting kind x secs ds (signs.Oper Sub) = Some (Negating kind x secs ds)
+starting kind x secs ds _ = None
+
+abbrev pub negating : Qualifier → ℕ → Sections → List Declared → Sign → Option ReadingState
+negating kind x secs ds (signs.Number n) = Some (Started kind x (neg_ℤ n) secs ds)
+negating kind x secs ds _ = None
 
 abbrev pub in_parameters : Aim → Sign → Option ReadingState
 in_parameters aim signs.Void = Some (AfterVoid aim)
@@ -397,14 +417,15 @@ over f _ _ = None
 -- what an item leads to, where the state can take it
 abbrev pub step : ReadingState → Place → Sign → Option ReadingState
 step (Outside secs ds) p s = outside secs ds s
-step (AfterStatic secs ds) p s = first_word StaticWord secs ds s
+step (AfterStatic secs ds) p s = behind_static secs ds s
 step (AfterExtern secs ds) p s = first_word ExternWord secs ds s
+step (AfterConst secs ds) p s = first_word ConstWord secs ds s
 step (AfterType lead words secs ds) p s = after_type lead secs ds s words
-step (Declaring secs ds) p s = declaring secs ds s
-step (Bare x secs ds) p s = is_bare x secs ds s
-step (Starting x secs ds) p s = starting x secs ds s
-step (Negating x secs ds) p s = negating x secs ds s
-step (Started x n secs ds) p s = started x n secs ds s
+step (Declaring kind secs ds) p s = declaring kind secs ds s
+step (Bare kind x secs ds) p s = is_bare kind x secs ds s
+step (Starting kind x secs ds) p s = starting kind x secs ds s
+step (Negating kind x secs ds) p s = negating kind x secs ds s
+step (Started kind x n secs ds) p s = started kind x n secs ds s
 step (Parameters aim) p s = at_open (InParameters aim) s
 step (InParameters aim) p s = in_parameters aim s
 step (AfterVoid aim) p s = at_close (AfterParameters aim) s

@@ -1,7 +1,9 @@
 //! The grammar of C files with groups: which lists of items spell a file, and the laws of reading them item by item.
 #![tactic(auto)]
 
+pub mod constants;
 pub mod items;
 pub mod laws;
 
+pub use constants::{changed_behind, is_constant_behind};
 pub use items::{Item, Sign};

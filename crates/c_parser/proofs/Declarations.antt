@@ -6,7 +6,7 @@ use Rattle.c_tree.specs.Tree.{Code}
 use Rattle.fam_outer.specs.declared.faults.Place.{Place}
 use Rattle.c_grammar.specs.declared.items.Item.{Item}
 use Rattle.c_grammar.specs.declared.items.Sign.TheVariants as signs
-use Rattle.c_grammar.specs.Grammar.{at, Optional, absent, present, Typed, int, int32, signed, signed_int, int_signed, Begins, only_type, then_type, Declarator, bare, positive, negative, Part, Declares, nothing, variables, prototype, section, last_var, next_var, end_part, else_part, elif_part, Main, main, File, Forms, file}
+use Rattle.c_grammar.specs.Grammar.{at, Optional, absent, present, Typed, int, int32, signed, signed_int, int_signed, Qualifier, Qualified, unqualified, const_before, const_behind, Begins, only_type, then_type, Declarator, bare, positive, negative, Part, Declares, nothing, variables, prototype, section, last_var, next_var, end_part, else_part, elif_part, Main, main, File, Forms, file}
 use Rattle.c_parser.specs.Names.{declared_by, targets}
 
 targets-append : (ds es : List Declared) → targets (ds ++ es) ≡ targets ds ++ targets es
@@ -21,19 +21,24 @@ type_skipped rest (signed p) = refl
 type_skipped rest (signed_int p q) = refl
 type_skipped rest (int_signed p q) = refl
 
-static_skipped : {us : List Item} (rest : List Item) → Begins signs.Static us → declared_by (us ++ rest) ≡ declared_by rest
-static_skipped rest (only_type _ y) = type_skipped rest y
-static_skipped rest (then_type p _ y) = type_skipped rest y
+qualified_skipped : {us : List Item} {kind : Qualifier} (rest : List Item) → Qualified kind us → declared_by (us ++ rest) ≡ declared_by rest
+qualified_skipped rest (unqualified y) = type_skipped rest y
+qualified_skipped rest (const_before p y) = type_skipped rest y
+qualified_skipped rest (const_behind p {us} y) = ap declared_by (append_assoc us (at p signs.Const ∷ []) rest) ∙ type_skipped (at p signs.Const ∷ rest) y
 
-extern_skipped : {us : List Item} (rest : List Item) → Begins signs.Extern us → declared_by (us ++ rest) ≡ declared_by rest
-extern_skipped rest (only_type _ y) = type_skipped rest y
-extern_skipped rest (then_type p _ y) = type_skipped rest y
+static_skipped : {us : List Item} {kind : Qualifier} (rest : List Item) → Begins signs.Static kind us → declared_by (us ++ rest) ≡ declared_by rest
+static_skipped rest (only_type _ y) = qualified_skipped rest y
+static_skipped rest (then_type p _ y) = qualified_skipped rest y
+
+extern_skipped : {us : List Item} {kind : Qualifier} (rest : List Item) → Begins signs.Extern kind us → declared_by (us ++ rest) ≡ declared_by rest
+extern_skipped rest (only_type _ y) = qualified_skipped rest y
+extern_skipped rest (then_type p _ y) = qualified_skipped rest y
 
 void_skipped : {us : List Item} (rest : List Item) → Optional signs.Void us → declared_by (us ++ rest) ≡ declared_by rest
 void_skipped rest (absent _) = refl
 void_skipped rest (present p _) = refl
 
-one_declared : {us : List Item} {x : ℕ} {n : ℤ} (rest : List Item) → Declarator us x n → declared_by (us ++ rest) ≡ x ∷ declared_by rest
+one_declared : {us : List Item} {x : ℕ} {n : ℤ} {kind : Qualifier} (rest : List Item) → Declarator kind us x n → declared_by (us ++ rest) ≡ x ∷ declared_by rest
 one_declared rest (bare p x) = refl
 one_declared rest (positive p q r x n) = refl
 one_declared rest (negative p q r s x n) = refl

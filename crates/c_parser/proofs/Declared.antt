@@ -22,7 +22,7 @@ use Rattle.c_parser.specs.Signing.{items_from}
 use Rattle.std.proofs.lemmas.List.Folds.{list_any-append}
 use Rattle.std.proofs.lemmas.List.FromFn.{length-range_with_len}
 use Rattle.c_parser.specs.Reading.{AreAmong}
-use Rattle.c_parser.specs.Names.{has_main, name_of, declared_by, declaration_fault, use_fault, name_fault, name_fault_from}
+use Rattle.c_parser.specs.Names.{has_main, name_of, declared_by, declaration_fault, use_fault, name_fault, change_fault, name_fault_from}
 use Rattle.c_parser.proofs.Judging.{declared_still, declared_behind, declared_on}
 use Rattle.c_parser.proofs.Lexical.{IsConstant, new_or_old, keyword_constant, unwrapped_constant, table_constant, marks_constant}
 
@@ -60,6 +60,11 @@ many_if b = if b then Some TooManyVariables else None
 few : (ds : List ℕ) (b : Bool) → nat_le 16 (length ds) ≡ b → many_if b ≡ None → length ds < 16
 few ds true e h = absurd cc
 few ds false e h = omega (arith, leb-false 16 (length ds) e)
+
+-- neither here nor later
+pub later_none : (o later : Option (FileCode × Place)) → or_later o later ≡ None → (o ≡ None) × (later ≡ None)
+later_none None later h = (refl, h)
+later_none (Some fault) later h = absurd cc
 
 split_none : (o : Option FileCode) (p : Place) (later : Option (FileCode × Place)) → or_later (option_map (λ code. (code, p)) o) later ≡ None → (o ≡ None) × (later ≡ None)
 split_none None p later h = (refl, h)
@@ -129,9 +134,12 @@ token_step names kinds.Mark w before p h none = other_step names before p (mark_
 pub names_from_declared : (text : List ℕ) (names : List (List ℕ)) (ts : List Token) (before : List Item) → AreNumbers names before → name_fault_from before (items_from text names ts) ≡ None → AreNumbers (names_from text names ts) (before ++ items_from text names ts)
 names_from_declared text names [] before h none = subst (AreNumbers names) (sym (append-nil before)) h
 names_from_declared text names (t ∷ ts) before h none =
-    let n = split_none (name_fault before (sign_of names t.kind (lexeme_in text t))) t.place (name_fault_from (before ++ at t.place (sign_of names t.kind (lexeme_in text t)) ∷ []) (items_from text (names_with names t.kind (lexeme_in text t)) ts)) none in
+    let x = at t.place (sign_of names t.kind (lexeme_in text t)) in
+    let more = name_fault_from (before ++ at t.place (sign_of names t.kind (lexeme_in text t)) ∷ []) (items_from text (names_with names t.kind (lexeme_in text t)) ts) in
+    let n = split_none (name_fault before (sign_of names t.kind (lexeme_in text t))) t.place (or_later (change_fault before x) more) none in
+    let m = later_none (change_fault before x) more n.1 in
     subst (AreNumbers (names_from text (names_with names t.kind (lexeme_in text t)) ts)) (append_assoc before (at t.place (sign_of names t.kind (lexeme_in text t)) ∷ []) (items_from text (names_with names t.kind (lexeme_in text t)) ts))
-    (names_from_declared text (names_with names t.kind (lexeme_in text t)) ts (before ++ at t.place (sign_of names t.kind (lexeme_in text t)) ∷ []) (token_step names t.kind (lexeme_in text t) before t.place h n.0) n.1)
+    (names_from_declared text (names_with names t.kind (lexeme_in text t)) ts (before ++ at t.place (sign_of names t.kind (lexeme_in text t)) ∷ []) (token_step names t.kind (lexeme_in text t) before t.place h n.0) m.1)
 
 -- ---- where all that is declared is given, no name is new
 
@@ -160,7 +168,10 @@ Holds text given ts before names = (name_fault_from before (items_from text name
 pub names_from_given : (text : List ℕ) (given : List (List ℕ)) (ts : List Token) (before : List Item) → Holds text given ts before given
 names_from_given text given [] before none among = refl
 names_from_given text given (t ∷ ts) before none among =
-    let n = split_none (name_fault before (sign_of given t.kind (lexeme_in text t))) t.place (name_fault_from (before ++ at t.place (sign_of given t.kind (lexeme_in text t)) ∷ []) (items_from text (names_with given t.kind (lexeme_in text t)) ts)) none in
+    let x = at t.place (sign_of given t.kind (lexeme_in text t)) in
+    let more = name_fault_from (before ++ at t.place (sign_of given t.kind (lexeme_in text t)) ∷ []) (items_from text (names_with given t.kind (lexeme_in text t)) ts) in
+    let n = split_none (name_fault before (sign_of given t.kind (lexeme_in text t))) t.place (or_later (change_fault before x) more) none in
+    let m = later_none (change_fault before x) more n.1 in
     let same = given_token given t.kind (lexeme_in text t) before (items_from text (names_with given t.kind (lexeme_in text t)) ts) t.place among n.0 in
     subst (Holds text given ts (before ++ at t.place (sign_of given t.kind (lexeme_in text t)) ∷ [])) (sym same) (names_from_given text given ts (before ++ at t.place (sign_of given t.kind (lexeme_in text t)) ∷ []))
-    n.1 (subst (AreAmong given) (sym (append_assoc before (at t.place (sign_of given t.kind (lexeme_in text t)) ∷ []) (items_from text (names_with given t.kind (lexeme_in text t)) ts))) among)
+    m.1 (subst (AreAmong given) (sym (append_assoc before (at t.place (sign_of given t.kind (lexeme_in text t)) ∷ []) (items_from text (names_with given t.kind (lexeme_in text t)) ts))) among)

@@ -13,7 +13,7 @@ use Rattle.c_grammar.specs.declared.items.Item.{Item}
 use Rattle.c_grammar.specs.declared.items.Sign.{Sign}
 use Rattle.c_grammar.specs.declared.items.Sign.TheVariants as signs
 use Rattle.family_names.specs.Names as family
-use Rattle.family_names.specs.Names.{is_main, has_main, until_main, name_of, names_of, declared_by, is_among, with_number, each_once, NameContext, IsFaultFrom, IsNameFault, IsEither, code_with, new_name_fault, IsThisOr}
+use Rattle.family_names.specs.Names.{is_main, has_main, until_main, name_of, names_of, declared_by, is_among, with_number, each_once, NameContext, IsFaultFrom, IsChangeOr, changed_place, IsNameFault, IsEither, code_with, new_name_fault, IsThisOr}
 use Rattle.c_parser.specs.FamilyItems.{is_name, has}
 
 -- ---- declared names, one item after another
@@ -225,9 +225,10 @@ walk context before [] h le = record {
   named = λ n k. absurd cc;
 }
 walk context before (x ∷ xs) h le =
-    let l = later_of h.0 x.place (IsFaultFrom context (before ++ x ∷ []) xs None) h.2 in
+    let l = later_of h.0 x.place (IsChangeOr context before x None (IsFaultFrom context (before ++ x ∷ []) xs None)) h.2 in
+    let m = later_of l.1.0 (changed_place before x) (IsFaultFrom context (before ++ x ∷ []) xs None) l.1.2 in
     let f = step context before x (subst (λ (c : Option FileCode). IsNameFault context before x.sign c) l.0 h.1) le in
-    all_steps before x xs f (walk context (before ++ x ∷ []) xs l.1 f.few)
+    all_steps before x xs f (walk context (before ++ x ∷ []) xs m.1 f.few)
 
 -- ---- so many numbers, each among a list
 

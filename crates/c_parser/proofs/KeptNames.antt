@@ -1,29 +1,26 @@
--- The names of the items that stay at a valid configuration have no fault, where those of the family have none.
-use Rattle.std.proofs.Common.{◌≡◌, ℕ, ◌+◌, ◌≤◌, nat_eq, nat_le, Bool, true, false, not, ◌||◌, ◌&&◌, cond, List, [], ◌∷◌, ◌++◌, length, Option, Some, None, refl, sym, ap, subst, ◌∙◌, append_assoc, append-nil, inl, inr, arith}
-use Rattle.std.specs.Prelude.{ℤ, option_map, if◌then◌else◌}
+-- A name of the items that stay at a valid configuration has no fault, where it has none in the family.
+use Rattle.std.proofs.Common.{◌≡◌, ℕ, ◌+◌, ◌≤◌, nat_eq, nat_le, Bool, true, false, not, ◌||◌, ◌&&◌, cond, List, [], ◌∷◌, ◌++◌, length, Option, Some, None, refl, sym, ap, subst, ◌∙◌, append-nil, inl, inr, arith}
+use Rattle.std.specs.Prelude.{ℤ, if◌then◌else◌}
 use Rattle.std.proofs.lemmas.Bool.{or_right}
 use Rattle.std.proofs.lemmas.Bool.Decides.{nat_tests}
 use Rattle.std.proofs.lemmas.List.{length-append}
 use Rattle.std.proofs.lemmas.List.Folds.{list_any-append}
 use Rattle.fam_outer.specs.declared.faults.FileCode.{FileCode}
 use Rattle.fam_outer.specs.declared.faults.FileCode.TheVariants.{Undeclared, Twice, FeatureInCode, TooManyVariables}
-use Rattle.fam_outer.specs.declared.faults.Place.{Place}
 use Rattle.linear_atoms.specs.declared.atoms.Config.{Config}
 use Rattle.atom_solver.specs.Solutions.{Finds}
 use Rattle.cpp_conditions.specs.declared.models.Model.{Model}
 use Rattle.cpp_conditions.specs.Validity.{plain, IsValid}
 use Rattle.cpp_groups.specs.declared.section.Section.{Section}
 use Rattle.cpp_groups.specs.Kept.{all_kept, sections_after}
-use Rattle.cpp_lines.specs.Faults.{or_later}
 use Rattle.c_grammar.specs.declared.items.Item.{Item}
 use Rattle.c_grammar.specs.declared.items.Sign.{Sign}
 use Rattle.c_grammar.specs.declared.items.Sign.TheVariants as signs
 use Rattle.c_grammar.specs.Grammar.{is_group}
 use Rattle.c_grammar.specs.Kept.{directive_of, kept_from, kept}
-use Rattle.family_names.specs.Names as family
-use Rattle.family_names.specs.Names.{NameContext, truths_at, is_main, has_main, until_main, name_of, names_of, declared_by, declared_at, is_among, each_once, sections_behind, is_kept, is_missed, is_met_again, is_feature, new_name_fault, IsWithFirst, IsEither, IsNameFault, IsFaultFrom, IsUseFault, IsDeclarationFault, code_with}
+use Rattle.family_names.specs.Names.{NameContext, truths_at, is_main, has_main, until_main, name_of, names_of, declared_by, declared_at, is_among, each_once, sections_behind, is_kept, is_missed, is_met_again, is_feature, new_name_fault, IsWithFirst, IsEither, IsNameFault, IsUseFault, IsDeclarationFault, code_with}
 use Rattle.c_parser.specs.Names as alone
-use Rattle.c_parser.proofs.FewNames.{IsFine, step, declared_same, declared_more, silent_same, silent_one, names_this, without, one_less, others_stay, once_has, later_of, is_same, neither, same_number}
+use Rattle.c_parser.proofs.FewNames.{IsFine, step, declared_same, declared_more, silent_same, silent_one, names_this, without, one_less, others_stay, once_has, is_same, neither, same_number}
 
 -- ---- the names of a file without groups are judged by the same words
 
@@ -35,11 +32,11 @@ name_same : (s : Sign) → alone.name_of s ≡ name_of s
 name_same (signs.Name n) = refl
 name_same _ = refl
 
-has_same : (xs : List Item) → alone.has_main xs ≡ has_main xs
+pub has_same : (xs : List Item) → alone.has_main xs ≡ has_main xs
 has_same [] = refl
 has_same (x ∷ xs) = ap (λ (b : Bool). b || alone.has_main xs) (main_same x.sign) ∙ ap (λ (b : Bool). is_main x.sign || b) (has_same xs)
 
-declared_alone : (xs : List Item) → alone.declared_by xs ≡ declared_by xs
+pub declared_alone : (xs : List Item) → alone.declared_by xs ≡ declared_by xs
 declared_alone [] = refl
 declared_alone (x ∷ xs) =
     ap (λ (b : Bool). cond b [] (alone.name_of x.sign ++ alone.declared_by xs)) (main_same x.sign)
@@ -54,7 +51,7 @@ silent_fault before _ e = refl
 
 -- ---- the items that stay, one after another
 
-behind_more : (truths : List Bool) (sections : List Section) (xs ys : List Item) → sections_behind truths sections (xs ++ ys) ≡ sections_behind truths (sections_behind truths sections xs) ys
+pub behind_more : (truths : List Bool) (sections : List Section) (xs ys : List Item) → sections_behind truths sections (xs ++ ys) ≡ sections_behind truths (sections_behind truths sections xs) ys
 behind_more truths sections [] ys = refl
 behind_more truths sections (x ∷ xs) ys = behind_more truths (sections_after truths sections (directive_of x.sign)) xs ys
 
@@ -76,7 +73,7 @@ main_plain : (s : Sign) → is_main s ≡ true → is_group s ≡ false
 main_plain signs.Main e = refl
 main_plain _ e = absurd cc
 
-stays_before : (truths : List Bool) (sections : List Section) (xs ys : List Item) → MainStays truths sections (xs ++ ys) → MainStays truths sections xs
+pub stays_before : (truths : List Bool) (sections : List Section) (xs ys : List Item) → MainStays truths sections (xs ++ ys) → MainStays truths sections xs
 stays_before truths sections [] ys h = tt
 stays_before truths sections (x ∷ xs) ys h =
     elim (is_main x.sign) as (λ b. IsEither b (all_kept sections ≡ true) (MainStays truths (sections_after truths sections (directive_of x.sign)) (xs ++ ys)) → IsEither b (all_kept sections ≡ true) (MainStays truths (sections_after truths sections (directive_of x.sign)) xs)) [
@@ -88,7 +85,7 @@ both_true : (a b : Bool) → a ≡ false → b ≡ true → (not a && b) ≡ tru
 both_true true b e f = absurd cc
 both_true false b e f = f
 
-has_main_kept : (truths : List Bool) (sections : List Section) (xs : List Item) → MainStays truths sections xs → has_main (kept_from truths sections xs) ≡ has_main xs
+pub has_main_kept : (truths : List Bool) (sections : List Section) (xs : List Item) → MainStays truths sections xs → has_main (kept_from truths sections xs) ≡ has_main xs
 has_main_kept truths sections [] h = refl
 has_main_kept truths sections (x ∷ xs) h =
     let more = kept_from truths (sections_after truths sections (directive_of x.sign)) xs in
@@ -114,7 +111,7 @@ until_main_kept truths sections (x ∷ xs) h =
       ])
     ] refl h
 
-declared_kept : (truths : List Bool) (before : List Item) → MainStays truths [] before → declared_by (kept truths before) ≡ declared_at truths before
+pub declared_kept : (truths : List Bool) (before : List Item) → MainStays truths [] before → declared_by (kept truths before) ≡ declared_at truths before
 declared_kept truths before h = ap names_of (until_main_kept truths [] before h)
 
 -- what stays declares no other names
@@ -168,7 +165,7 @@ first_none code other None e = refl
 first_none code other (Some config) e = absurd cc
 
 -- where a fault is not found, it is at no valid configuration
-nowhere : (model : Model) (holds : List ℤ → Bool) (code : Option (List ℤ) → FileCode) (other : Option FileCode) (values : List ℤ) → IsWithFirst model holds code other None → IsValid (plain model) values → holds values ≡ false
+pub nowhere : (model : Model) (holds : List ℤ → Bool) (code : Option (List ℤ) → FileCode) (other : Option FileCode) (values : List ℤ) → IsWithFirst model holds code other None → IsValid (plain model) values → holds values ≡ false
 nowhere model holds code other values w v =
     let none : Finds model holds None = subst (λ (o : Option Config). Finds model holds o) (first_none code other w.found w.fault_is) w.finds in
     none values v
@@ -204,20 +201,20 @@ not_declared_before context before n values h v k =
 -- ---- one item more
 
 -- what is known of the items before: those that stay declare each name once, and there are few names
-record AreJudged (truths : List Bool) (before : List Item) : Type 0 where
-  different : AreDifferent (declared_by (kept truths before))
-  few : length (each_once [] (declared_by before)) ≤ 16
+pub record AreJudged (truths : List Bool) (before : List Item) : Type 0 where
+  pub different : AreDifferent (declared_by (kept truths before))
+  pub few : length (each_once [] (declared_by before)) ≤ 16
 
 -- an item behind others stays
-abbrev stays_next : List Bool → List Item → Item → Bool
+abbrev pub stays_next : List Bool → List Item → Item → Bool
 stays_next truths before x = not (is_group x.sign) && is_kept truths before
 
 -- the next item, if it stays, has no fault
-record IsJudgedNext (truths : List Bool) (before : List Item) (x : Item) : Type 0 where
-  judged : AreJudged truths (before ++ x ∷ [])
-  fine : stays_next truths before x ≡ true → alone.name_fault (kept truths before) x.sign ≡ None
+pub record IsJudgedNext (truths : List Bool) (before : List Item) (x : Item) : Type 0 where
+  pub judged : AreJudged truths (before ++ x ∷ [])
+  pub fine : stays_next truths before x ≡ true → alone.name_fault (kept truths before) x.sign ≡ None
 
-kept_next : (truths : List Bool) (before : List Item) (x : Item) (b : Bool) → stays_next truths before x ≡ b → kept truths (before ++ x ∷ []) ≡ kept truths before ++ cond b (x ∷ []) []
+pub kept_next : (truths : List Bool) (before : List Item) (x : Item) (b : Bool) → stays_next truths before x ≡ b → kept truths (before ++ x ∷ []) ≡ kept truths before ++ cond b (x ∷ []) []
 kept_next truths before x b e = kept_more truths [] before (x ∷ []) ∙ ap (λ (t : Bool). kept truths before ++ cond t (x ∷ []) []) e
 
 and_right : (a b : Bool) → (a && b) ≡ true → b ≡ true
@@ -313,7 +310,7 @@ declaration_next context values before x n e v m later h u f j =
       }
     ] refl
 
-next : (context : NameContext) (values : List ℤ) (before : List Item) (x : Item) → IsValid (plain context.model) values → MainStays (truths_at context values) [] before → MainStays (truths_at context values) [] (before ++ x ∷ [])
+pub next : (context : NameContext) (values : List ℤ) (before : List Item) (x : Item) → IsValid (plain context.model) values → MainStays (truths_at context values) [] before → MainStays (truths_at context values) [] (before ++ x ∷ [])
     → IsNameFault context before x.sign None → AreJudged (truths_at context values) before → IsJudgedNext (truths_at context values) before x
 next context values before x v m later h j =
     let f = step context before x h j.few in
@@ -324,32 +321,3 @@ next context values before x v m later h j =
         | false ↦ λ k u. declaration_next context values before x e.0 e.1 v m later k u f j
       ] refl (subst (λ (s : Sign). IsNameFault context before s None) e.1 h)
     ]
-
--- ---- all items
-
-no_fault_first : (o : Option FileCode) (place : Place) (later : Option (FileCode × Place)) → o ≡ None → later ≡ None → or_later (option_map (λ code. (code, place)) o) later ≡ None
-no_fault_first o place later e h = ap (λ (c : Option FileCode). or_later (option_map (λ code. (code, place)) c) later) e ∙ h
-
-walk : (context : NameContext) (values : List ℤ) (before xs : List Item) → IsFaultFrom context before xs None → IsValid (plain context.model) values → MainStays (truths_at context values) [] (before ++ xs) → AreJudged (truths_at context values) before
-    → alone.name_fault_from (kept (truths_at context values) before) (kept_from (truths_at context values) (sections_behind (truths_at context values) [] before) xs) ≡ None
-walk context values before [] h v m j = refl
-walk context values before (x ∷ xs) h v m j =
-    let truths = truths_at context values in
-    let sections = sections_behind truths [] before in
-    let more = kept_from truths (sections_after truths (sections_behind truths [] before) (directive_of x.sign)) xs in
-    let l = later_of h.0 x.place (IsFaultFrom context (before ++ x ∷ []) xs None) h.2 in
-    let all : MainStays truths [] ((before ++ x ∷ []) ++ xs) = subst (MainStays truths []) (sym (append_assoc before (x ∷ []) xs)) m in
-    let here = next context values before x v (stays_before truths [] before (x ∷ xs) m) (stays_before truths [] (before ++ x ∷ []) xs all) (subst (λ (c : Option FileCode). IsNameFault context before x.sign c) l.0 h.1) j in
-    let rest : alone.name_fault_from (kept truths (before ++ x ∷ [])) more ≡ None =
-    subst (λ (ss : List Section). alone.name_fault_from (kept truths (before ++ x ∷ [])) (kept_from truths ss xs) ≡ None) (behind_more truths [] before (x ∷ [])) (walk context values (before ++ x ∷ []) xs l.1 v all here.judged) in
-    elim (stays_next truths before x) as (λ b. stays_next truths before x ≡ b → alone.name_fault_from (kept truths before) (cond b (x ∷ more) more) ≡ None) [
-      | true ↦ λ k. no_fault_first (alone.name_fault (kept truths before) x.sign) x.place (alone.name_fault_from (kept truths before ++ x ∷ []) more) (here.fine k)
-          (ap (λ (w : List Item). alone.name_fault_from w more) (sym (kept_next truths before x true k)) ∙ rest)
-      | false ↦ λ k. ap (λ (w : List Item). alone.name_fault_from w more) (sym (kept_next truths before x false k ∙ append-nil (kept truths before))) ∙ rest
-    ] refl
-
--- the items that stay at a valid configuration have no fault of a name
-pub kept_fine : (context : NameContext) (items : List Item) (values : List ℤ) → family.IsFirstNameFault context items None → IsValid (plain context.model) values → MainStays (truths_at context values) [] items
-    → alone.first_name_fault (kept (truths_at context values) items) ≡ None
-unfolding alone.first_name_fault
-kept_fine context items values h v m = walk context values [] items h v m (record { different = tt; few = omega arith })

@@ -11,7 +11,7 @@ use Rattle.c_tree.specs.Tree.{Code}
 use Rattle.c_grammar.specs.declared.items.Item.{Item}
 use Rattle.c_grammar.specs.declared.items.Sign.{Sign}
 use Rattle.c_grammar.specs.declared.items.Sign.TheVariants as signs
-use Rattle.c_grammar.specs.Grammar.{at, Optional, absent, present, Typed, int, int32, signed, signed_int, int_signed, Begins, only_type, then_type, Declarator, bare, positive, negative, Part, Outer, Declares, nothing, variables, prototype, section, last_var, next_var, end_part, else_part, elif_part, Main, main, File, Forms, file}
+use Rattle.c_grammar.specs.Grammar.{at, Optional, absent, present, Typed, int, int32, signed, signed_int, int_signed, Qualifier, Qualified, unqualified, const_before, const_behind, Begins, only_type, then_type, Declarator, bare, positive, negative, Part, Outer, Declares, nothing, variables, prototype, section, last_var, next_var, end_part, else_part, elif_part, Main, main, File, Forms, file}
 use Rattle.c_grammar.specs.Kept.{directive_of, kept_from}
 use Rattle.c_grammar.proofs.Preprocess.{leaves}
 use Rattle.family_names.specs.Names.{is_main, has_main, sections_behind, IsEither}
@@ -28,15 +28,20 @@ type_none (signed p) = refl
 type_none (signed_int p q) = refl
 type_none (int_signed p q) = refl
 
-begins_none : {s : Sign} {us : List Item} → is_main s ≡ false → Begins s us → has_main us ≡ false
-begins_none h (only_type s y) = type_none y
-begins_none h (then_type p s {us} y) = ap (λ (b : Bool). b || has_main us) h ∙ type_none y
+qualified_none : {kind : Qualifier} {us : List Item} → Qualified kind us → has_main us ≡ false
+qualified_none (unqualified y) = type_none y
+qualified_none (const_before p y) = type_none y
+qualified_none (const_behind p {us} y) = none_both us (at p signs.Const ∷ []) (type_none y) refl
+
+begins_none : {s : Sign} {kind : Qualifier} {us : List Item} → is_main s ≡ false → Begins s kind us → has_main us ≡ false
+begins_none h (only_type s y) = qualified_none y
+begins_none h (then_type p s {us} y) = ap (λ (b : Bool). b || has_main us) h ∙ qualified_none y
 
 void_none : {us : List Item} → Optional signs.Void us → has_main us ≡ false
 void_none (absent _) = refl
 void_none (present p _) = refl
 
-declarator_none : {us : List Item} {x : ℕ} {n : ℤ} → Declarator us x n → has_main us ≡ false
+declarator_none : {us : List Item} {x : ℕ} {n : ℤ} {kind : Qualifier} → Declarator kind us x n → has_main us ≡ false
 declarator_none (bare p x) = refl
 declarator_none (positive p q r x n) = refl
 declarator_none (negative p q r s x n) = refl

@@ -96,18 +96,18 @@ pub few_declared : (includes : Includes) (bytes : List ℕ) (p : Whole) → IsPl
 few_declared includes bytes p a = subst (λ (ns : List (List ℕ)). length ns ≤ 16) (sym (ap (λ (w : Whole). w.names) a.spelled.is)) (names_declared includes bytes p a).1
 
 abbrev FormedIfFew : Program → Type 0
-FormedIfFew p = length (whole p).names ≤ 16 → IsProgram (whole p)
+FormedIfFew p = length (whole p).names ≤ 48 → IsProgram (whole p)
 
 pub own_names : (includes : Includes) (bytes : List ℕ) (r : Result Program FileRefusal) → IsReadOver includes [] bytes r → IfOk r FormedIfFew → IfOk r (λ p. IsProgram (whole p))
-own_names includes bytes (Ok p) a formed = formed (few_declared includes bytes (whole p) a)
+own_names includes bytes (Ok p) a formed = formed (omega (arith, few_declared includes bytes (whole p) a))
 own_names includes bytes (Err e) h formed = tt
 
 pub has_given : (includes : Includes) (given : List (List ℕ)) (bytes : List ℕ) (r : Result Program FileRefusal) → DeclaresAmong includes given bytes → IsReadOver includes given bytes r → IfOk r (λ p. (whole p).names ≡ given)
 has_given includes given bytes (Ok p) among a = ap (λ (w : Whole). w.names) a.spelled.is ∙ names_given includes given bytes (whole p) among a
 has_given includes given bytes (Err e) among h = tt
 
-pub given_names : (given : List (List ℕ)) (bytes : List ℕ) (r : Result Program FileRefusal) → length given ≤ 16 → IfOk r (λ p. (whole p).names ≡ given) → IfOk r FormedIfFew → IfOk r (λ p. IsProgram (whole p))
-given_names given bytes (Ok p) few same formed = formed (subst (λ (ns : List (List ℕ)). length ns ≤ 16) (sym same) few)
+pub given_names : (given : List (List ℕ)) (bytes : List ℕ) (r : Result Program FileRefusal) → length given ≤ 48 → IfOk r (λ p. (whole p).names ≡ given) → IfOk r FormedIfFew → IfOk r (λ p. IsProgram (whole p))
+given_names given bytes (Ok p) few same formed = formed (subst (λ (ns : List (List ℕ)). length ns ≤ 48) (sym same) few)
 given_names given bytes (Err e) few same formed = tt
 
 -- ---- a program of items without groups is plain

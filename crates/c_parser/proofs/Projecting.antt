@@ -2,7 +2,6 @@
 use Rattle.std.proofs.Common.{◌≡◌, ℕ, ◌≤◌, ◌<◌, nat_eq, Bool, true, false, ◌||◌, cond, List, [], ◌∷◌, ◌++◌, length, Result, Ok, Err, inl, inr, refl, sym, ap, subst, ◌∙◌}
 use Rattle.std.specs.List.{list_any}
 use Rattle.fam_outer.specs.declared.dialect.Dialect.{Dialect}
-use Rattle.fam_outer.specs.declared.dialect.Includes.{Includes}
 use Rattle.fam_outer.specs.declared.faults.FileCode.{FileCode}
 use Rattle.fam_outer.specs.declared.faults.Place.{Place}
 use Rattle.linear_atoms.specs.declared.atoms.Atom.{Atom}
@@ -30,7 +29,8 @@ use Rattle.c_parser.proofs.FamilyAnswers.{NamesOccur}
 use Rattle.c_parser.proofs.FamilyNames.{by_line_of}
 use Rattle.c_parser.proofs.FewNames.{few_names, is_same}
 use Rattle.c_parser.proofs.KeptItems.{fit_kept}
-use Rattle.c_parser.proofs.KeptNames.{kept_fine}
+use Rattle.c_grammar.proofs.Apart.{directives_apart}
+use Rattle.c_parser.proofs.KeptFaults.{kept_fine}
 use Rattle.c_parser.proofs.MainItems.{main_stays}
 use Rattle.c_parser.proofs.KeptTexts.{TextLaws, TextsAreReadOnce, same_blanked, same_told, family_fit, variant_items}
 use Rattle.c_parser.proofs.OwnNames.{distinct_from}
@@ -114,12 +114,12 @@ unfolding spelled
 read laws keeps are_plain is_file dialect model bytes text f values o v q includes =
     let l = o.listed in
     let t = spelled laws keeps are_plain dialect model bytes text f (truths_in f values) o (texts laws dialect model bytes text f values o q) in
-    let forms = (is_file l.names l.items (whole f.code) o.spelled).forms in
+    let file = is_file l.names l.items (whole f.code) o.spelled in
     record {
       listed = record { names = names_in f; items = kept (truths_in f values) l.items };
       are = t.are includes;
       spelled = t.spelled;
-      names = kept_fine (context_of model f.atoms f.conditions l.names) l.items values o.names v (main_stays (truths_in f values) forms);
+      names = kept_fine (context_of model f.atoms f.conditions l.names) l.items values (directives_apart l.items file.file file.forms) o.names v (main_stays (truths_in f values) file.forms);
     }
 
 -- ---- an accepted family is not refused by its lines

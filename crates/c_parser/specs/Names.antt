@@ -4,10 +4,11 @@ use Rattle.std.specs.Prelude.{ℕ, nat_eq, nat_le, Bool, true, false, List, [], 
 use Rattle.std.specs.List.{list_any}
 use Rattle.fam_outer.specs.declared.faults.Place.{Place}
 use Rattle.fam_outer.specs.declared.faults.FileCode.{FileCode}
-use Rattle.fam_outer.specs.declared.faults.FileCode.TheVariants.{Undeclared, Twice, TooManyVariables}
+use Rattle.fam_outer.specs.declared.faults.FileCode.TheVariants.{Undeclared, Twice, TooManyVariables, ChangedConstant}
 use Rattle.c_grammar.specs.declared.items.Item.{Item}
 use Rattle.c_grammar.specs.declared.items.Sign.{Sign}
 use Rattle.c_grammar.specs.declared.items.Sign.TheVariants as signs
+use Rattle.c_grammar.specs.Constants.{of_constants, changed_at}
 use Rattle.cpp_lines.specs.Faults.{or_later}
 use Rattle.c_tree.specs.declared.lists.Declared.{Declared}
 use Rattle.c_parser.specs.Items.{with_name}
@@ -29,6 +30,10 @@ name_of _ = []
 abbrev pub declared_by : List Item → List ℕ
 declared_by [] = []
 declared_by (x ∷ xs) = if is_main x.sign then [] else name_of x.sign ++ declared_by xs
+
+-- the names that they declare as constants
+abbrev pub constants_by : List Item → List ℕ
+constants_by items = declared_by (of_constants items)
 
 -- the names that declarators declare, by their numbers
 abbrev pub targets : List Declared → List ℕ
@@ -58,11 +63,21 @@ abbrev pub name_fault : List Item → Sign → Option FileCode
 name_fault before (signs.Name x) = if has_main before then use_fault (declared_by before) x else declaration_fault (declared_by before) x
 name_fault before _ = None
 
--- the first fault of a name among the items behind these
+-- a constant is changed, where these are the constants
+abbrev pub constant_fault : List ℕ → Option (ℕ × Place) → Option (FileCode × Place)
+constant_fault constants None = None
+constant_fault constants (Some change) = if list_any (nat_eq change.0) constants then Some (ChangedConstant, change.1) else None
+
+-- the fault of a name that an item changes, together with the last one of those before it: only behind `main`
+abbrev pub change_fault : List Item → Item → Option (FileCode × Place)
+change_fault before x = if has_main before then constant_fault (constants_by before) (changed_at before x) else None
+
+-- the first fault of a name among the items behind these: of an item that is its own name before what it changes, whose name
+-- stands at it or directly before it
 abbrev pub name_fault_from : List Item → List Item → Option (FileCode × Place)
 name_fault_from before [] = None
 name_fault_from before (x ∷ xs) =
-    or_later (option_map (λ code. (code, x.place)) (name_fault before x.sign)) (name_fault_from (before ++ x ∷ []) xs)
+    or_later (option_map (λ code. (code, x.place)) (name_fault before x.sign)) (or_later (change_fault before x) (name_fault_from (before ++ x ∷ []) xs))
 
 unfoldable pub first_name_fault : List Item → Option (FileCode × Place)
 first_name_fault items = name_fault_from [] items

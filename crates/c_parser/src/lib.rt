@@ -1,6 +1,7 @@
 //! The parser of the C subset: files without groups, and families.
 #![tactic(auto)]
 
+mod constants;
 pub mod family;
 mod family_items;
 pub mod laws;

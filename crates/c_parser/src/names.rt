@@ -7,12 +7,13 @@ ghost use Rattle.c_parser.specs.Names as specs;
 ghost use Rattle.c_grammar.specs.declared.items.Item as items;
 ghost use Rattle.c_parser.specs.Judging.{Declares, IsKnown, Judges};
 
+use crate::constants::{Constants, change_fault};
 use c_grammar::{Item, Sign};
 use fam_outer::{FileCode, MOST_NAMES, NoMemory, Place};
 use std::alloc::Global;
 
 /// Whether a number is among these.
-fn contains(numbers: &[u32], number: u32) -> bool
+pub(crate) fn contains(numbers: &[u32], number: u32) -> bool
     ensures { result ≡ list_any (nat_eq number) numbers.now }
 {
     for other in numbers {
@@ -25,9 +26,9 @@ fn contains(numbers: &[u32], number: u32) -> bool
 
 /// What is known behind some items: the names that they declare, and whether `main` is among them.
 #[derive(Drop)]
-struct Known {
+pub(crate) struct Known {
     declared: Vec<u32>,
-    in_main: bool,
+    pub(crate) in_main: bool,
 }
 
 /// The fault of a declaration.
@@ -98,9 +99,15 @@ pub(crate) fn first_name_fault(
         declared: Vec::new(alloc),
         in_main: false,
     };
+    let mut constants = Constants::new(alloc);
     for item in items {
+        let change = change_fault(&known, &constants, *item);
+        constants.follow(&known, *item)?;
         if let Some(code) = judge(&mut known, item.sign)? {
             return Ok(Some((code, item.place)));
+        }
+        if let Some(fault) = change {
+            return Ok(Some(fault));
         }
     }
     Ok(None)

@@ -62,7 +62,7 @@ pub(crate) fn read_file<F: FileKind>(
 ) -> Result<(Program, F::Known), FileRefusal>
     requires { F.is_ready kind.now }
     ensures reads { IsReadAs (F.meaning kind.now) bytes.now result }
-    ensures program { IfOk result (λ made. length (whole made.0).names ≤ 16 → IsProgram (whole made.0)) }
+    ensures program { IfOk result (λ made. length (whole made.0).names ≤ 48 → IsProgram (whole made.0)) }
     ensures has { IfOk result (λ made. IsSpelledBy (F.has kind.now) (whole made.0) made.1) }
 {
     let (Numbered { names, items }, known) = kind.list(alloc, bytes)?;

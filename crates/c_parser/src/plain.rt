@@ -42,7 +42,7 @@ pub(crate) fn number_code(
     given: &[Text],
     code: &[u8],
 ) -> Result<Numbered, FileRefusal>
-    requires few { length given.now ≤ 16 }
+    requires few { length given.now ≤ 48 }
     requires distinct { AreDistinct given.now }
     requires short { length code.now ≤ FILE_BYTES }
     ensures listed { Lists result (specs.items_of_code given.now code.now) }
@@ -63,7 +63,7 @@ fn list_items(
     given: &[Text],
     bytes: &[u8],
 ) -> Result<Numbered, FileRefusal>
-    requires few { length given.now ≤ 16 }
+    requires few { length given.now ≤ 48 }
     requires distinct { AreDistinct given.now }
     ensures listed { Lists result (specs.items_of includes given.now bytes.now) }
     ensures proper { IfOk result (λ made. ProperIn made) }
@@ -90,7 +90,7 @@ impl FileKind for PlainFiles<'_> {
 
     ghost meaning = { λ files. plain_files files.includes files.given.now };
 
-    ghost is_ready = { λ files. (length files.given.now ≤ 16) × AreDistinct files.given.now };
+    ghost is_ready = { λ files. (length files.given.now ≤ 48) × AreDistinct files.given.now };
 
     ghost has = { λ _ l _. has_groups l.items ≡ false };
 
@@ -116,10 +116,10 @@ fn read_over(
     given: &[Text],
     bytes: &[u8],
 ) -> Result<Program, FileRefusal>
-    requires few { length given.now ≤ 16 }
+    requires few { length given.now ≤ 48 }
     requires distinct { AreDistinct given.now }
     ensures reads { specs.IsReadOver includes given.now bytes.now result }
-    ensures program { IfOk result (λ p. length (whole p).names ≤ 16 → IsProgram (whole p)) }
+    ensures program { IfOk result (λ p. length (whole p).names ≤ 48 → IsProgram (whole p)) }
     ensures plain { IfOk result (λ p. IsPlainProgram (whole p)) }
 {
     files_are_programs();
@@ -164,7 +164,7 @@ pub fn read_plain_with(
     names: &[Text],
     bytes: &[u8],
 ) -> Result<Program, FileRefusal>
-    requires few { length names.now ≤ 16 }
+    requires few { length names.now ≤ 48 }
     requires distinct { AreDistinct names.now }
     requires declared { specs.DeclaresAmong includes names.now bytes.now }
     ensures reads { specs.IsReadOver includes names.now bytes.now result }

@@ -81,7 +81,7 @@ pub(crate) fn spelled(
     requires fit { AreFit (length names) items.now }
     requires rising { AreRising items.now }
     ensures spelled { IsSpelledAs names items.now (outer.end_place bytes.now) result }
-    ensures program { length names ≤ 16 → IfOk result (λ p. IsProgram (whole p)) }
+    ensures program { length names ≤ 48 → IfOk result (λ p. IsProgram (whole p)) }
 {
     match read_items(alloc, names, items) {
         Ok(program) => Ok(program),

@@ -59,10 +59,10 @@ pub record IsDeclaredOf (count : ℕ) (d : Declared) : Type 0 where
   pub target : d.target < count
   pub value : IsInt d.value
 
--- a well-formed program: at most 16 variables, start values within `int`, numbers of variables below their count,
+-- a well-formed program: at most 48 variables, start values within `int`, numbers of variables below their count,
 -- literals of `int`, places that rise in the order of the text, and the limits of depth
 pub record IsProgram (p : Whole) : Type 0 where
-  pub few : length p.names ≤ 16
+  pub few : length p.names ≤ 48
   pub starts : length p.start ≡ length p.names
   pub ints : All IsInt p.start
   pub declared : All (IsDeclaredOf (length p.names)) p.declared

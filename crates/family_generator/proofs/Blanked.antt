@@ -1,12 +1,13 @@
 -- The text of a generated family has no comment and no splice, and not too many bytes: it is its own blanked text.
 use Rattle.std.proofs.Common.{◌≡◌, ℕ, ◌+◌, ◌*◌, ◌≤◌, nat_lt, Bool, false, ◌||◌, ◌&&◌, ◌==◌, cond, List, [], ◌∷◌, ◌++◌, length, Ok, Err, refl, ap, ◌∙◌, arith}
+use Rattle.std.specs.Prelude.{codes}
 use Rattle.std.specs.List.{list_any}
 use Rattle.std.proofs.lemmas.Bool.{or_parts, or_from}
 use Rattle.std.proofs.lemmas.Bool.Decides.{nat_tests}
 use Rattle.fam_outer.specs.declared.faults.FileCode.TheVariants.{TooLong}
 use Rattle.fam_outer.specs.Results.{and_then}
 use Rattle.cpp_lines.specs.Bytes.{begins_with}
-use Rattle.cpp_lines.specs.Faults.{ends_line, first_fault, blanked_or, without_comments}
+use Rattle.cpp_lines.specs.Faults.{ends_line, ends_line_behind, first_fault, blanked_or, without_comments}
 use Rattle.cpp_lines.specs.Whole.{blanked_file, file_place}
 use Rattle.cpp_lines.proofs.Clean.{IsClean, blank_clean, clean_without_fault}
 use Rattle.family_generator.proofs.Cases.{each_below}
@@ -15,9 +16,9 @@ use Rattle.family_generator.proofs.BlockLines.{switch_line, bound_line, count_li
 
 -- ---- no byte opens a comment or a splice
 
--- a slash or a backslash
+-- a slash, a backslash or a question mark
 abbrev is_mark : ℕ → Bool
-is_mark b = (b == 47) || (b == 92)
+is_mark b = (b == 47) || ((b == 92) || (b == 63))
 
 abbrev has_mark : List ℕ → Bool
 has_mark bytes = list_any is_mark bytes
@@ -30,9 +31,10 @@ clean : (text : List ℕ) → has_mark text ≡ false → IsClean text
 clean [] h = tt
 clean (b ∷ bs) h =
     let p = or_parts (is_mark b) (has_mark bs) h in
-    let q = or_parts (b == 47) (b == 92) p.0 in (
+    let q = or_parts (b == 47) ((b == 92) || (b == 63)) p.0 in
+    let r = or_parts (b == 92) (b == 63) q.1 in (
       or_from (begins_with 47 42 (b ∷ bs)) (begins_with 47 47 (b ∷ bs)) (begins_not 42 b bs q.0) (begins_not 47 b bs q.0),
-      ap (λ (t : Bool). t && ends_line bs) q.1,
+      or_from (ends_line_behind (codes "\\") (b ∷ bs)) (ends_line_behind (codes "??/") (b ∷ bs)) (ap (λ (t : Bool). t && ends_line bs) r.0) (ap (λ (t : Bool). t && ends_line_behind (codes "?/") bs) r.1),
       clean bs p.1,
     )
 

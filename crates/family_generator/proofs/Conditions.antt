@@ -6,6 +6,7 @@ use Rattle.std.proofs.lemmas.Bool.{and_parts}
 use Rattle.fam_outer.specs.declared.faults.ConditionFault.{ConditionFault}
 use Rattle.linear_atoms.specs.declared.atoms.Atom.{Atom}
 use Rattle.linear_atoms.specs.Divisors.{common_divisor}
+use Rattle.c_words.specs.Identifiers.{is_identifier}
 use Rattle.cpp_conditions.specs.Expressions.{Expression, Number, Name, IsDefined, Binary}
 use Rattle.cpp_conditions.specs.Propositions.{Proposition, Const, Test, Not, And}
 use Rattle.cpp_conditions.specs.Grammar.{ReadsAs, read, judged, Spells, number, name, defined, loose, binary}
@@ -39,7 +40,7 @@ unfolding digits common_divisor
 switch_is_judged f lt = each_below judged_switch test_of_switch 8 refl f lt
 
 abbrev is_switch_name : ℕ → Bool
-is_switch_name f = tokens.is_identifier (switch_name f)
+is_switch_name f = is_identifier (switch_name f)
 
 switch_is_name : (f : ℕ) → f < 8 → is_switch_name f ≡ true
 switch_is_name f lt = each_below is_switch_name (λ _. true) 8 refl f lt

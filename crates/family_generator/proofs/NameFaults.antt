@@ -3,15 +3,16 @@ use Rattle.std.proofs.Common.{◌≡◌, ◌⊎◌, inl, inr, ℕ, ℤ, nat_eq, 
 use Rattle.std.proofs.lemmas.Bool.Decides.{nat_tests}
 use Rattle.fam_outer.specs.declared.faults.Place.{Place}
 use Rattle.fam_outer.specs.declared.faults.FileCode.{FileCode}
-use Rattle.fam_outer.specs.declared.faults.FileCode.TheVariants.{Undeclared, Twice, FeatureInCode, TooManyVariables}
+use Rattle.fam_outer.specs.declared.faults.FileCode.TheVariants.{Undeclared, Twice, FeatureInCode, TooManyVariables, ChangedConstant}
 use Rattle.linear_atoms.specs.declared.atoms.Config.{Config}
 use Rattle.cpp_conditions.specs.declared.models.Model.{Model}
 use Rattle.atom_solver.specs.Solutions.{Finds}
 use Rattle.c_grammar.specs.declared.items.Item.{Item}
 use Rattle.c_grammar.specs.declared.items.Sign.{Sign}
 use Rattle.c_grammar.specs.declared.items.Sign.TheVariants as signs
+use Rattle.c_grammar.specs.Constants.{changed_at}
 use Rattle.c_grammar.specs.Grammar.{at}
-use Rattle.family_names.specs.Names.{NameContext, IsWithFirst, IsEither, IsUseFault, IsDeclarationFault, IsNameFault, IsThisOr, IsFaultFrom, IsFirstNameFault, is_feature, is_missed, is_met_again, is_kept, is_among, truths_at, declared_by, declared_at, each_once, new_name_fault, code_with}
+use Rattle.family_names.specs.Names.{NameContext, IsWithFirst, IsEither, IsUseFault, IsDeclarationFault, IsNameFault, IsChangeOf, IsChangeFault, IsChangeOr, changed_place, IsThisOr, IsFaultFrom, IsFirstNameFault, is_feature, is_missed, is_met_again, is_met_constant, is_kept, is_among, truths_at, declared_by, declared_at, each_once, new_name_fault, code_with}
 use Rattle.family_generator.proofs.Signs.{laid, header_signs}
 
 -- two names that are no features'
@@ -81,10 +82,20 @@ no_fault_at context f x y mid _ code free own h = h
 later : (code : Option FileCode) (place : Place) (fault : Option (FileCode × Place)) (L : Type 0) → code ≡ None → IsThisOr code place fault L → L
 later code place fault L e h = subst (λ (c : Option FileCode). IsThisOr c place fault L) e h
 
+-- there is no constant
+unchanged_by : (context : NameContext) (f : ℕ → Place) (x y : ℕ) (mid : List Item) (change : Option (ℕ × Place)) (code : Option FileCode) → IsChangeOf context (header f x y ++ mid) change code → code ≡ None
+unchanged_by context f x y mid None code h = h
+unchanged_by context f x y mid (Some change) code h =
+    other_one context.model (is_met_constant context (header f x y ++ mid) change.0) (λ example. ChangedConstant) None code (λ values e. none_holds (is_kept (truths_at context values) (header f x y ++ mid)) false refl e) h
+
+unchanged : (context : NameContext) (f : ℕ → Place) (x y : ℕ) (mid : List Item) (i : Item) (code : Option FileCode) → IsChangeFault context (header f x y ++ mid) i code → code ≡ None
+unchanged context f x y mid i code h = unchanged_by context f x y mid (changed_at (header f x y ++ mid) i) code h
+
 pub behind_header : (context : NameContext) (f : ℕ → Place) (x y : ℕ) (mid xs : List Item) (fault : Option (FileCode × Place)) → AreFree context x y → AreOwn x y xs → IsFaultFrom context (header f x y ++ mid) xs fault → fault ≡ None
 behind_header context f x y mid [] fault free own h = h
 behind_header context f x y mid (i ∷ is) fault free own h =
-    let next = later h.0 i.place fault (IsFaultFrom context ((header f x y ++ mid) ++ i ∷ []) is fault) (no_fault_at context f x y mid i.sign h.0 free own.0 h.1) h.2 in
+    let change = later h.0 i.place fault (IsChangeOr context (header f x y ++ mid) i fault (IsFaultFrom context ((header f x y ++ mid) ++ i ∷ []) is fault)) (no_fault_at context f x y mid i.sign h.0 free own.0 h.1) h.2 in
+    let next = later change.0 (changed_place (header f x y ++ mid) i) fault (IsFaultFrom context ((header f x y ++ mid) ++ i ∷ []) is fault) (unchanged context f x y mid i change.0 change.1) change.2 in
     behind_header context f x y (mid ++ i ∷ []) is fault free own.1 (subst (λ (b : List Item). IsFaultFrom context b is fault) (append_assoc (header f x y) mid (i ∷ [])) next)
 
 -- ---- the header
@@ -94,9 +105,11 @@ declared_new context before x fault h none =
     other_one context.model (is_met_again context before x) Twice (new_name_fault context (each_once [] (declared_by before)) x) fault
     (λ values e. none_holds (is_kept (truths_at context values) before) (is_among x (declared_at (truths_at context values) before)) (none values) e) h
 
-next_item : (context : NameContext) (before : List Item) (i : Item) (xs : List Item) (fault : Option (FileCode × Place)) → ((code : Option FileCode) → IsNameFault context before i.sign code → code ≡ None)
+next_item : (context : NameContext) (before : List Item) (i : Item) (xs : List Item) (fault : Option (FileCode × Place)) → ((code : Option FileCode) → IsNameFault context before i.sign code → code ≡ None) → ((code : Option FileCode) → IsChangeFault context before i code → code ≡ None)
     → IsFaultFrom context before (i ∷ xs) fault → IsFaultFrom context (before ++ i ∷ []) xs fault
-next_item context before i xs fault none h = later h.0 i.place fault (IsFaultFrom context (before ++ i ∷ []) xs fault) (none h.0 h.1) h.2
+next_item context before i xs fault none still h =
+    let change = later h.0 i.place fault (IsChangeOr context before i fault (IsFaultFrom context (before ++ i ∷ []) xs fault)) (none h.0 h.1) h.2 in
+    later change.0 (changed_place before i) fault (IsFaultFrom context (before ++ i ∷ []) xs fault) (still change.0 change.1) change.2
 
 abbrev new_by : Bool → Bool → Option FileCode
 new_by feature many = cond feature (Some FeatureInCode) (cond many (Some TooManyVariables) None)
@@ -118,16 +131,16 @@ second_new context f x y code free e =
 
 pub no_fault : (context : NameContext) (f : ℕ → Place) (x y : ℕ) (rest : List Item) (fault : Option (FileCode × Place)) → AreFree context x y → AreOwn x y rest → IsFirstNameFault context (header f x y ++ rest) fault → fault ≡ None
 no_fault context f x y rest fault free own h =
-    let h0 = next_item context (front f x y 0) (at (f 0) (signs.Int)) (behind f x y rest 1) fault (λ code e. e) h in
-    let h1 = next_item context (front f x y 1) (at (f 1) (signs.Name x)) (behind f x y rest 2) fault (λ code e. first_new context f x y code free e) h0 in
-    let h2 = next_item context (front f x y 2) (at (f 2) (signs.Semicolon)) (behind f x y rest 3) fault (λ code e. e) h1 in
-    let h3 = next_item context (front f x y 3) (at (f 3) (signs.Int)) (behind f x y rest 4) fault (λ code e. e) h2 in
-    let h4 = next_item context (front f x y 4) (at (f 4) (signs.Name y)) (behind f x y rest 5) fault (λ code e. second_new context f x y code free e) h3 in
-    let h5 = next_item context (front f x y 5) (at (f 5) (signs.Semicolon)) (behind f x y rest 6) fault (λ code e. e) h4 in
-    let h6 = next_item context (front f x y 6) (at (f 6) (signs.Int)) (behind f x y rest 7) fault (λ code e. e) h5 in
-    let h7 = next_item context (front f x y 7) (at (f 7) (signs.Main)) (behind f x y rest 8) fault (λ code e. e) h6 in
-    let h8 = next_item context (front f x y 8) (at (f 8) (signs.Open)) (behind f x y rest 9) fault (λ code e. e) h7 in
-    let h9 = next_item context (front f x y 9) (at (f 9) (signs.Void)) (behind f x y rest 10) fault (λ code e. e) h8 in
-    let h10 = next_item context (front f x y 10) (at (f 10) (signs.Close)) (behind f x y rest 11) fault (λ code e. e) h9 in
-    let h11 = next_item context (front f x y 11) (at (f 11) (signs.LeftBrace)) (behind f x y rest 12) fault (λ code e. e) h10 in
+    let h0 = next_item context (front f x y 0) (at (f 0) (signs.Int)) (behind f x y rest 1) fault (λ code e. e) (λ code e. e) h in
+    let h1 = next_item context (front f x y 1) (at (f 1) (signs.Name x)) (behind f x y rest 2) fault (λ code e. first_new context f x y code free e) (λ code e. e) h0 in
+    let h2 = next_item context (front f x y 2) (at (f 2) (signs.Semicolon)) (behind f x y rest 3) fault (λ code e. e) (λ code e. e) h1 in
+    let h3 = next_item context (front f x y 3) (at (f 3) (signs.Int)) (behind f x y rest 4) fault (λ code e. e) (λ code e. e) h2 in
+    let h4 = next_item context (front f x y 4) (at (f 4) (signs.Name y)) (behind f x y rest 5) fault (λ code e. second_new context f x y code free e) (λ code e. e) h3 in
+    let h5 = next_item context (front f x y 5) (at (f 5) (signs.Semicolon)) (behind f x y rest 6) fault (λ code e. e) (λ code e. e) h4 in
+    let h6 = next_item context (front f x y 6) (at (f 6) (signs.Int)) (behind f x y rest 7) fault (λ code e. e) (λ code e. e) h5 in
+    let h7 = next_item context (front f x y 7) (at (f 7) (signs.Main)) (behind f x y rest 8) fault (λ code e. e) (λ code e. e) h6 in
+    let h8 = next_item context (front f x y 8) (at (f 8) (signs.Open)) (behind f x y rest 9) fault (λ code e. e) (λ code e. e) h7 in
+    let h9 = next_item context (front f x y 9) (at (f 9) (signs.Void)) (behind f x y rest 10) fault (λ code e. e) (λ code e. e) h8 in
+    let h10 = next_item context (front f x y 10) (at (f 10) (signs.Close)) (behind f x y rest 11) fault (λ code e. e) (λ code e. e) h9 in
+    let h11 = next_item context (front f x y 11) (at (f 11) (signs.LeftBrace)) (behind f x y rest 12) fault (λ code e. e) (λ code e. e) h10 in
     behind_header context f x y [] rest fault free own h11

@@ -5,7 +5,7 @@ use Rattle.std.specs.List.{list_any}
 use Rattle.std.specs.Str.{bytes_eq}
 use Rattle.std.proofs.lemmas.Int.{by_lt_z, ints}
 use Rattle.fam_outer.specs.declared.faults.FileCode.{FileCode}
-use Rattle.fam_outer.specs.declared.faults.FileCode.TheVariants.{Undeclared, Twice, FeatureInCode, TooManyVariables}
+use Rattle.fam_outer.specs.declared.faults.FileCode.TheVariants.{Undeclared, Twice, FeatureInCode, TooManyVariables, ChangedConstant}
 use Rattle.fam_outer.specs.declared.faults.Place.{Place}
 use Rattle.linear_atoms.specs.Atoms.{IsWithin}
 use Rattle.linear_atoms.specs.declared.atoms.Config.{Config}
@@ -16,9 +16,10 @@ use Rattle.cpp_conditions.proofs.Within.{valid_parts}
 use Rattle.c_grammar.specs.declared.items.Item.{Item}
 use Rattle.c_grammar.specs.declared.items.Sign.{Sign}
 use Rattle.c_grammar.specs.declared.items.Sign.TheVariants as signs
+use Rattle.c_grammar.specs.Constants.{changed_at}
 use Rattle.atom_solver.specs.Solutions.{IsBefore, IsFirst, Finds}
 use Rattle.family_names.specs.Laws.{AreAlike, NamesAreJudgedOnce}
-use Rattle.family_names.specs.Names.{NameContext, has_main, declared_by, declared_at, is_among, each_once, is_kept, is_missed, is_met_again, is_feature_name, is_feature, new_name_fault, code_with, IsWithFirst, IsEither, IsUseFault, IsDeclarationFault, IsNameFault, IsThisOr, IsFaultFrom}
+use Rattle.family_names.specs.Names.{NameContext, has_main, declared_by, declared_at, is_among, each_once, is_kept, is_missed, is_met_again, is_met_constant, constants_at, is_feature_name, is_feature, new_name_fault, code_with, IsWithFirst, IsEither, IsUseFault, IsDeclarationFault, IsNameFault, IsChangeOf, IsChangeFault, changed_place, IsThisOr, IsChangeOr, IsFaultFrom}
 
 -- ---- the first configuration
 
@@ -111,18 +112,39 @@ same_code a b s before (signs.Name x) c d h k =
     (same_use a b s before x c d) (same_declaration a b s before x c d) h k
 same_code a b s before _ c d h k = h ∙ sym k
 
+-- ---- a name that is changed
+
+same_constant : (a b : NameContext) → AreAlike a b → (before : List Item) (x : ℕ) (values : List ℤ) → is_met_constant a before x values ≡ is_met_constant b before x values
+same_constant a b s before x values = ap (λ (ts : List Bool). is_kept ts before && is_among x (constants_at ts before)) (s.truths values)
+
+same_change_of : (a b : NameContext) → AreAlike a b → (before : List Item) (change : Option (ℕ × Place)) (c d : Option FileCode) → IsChangeOf a before change c → IsChangeOf b before change d → c ≡ d
+same_change_of a b s before None c d h k = h ∙ sym k
+same_change_of a b s before (Some change) c d h k =
+    same_with a.model b.model s.models (is_met_constant a before change.0) (is_met_constant b before change.0) (same_constant a b s before change.0) (λ example. ChangedConstant) None None c d refl h k
+
+same_change : (a b : NameContext) → AreAlike a b → (before : List Item) (x : Item) (c d : Option FileCode) → IsChangeFault a before x c → IsChangeFault b before x d → c ≡ d
+same_change a b s before x c d h k =
+    either_same (IsChangeOf a before (changed_at before x) c) (c ≡ None) (IsChangeOf b before (changed_at before x) d) (d ≡ None) c d (has_main before) (has_main before) refl
+    (same_change_of a b s before (changed_at before x) c d) (λ i j. i ∙ sym j) h k
+
 -- ---- all items
 
 same_or_later : (code : Option FileCode) (place : Place) (f g : Option (FileCode × Place)) (A B : Type 0) → (A → B → f ≡ g) → IsThisOr code place f A → IsThisOr code place g B → f ≡ g
 same_or_later None place f g A B go h k = go h k
 same_or_later (Some code) place f g A B go h k = h ∙ sym k
 
+same_changes : (a b : NameContext) → AreAlike a b → (before : List Item) (x : Item) (f g : Option (FileCode × Place)) (A B : Type 0) → (A → B → f ≡ g) → IsChangeOr a before x f A → IsChangeOr b before x g B → f ≡ g
+same_changes a b s before x f g A B go (c, h, i) (d, k, j) =
+    let e : d ≡ c = sym (same_change a b s before x c d h k) in
+    same_or_later c (changed_place before x) f g A B go i (subst (λ (o : Option FileCode). IsThisOr o (changed_place before x) g B) e j)
+
 same_from : (a b : NameContext) → AreAlike a b → (before items : List Item) (f g : Option (FileCode × Place)) → IsFaultFrom a before items f → IsFaultFrom b before items g → f ≡ g
 same_from a b s before [] f g h k = h ∙ sym k
 same_from a b s before (x ∷ xs) f g (c, h, i) (d, k, j) =
     let e : d ≡ c = sym (same_code a b s before x.sign c d h k) in
-    same_or_later c x.place f g (IsFaultFrom a (before ++ x ∷ []) xs f) (IsFaultFrom b (before ++ x ∷ []) xs g) (same_from a b s (before ++ x ∷ []) xs f g) i
-    (subst (λ (o : Option FileCode). IsThisOr o x.place g (IsFaultFrom b (before ++ x ∷ []) xs g)) e j)
+    same_or_later c x.place f g (IsChangeOr a before x f (IsFaultFrom a (before ++ x ∷ []) xs f)) (IsChangeOr b before x g (IsFaultFrom b (before ++ x ∷ []) xs g))
+    (same_changes a b s before x f g (IsFaultFrom a (before ++ x ∷ []) xs f) (IsFaultFrom b (before ++ x ∷ []) xs g) (same_from a b s (before ++ x ∷ []) xs f g)) i
+    (subst (λ (o : Option FileCode). IsThisOr o x.place g (IsChangeOr b before x g (IsFaultFrom b (before ++ x ∷ []) xs g))) e j)
 
 pub judged_once : NamesAreJudgedOnce
 judged_once a b items f g s h k = same_from a b s [] items f g h k

@@ -6,3 +6,4 @@ pub mod Declaring
 pub mod Opened
 pub mod Plain
 pub mod Walking
+pub mod Holding

@@ -1,6 +1,6 @@
 -- What is known behind one item more.
 use Rattle.std.proofs.Common.{◌≡◌, ℕ, suc, ◌+◌, ◌<◌, ℤ, Bool, true, false, not, ◌&&◌, nat_eq, List, [], ◌∷◌, ◌++◌, length, take, drop, get_or, Option, Some, None, refl, sym, ap, subst, ◌∙◌, append_assoc, append-nil, drop-cons, add-one}
-use Rattle.std.specs.Prelude.{◌||◌, if◌then◌else◌}
+use Rattle.std.specs.Prelude.{◌||◌, if◌then◌else◌, option_map}
 use Rattle.std.proofs.lemmas.List.{take_more}
 use Rattle.std.proofs.lemmas.List.Folds.{list_any-append}
 use Rattle.std.proofs.lemmas.Bool.{eqb-true}
@@ -15,13 +15,15 @@ use Rattle.c_grammar.specs.declared.items.Sign.{Sign}
 use Rattle.c_grammar.specs.declared.items.Sign.TheVariants as signs
 use Rattle.c_grammar.specs.Grammar.{at, is_group}
 use Rattle.c_grammar.specs.Kept.{directive_of, kept, kept_from}
+use Rattle.family_names.specs.declared.constants.Constants.{Constants}
 use Rattle.family_names.specs.declared.declarations.Declaration.{Declaration}
 use Rattle.family_names.specs.declared.faults.Seen.{Seen}
+use Rattle.family_names.specs.declared.groups.Group.{Group}
 use Rattle.family_names.specs.Declarations.{is_kept as declaration_kept, is_declared}
 use Rattle.family_names.specs.Groups.{sections, are_kept}
-use Rattle.family_names.specs.Names.{NameContext, truths_at, is_main, has_main, until_main, name_of, names_of, declared_by, declared_at, is_among, with_number, each_once, sections_behind, is_kept, is_missed, is_met_again, is_feature, new_name_fault, IsWithFirst, IsEither, IsUseFault, IsDeclarationFault, IsNameFault, IsFaultFrom}
+use Rattle.family_names.specs.Names.{NameContext, truths_at, is_main, has_main, until_main, name_of, names_of, declared_by, declared_at, is_among, with_number, each_once, sections_behind, is_kept, is_missed, is_met_again, is_feature, new_name_fault, IsWithFirst, IsEither, IsUseFault, IsDeclarationFault, IsNameFault, IsChangeFault, changed_place, IsFaultFrom}
 use Rattle.family_names.specs.Judging as judging
-use Rattle.family_names.specs.Judging.{IsSeen, AreSettled, Uses, AreNamed, IsAgain, Adds, Declares, Judges}
+use Rattle.family_names.specs.Judging.{IsSeen, AreSettled, Uses, AreNamed, IsAgain, Adds, Declares, Judges, AreHeld, IsChange}
 use Rattle.family_names.proofs.Answering.{found_same}
 
 -- ---- the sections behind an item more
@@ -90,7 +92,7 @@ more_declared before x h m =
           ∙ ap (λ (ys : List Item). declared_at truths before ++ names_of (kept_from truths (sections_behind truths [] ys) (x ∷ []))) (until_all before h);
     }
 
-still_behind : (before : List Item) (x : Item) → has_main before ≡ true → AreStill before x
+pub still_behind : (before : List Item) (x : Item) → has_main before ≡ true → AreStill before x
 still_behind before x h = record {
   any = ap names_of (until_behind before (x ∷ []) h);
   kept = λ truths. ap (λ (ys : List Item). names_of (kept truths ys)) (until_behind before (x ∷ []) h);
@@ -99,7 +101,7 @@ still_behind before x h = record {
 no_names : (truths : List Bool) (ss : List Section) (x : Item) → name_of x.sign ≡ [] → names_of (kept_from truths ss (x ∷ [])) ≡ []
 no_names truths ss x e = elim (not (is_group x.sign) && all_kept ss) as (λ t. names_of (if t then x ∷ [] else []) ≡ []) [ true ↦ ap (λ (ns : List ℕ). ns ++ []) e | false ↦ refl ]
 
-still_main : (before : List Item) (x : Item) → is_main x.sign ≡ true → AreStill before x
+pub still_main : (before : List Item) (x : Item) → is_main x.sign ≡ true → AreStill before x
 still_main before x m = elim (has_main before) as (λ b. has_main before ≡ b → AreStill before x) [
   | true ↦ λ h. still_behind before x h
   | false ↦ λ h.
@@ -111,7 +113,7 @@ still_main before x m = elim (has_main before) as (λ b. has_main before ≡ b �
       }
 ] refl
 
-still_other : (before : List Item) (x : Item) → is_main x.sign ≡ false → name_of x.sign ≡ [] → AreStill before x
+pub still_other : (before : List Item) (x : Item) → is_main x.sign ≡ false → name_of x.sign ≡ [] → AreStill before x
 still_other before x m e = elim (has_main before) as (λ b. has_main before ≡ b → AreStill before x) [
   | true ↦ λ h. still_behind before x h
   | false ↦ λ h.
@@ -205,7 +207,7 @@ met_same context before seen x k values =
     ap (λ (ss : List Section). all_kept ss && is_declared (truths_at context values) seen.declarations.items x) (k.groups (truths_at context values))
     ∙ ap (λ (b : Bool). is_kept (truths_at context values) before && b) (k.declarations (truths_at context values) x)
 
-first_same : (model : Model) (a b : List ℤ → Bool) (code : Option (List ℤ) → FileCode) (other fault : Option FileCode) → ((values : List ℤ) → a values ≡ b values) → IsWithFirst model a code other fault → IsWithFirst model b code other fault
+pub first_same : (model : Model) (a b : List ℤ → Bool) (code : Option (List ℤ) → FileCode) (other fault : Option FileCode) → ((values : List ℤ) → a values ≡ b values) → IsWithFirst model a code other fault → IsWithFirst model b code other fault
 first_same model a b code other fault same h = record { found = h.found; finds = found_same model a b same h.found h.finds; fault_is = h.fault_is }
 
 inner : (b : Bool) (A B C : Type 0) → (B → C) → IsEither b A B → IsEither b A C
@@ -265,6 +267,19 @@ kept_name truths before p x y = elim (all_kept (sections_behind truths [] before
   | false ↦ sym (and_false (nat_eq y x))
 ]
 
+-- so it is of a list of declarations, and of one more in the groups that stand here
+pub one_more : (before : List Item) (p : Place) (x : ℕ) (ds : List Declaration) (groups : List Group) → has_main before ≡ false → ((truths : List Bool) → sections truths groups ≡ sections_behind truths [] before)
+    → ((truths : List Bool) (y : ℕ) → is_declared truths ds y ≡ is_among y (declared_at truths before)) → (truths : List Bool) (y : ℕ)
+    → is_declared truths (ds ++ record { name = x; groups = groups } ∷ []) y ≡ is_among y (declared_at truths (before ++ at p (signs.Name x) ∷ []))
+one_more before p x ds groups h same known truths y =
+    let m = more_declared before (at p (signs.Name x)) h refl in
+    list_any-append (λ (d : Declaration). declaration_kept truths y d) ds (record { name = x; groups = groups } ∷ [])
+    ∙ ap (λ (b : Bool). is_declared truths ds y || b) (or_false (nat_eq y x && are_kept truths groups))
+    ∙ ap (λ (ss : List Section). is_declared truths ds y || (nat_eq y x && all_kept ss)) (same truths)
+    ∙ ap (λ (b : Bool). b || (nat_eq y x && is_kept truths before)) (known truths y)
+    ∙ sym (ap (is_among y) (m.kept truths) ∙ list_any-append (nat_eq y) (declared_at truths before) (names_of (kept_from truths (sections_behind truths [] before) (at p (signs.Name x) ∷ [])))
+    ∙ ap (λ (b : Bool). is_among y (declared_at truths before) || b) (kept_name truths before p x y))
+
 more_seen : (before : List Item) (p : Place) (x : ℕ) (old new : Seen) → IsSeen before old → has_main before ≡ false → Adds old x new → IsSeen (before ++ at p (signs.Name x) ∷ []) new
 more_seen before p x old new k h a =
     let m = more_declared before (at p (signs.Name x)) h refl in
@@ -272,14 +287,7 @@ more_seen before p x old new k h a =
       groups = λ truths. ap (sections truths) a.groups ∙ k.groups truths ∙ sym (behind_more truths [] before (at p (signs.Name x)));
       main = a.main ∙ k.main ∙ sym (main_on before (at p (signs.Name x)) ∙ or_false (has_main before));
       names = a.names ∙ ap (λ (ns : List ℕ). with_number ns x) k.names ∙ sym (ap (each_once []) m.any ∙ once_append [] (declared_by before) (x ∷ []));
-      declarations = λ truths y.
-          ap (λ (ds : List Declaration). is_declared truths ds y) a.declarations
-          ∙ list_any-append (λ (d : Declaration). declaration_kept truths y d) old.declarations.items (record { name = x; groups = old.groups } ∷ [])
-          ∙ ap (λ (b : Bool). is_declared truths old.declarations.items y || b) (or_false (nat_eq y x && are_kept truths old.groups))
-          ∙ ap (λ (ss : List Section). is_declared truths old.declarations.items y || (nat_eq y x && all_kept ss)) (k.groups truths)
-          ∙ ap (λ (b : Bool). b || (nat_eq y x && is_kept truths before)) (k.declarations truths y)
-          ∙ sym (ap (is_among y) (m.kept truths) ∙ list_any-append (nat_eq y) (declared_at truths before) (names_of (kept_from truths (sections_behind truths [] before) (at p (signs.Name x) ∷ [])))
-          ∙ ap (λ (b : Bool). is_among y (declared_at truths before) || b) (kept_name truths before p x y));
+      declarations = λ truths y. ap (λ (ds : List Declaration). is_declared truths ds y) a.declarations ∙ one_more before p x old.declarations.items old.groups h k.groups k.declarations truths y;
     }
 
 more_settled : (context : NameContext) (old new : Seen) (x : ℕ) (settled : List Declaration) → Adds old x new → AreSettled context old.declarations.items settled → AreSettled context new.declarations.items settled
@@ -322,29 +330,40 @@ at_other context before sign seen new settled o k s groups main names declaratio
 pub record Leads (context : NameContext) (items before left : List Item) : Type 0 where
   pub leads : (fault : Option (FileCode × Place)) → IsFaultFrom context before left fault → IsFaultFrom context [] items fault
 
-pub leads_on : (context : NameContext) (items before left : List Item) (x : Item) → Leads context items before (x ∷ left) → IsNameFault context before x.sign None → Leads context items (before ++ x ∷ []) left
-leads_on context items before left x k h = record { leads = λ fault later. k.leads fault (None, h, later) }
+pub leads_on : (context : NameContext) (items before left : List Item) (x : Item) → Leads context items before (x ∷ left) → IsNameFault context before x.sign None → IsChangeFault context before x None → Leads context items (before ++ x ∷ []) left
+leads_on context items before left x k h c = record { leads = λ fault later. k.leads fault (None, h, (None, c, later)) }
+
+pub leads_to_change : (context : NameContext) (items before left : List Item) (x : Item) (code : FileCode) → Leads context items before (x ∷ left) → IsNameFault context before x.sign None → IsChangeFault context before x (Some code)
+    → IsFaultFrom context [] items (Some (code, changed_place before x))
+leads_to_change context items before left x code k h c = k.leads (Some (code, changed_place before x)) (None, h, (Some code, c, refl))
 
 pub leads_to : (context : NameContext) (items before left : List Item) (x : Item) (code : FileCode) → Leads context items before (x ∷ left) → IsNameFault context before x.sign (Some code) → IsFaultFrom context [] items (Some (code, x.place))
 leads_to context items before left x code k h = k.leads (Some (code, x.place)) (Some code, h, refl)
 
 -- behind an item without a fault
-pub record Walks (context : NameContext) (items : List Item) (n : ℕ) (seen : Seen) (settled : List Declaration) : Type 0 where
+pub record Walks (context : NameContext) (items : List Item) (n : ℕ) (seen : Seen) (settled : List Declaration) (constants : Constants) : Type 0 where
+  pub held : AreHeld (take n items) constants
   pub seen_is : IsSeen (take n items) seen
   pub settled_is : AreSettled context seen.declarations.items settled
   pub fault_is : Leads context items (take n items) (drop n items)
 
-pub walk_on : (context : NameContext) (items : List Item) (i : ℕ) (d : Item) (seen : Seen) (settled : List Declaration) (fault : Option FileCode) → i < length items → Leads context items (take i items) (drop i items) → fault ≡ None
-    → Judges context (take i items) (get_or items i d).sign seen settled fault → Walks context items (i + 1) seen settled
-walk_on context items i d seen settled fault lt k none j =
+no_change : (code : Option FileCode) (place : Place) (fault : Option (FileCode × Place)) → fault ≡ option_map (λ c. (c, place)) code → fault ≡ None → code ≡ None
+no_change None place fault e n = refl
+no_change (Some code) place fault e n = absurd cc
+
+pub walk_on : (context : NameContext) (items : List Item) (i : ℕ) (d : Item) (seen : Seen) (settled : List Declaration) (constants : Constants) (fault : Option FileCode) (change : Option (FileCode × Place)) → i < length items → Leads context items (take i items) (drop i items) → fault ≡ None → change ≡ None
+    → Judges context (take i items) (get_or items i d).sign seen settled fault → IsChange context (take i items) (get_or items i d) change → AreHeld (take i items ++ get_or items i d ∷ []) constants → Walks context items (i + 1) seen settled constants
+walk_on context items i d seen settled constants fault change lt k none unchanged j c held =
     let t : take (i + 1) items ≡ take i items ++ get_or items i d ∷ [] = take_more items i d lt in
     let r : drop i items ≡ get_or items i d ∷ drop (i + 1) items = rw add-one (drop-cons items i d lt) in
     record {
+      held = subst (λ (ys : List Item). AreHeld ys constants) (sym t) held;
       seen_is = subst (λ (ys : List Item). IsSeen ys seen) (sym t) (j.seen_is none (get_or items i d).place);
       settled_is = j.settled_is none;
       fault_is = subst (λ (ys : List Item). Leads context items ys (drop (i + 1) items)) (sym t)
           (leads_on context items (take i items) (drop (i + 1) items) (get_or items i d) (subst (Leads context items (take i items)) r k)
-          (subst (IsNameFault context (take i items) (get_or items i d).sign) none j.fault_is));
+          (subst (IsNameFault context (take i items) (get_or items i d).sign) none j.fault_is)
+          (subst (IsChangeFault context (take i items) (get_or items i d)) (no_change c.code (changed_place (take i items) (get_or items i d)) change c.is unchanged) c.fault_is));
     }
 
 pub walk_to : (context : NameContext) (items : List Item) (i : ℕ) (d : Item) (seen : Seen) (settled : List Declaration) (fault : Option FileCode) (code : FileCode) → i < length items → Leads context items (take i items) (drop i items) → fault ≡ Some code
@@ -353,3 +372,18 @@ walk_to context items i d seen settled fault code lt k some j =
     let r : drop i items ≡ get_or items i d ∷ drop (suc i) items = drop-cons items i d lt in
     leads_to context items (take i items) (drop (suc i) items) (get_or items i d) code (subst (Leads context items (take i items)) r k)
     (subst (IsNameFault context (take i items) (get_or items i d).sign) some j.fault_is)
+
+some_change : (code : Option FileCode) (place : Place) (fault : FileCode × Place) → Some fault ≡ option_map (λ (c : FileCode). (c, place)) code → (code ≡ Some fault.0) × (fault.1 ≡ place)
+some_change None place fault e = absurd cc
+some_change (Some code) place fault e = let same : fault ≡ (code, place) = cc in (ap (λ (f : FileCode × Place). Some f.0) (sym same), ap (λ (f : FileCode × Place). f.1) same)
+
+pub walk_to_change : (context : NameContext) (items : List Item) (i : ℕ) (d : Item) (seen : Seen) (settled : List Declaration) (fault : Option FileCode) (change : Option (FileCode × Place)) (found : FileCode × Place) → i < length items → Leads context items (take i items) (drop i items) → fault ≡ None → change ≡ Some found
+    → Judges context (take i items) (get_or items i d).sign seen settled fault → IsChange context (take i items) (get_or items i d) change → IsFaultFrom context [] items (Some found)
+walk_to_change context items i d seen settled fault change found lt k none some j c =
+    let r : drop i items ≡ get_or items i d ∷ drop (suc i) items = drop-cons items i d lt in
+    let s = some_change c.code (changed_place (take i items) (get_or items i d)) found (sym some ∙ c.is) in
+    let same : (found.0, changed_place (take i items) (get_or items i d)) ≡ found = ap (λ (p : Place). (found.0, p)) (sym s.1) in
+    subst (λ (f : FileCode × Place). IsFaultFrom context [] items (Some f)) same
+    (leads_to_change context items (take i items) (drop (suc i) items) (get_or items i d) found.0 (subst (Leads context items (take i items)) r k)
+    (subst (IsNameFault context (take i items) (get_or items i d).sign) none j.fault_is)
+    (subst (IsChangeFault context (take i items) (get_or items i d)) s.0 c.fault_is))

@@ -11,3 +11,7 @@ is_kept truths x d = nat_eq x d.name && are_kept truths d.groups
 -- a declaration of the name is kept
 abbrev pub is_declared : List Bool → List Declaration → ℕ → Bool
 is_declared truths declarations x = list_any (λ d. is_kept truths x d) declarations
+
+-- one of the declarations has the name
+abbrev pub has_one : List Declaration → ℕ → Bool
+has_one declarations x = list_any (λ d. nat_eq x d.name) declarations

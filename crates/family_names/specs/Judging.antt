@@ -1,19 +1,23 @@
 -- What judging the names of items one by one answers.
-use Rattle.std.specs.Prelude.{◌≡◌, ℕ, ℤ, Bool, true, not, ◌&&◌, List, [], ◌∷◌, ◌++◌, Option, None, Some}
+use Rattle.std.specs.Prelude.{◌≡◌, ℕ, ℤ, Bool, true, false, not, ◌&&◌, List, [], ◌∷◌, ◌++◌, Option, None, Some, option_map}
 use Rattle.fam_outer.specs.declared.faults.Place.{Place}
 use Rattle.fam_outer.specs.declared.faults.FileCode.{FileCode}
 use Rattle.fam_outer.specs.declared.faults.FileCode.TheVariants.{Undeclared, Twice, FeatureInCode}
 use Rattle.cpp_conditions.specs.Validity.{plain, IsValid}
 use Rattle.c_grammar.specs.declared.items.Item.{Item}
 use Rattle.c_grammar.specs.declared.items.Sign.{Sign}
+use Rattle.c_grammar.specs.declared.items.Sign.TheVariants as signs
+use Rattle.c_grammar.specs.Constants.{is_constant_after, last_from}
 use Rattle.c_grammar.specs.Grammar.{at}
 use Rattle.family_names.specs.declared.declarations.Declaration.{Declaration}
+use Rattle.family_names.specs.declared.constants.Constants.{Constants}
 use Rattle.family_names.specs.declared.faults.Seen.{Seen}
+use Rattle.family_names.specs.declared.groups.Group.{Group}
 use Rattle.family_names.specs.declared.faults.Question.{Question}
 use Rattle.family_names.specs.declared.faults.Question.TheVariants as questions
 use Rattle.family_names.specs.Declarations.{is_declared}
 use Rattle.family_names.specs.Groups.{sections, are_kept}
-use Rattle.family_names.specs.Names.{NameContext, truths_at, has_main, declared_by, declared_at, is_among, with_number, each_once, sections_behind, is_feature, new_name_fault, IsWithFirst, IsEither, IsNameFault}
+use Rattle.family_names.specs.Names.{NameContext, truths_at, has_main, declared_by, declared_at, constants_at, is_among, with_number, each_once, sections_behind, is_feature, new_name_fault, IsWithFirst, IsEither, IsNameFault, IsChangeFault, changed_place}
 
 -- what is known behind these items
 pub record IsSeen (before : List Item) (seen : Seen) : Type 0 where
@@ -80,3 +84,24 @@ pub record Judges (context : NameContext) (before : List Item) (sign : Sign) (se
   pub fault_is : IsNameFault context before sign fault
   pub seen_is : fault ≡ None → (p : Place) → IsSeen (before ++ at p sign ∷ []) seen
   pub settled_is : fault ≡ None → AreSettled context seen.declarations.items settled
+
+-- what is known of constants behind these items
+pub record AreHeld (before : List Item) (constants : Constants) : Type 0 where
+  pub last : constants.last ≡ last_from None before
+  pub goes_on : constants.goes_on ≡ is_constant_after false before
+  pub declarations : (truths : List Bool) (x : ℕ) → is_declared truths constants.declarations.items x ≡ is_among x (constants_at truths before)
+
+-- the declarations, and one more in these groups where the sign is a name and it is a constant's
+abbrev pub with_constant : List Declaration → Bool → List Group → Sign → List Declaration
+with_constant declarations true groups (signs.Name x) = declarations ++ record { name = x; groups = groups } ∷ []
+with_constant declarations _ groups _ = declarations
+
+-- what stands in these groups is kept, and one of these declarations of the name
+abbrev pub is_met_constant : NameContext → List Group → List Declaration → ℕ → List ℤ → Bool
+is_met_constant context groups declarations x values = are_kept (truths_at context values) groups && is_declared (truths_at context values) declarations x
+
+-- the fault of what an item changes behind these, at its place
+pub record IsChange (context : NameContext) (before : List Item) (x : Item) (fault : Option (FileCode × Place)) : Type 0 where
+  pub code : Option FileCode
+  pub fault_is : IsChangeFault context before x code
+  pub is : fault ≡ option_map (λ c. (c, changed_place before x)) code

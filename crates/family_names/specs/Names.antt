@@ -6,7 +6,7 @@ use Rattle.std.specs.List.{list_any}
 use Rattle.std.specs.Str.{bytes_eq}
 use Rattle.fam_outer.specs.declared.faults.Place.{Place}
 use Rattle.fam_outer.specs.declared.faults.FileCode.{FileCode}
-use Rattle.fam_outer.specs.declared.faults.FileCode.TheVariants.{Undeclared, Twice, FeatureInCode, TooManyVariables}
+use Rattle.fam_outer.specs.declared.faults.FileCode.TheVariants.{Undeclared, Twice, FeatureInCode, TooManyVariables, ChangedConstant}
 use Rattle.linear_atoms.specs.declared.atoms.Atom.{Atom}
 use Rattle.linear_atoms.specs.declared.atoms.Config.{Config}
 use Rattle.cpp_conditions.specs.declared.formulas.Formula.{Formula}
@@ -19,6 +19,7 @@ use Rattle.cpp_groups.specs.Kept.{all_kept, sections_after}
 use Rattle.c_grammar.specs.declared.items.Item.{Item}
 use Rattle.c_grammar.specs.declared.items.Sign.{Sign}
 use Rattle.c_grammar.specs.declared.items.Sign.TheVariants as signs
+use Rattle.c_grammar.specs.Constants.{of_constants, changed_at}
 use Rattle.c_grammar.specs.Kept.{directive_of, kept}
 use Rattle.atom_solver.specs.Solutions.{Finds}
 
@@ -54,6 +55,10 @@ declared_by items = names_of (until_main items)
 -- the names that they declare where each condition has a truth
 abbrev pub declared_at : List Bool → List Item → List ℕ
 declared_at truths items = names_of (kept truths (until_main items))
+
+-- the names that they declare as constants where each condition has a truth
+abbrev pub constants_at : List Bool → List Item → List ℕ
+constants_at truths items = declared_at truths (of_constants items)
 
 abbrev pub is_among : ℕ → List ℕ → Bool
 is_among x numbers = list_any (nat_eq x) numbers
@@ -105,6 +110,11 @@ abbrev pub is_met_again : NameContext → List Item → ℕ → List ℤ → Boo
 is_met_again context before x values =
     is_kept (truths_at context values) before && is_among x (declared_at (truths_at context values) before)
 
+-- what stands behind these items is kept, and a declaration of the name as a constant
+abbrev pub is_met_constant : NameContext → List Item → ℕ → List ℤ → Bool
+is_met_constant context before x values =
+    is_kept (truths_at context values) before && is_among x (constants_at (truths_at context values) before)
+
 -- ---- faults
 
 -- the code with the values of a configuration that was found, or another one
@@ -154,16 +164,38 @@ IsNameFault context before (signs.Name x) fault =
     IsEither (has_main before) (IsUseFault context before x fault) (IsDeclarationFault context before x fault)
 IsNameFault context before _ fault = fault ≡ None
 
+-- where a name is changed: at some configuration it is kept, and a declaration of it as a constant; whichever is not told
+abbrev pub IsChangeOf : NameContext → List Item → Option (ℕ × Place) → Option FileCode → Type 0
+IsChangeOf context before None fault = fault ≡ None
+IsChangeOf context before (Some change) fault = IsWithFirst context.model (is_met_constant context before change.0) (λ example. ChangedConstant) None fault
+
+-- the fault of a name that an item changes, together with the last one of those before it: only behind `main`
+abbrev pub IsChangeFault : NameContext → List Item → Item → Option FileCode → Type 0
+IsChangeFault context before x fault = IsEither (has_main before) (IsChangeOf context before (changed_at before x) fault) (fault ≡ None)
+
+-- the place of the name that is changed
+abbrev pub place_or : Option (ℕ × Place) → Place → Place
+place_or None place = place
+place_or (Some change) place = change.1
+
+abbrev pub changed_place : List Item → Item → Place
+changed_place before x = place_or (changed_at before x) x.place
+
 -- the fault of an item at its place if it has one, else a later one
 abbrev pub IsThisOr : Option FileCode → Place → Option (FileCode × Place) → Type 0 → Type 0
 IsThisOr (Some code) place fault later = fault ≡ Some (code, place)
 IsThisOr None place fault later = later
 
--- the first fault of a name among the items behind these
+-- a constant that an item changes, else a later fault
+abbrev pub IsChangeOr : NameContext → List Item → Item → Option (FileCode × Place) → Type 0 → Type 0
+IsChangeOr context before x fault later = (code : Option FileCode) × IsChangeFault context before x code × IsThisOr code (changed_place before x) fault later
+
+-- the first fault of a name among the items behind these: of an item that is its own name before what it changes, whose name
+-- stands at it or directly before it
 abbrev pub IsFaultFrom : NameContext → List Item → List Item → Option (FileCode × Place) → Type 0
 IsFaultFrom context before [] fault = fault ≡ None
 IsFaultFrom context before (x ∷ xs) fault =
-    (code : Option FileCode) × IsNameFault context before x.sign code × IsThisOr code x.place fault (IsFaultFrom context (before ++ x ∷ []) xs fault)
+    (code : Option FileCode) × IsNameFault context before x.sign code × IsThisOr code x.place fault (IsChangeOr context before x fault (IsFaultFrom context (before ++ x ∷ []) xs fault))
 
 -- the first fault of a name in a file
 abbrev pub IsFirstNameFault : NameContext → List Item → Option (FileCode × Place) → Type 0

@@ -14,6 +14,7 @@ ghost use Rattle.family_names.specs.Names.{IsFirstNameFault};
 ghost use Rattle.family_names.specs.NameContexts.{plain, IsFit};
 ghost use Rattle.family_names.specs.Judging as judging;
 
+use crate::constants::{Constants, change_fault};
 use crate::declarations::Declaration;
 use crate::faults::{Seen, declare, use_fault};
 use crate::groups::Groups;
@@ -80,7 +81,7 @@ fn judge(
     }
 }
 
-/// The first fault of a name among the items of a file, with its place; at one item it is the first of these.
+/// The first fault of a name among the items of a file, with its place; at one name it is the first of these.
 ///
 /// - F13: a name is used, and no declaration in the file has it; or some valid configuration keeps the name and no
 ///   declaration of it, and then with the values of the least one (ISO/IEC 9899:2011, 6.5.1).
@@ -88,6 +89,8 @@ fn judge(
 ///   the least one (6.7).
 /// - F15: a feature's name is declared or used.
 /// - F17: a 17th name is declared.
+/// - F23: a name is assigned, raised, lowered or read from input, and some valid configuration keeps it and a declaration
+///   of it with `const`; no values are told (6.7.3 and 6.5.16).
 ///
 /// Before `main` each name is declared, and behind it each is used; F13 is said of no feature's name. A configuration
 /// keeps an item where each group around it is the kept one of its section (6.10.1). The formulas' numbers are below the
@@ -112,9 +115,15 @@ pub fn first_name_fault(
         declarations: Vec::new(alloc),
     };
     let mut settled = Vec::new(alloc);
+    let mut constants = Constants::new(alloc);
     for item in items {
+        let change = change_fault(alloc, context, &seen, &constants, *item)?;
+        constants.follow(alloc, &seen, *item)?;
         if let Some(code) = judge(alloc, context, &mut seen, &mut settled, item.sign)? {
             return Ok(Some((code, item.place)));
+        }
+        if let Some(fault) = change {
+            return Ok(Some(fault));
         }
     }
     Ok(None)

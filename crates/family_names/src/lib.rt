@@ -1,6 +1,7 @@
 //! The faults of names in a file with groups (ISO/IEC 9899:2011, 6.5 and 6.7).
 #![tactic(auto)]
 
+mod constants;
 mod declarations;
 mod faults;
 mod groups;

@@ -33,7 +33,7 @@ unsigned_items count (x ∷ w) h = (unsigned_sign count x.sign h.0, unsigned_ite
 pub spelled : ReadsWithin → (names : List (List ℕ)) (items : List Item) (f : File) (p : Whole) → guarded start 0 items ≡ Ok f → p ≡ whole_of names items f → SpellsWithin names p items
 spelled law names items f p reads is = record { file = f; forms = (law items f).0 reads; is = is }
 
-pub formed : WellFormed → (names : List (List ℕ)) (items : List Item) (p : Whole) → length names ≤ 16 → AreFit (length names) items → AreRising items → SpellsWithin names p items → IsProgram p
+pub formed : WellFormed → (names : List (List ℕ)) (items : List Item) (p : Whole) → length names ≤ 48 → AreFit (length names) items → AreRising items → SpellsWithin names p items → IsProgram p
 formed law names items p few fit rising s = subst IsProgram (sym s.is) (law names items s.file few fit rising s.forms)
 
 pub plain : PlainWithoutGroups → WithinIsFile → (names : List (List ℕ)) (items : List Item) (p : Whole) → SpellsWithin names p items → has_groups items ≡ false → IsPlainProgram p

@@ -1,9 +1,11 @@
 -- What contracts see of what is open: the data of the machine, without boxes and capacities. A list whose innermost
 -- comes last is seen with the innermost first.
-use Rattle.std.specs.Prelude.{◌≡◌, ℕ, List, map, length, reverse, Option, Result, IfOk, option_map}
+use Rattle.std.specs.Prelude.{◌≡◌, ℕ, Bool, true, false, List, map, length, reverse, Option, Result, IfOk, option_map}
 use Rattle.fam_outer.specs.declared.text.NoMemory.{NoMemory}
 use Rattle.c_tree.specs.View.{term, front, code}
 use Rattle.c_tree.specs.Tree.{Code, Done}
+use Rattle.c_grammar.specs.declared.items.Sign.{Sign}
+use Rattle.c_grammar.specs.declared.items.Sign.TheVariants as signs
 use Rattle.c_grammar.specs.Grammar as grammar
 use Rattle.c_grammar.specs.Machine as machine
 use Rattle.item_reader.specs.declared.states.Prefix.{Prefix}
@@ -23,6 +25,8 @@ use Rattle.item_reader.specs.declared.states.Sections.{Sections}
 use Rattle.item_reader.specs.declared.states.Sections.TheVariants as sections
 use Rattle.item_reader.specs.declared.states.Leading.{Leading}
 use Rattle.item_reader.specs.declared.states.Leading.TheVariants as leadings
+use Rattle.item_reader.specs.declared.states.Qualifier.{Qualifier}
+use Rattle.item_reader.specs.declared.states.Qualifier.TheVariants as qualifiers
 use Rattle.item_reader.specs.declared.states.TypeWords.{TypeWords}
 use Rattle.item_reader.specs.declared.states.TypeWords.TheVariants as type_words
 use Rattle.item_reader.specs.declared.states.Aim.{Aim}
@@ -88,6 +92,11 @@ abbrev pub as_leading : Leading → machine.Leading
 as_leading leadings.NoWord = machine.NoWord
 as_leading leadings.StaticWord = machine.StaticWord
 as_leading leadings.ExternWord = machine.ExternWord
+as_leading leadings.ConstWord = machine.ConstWord
+
+abbrev pub as_qualifier : Qualifier → grammar.Qualifier
+as_qualifier qualifiers.Unqualified = grammar.Unqualified
+as_qualifier qualifiers.Constant = grammar.Constant
 
 abbrev pub as_words : TypeWords → machine.TypeWords
 as_words type_words.OneInt = machine.OneInt
@@ -112,12 +121,13 @@ abbrev pub as_state : ReadingState → machine.ReadingState
 as_state (states.Outside secs ds) = machine.Outside (as_sections secs) ds.items
 as_state (states.AfterStatic secs ds) = machine.AfterStatic (as_sections secs) ds.items
 as_state (states.AfterExtern secs ds) = machine.AfterExtern (as_sections secs) ds.items
+as_state (states.AfterConst secs ds) = machine.AfterConst (as_sections secs) ds.items
 as_state (states.AfterType leading words secs ds) = machine.AfterType (as_leading leading) (as_words words) (as_sections secs) ds.items
-as_state (states.Declaring secs ds) = machine.Declaring (as_sections secs) ds.items
-as_state (states.Bare x secs ds) = machine.Bare x (as_sections secs) ds.items
-as_state (states.Starting x secs ds) = machine.Starting x (as_sections secs) ds.items
-as_state (states.Negating x secs ds) = machine.Negating x (as_sections secs) ds.items
-as_state (states.Started x n secs ds) = machine.Started x n (as_sections secs) ds.items
+as_state (states.Declaring kind secs ds) = machine.Declaring (as_qualifier kind) (as_sections secs) ds.items
+as_state (states.Bare kind x secs ds) = machine.Bare (as_qualifier kind) x (as_sections secs) ds.items
+as_state (states.Starting kind x secs ds) = machine.Starting (as_qualifier kind) x (as_sections secs) ds.items
+as_state (states.Negating kind x secs ds) = machine.Negating (as_qualifier kind) x (as_sections secs) ds.items
+as_state (states.Started kind x n secs ds) = machine.Started (as_qualifier kind) x n (as_sections secs) ds.items
 as_state (states.Parameters aim) = machine.Parameters (as_aim aim)
 as_state (states.InParameters aim) = machine.InParameters (as_aim aim)
 as_state (states.AfterVoid aim) = machine.AfterVoid (as_aim aim)
@@ -140,3 +150,9 @@ as_state (states.Over file parts) = machine.Over (as_file file) (as_parts parts.
 -- the state is what the machine comes to, where there is memory
 abbrev pub Moves : Result (Option ReadingState) NoMemory → Option machine.ReadingState → Type 0
 Moves result expected = IfOk result (λ next. option_map as_state next ≡ expected)
+
+-- the sign is the second word of a type that has one word so far
+abbrev pub is_second_word : Sign → machine.TypeWords → Bool
+is_second_word signs.Signed machine.OneInt = true
+is_second_word signs.Int machine.OneSigned = true
+is_second_word _ _ = false

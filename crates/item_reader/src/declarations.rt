@@ -4,10 +4,10 @@
 ghost use Rattle.std.specs.Prelude.{◌≡◌, IfOk, option_map};
 ghost use Rattle.c_grammar.specs.Machine as machine;
 ghost use Rattle.item_reader.specs.Signs.{IsUnsigned};
-ghost use Rattle.item_reader.specs.Views.{as_sections, as_state, Moves};
+ghost use Rattle.item_reader.specs.Views.{as_qualifier, as_sections, as_state, Moves};
 
 use crate::sections::guards_of;
-use crate::states::{ReadingState, Sections};
+use crate::states::{Qualifier, ReadingState, Sections};
 use c_grammar::Sign;
 use c_tree::{Declared, Guards, Op};
 use fam_outer::NoMemory;
@@ -37,18 +37,23 @@ fn with_declared(
 /// Behind a declarator.
 pub(crate) fn started(
     alloc: Global,
+    kind: Qualifier,
     name: u32,
     value: i64,
     sections: Sections,
     declared: Vec<Declared>,
     sign: Sign,
 ) -> Result<Option<ReadingState>, NoMemory>
-    ensures { Moves result (machine.started name value (as_sections sections) declared.items sign) }
+    ensures { Moves result (machine.started (as_qualifier kind) name value (as_sections sections) declared.items sign) }
 {
     match sign {
         Sign::Comma => {
             let declared = with_declared(alloc, &sections, declared, name, value)?;
-            Ok(Some(ReadingState::Declaring { sections, declared }))
+            Ok(Some(ReadingState::Declaring {
+                kind,
+                sections,
+                declared,
+            }))
         }
         Sign::Semicolon => {
             let declared = with_declared(alloc, &sections, declared, name, value)?;
@@ -58,43 +63,66 @@ pub(crate) fn started(
     }
 }
 
-/// Behind a declared name, whose start value is 0 where none comes.
-pub(crate) fn is_bare(
+/// Behind a declared name without a value: a variable starts at 0, and a constant has one.
+fn without_value(
     alloc: Global,
+    kind: Qualifier,
     name: u32,
     sections: Sections,
     declared: Vec<Declared>,
     sign: Sign,
 ) -> Result<Option<ReadingState>, NoMemory>
-    ensures { Moves result (machine.is_bare name (as_sections sections) declared.items sign) }
+    ensures { Moves result (machine.without_value (as_qualifier kind) name (as_sections sections) declared.items sign) }
+{
+    match kind {
+        Qualifier::Unqualified => started(alloc, kind, name, 0, sections, declared, sign),
+        Qualifier::Constant => Ok(None),
+    }
+}
+
+/// Behind a declared name.
+pub(crate) fn is_bare(
+    alloc: Global,
+    kind: Qualifier,
+    name: u32,
+    sections: Sections,
+    declared: Vec<Declared>,
+    sign: Sign,
+) -> Result<Option<ReadingState>, NoMemory>
+    ensures { Moves result (machine.is_bare (as_qualifier kind) name (as_sections sections) declared.items sign) }
 {
     match sign {
         Sign::Equals => Ok(Some(ReadingState::Starting {
+            kind,
             name,
             sections,
             declared,
         })),
-        _ => started(alloc, name, 0, sections, declared, sign),
+        _ => without_value(alloc, kind, name, sections, declared, sign),
     }
 }
 
 /// Behind the `=` of a declarator.
 pub(crate) fn starting(
+    kind: Qualifier,
     name: u32,
     sections: Sections,
     declared: Vec<Declared>,
     sign: Sign,
 ) -> Option<ReadingState>
-    ensures { option_map as_state result ≡ machine.starting name (as_sections sections) declared.items sign }
+    ensures { option_map as_state result
+        ≡ machine.starting (as_qualifier kind) name (as_sections sections) declared.items sign }
 {
     match sign {
         Sign::Number(value) => Some(ReadingState::Started {
+            kind,
             name,
             value,
             sections,
             declared,
         }),
         Sign::Oper(Op::Sub) => Some(ReadingState::Negating {
+            kind,
             name,
             sections,
             declared,
@@ -105,16 +133,19 @@ pub(crate) fn starting(
 
 /// Behind the `-` of a start value.
 pub(crate) fn negating(
+    kind: Qualifier,
     name: u32,
     sections: Sections,
     declared: Vec<Declared>,
     sign: Sign,
 ) -> Option<ReadingState>
     requires { IsUnsigned sign }
-    ensures { option_map as_state result ≡ machine.negating name (as_sections sections) declared.items sign }
+    ensures { option_map as_state result
+        ≡ machine.negating (as_qualifier kind) name (as_sections sections) declared.items sign }
 {
     match sign {
         Sign::Number(value) => Some(ReadingState::Started {
+            kind,
             name,
             value: -value,
             sections,

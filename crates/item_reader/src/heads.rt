@@ -1,11 +1,12 @@
 //! The heads of declarations: what stands before the type, its words, and the name of a variable or of a function.
 #![tactic(auto)]
 
-ghost use Rattle.std.specs.Prelude.{◌≡◌, option_map};
+ghost use Rattle.std.specs.Prelude.{◌≡◌, Some, option_map};
+ghost use Rattle.c_grammar.specs.Grammar as grammar;
 ghost use Rattle.c_grammar.specs.Machine as machine;
-ghost use Rattle.item_reader.specs.Views.{as_leading, as_sections, as_state, as_words};
+ghost use Rattle.item_reader.specs.Views.{as_leading, as_qualifier, as_sections, as_state, as_words, is_second_word};
 
-use crate::states::{Aim, Leading, ReadingState, Sections, TypeWords};
+use crate::states::{Aim, Leading, Qualifier, ReadingState, Sections, TypeWords};
 use c_grammar::Sign;
 use c_tree::Declared;
 
@@ -33,6 +34,20 @@ pub(crate) fn first_word(
     })
 }
 
+/// Behind `static`: `const`, or the first word of a type.
+pub(crate) fn behind_static(
+    sections: Sections,
+    declared: Vec<Declared>,
+    sign: Sign,
+) -> Option<ReadingState>
+    ensures { option_map as_state result ≡ machine.behind_static (as_sections sections) declared.items sign }
+{
+    match sign {
+        Sign::Const => Some(ReadingState::AfterConst { sections, declared }),
+        other => first_word(Leading::StaticWord, sections, declared, other),
+    }
+}
+
 /// The state, where the sign is `input`.
 fn at_input(next: ReadingState, sign: Sign) -> Option<ReadingState>
     ensures { option_map as_state result ≡ machine.at_input (as_state next) sign }
@@ -45,19 +60,44 @@ fn at_input(next: ReadingState, sign: Sign) -> Option<ReadingState>
 
 /// Where a declarator comes.
 pub(crate) fn declaring(
+    kind: Qualifier,
     sections: Sections,
     declared: Vec<Declared>,
     sign: Sign,
 ) -> Option<ReadingState>
-    ensures { option_map as_state result ≡ machine.declaring (as_sections sections) declared.items sign }
+    ensures { option_map as_state result
+        ≡ machine.declaring (as_qualifier kind) (as_sections sections) declared.items sign }
 {
     match sign {
         Sign::Name(name) => Some(ReadingState::Bare {
+            kind,
             name,
             sections,
             declared,
         }),
         _ => None,
+    }
+}
+
+/// Behind a type, where constants are declared.
+fn constants(sections: Sections, declared: Vec<Declared>) -> Option<ReadingState>
+    ensures { option_map as_state result
+        ≡ Some (machine.Declaring grammar.Constant (as_sections sections) declared.items) }
+{
+    Some(ReadingState::Declaring {
+        kind: Qualifier::Constant,
+        sections,
+        declared,
+    })
+}
+
+/// Behind `static` and a type: `const`, or the name of a variable.
+fn qualifying(sections: Sections, declared: Vec<Declared>, sign: Sign) -> Option<ReadingState>
+    ensures { option_map as_state result ≡ machine.qualifying (as_sections sections) declared.items sign }
+{
+    match sign {
+        Sign::Const => constants(sections, declared),
+        other => declaring(Qualifier::Unqualified, sections, declared, other),
     }
 }
 
@@ -73,12 +113,14 @@ fn main_of(sections: Sections, declared: Vec<Declared>) -> Option<ReadingState>
     }
 }
 
-/// The name of a variable or of a function.
+/// `const`, or the name of a variable or of a function.
 fn naming(sections: Sections, declared: Vec<Declared>, sign: Sign) -> Option<ReadingState>
     ensures { option_map as_state result ≡ machine.naming (as_sections sections) declared.items sign }
 {
     match sign {
+        Sign::Const => constants(sections, declared),
         Sign::Name(name) => Some(ReadingState::Bare {
+            kind: Qualifier::Unqualified,
             name,
             sections,
             declared,
@@ -103,7 +145,8 @@ fn behind_type(
 {
     match leading {
         Leading::NoWord => naming(sections, declared, sign),
-        Leading::StaticWord => declaring(sections, declared, sign),
+        Leading::StaticWord => qualifying(sections, declared, sign),
+        Leading::ConstWord => declaring(Qualifier::Constant, sections, declared, sign),
         Leading::ExternWord => {
             let aim = Aim::ToPrototype { sections, declared };
             at_input(ReadingState::Parameters { aim }, sign)
@@ -111,7 +154,18 @@ fn behind_type(
     }
 }
 
+/// Whether the sign is the second word of a type that has one word so far.
+fn is_second_word(sign: Sign, words: TypeWords) -> bool
+    ensures { result ≡ is_second_word sign (as_words words) }
+{
+    matches!(
+        (sign, words),
+        (Sign::Signed, TypeWords::OneInt) | (Sign::Int, TypeWords::OneSigned)
+    )
+}
+
 /// Another word of the type, or what follows it.
+#[tactic(auto, using(crate::proofs::MoreWords::second_word, crate::proofs::MoreWords::no_second_word))]
 pub(crate) fn after_type(
     leading: Leading,
     sections: Sections,
@@ -122,15 +176,14 @@ pub(crate) fn after_type(
     ensures { option_map as_state result
         ≡ machine.after_type (as_leading leading) (as_sections sections) declared.items sign (as_words words) }
 {
-    match (sign, words) {
-        (Sign::Signed, TypeWords::OneInt) | (Sign::Int, TypeWords::OneSigned) => {
-            Some(ReadingState::AfterType {
-                leading,
-                words: TypeWords::WholeType,
-                sections,
-                declared,
-            })
-        }
-        _ => behind_type(leading, sections, declared, sign),
+    if is_second_word(sign, words) {
+        Some(ReadingState::AfterType {
+            leading,
+            words: TypeWords::WholeType,
+            sections,
+            declared,
+        })
+    } else {
+        behind_type(leading, sections, declared, sign)
     }
 }

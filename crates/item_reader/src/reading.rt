@@ -26,7 +26,7 @@ use std::alloc::Global;
 /// it.
 ///
 /// The conditions are that the items name these names alone, that the numbers are from 0 to 2147483647, and that the
-/// places rise. With at most 16 names the program is well formed.
+/// places rise. With at most 48 names the program is well formed.
 ///
 /// The reading goes from item to item, and the first item that it can't take decides.
 ///
@@ -40,7 +40,7 @@ pub fn read_items(alloc: Global, names: Names, items: &[Item]) -> Result<Program
     requires fit { AreFit (length names) items.now }
     requires rising { AreRising items.now }
     ensures spells { IfOk result (λ p. SpellsWithin names (whole p) items.now) }
-    ensures program { length names ≤ 16 → IfOk result (λ p. IsProgram (whole p)) }
+    ensures program { length names ≤ 48 → IfOk result (λ p. IsProgram (whole p)) }
     ensures plain { IfOk result (λ p. has_groups items.now ≡ false → IsPlainProgram (whole p)) }
     ensures wrong { OnWrong result (IsWrongAt items.now) }
     ensures deep { OnDeep result (IsDeepAt items.now) }

@@ -137,6 +137,14 @@ pub(crate) enum Leading {
     NoWord,
     StaticWord,
     ExternWord,
+    ConstWord,
+}
+
+/// What a declaration declares: variables, or constants.
+#[derive(Clone, Copy, Drop)]
+pub(crate) enum Qualifier {
+    Unqualified,
+    Constant,
 }
 
 /// The words of a type so far: `int`, `signed`, or all.
@@ -190,6 +198,11 @@ pub(crate) enum ReadingState {
         sections: Sections,
         declared: Vec<Declared>,
     },
+    /// Behind `const` before a type.
+    AfterConst {
+        sections: Sections,
+        declared: Vec<Declared>,
+    },
     /// Behind a word of a type.
     AfterType {
         leading: Leading,
@@ -199,26 +212,31 @@ pub(crate) enum ReadingState {
     },
     /// A declarator comes.
     Declaring {
+        kind: Qualifier,
         sections: Sections,
         declared: Vec<Declared>,
     },
     /// Behind the name, behind `=`, behind `-`, and behind the start value of a declarator.
     Bare {
+        kind: Qualifier,
         name: u32,
         sections: Sections,
         declared: Vec<Declared>,
     },
     Starting {
+        kind: Qualifier,
         name: u32,
         sections: Sections,
         declared: Vec<Declared>,
     },
     Negating {
+        kind: Qualifier,
         name: u32,
         sections: Sections,
         declared: Vec<Declared>,
     },
     Started {
+        kind: Qualifier,
         name: u32,
         value: i64,
         sections: Sections,

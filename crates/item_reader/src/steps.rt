@@ -11,7 +11,7 @@ ghost use Rattle.item_reader.specs.Views.{as_stack, as_state, Moves};
 use crate::declarations::{is_bare, negating, started, starting};
 use crate::endings::{closing, over, returning};
 use crate::expressions::{expected, have, want};
-use crate::heads::{after_type, declaring, first_word};
+use crate::heads::{after_type, behind_static, declaring, first_word};
 use crate::marks::{at_close, at_open, at_semicolon};
 use crate::parameters::{after_parameters, in_parameters};
 use crate::sections::outside;
@@ -35,10 +35,13 @@ pub(crate) fn step(
     match state {
         ReadingState::Outside { sections, declared } => outside(alloc, sections, declared, sign),
         ReadingState::AfterStatic { sections, declared } => {
-            Ok(first_word(Leading::StaticWord, sections, declared, sign))
+            Ok(behind_static(sections, declared, sign))
         }
         ReadingState::AfterExtern { sections, declared } => {
             Ok(first_word(Leading::ExternWord, sections, declared, sign))
+        }
+        ReadingState::AfterConst { sections, declared } => {
+            Ok(first_word(Leading::ConstWord, sections, declared, sign))
         }
         ReadingState::AfterType {
             leading,
@@ -46,7 +49,11 @@ pub(crate) fn step(
             sections,
             declared,
         } => Ok(after_type(leading, sections, declared, sign, words)),
-        ReadingState::Declaring { sections, declared } => Ok(declaring(sections, declared, sign)),
+        ReadingState::Declaring {
+            kind,
+            sections,
+            declared,
+        } => Ok(declaring(kind, sections, declared, sign)),
         other => step_declarator(alloc, other, place, sign),
     }
 }
@@ -64,26 +71,30 @@ fn step_declarator(
 {
     match state {
         ReadingState::Bare {
+            kind,
             name,
             sections,
             declared,
-        } => is_bare(alloc, name, sections, declared, sign),
+        } => is_bare(alloc, kind, name, sections, declared, sign),
         ReadingState::Starting {
+            kind,
             name,
             sections,
             declared,
-        } => Ok(starting(name, sections, declared, sign)),
+        } => Ok(starting(kind, name, sections, declared, sign)),
         ReadingState::Negating {
+            kind,
             name,
             sections,
             declared,
-        } => Ok(negating(name, sections, declared, sign)),
+        } => Ok(negating(kind, name, sections, declared, sign)),
         ReadingState::Started {
+            kind,
             name,
             value,
             sections,
             declared,
-        } => started(alloc, name, value, sections, declared, sign),
+        } => started(alloc, kind, name, value, sections, declared, sign),
         other => step_statement(alloc, other, place, sign),
     }
 }

@@ -1,6 +1,6 @@
 use Rattle.std.proofs.Common.{take, drop}
 use Rattle.family_names.specs.NameContexts.{plain}
-use Rattle.family_names.specs.Judging.{IsSeen, AreSettled}
+use Rattle.family_names.specs.Judging.{IsSeen, AreSettled, AreHeld}
 use Rattle.family_names.proofs.Walking.{Leads}
 use Rattle.family_names.proofs.judging.first_name_fault.Given as goal
 
@@ -8,5 +8,6 @@ abbrev pub invariant-loop-item : goal.invariant-loop-item
 invariant-loop-item l = record {
   seen : IsSeen (take l.item-index l.items) l.seen;
   settled : AreSettled (plain l.context) l.seen.declarations.items l.settled.items;
+  held : AreHeld (take l.item-index l.items) l.constants;
   fault : Leads (plain l.context) l.items (take l.item-index l.items) (drop l.item-index l.items);
 }

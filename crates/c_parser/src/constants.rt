@@ -1,0 +1,88 @@
+//! The constants that a file without groups declares, and the names that it changes.
+#![tactic(auto)]
+
+ghost use Rattle.std.specs.Prelude.{◌≡◌, [], ◌∷◌, ◌++◌, List, OnOk};
+ghost use Rattle.c_grammar.specs.declared.items.Item as items;
+ghost use Rattle.c_parser.specs.Judging as judging;
+ghost use Rattle.c_parser.specs.Names as specs;
+
+use crate::names::{Known, contains};
+use c_grammar::{Item, Sign, changed_behind, is_constant_behind};
+use fam_outer::{FileCode, NoMemory, Place};
+use std::alloc::Global;
+
+/// What is known of constants behind some items: the last item, whether a declaration with `const` goes on, and the names
+/// of constants.
+#[derive(Drop)]
+pub(crate) struct Constants {
+    last: Option<Item>,
+    goes_on: bool,
+    names: Vec<u32>,
+}
+
+/// The fault of a name that is changed.
+fn constant_fault(constants: &[u32], change: Option<(u32, Place)>) -> Option<(FileCode, Place)>
+    ensures { result ≡ specs.constant_fault constants.now change }
+{
+    let (name, place) = change?;
+    if contains(constants, name) {
+        Some((FileCode::ChangedConstant, place))
+    } else {
+        None
+    }
+}
+
+/// The fault of what an item changes, together with the one before it.
+pub(crate) fn change_fault(
+    known: &Known,
+    constants: &Constants,
+    item: Item,
+) -> Option<(FileCode, Place)>
+    ensures { (before : List items.Item) → judging.IsKnown before known.now
+        → judging.AreHeld before constants.now
+        → result ≡ specs.change_fault before item }
+{
+    if !known.in_main {
+        return None;
+    }
+    constant_fault(&constants.names, changed_behind(constants.last, item))
+}
+
+/// Adds the name, where the sign is one and it is a constant's.
+fn declare_constant(names: &mut Vec<u32>, is_constant: bool, sign: Sign) -> Result<(), NoMemory>
+    ensures { OnOk result (names.new.items ≡ judging.with_constant names.old.items is_constant sign) }
+{
+    match sign {
+        Sign::Name(number) if is_constant => {
+            names.push(number)?;
+            Ok(())
+        }
+        _ => Ok(()),
+    }
+}
+
+impl Constants {
+    /// No constant. It takes no memory.
+    pub(crate) fn new(alloc: Global) -> Constants
+        ensures { judging.AreHeld [] result }
+    {
+        Constants {
+            last: None,
+            goes_on: false,
+            names: Vec::new(alloc),
+        }
+    }
+
+    /// Goes on behind an item, behind others of which this is known: a name that is declared with `const` is a constant's.
+    pub(crate) fn follow(&mut self, known: &Known, item: Item) -> Result<(), NoMemory>
+        ensures { (before : List items.Item) → judging.IsKnown before known.now
+            → judging.AreHeld before self.old
+            → OnOk result (judging.AreHeld (before ++ item ∷ []) self.new) }
+    {
+        let is_constant = self.goes_on && !known.in_main;
+        declare_constant(&mut self.names, is_constant, item.sign)?;
+        self.last = Some(item);
+        self.goes_on = is_constant_behind(self.goes_on, item.sign);
+        Ok(())
+    }
+}

@@ -1,0 +1,161 @@
+//! The constants that a file declares, and the names that it changes.
+#![tactic(auto)]
+
+ghost use Rattle.std.specs.Prelude.{◌≡◌, ℤ, List, [], ◌∷◌, ◌++◌, length, IfOk, OnOk};
+ghost use Rattle.cpp_conditions.specs.Numbering.{vector_at};
+ghost use Rattle.cpp_conditions.specs.Propositions.{IsBelow, true_on};
+ghost use Rattle.cpp_conditions.specs.View.{formula};
+ghost use Rattle.atom_solver.specs.Solutions.{Finds};
+ghost use Rattle.c_grammar.specs.declared.items.Item as items;
+ghost use Rattle.family_names.specs.Declarations.{has_one};
+ghost use Rattle.family_names.specs.NameContexts.{plain, IsFit};
+ghost use Rattle.family_names.specs.Judging as judging;
+
+use crate::declarations::{Declaration, declaring};
+use crate::faults::Seen;
+use crate::groups::Groups;
+use crate::name_context::NameContext;
+use crate::questions::keeping;
+use c_grammar::{Item, Sign, changed_behind, is_constant_behind};
+use cpp_conditions::Formula;
+use cpp_conditions::formulas::both;
+use fam_outer::{FileCode, NoMemory, Place};
+use linear_atoms::Config;
+use std::alloc::Global;
+
+/// What is known of constants behind some items: the last item, whether a declaration with `const` goes on, and the
+/// declarations of constants.
+#[derive(Drop)]
+pub(crate) struct Constants {
+    pub(crate) last: Option<Item>,
+    pub(crate) goes_on: bool,
+    pub(crate) declarations: Vec<Declaration>,
+}
+
+/// Whether one of the declarations has the name.
+fn has_one(declarations: &[Declaration], name: u32) -> bool
+    ensures { result ≡ has_one declarations.now name }
+{
+    for declaration in declarations {
+        if name == declaration.name {
+            return true;
+        }
+    }
+    false
+}
+
+/// That what stands in these groups is kept, and one of the declarations of the name.
+fn meeting(
+    alloc: Global,
+    context: &NameContext<'_>,
+    groups: &Groups,
+    declarations: &[Declaration],
+    name: u32,
+) -> Result<Formula, NoMemory>
+    requires { IsFit (plain context.now) }
+    ensures truth { IfOk result (λ made. (values : List ℤ)
+        → judging.is_met_constant (plain context.now) groups.now declarations.now name values
+        ≡ true_on (vector_at context.now.atoms.now values) (formula made)) }
+    ensures below { IfOk result (λ made. IsBelow (length context.now.atoms.now) (formula made)) }
+{
+    let declared = declaring(alloc, context.conditions, declarations, name)?;
+    let kept = keeping(alloc, context.conditions, groups)?;
+    both(alloc, kept, declared)
+}
+
+/// The least valid configuration that keeps what stands in these groups, and one of the declarations of the name.
+fn first_met(
+    alloc: Global,
+    context: &NameContext<'_>,
+    groups: &Groups,
+    declarations: &[Declaration],
+    name: u32,
+) -> Result<Option<Config>, NoMemory>
+    requires { IsFit (plain context.now) }
+    ensures { IfOk result (λ found. Finds context.now.model.now
+        (judging.is_met_constant (plain context.now) groups.now declarations.now name) found) }
+{
+    let wanted = meeting(alloc, context, groups, declarations, name)?;
+    context.model.least_where(alloc, context.atoms, &wanted)
+}
+
+/// The fault of what an item changes, together with the one before it: nothing is asked where no constant has the name.
+pub(crate) fn change_fault(
+    alloc: Global,
+    context: &NameContext<'_>,
+    seen: &Seen,
+    constants: &Constants,
+    item: Item,
+) -> Result<Option<(FileCode, Place)>, NoMemory>
+    requires { IsFit (plain context.now) }
+    ensures { (before : List items.Item) → judging.IsSeen before seen.now
+        → judging.AreHeld before constants.now
+        → IfOk result (λ fault. judging.IsChange (plain context.now) before item fault) }
+{
+    if !seen.in_main {
+        return Ok(None);
+    }
+    let Some((name, place)) = changed_behind(constants.last, item) else {
+        return Ok(None);
+    };
+    if !has_one(&constants.declarations, name) {
+        return Ok(None);
+    }
+    match first_met(alloc, context, &seen.groups, &constants.declarations, name)? {
+        Some(_config) => Ok(Some((FileCode::ChangedConstant, place))),
+        None => Ok(None),
+    }
+}
+
+/// Adds a declaration in these groups, where the sign is a name and it is a constant's.
+fn declare_constant(
+    alloc: Global,
+    declarations: &mut Vec<Declaration>,
+    is_constant: bool,
+    groups: &Groups,
+    sign: Sign,
+) -> Result<(), NoMemory>
+    ensures { OnOk result (declarations.new.items
+        ≡ judging.with_constant declarations.old.items is_constant groups.now sign) }
+{
+    match sign {
+        Sign::Name(name) if is_constant => {
+            let groups = groups.copy(alloc)?;
+            declarations.push(Declaration { name, groups })?;
+            Ok(())
+        }
+        _ => Ok(()),
+    }
+}
+
+impl Constants {
+    /// No constant. It takes no memory.
+    pub(crate) fn new(alloc: Global) -> Constants
+        ensures { judging.AreHeld [] result }
+    {
+        Constants {
+            last: None,
+            goes_on: false,
+            declarations: Vec::new(alloc),
+        }
+    }
+
+    /// Goes on behind an item, behind others of which this is seen: a name that is declared with `const` is a constant's.
+    pub(crate) fn follow(&mut self, alloc: Global, seen: &Seen, item: Item) -> Result<(), NoMemory>
+        ensures { (before : List items.Item) → judging.IsSeen before seen.now
+            → judging.AreHeld before self.old
+            → OnOk result (judging.AreHeld (before ++ item ∷ []) self.new) }
+    {
+        let is_constant = self.goes_on && !seen.in_main;
+        declare_constant(
+            alloc,
+            &mut self.declarations,
+            is_constant,
+            &seen.groups,
+            item.sign,
+        )?;
+        self.last = Some(item);
+        self.goes_on = is_constant_behind(self.goes_on, item.sign);
+        Ok(())
+    }
+}
