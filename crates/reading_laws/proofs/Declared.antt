@@ -16,7 +16,7 @@ use Rattle.c_tree.specs.Project.{guard_holds, guards_hold}
 use Rattle.c_grammar.specs.declared.items.Item.{Item}
 use Rattle.c_grammar.specs.declared.items.Sign.{Sign}
 use Rattle.c_grammar.specs.declared.items.Sign.TheVariants as signs
-use Rattle.c_grammar.specs.Grammar.{at, Optional, absent, present, Typed, int, int32, signed, signed_int, int_signed, Begins, only_type, then_type, Declarator, bare, positive, negative, with_true, with_false, declared, Part, Outer, Vars, Later, Declares, nothing, variables, prototype, section, last_var, next_var, end_part, else_part, elif_part, Main, main, File, Forms, file, is_group}
+use Rattle.c_grammar.specs.Grammar.{at, Optional, absent, present, Typed, int, int32, signed, signed_int, int_signed, Qualifier, Qualified, unqualified, const_before, const_behind, Begins, only_type, then_type, Declarator, bare, positive, negative, with_true, with_false, declared, Part, Outer, Vars, Later, Declares, nothing, variables, prototype, section, last_var, next_var, end_part, else_part, elif_part, Main, main, File, Forms, file, is_group}
 use Rattle.c_grammar.specs.Kept.{directive_of, kept_from, kept}
 use Rattle.c_grammar.proofs.Preprocess.{seeks}
 use Rattle.family_names.specs.Names.{is_main, has_main, until_main, name_of, names_of, declared_by}
@@ -56,7 +56,7 @@ declarations_are_of_the_grammar law items f h = sym (declared_same items) ∙ la
 
 -- ---- items that name nothing and are no directive
 
-abbrev IsSilent : List Item → Type 0
+abbrev pub IsSilent : List Item → Type 0
 IsSilent [] = Unit {0}
 IsSilent (x ∷ xs) = (is_group x.sign ≡ false) × (directive_of x.sign ≡ None) × (name_of x.sign ≡ []) × (is_main x.sign ≡ false) × IsSilent xs
 
@@ -68,26 +68,35 @@ silent_first t secs x w d n =
       | false ↦ refl
     ])
 
-silent : (t : List Bool) (secs : List Section) (us w : List Item) → IsSilent us → names_of (kept_from t secs (us ++ w)) ≡ names_of (kept_from t secs w)
+pub silent : (t : List Bool) (secs : List Section) (us w : List Item) → IsSilent us → names_of (kept_from t secs (us ++ w)) ≡ names_of (kept_from t secs w)
 silent t secs [] w h = refl
 silent t secs (x ∷ us) w h = silent_first t secs x (us ++ w) h.1 h.2 ∙ silent t secs us w h.4
 
-typed_silent : {us : List Item} → Typed us → IsSilent us
+pub typed_silent : {us : List Item} → Typed us → IsSilent us
 typed_silent (int p) = (refl, refl, refl, refl, tt)
 typed_silent (int32 p) = (refl, refl, refl, refl, tt)
 typed_silent (signed p) = (refl, refl, refl, refl, tt)
 typed_silent (signed_int p q) = (refl, refl, refl, refl, (refl, refl, refl, refl, tt))
 typed_silent (int_signed p q) = (refl, refl, refl, refl, (refl, refl, refl, refl, tt))
 
-static_silent : {us : List Item} → Begins signs.Static us → IsSilent us
-static_silent (only_type _ y) = typed_silent y
-static_silent (then_type p _ y) = (refl, refl, refl, refl, typed_silent y)
+pub silent_both : (us vs : List Item) → IsSilent us → IsSilent vs → IsSilent (us ++ vs)
+silent_both [] vs h k = k
+silent_both (x ∷ us) vs h k = (h.0, h.1, h.2, h.3, silent_both us vs h.4 k)
 
-extern_silent : {us : List Item} → Begins signs.Extern us → IsSilent us
-extern_silent (only_type _ y) = typed_silent y
-extern_silent (then_type p _ y) = (refl, refl, refl, refl, typed_silent y)
+qualified_silent : {us : List Item} {kind : Qualifier} → Qualified kind us → IsSilent us
+qualified_silent (unqualified y) = typed_silent y
+qualified_silent (const_before p y) = (refl, refl, refl, refl, typed_silent y)
+qualified_silent (const_behind p {us} y) = silent_both us (at p signs.Const ∷ []) (typed_silent y) (refl, refl, refl, refl, tt)
 
-void_silent : {us : List Item} → Optional signs.Void us → IsSilent us
+pub static_silent : {us : List Item} {kind : Qualifier} → Begins signs.Static kind us → IsSilent us
+static_silent (only_type _ y) = qualified_silent y
+static_silent (then_type p _ y) = (refl, refl, refl, refl, qualified_silent y)
+
+pub extern_silent : {us : List Item} {kind : Qualifier} → Begins signs.Extern kind us → IsSilent us
+extern_silent (only_type _ y) = qualified_silent y
+extern_silent (then_type p _ y) = (refl, refl, refl, refl, qualified_silent y)
+
+pub void_silent : {us : List Item} → Optional signs.Void us → IsSilent us
 void_silent (absent _) = tt
 void_silent (present p _) = (refl, refl, refl, refl, tt)
 
@@ -109,15 +118,15 @@ false_matches Seeking secs false = elim (all_kept secs) as (λ k. (k && true) �
 false_matches Keeping secs b = refl
 false_matches Passed secs b = refl
 
-else_matches : (sec : Section) (secs : List Section) → seeks sec secs ≡ all_kept (next_group sec true ∷ secs)
+pub else_matches : (sec : Section) (secs : List Section) → seeks sec secs ≡ all_kept (next_group sec true ∷ secs)
 else_matches Seeking secs = refl
 else_matches Keeping secs = refl
 else_matches Passed secs = refl
 
-in_true : (t : List Bool) (gs : List Guard) (n : ℕ) (sec : Section) (secs : List Section) → guards_hold t gs ≡ seeks sec secs → guards_hold t (with_true gs n) ≡ all_kept (next_group sec (truth t n) ∷ secs)
+pub in_true : (t : List Bool) (gs : List Guard) (n : ℕ) (sec : Section) (secs : List Section) → guards_hold t gs ≡ seeks sec secs → guards_hold t (with_true gs n) ≡ all_kept (next_group sec (truth t n) ∷ secs)
 in_true t gs n sec secs h = holds_then t gs (record { number = n; positive = true }) ∙ ap (λ (b : Bool). b && truth t n) h ∙ true_matches sec secs (truth t n)
 
-in_false : (t : List Bool) (gs : List Guard) (n : ℕ) (sec : Section) (secs : List Section) → guards_hold t gs ≡ seeks sec secs → guards_hold t (with_false gs n) ≡ seeks (next_group sec (truth t n)) secs
+pub in_false : (t : List Bool) (gs : List Guard) (n : ℕ) (sec : Section) (secs : List Section) → guards_hold t gs ≡ seeks sec secs → guards_hold t (with_false gs n) ≡ seeks (next_group sec (truth t n)) secs
 in_false t gs n sec secs h = holds_then t gs (record { number = n; positive = false }) ∙ ap (λ (b : Bool). b && not (truth t n)) h ∙ false_matches sec secs (truth t n)
 
 -- ---- declarators
@@ -133,7 +142,7 @@ held_first t x n gs ds false e = ap (λ (b : Bool). targets (cond b (declared x 
 name_first : (t : List Bool) (secs : List Section) (p : Place) (x : ℕ) (w : List Item) → names_of (kept_from t secs (at p (signs.Name x) ∷ w)) ≡ cond (all_kept secs) (x ∷ []) [] ++ names_of (kept_from t secs w)
 name_first t secs p x w = elim (all_kept secs) as (λ b. names_of (cond b (at p (signs.Name x) ∷ kept_from t secs w) (kept_from t secs w)) ≡ cond b (x ∷ []) [] ++ names_of (kept_from t secs w)) [ true ↦ refl | false ↦ refl ]
 
-declarator_first : {us : List Item} {x : ℕ} {n : ℤ} (t : List Bool) (secs : List Section) (w : List Item) → Declarator us x n → names_of (kept_from t secs (us ++ w)) ≡ cond (all_kept secs) (x ∷ []) [] ++ names_of (kept_from t secs w)
+declarator_first : {us : List Item} {x : ℕ} {n : ℤ} {kind : Qualifier} (t : List Bool) (secs : List Section) (w : List Item) → Declarator kind us x n → names_of (kept_from t secs (us ++ w)) ≡ cond (all_kept secs) (x ∷ []) [] ++ names_of (kept_from t secs w)
 declarator_first t secs w (bare p x) = name_first t secs p x w
 declarator_first t secs w (positive p q r x n) =
     name_first t secs p x (at q signs.Equals ∷ at r (signs.Number n) ∷ w)
@@ -144,20 +153,20 @@ declarator_first t secs w (negative p q r s x n) =
 
 -- ---- declarations
 
-abbrev HoldsAt : List Bool → Part → List Item → List Declared → Type 0
+abbrev pub HoldsAt : List Bool → Part → List Item → List Declared → Type 0
 HoldsAt t (Outer gs) us ds = (secs : List Section) → guards_hold t gs ≡ all_kept secs → (w : List Item) → names_of (kept_from t secs (us ++ w)) ≡ targets (holding t ds) ++ names_of (kept_from t secs w)
-HoldsAt t (Vars gs) us ds = (secs : List Section) → guards_hold t gs ≡ all_kept secs → (w : List Item) → names_of (kept_from t secs (us ++ w)) ≡ targets (holding t ds) ++ names_of (kept_from t secs w)
+HoldsAt t (Vars kind gs) us ds = (secs : List Section) → guards_hold t gs ≡ all_kept secs → (w : List Item) → names_of (kept_from t secs (us ++ w)) ≡ targets (holding t ds) ++ names_of (kept_from t secs w)
 HoldsAt t (Later gs) us ds = (sec : Section) (secs : List Section) → guards_hold t gs ≡ seeks sec secs → (w : List Item) → names_of (kept_from t (sec ∷ secs) (us ++ w)) ≡ targets (holding t ds) ++ names_of (kept_from t secs w)
 
 -- one after another
-both_held : (t : List Bool) (ds es : List Declared) (ns : List ℕ) → targets (holding t ds) ++ (targets (holding t es) ++ ns) ≡ targets (holding t (ds ++ es)) ++ ns
+pub both_held : (t : List Bool) (ds es : List Declared) (ns : List ℕ) → targets (holding t ds) ++ (targets (holding t es) ++ ns) ≡ targets (holding t (ds ++ es)) ++ ns
 both_held t ds es ns = sym (append_assoc (targets (holding t ds)) (targets (holding t es)) ns) ∙ ap (λ (ms : List ℕ). ms ++ ns) (sym (held_both t ds es))
 
 one_held : (t : List Bool) (x : ℕ) (n : ℤ) (gs : List Guard) (ds : List Declared) (secs : List Section) (ns : List ℕ) → guards_hold t gs ≡ all_kept secs → cond (all_kept secs) (x ∷ []) [] ++ (targets (holding t ds) ++ ns) ≡ targets (holding t (declared x n gs ∷ ds)) ++ ns
 one_held t x n gs ds secs ns h =
     sym (append_assoc (cond (all_kept secs) (x ∷ []) []) (targets (holding t ds)) ns) ∙ ap (λ (ms : List ℕ). ms ++ ns) (held_first t x n gs ds (all_kept secs) h)
 
-holds : {part : Part} {us : List Item} {ds : List Declared} (t : List Bool) → Declares part us ds → HoldsAt t part us ds
+pub holds : {part : Part} {us : List Item} {ds : List Declared} (t : List Bool) → Declares part us ds → HoldsAt t part us ds
 holds t (nothing gs) = λ secs h w. refl
 holds t (variables gs {us} {vs} {ws} {ds} {es} o v d) = λ secs h w.
     ap (λ (y : List Item). names_of (kept_from t secs y)) (append_assoc us (vs ++ ws) w)
@@ -210,7 +219,7 @@ silent_until : (us w : List Item) → IsSilent us → until_main (us ++ w) ≡ u
 silent_until [] w h = refl
 silent_until (x ∷ us) w h = ap (λ (b : Bool). cond b [] (x ∷ until_main (us ++ w))) h.3 ∙ ap (λ (y : List Item). x ∷ y) (silent_until us w h.4)
 
-declarator_until : {us : List Item} {x : ℕ} {n : ℤ} (w : List Item) → Declarator us x n → until_main (us ++ w) ≡ us ++ until_main w
+declarator_until : {us : List Item} {x : ℕ} {n : ℤ} {kind : Qualifier} (w : List Item) → Declarator kind us x n → until_main (us ++ w) ≡ us ++ until_main w
 declarator_until w (bare p x) = refl
 declarator_until w (positive p q r x n) = refl
 declarator_until w (negative p q r s x n) = refl
@@ -218,7 +227,7 @@ declarator_until w (negative p q r s x n) = refl
 until_both : (us vs w : List Item) → until_main (us ++ (vs ++ w)) ≡ us ++ until_main (vs ++ w) → until_main (vs ++ w) ≡ vs ++ until_main w → until_main ((us ++ vs) ++ w) ≡ (us ++ vs) ++ until_main w
 until_both us vs w h k = ap until_main (append_assoc us vs w) ∙ h ∙ ap (λ (y : List Item). us ++ y) k ∙ sym (append_assoc us vs (until_main w))
 
-no_main : {part : Part} {us : List Item} {ds : List Declared} → Declares part us ds → (w : List Item) → until_main (us ++ w) ≡ us ++ until_main w
+pub no_main : {part : Part} {us : List Item} {ds : List Declared} → Declares part us ds → (w : List Item) → until_main (us ++ w) ≡ us ++ until_main w
 no_main (nothing gs) w = refl
 no_main (variables gs {us} {vs} {ws} o v d) w = until_both us (vs ++ ws) w (silent_until us ((vs ++ ws) ++ w) (static_silent o)) (until_both vs ws w (no_main v (ws ++ w)) (no_main d w))
 no_main (prototype q r s t gs {us} {vs} {ws} o v d) w =

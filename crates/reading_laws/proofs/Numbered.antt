@@ -29,7 +29,7 @@ use Rattle.c_grammar.specs.declared.items.Sign.{Sign}
 use Rattle.c_grammar.specs.declared.items.Sign.TheVariants as signs
 use Rattle.c_grammar.specs.Facts.{IsFit}
 use Rattle.c_grammar.specs.Within.{WithinIsFile}
-use Rattle.family_names.specs.Names.{NameContext, is_main, until_main, name_of, names_of, declared_by, is_among, each_once, IsNameFault, IsFaultFrom}
+use Rattle.family_names.specs.Names.{NameContext, is_main, until_main, name_of, names_of, declared_by, is_among, each_once, IsNameFault, IsFaultFrom, IsChangeOr, changed_place}
 use Rattle.c_parser.specs.FamilyItems.{HasItems, group_sign, or_directive, is_name, has}
 use Rattle.c_parser.specs.FamilyReading.{context_of}
 use Rattle.c_parser.specs.Items.{Listed, number_in, with_name, word_sign, sign_of, names_with_word, names_with, lexeme_in, names_from, AreNewBehind, AreDistinct}
@@ -72,12 +72,13 @@ stays x (y ∷ ys) more h = elim (is_main y.sign) as (λ b. is_among x (names_of
 named : (context : NameContext) (before xs : List Item) → IsFaultFrom context before xs None → length (each_once [] (declared_by before)) ≤ 16 → (n : ℕ) → has n xs ≡ true → is_among n (declared_by (before ++ xs)) ≡ true
 named context before [] h le n k = absurd cc
 named context before (x ∷ xs) h le n k =
-    let l = later_of h.0 x.place (IsFaultFrom context (before ++ x ∷ []) xs None) h.2 in
+    let l = later_of h.0 x.place (IsChangeOr context before x None (IsFaultFrom context (before ++ x ∷ []) xs None)) h.2 in
+    let m = later_of l.1.0 (changed_place before x) (IsFaultFrom context (before ++ x ∷ []) xs None) l.1.2 in
     let f : IsFine before x = step context before x (subst (λ (c : Option FileCode). IsNameFault context before x.sign c) l.0 h.1) le in
     let same : (before ++ x ∷ []) ++ xs ≡ before ++ x ∷ xs = append_assoc before (x ∷ []) xs in
     subst (λ (ys : List Item). is_among n (declared_by ys) ≡ true) same (elim (or_cases (is_name n x.sign) (has n xs) k) [
       | inl e ↦ stays n (before ++ x ∷ []) xs (f.named n e)
-      | inr e ↦ named context (before ++ x ∷ []) xs l.1 f.few n e
+      | inr e ↦ named context (before ++ x ∷ []) xs m.1 f.few n e
     ])
 
 -- ---- names are numbered by their first occurrence

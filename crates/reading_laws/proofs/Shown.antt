@@ -3,7 +3,7 @@ use Rattle.std.proofs.Common.{◌≡◌, ℕ, Bool, true, false, not, ◌&&◌, 
 use Rattle.std.specs.Prelude.{ℤ, nat_le, length, option_map, if◌then◌else◌}
 use Rattle.fam_outer.specs.declared.dialect.Dialect.{Dialect}
 use Rattle.fam_outer.specs.declared.faults.FileCode.{FileCode}
-use Rattle.fam_outer.specs.declared.faults.FileCode.TheVariants.{Undeclared, Twice, FeatureInCode, TooManyVariables}
+use Rattle.fam_outer.specs.declared.faults.FileCode.TheVariants.{Undeclared, Twice, FeatureInCode, TooManyVariables, ChangedConstant}
 use Rattle.fam_outer.specs.declared.faults.Place.{Place}
 use Rattle.linear_atoms.specs.declared.atoms.Atom.{Atom}
 use Rattle.linear_atoms.specs.declared.atoms.Config.{Config}
@@ -21,17 +21,22 @@ use Rattle.c_tree.specs.Project.{projected_program}
 use Rattle.c_grammar.specs.declared.items.Item.{Item}
 use Rattle.c_grammar.specs.declared.items.Sign.{Sign}
 use Rattle.c_grammar.specs.declared.items.Sign.TheVariants as signs
+use Rattle.c_grammar.specs.Constants.{changed_at, AreApart}
 use Rattle.c_grammar.specs.Grammar.{is_group}
 use Rattle.c_grammar.specs.Kept.{directive_of, kept_from, kept}
 use Rattle.c_grammar.specs.Within.{SpellsWithin, KeepsWithin, WithinIsFile}
 use Rattle.family_names.specs.Names as family
-use Rattle.family_names.specs.Names.{NameContext, has_main, declared_by, declared_at, is_among, each_once, is_kept, is_missed, is_met_again, is_feature, new_name_fault, sections_behind, code_with, IsWithFirst, IsEither, IsNameFault, IsFaultFrom, IsThisOr, IsUseFault, IsDeclarationFault, IsFirstNameFault}
+use Rattle.family_names.specs.Names.{NameContext, has_main, declared_by, declared_at, is_among, each_once, is_kept, is_missed, is_met_again, is_feature, new_name_fault, sections_behind, code_with, IsWithFirst, IsEither, IsNameFault, IsChangeOf, IsChangeFault, IsChangeOr, changed_place, IsFaultFrom, IsThisOr, IsUseFault, IsDeclarationFault, IsFirstNameFault}
 use Rattle.c_parser.specs.FamilyItems.{HasItems}
 use Rattle.c_parser.specs.FamilyReading.{context_of, IsFamilyRefused}
 use Rattle.c_parser.specs.Items.{Listed}
 use Rattle.c_parser.specs.Names as alone
+use Rattle.c_parser.proofs.Declared.{later_none}
 use Rattle.c_parser.proofs.FewNames.{later_of}
-use Rattle.c_parser.proofs.KeptNames.{MainStays, kept_more, kept_fine}
+use Rattle.c_grammar.proofs.Apart.{directives_apart}
+use Rattle.c_parser.proofs.KeptConstants.{apart_before}
+use Rattle.c_parser.proofs.KeptFaults.{kept_fine}
+use Rattle.c_parser.proofs.KeptNames.{MainStays, kept_more}
 use Rattle.c_parser.proofs.KeptTexts.{TextLaws, same_told, variant_items}
 use Rattle.c_parser.proofs.MainItems.{main_stays}
 use Rattle.c_parser.proofs.Projecting.{VariantsArePlain}
@@ -53,13 +58,19 @@ record FirstAt (context : NameContext) (items : List Item) (code : FileCode) (pl
   stands : item.place ≡ place
 
 -- one more item without a fault
-fine_more : (context : NameContext) (first before : List Item) (x : Item) → IsFaultFrom context first before None → IsNameFault context (first ++ before) x.sign None → IsFaultFrom context first (before ++ x ∷ []) None
-fine_more context first [] x f h = (None, subst (λ (xs : List Item). IsNameFault context xs x.sign None) (append-nil first) h, refl)
-fine_more context first (y ∷ ys) x f h =
-    let l = later_of f.0 y.place (IsFaultFrom context (first ++ y ∷ []) ys None) f.2 in (
+fine_more : (context : NameContext) (first before : List Item) (x : Item) → IsFaultFrom context first before None → IsNameFault context (first ++ before) x.sign None → IsChangeFault context (first ++ before) x None → IsFaultFrom context first (before ++ x ∷ []) None
+fine_more context first [] x f h c = (None, subst (λ (xs : List Item). IsNameFault context xs x.sign None) (append-nil first) h, (None, subst (λ (xs : List Item). IsChangeFault context xs x None) (append-nil first) c, refl))
+fine_more context first (y ∷ ys) x f h c =
+    let l = later_of f.0 y.place (IsChangeOr context first y None (IsFaultFrom context (first ++ y ∷ []) ys None)) f.2 in
+    let m = later_of l.1.0 (changed_place first y) (IsFaultFrom context (first ++ y ∷ []) ys None) l.1.2 in
+    let is = sym (append_assoc first (y ∷ []) ys) in (
       None,
-      subst (λ (c : Option FileCode). IsNameFault context first y.sign c) l.0 f.1,
-      fine_more context (first ++ y ∷ []) ys x l.1 (subst (λ (xs : List Item). IsNameFault context xs x.sign None) (sym (append_assoc first (y ∷ []) ys)) h),
+      subst (λ (d : Option FileCode). IsNameFault context first y.sign d) l.0 f.1,
+      (
+        None,
+        subst (λ (d : Option FileCode). IsChangeFault context first y d) m.0 l.1.1,
+        fine_more context (first ++ y ∷ []) ys x m.1 (subst (λ (xs : List Item). IsNameFault context xs x.sign None) is h) (subst (λ (xs : List Item). IsChangeFault context xs x None) is c),
+      ),
     )
 
 abbrev some_fault : FileCode × Place → Option (FileCode × Place)
@@ -80,13 +91,32 @@ this_first context before xs x found code place f h same there = record {
   stands = sym there;
 }
 
-find_first : (context : NameContext) (before xs : List Item) (code : FileCode) (place : Place) → IsFaultFrom context before xs (Some (code, place)) → IsFirstNameFault context before None → FirstAt context (before ++ xs) code place
-find_first context before [] code place h f = absurd cc
-find_first context before (x ∷ xs) code place h f = elim h.0 as (λ o. IsNameFault context before x.sign o → IsThisOr o x.place (Some (code, place)) (IsFaultFrom context (before ++ x ∷ []) xs (Some (code, place))) → FirstAt context (before ++ x ∷ xs) code place) [
+-- a change has another code
+change_code : (context : NameContext) (before : List Item) (change : Option (ℕ × Place)) (found : FileCode) → IsChangeOf context before change (Some found) → found ≡ ChangedConstant
+change_code context before None found h = absurd cc
+change_code context before (Some change) found h = by_found h.found h.fault_is
+  where
+    by_found : (o : Option Config) → Some found ≡ code_with (λ example. ChangedConstant) None o → found ≡ ChangedConstant
+    by_found None e = absurd cc
+    by_found (Some config) e = let is : found ≡ ChangedConstant = cc in is
+
+fault_code : (context : NameContext) (before : List Item) (x : Item) (found : FileCode) → IsChangeFault context before x (Some found) → found ≡ ChangedConstant
+fault_code context before x found h = elim (has_main before) as (λ b. IsEither b (IsChangeOf context before (changed_at before x) (Some found)) (Some found ≡ None) → found ≡ ChangedConstant) [
+  | true ↦ λ c. change_code context before (changed_at before x) found c
+  | false ↦ λ e. absurd cc
+] h
+
+find_first : (context : NameContext) (before xs : List Item) (code : FileCode) (place : Place) → (code ≡ ChangedConstant → ⊥) → IsFaultFrom context before xs (Some (code, place)) → IsFirstNameFault context before None → FirstAt context (before ++ xs) code place
+find_first context before [] code place other h f = absurd cc
+find_first context before (x ∷ xs) code place other h f = elim h.0 as (λ o. IsNameFault context before x.sign o → IsThisOr o x.place (Some (code, place)) (IsChangeOr context before x (Some (code, place)) (IsFaultFrom context (before ++ x ∷ []) xs (Some (code, place)))) → FirstAt context (before ++ x ∷ xs) code place) [
   | Some found ↦ λ n e. (let one = one_fault (code, place) (found, x.place) e in
       this_first context before xs x found code place f n (ap (λ (z : FileCode × Place). z.0) one) (ap (λ (z : FileCode × Place). z.1) one))
-  | None ↦ λ n later. subst (λ (ys : List Item). FirstAt context ys code place) (append_assoc before (x ∷ []) xs)
-      (find_first context (before ++ x ∷ []) xs code place later (fine_more context [] before x f n))
+  | None ↦ λ n change. (elim change.0 as (λ o. IsChangeFault context before x o → IsThisOr o (changed_place before x) (Some (code, place)) (IsFaultFrom context (before ++ x ∷ []) xs (Some (code, place))) → FirstAt context (before ++ x ∷ xs) code place) [
+    | Some found ↦ λ c e. (let one = one_fault (code, place) (found, changed_place before x) e in
+        absurd (other (ap (λ (z : FileCode × Place). z.0) one ∙ fault_code context before x found c)))
+    | None ↦ λ c later. subst (λ (ys : List Item). FirstAt context ys code place) (append_assoc before (x ∷ []) xs)
+        (find_first context (before ++ x ∷ []) xs code place other later (fine_more context [] before x f n c))
+  ] change.1 change.2)
 ] h.1 h.2
 
 -- ---- what its example says
@@ -214,12 +244,15 @@ split_none (Some code) p later h = absurd cc
 decides : (before ks ms : List Item) (x : Item) (code : FileCode) → alone.name_fault_from before ks ≡ None → alone.name_fault (before ++ ks) x.sign ≡ Some code → alone.name_fault_from before (ks ++ x ∷ ms) ≡ Some (code, x.place)
 decides before [] ms x code h e =
     let here : alone.name_fault before x.sign ≡ Some code = ap (λ (w : List Item). alone.name_fault w x.sign) (sym (append-nil before)) ∙ e in
-    ap (λ (o : Option FileCode). or_later (option_map (λ c. (c, x.place)) o) (alone.name_fault_from (before ++ x ∷ []) ms)) here
+    ap (λ (o : Option FileCode). or_later (option_map (λ c. (c, x.place)) o) (or_later (alone.change_fault before x) (alone.name_fault_from (before ++ x ∷ []) ms))) here
 decides before (k ∷ ks) ms x code h e =
-    let s = split_none (alone.name_fault before k.sign) k.place (alone.name_fault_from (before ++ k ∷ []) ks) h in
+    let s = split_none (alone.name_fault before k.sign) k.place (or_later (alone.change_fault before k) (alone.name_fault_from (before ++ k ∷ []) ks)) h in
+    let c = later_none (alone.change_fault before k) (alone.name_fault_from (before ++ k ∷ []) ks) s.1 in
     let rest : alone.name_fault_from (before ++ k ∷ []) (ks ++ x ∷ ms) ≡ Some (code, x.place) =
-    decides (before ++ k ∷ []) ks ms x code s.1 (ap (λ (w : List Item). alone.name_fault w x.sign) (append_assoc before (k ∷ []) ks) ∙ e) in
-    ap (λ (o : Option FileCode). or_later (option_map (λ c. (c, k.place)) o) (alone.name_fault_from (before ++ k ∷ []) (ks ++ x ∷ ms))) s.0 ∙ rest
+    decides (before ++ k ∷ []) ks ms x code c.1 (ap (λ (w : List Item). alone.name_fault w x.sign) (append_assoc before (k ∷ []) ks) ∙ e) in
+    ap (λ (o : Option FileCode). or_later (option_map (λ c. (c, k.place)) o) (or_later (alone.change_fault before k) (alone.name_fault_from (before ++ k ∷ []) (ks ++ x ∷ ms)))) s.0
+    ∙ ap (λ (o : Option (FileCode × Place)). or_later o (alone.name_fault_from (before ++ k ∷ []) (ks ++ x ∷ ms))) c.0
+    ∙ rest
 
 -- the code of a name that stays
 abbrev shown : Bool → FileCode
@@ -244,15 +277,15 @@ name_stays truths front x back n e k =
     ∙ ap (λ (b : Bool). cond b (x ∷ kept_from truths secs back) (kept_from truths secs back)) k
 
 -- the items that stay have the fault at the same place
-alone_at : (context : NameContext) (items : List Item) (code : FileCode) (place : Place) (values : List ℤ) (b : Bool) → (f : FirstAt context items code place) → IsExample context f.front f.item.sign values b b → MainStays (family.truths_at context values) [] items
+alone_at : (context : NameContext) (items : List Item) (code : FileCode) (place : Place) (values : List ℤ) (b : Bool) → AreApart false false items → (f : FirstAt context items code place) → IsExample context f.front f.item.sign values b b → MainStays (family.truths_at context values) [] items
     → alone.first_name_fault (kept (family.truths_at context values) items) ≡ Some (shown b, place)
 unfolding alone.first_name_fault
-alone_at context items code place values b f e m =
+alone_at context items code place values b apart f e m =
     let truths = family.truths_at context values in
     let inner = sections_behind (family.truths_at context values) [] f.front in
     let more : List Item = kept_from (family.truths_at context values) (sections_behind (family.truths_at context values) [] f.front) f.back in
     let main : MainStays (family.truths_at context values) [] f.front = stays_before (family.truths_at context values) [] f.front (f.item ∷ f.back) (subst (MainStays (family.truths_at context values) []) f.are m) in
-    let fine : alone.first_name_fault (kept (family.truths_at context values) f.front) ≡ None = kept_fine context f.front values f.fine e.valid main in
+    let fine : alone.first_name_fault (kept (family.truths_at context values) f.front) ≡ None = kept_fine context f.front values (apart_before false false f.front (f.item ∷ f.back) (subst (AreApart false false) f.are apart)) f.fine e.valid main in
     let here : alone.name_fault (kept (family.truths_at context values) f.front) f.item.sign ≡ Some (shown b) =
     ap (alone.name_fault (kept (family.truths_at context values) f.front)) e.sign_is ∙ here_alone (family.truths_at context values) f.front e.name b main e.main_is e.declared in
     let are : kept (family.truths_at context values) items ≡ kept (family.truths_at context values) f.front ++ f.item ∷ more =
@@ -344,17 +377,19 @@ variant_shows laws dialect model bytes text fault values place b n q v e =
 pub undeclared_names_are_shown : ShownLaws → UndeclaredNamesAreShown
 undeclared_names_are_shown laws dialect model bytes text values place r q =
     let n = of_name laws dialect model bytes (Undeclared (Some values), place) refl r in
-    let first = find_first (context_of model n.atoms n.formulas n.listed.names) [] n.listed.items (Undeclared (Some values)) place n.names refl in
+    let first = find_first (context_of model n.atoms n.formulas n.listed.names) [] n.listed.items (Undeclared (Some values)) place (λ e. cc) n.names refl in
     let example = name_used (context_of model n.atoms n.formulas n.listed.names) first.front first.item.sign values first.here in
-    let main = main_stays (family.truths_at (context_of model n.atoms n.formulas n.listed.names) values) (laws.is_file n.listed.names n.listed.items n.program n.spelled).forms in
+    let spelled = laws.is_file n.listed.names n.listed.items n.program n.spelled in
+    let main = main_stays (family.truths_at (context_of model n.atoms n.formulas n.listed.names) values) spelled.forms in
     variant_shows laws dialect model bytes text (Undeclared (Some values), place) values place true n q example.valid
-    (alone_at (context_of model n.atoms n.formulas n.listed.names) n.listed.items (Undeclared (Some values)) place values true first example main)
+    (alone_at (context_of model n.atoms n.formulas n.listed.names) n.listed.items (Undeclared (Some values)) place values true (directives_apart n.listed.items spelled.file spelled.forms) first example main)
 
 pub second_declarations_are_shown : ShownLaws → SecondDeclarationsAreShown
 second_declarations_are_shown laws dialect model bytes text values place r q =
     let n = of_name laws dialect model bytes (Twice (Some values), place) refl r in
-    let first = find_first (context_of model n.atoms n.formulas n.listed.names) [] n.listed.items (Twice (Some values)) place n.names refl in
+    let first = find_first (context_of model n.atoms n.formulas n.listed.names) [] n.listed.items (Twice (Some values)) place (λ e. cc) n.names refl in
     let example = name_again (context_of model n.atoms n.formulas n.listed.names) first.front first.item.sign values first.here in
-    let main = main_stays (family.truths_at (context_of model n.atoms n.formulas n.listed.names) values) (laws.is_file n.listed.names n.listed.items n.program n.spelled).forms in
+    let spelled = laws.is_file n.listed.names n.listed.items n.program n.spelled in
+    let main = main_stays (family.truths_at (context_of model n.atoms n.formulas n.listed.names) values) spelled.forms in
     variant_shows laws dialect model bytes text (Twice (Some values), place) values place false n q example.valid
-    (alone_at (context_of model n.atoms n.formulas n.listed.names) n.listed.items (Twice (Some values)) place values false first example main)
+    (alone_at (context_of model n.atoms n.formulas n.listed.names) n.listed.items (Twice (Some values)) place values false (directives_apart n.listed.items spelled.file spelled.forms) first example main)

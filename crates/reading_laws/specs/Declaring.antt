@@ -1,5 +1,5 @@
 -- The names of a family by the grammar's own declarations.
-use Rattle.std.specs.Prelude.{◌≡◌, ℕ, Bool, List, []}
+use Rattle.std.specs.Prelude.{◌≡◌, ℕ, Bool, List, [], ◌++◌}
 use Rattle.std.specs.List.{filter}
 use Rattle.fam_outer.specs.declared.dialect.Dialect.{Dialect}
 use Rattle.cpp_conditions.specs.declared.models.Model.{Model}
@@ -8,8 +8,8 @@ use Rattle.cpp_lines.specs.Sections.{Told}
 use Rattle.c_tree.specs.declared.lists.Declared.{Declared}
 use Rattle.c_tree.specs.Project.{guards_hold}
 use Rattle.c_grammar.specs.declared.items.Item.{Item}
-use Rattle.c_grammar.specs.Grammar.{File, Forms}
-use Rattle.family_names.specs.Names.{declared_by, declared_at}
+use Rattle.c_grammar.specs.Grammar.{Qualifier, Unqualified, Constant, Part, Declares, nothing, variables, prototype, section, last_var, next_var, end_part, else_part, elif_part, File, Forms, file}
+use Rattle.family_names.specs.Names.{declared_by, declared_at, constants_at}
 use Rattle.c_parser.specs.declared.family.Family.{Family}
 use Rattle.c_parser.specs.FamilyItems.{HasItems}
 use Rattle.c_parser.specs.FamilyReading.{IsFamilyOf}
@@ -28,6 +28,30 @@ DeclarationsAreOfTheGrammar = (items : List Item) (f : File) → Forms items f �
 -- where the conditions have truths, those of it are declared whose guards hold
 abbrev pub KeptDeclarationsHold : Type 0
 KeptDeclarationsHold = (truths : List Bool) (items : List Item) (f : File) → Forms items f → declared_at truths items ≡ targets (holding truths f.declared)
+
+-- the declarators of a declaration, where it declares constants
+abbrev pub of_kind : Qualifier → List Declared → List Declared
+of_kind Unqualified ds = []
+of_kind Constant ds = ds
+
+-- the declarators of constants among those that a list of items declares, in its order
+abbrev pub constants_in : {part : Part} {us : List Item} {ds : List Declared} → Declares part us ds → List Declared
+constants_in (nothing gs) = []
+constants_in (variables gs {us} {vs} {ws} {ds} {es} {kind} o v d) = of_kind kind ds ++ constants_in d
+constants_in (prototype q r s t gs o v d) = constants_in d
+constants_in (section p n gs a b d) = constants_in a ++ (constants_in b ++ constants_in d)
+constants_in (last_var p gs {us} {x} {n} {kind} d) = []
+constants_in (next_var p gs d v) = []
+constants_in (end_part p gs) = []
+constants_in (else_part p q gs d) = constants_in d
+constants_in (elif_part p n gs a b) = constants_in a ++ constants_in b
+
+abbrev pub constants_of : {items : List Item} {f : File} → Forms items f → List Declared
+constants_of (file d m) = constants_in d
+
+-- where the conditions have truths, what stands as declared with `const` is what the grammar has as constants and whose guards hold
+abbrev pub KeptConstantsHold : Type 0
+KeptConstantsHold = (truths : List Bool) (items : List Item) (f : File) (forms : Forms items f) → constants_at truths items ≡ targets (holding truths (constants_of forms))
 
 -- the names are those that the spelled file declares, each once, in the order of their first declaration
 pub record AreFamilyNames (dialect : Dialect) (model : Plain) (bytes : List ℕ) (names : List (List ℕ)) : Type 0 where

@@ -1,7 +1,7 @@
 //! Laws of the names of a family: each function does nothing, and its contract is the law.
 #![tactic(auto)]
 
-ghost use Rattle.reading_laws.specs.Declaring.{DeclarationsAreOfTheGrammar, FamiliesHaveDeclaredNames, KeptDeclarationsHold};
+ghost use Rattle.reading_laws.specs.Declaring.{DeclarationsAreOfTheGrammar, FamiliesHaveDeclaredNames, KeptConstantsHold, KeptDeclarationsHold};
 ghost use Rattle.reading_laws.specs.Shown.{SecondDeclarationsAreShown, UndeclaredNamesAreShown};
 
 use c_grammar::laws::{leaving_out_makes_nothing_deeper, within_the_limits_is_a_file};
@@ -12,9 +12,11 @@ use fam_outer::places_rise;
 
 /// What stands as declared by the items of a file with groups, each name before `main`, is what the grammar declares: the
 /// targets of its declarators, in the order of the text; and where the conditions have truths, of those whose guards hold.
+/// What stands as a constant there is what the grammar has in a declaration with `const`.
 pub fn declarations_of_families_are_those_of_the_grammar()
     ensures all { DeclarationsAreOfTheGrammar }
     ensures kept { KeptDeclarationsHold }
+    ensures constants { KeptConstantsHold }
 {
     declarations_are_those_of_the_grammar();
 }

@@ -1,4 +1,5 @@
 use Rattle.reading_laws.proofs.Declared.{declarations_are_of_the_grammar, kept_declarations_hold}
+use Rattle.reading_laws.proofs.DeclaredConstants.{kept_constants_hold}
 use Rattle.reading_laws.proofs.names.declarations_of_families_are_those_of_the_grammar.Goals as goal
 
 pub returns-clause-all : goal.returns-clause-all
@@ -6,3 +7,6 @@ returns-clause-all c = declarations_are_of_the_grammar c.declarations_are_those_
 
 pub returns-clause-kept : goal.returns-clause-kept
 returns-clause-kept c = kept_declarations_hold
+
+pub returns-clause-constants : goal.returns-clause-constants
+returns-clause-constants c = kept_constants_hold

@@ -1,0 +1,93 @@
+-- A file has no more statements than items.
+use Rattle.std.proofs.Common.{◌≡◌, ℕ, suc, ◌+◌, ◌≤◌, List, ◌∷◌, ◌++◌, length, subst, sym, arith, le_refl}
+use Rattle.std.proofs.lemmas.List.{length-append}
+use Rattle.fam_outer.specs.declared.faults.Place.{Place}
+use Rattle.c_tree.specs.Tree.{Code, Done, Assign, Input, Assert, If, While, Block, Skip, Cond, followed, Whole}
+use Rattle.c_grammar.specs.declared.items.Item.{Item}
+use Rattle.c_grammar.specs.declared.items.Sign.TheVariants as signs
+use Rattle.c_grammar.specs.Grammar as grammar
+use Rattle.c_grammar.specs.Grammar.{Shape, File, Returns, at}
+use Rattle.c_grammar.specs.Within as within
+use Rattle.c_grammar.specs.Within.{WritesIn, BodyWithin, MainWithin, FormsWithin, SpellsWithin}
+use Rattle.reading_laws.proofs.MadePrograms.{count_of}
+
+count-followed : (a b : Code) → count_of (followed a b) ≡ count_of a + count_of b
+count-followed Done b = omega arith
+count-followed (Assign p x e rest) b = omega (arith, count-followed rest b)
+count-followed (Input p x rest) b = omega (arith, count-followed rest b)
+count-followed (Assert p e rest) b = omega (arith, count-followed rest b)
+count-followed (If p e x y rest) b = omega (arith, count-followed rest b)
+count-followed (While p e x rest) b = omega (arith, count-followed rest b)
+count-followed (Block p x rest) b = omega (arith, count-followed rest b)
+count-followed (Skip p rest) b = omega (arith, count-followed rest b)
+count-followed (Cond n x y rest) b = omega (arith, count-followed rest b)
+
+-- ---- the items around
+
+two_lists : (n m : ℕ) (ts us : List Item) → n ≤ length ts → m ≤ length us → n + m ≤ length (ts ++ us)
+two_lists n m ts us h k = omega (arith, length-append ts us, h, k)
+
+then_some : (n : ℕ) (ts us : List Item) → n ≤ length ts → n ≤ length (ts ++ us)
+then_some n ts us h = omega (arith, length-append ts us, h)
+
+behind_some : (n : ℕ) (ts us : List Item) → n ≤ length us → n ≤ length (ts ++ us)
+behind_some n ts us h = omega (arith, length-append ts us, h)
+
+one_of : (n : ℕ) → suc 0 ≤ suc n
+one_of n = omega arith
+
+more_of : (n m : ℕ) → n ≤ m → n ≤ suc m
+more_of n m h = omega arith
+
+with_one : (n m : ℕ) → n ≤ m → suc (n + 0) ≤ suc m
+with_one n m h = omega arith
+
+with_none : (n m : ℕ) → n ≤ m → suc (n + (0 + 0)) ≤ suc m
+with_none n m h = omega arith
+
+with_two : (n m l : ℕ) → n + m ≤ l → suc (n + (m + 0)) ≤ suc l
+with_two n m l h = omega arith
+
+with_three : (n m k l : ℕ) → n + (m + k) ≤ l → suc (n + (m + k)) ≤ suc l
+with_three n m k l h = omega arith
+
+counted : {k : ℕ} {s : Shape} {ts : List Item} {c : Code} → WritesIn k s ts c → count_of c ≤ length ts
+counted within.none = le_refl 0
+counted (within.more {b} {ts} {us} {c} {d} {k} s l) = subst (λ (n : ℕ). n ≤ length (ts ++ us)) (sym (count-followed c d)) (two_lists (count_of c) (count_of d) ts us (counted s) (counted l))
+counted (within.choice p n {ts} {us} {vs} {c} {d} {e} {k} s t l) =
+    with_three (count_of c) (count_of d) (count_of e) (length (ts ++ (us ++ vs))) (two_lists (count_of c) (count_of d + count_of e) ts (us ++ vs) (counted s) (two_lists (count_of d) (count_of e) us vs (counted t) (counted l)))
+counted (within.ends p) = omega arith
+counted (within.otherwise p q {ts} {c} s) = more_of (count_of c) _ (then_some (count_of c) ts _ (counted s))
+counted (within.elif p n {ts} {us} {c} {d} s t) = with_two (count_of c) (count_of d) _ (two_lists (count_of c) (count_of d) ts us (counted s) (counted t))
+counted (within.assign p q r x e) = one_of _
+counted (within.input p q r s t u x) = one_of _
+counted (within.update p q r x u e) = one_of _
+counted (within.count p q r x u) = one_of _
+counted (within.prefix_count p q r x u) = one_of _
+counted (within.assert p q r s e) = one_of _
+counted (within.skip p) = one_of _
+counted (within.block p q {ts} {c} s) = with_one (count_of c) _ (then_some (count_of c) ts _ (counted s))
+counted (within.while p q r {b} {ts} {us} {e} {c} f s) = with_one (count_of c) _ (more_of (count_of c) _ (behind_some (count_of c) ts _ (more_of (count_of c) _ (counted s))))
+counted (within.if_then p q r {b} {ts} {us} {e} {c} f s) = with_none (count_of c) _ (more_of (count_of c) _ (behind_some (count_of c) ts _ (more_of (count_of c) _ (counted s))))
+counted (within.if_else p q r t {b} {ts} {us} {vs} {e} {c} {d} f s u) =
+    with_two (count_of c) (count_of d) _
+    (more_of (count_of c + count_of d) _ (behind_some (count_of c + count_of d) ts _ (more_of (count_of c + count_of d) _ (two_lists (count_of c) (count_of d) us _ (counted s) (more_of (count_of d) _ (counted u))))))
+
+returned : {vs : List Item} {d : Code} → Returns vs d → count_of d ≤ length vs
+returned grammar.no_return = le_refl 0
+returned (grammar.return p q r n) = one_of _
+
+body_counted : {us : List Item} {c : Code} {p : Place} → BodyWithin us c p → count_of c ≤ length us
+body_counted (within.body p {us} {vs} {ws} {c} {d} s r e) =
+    let rest : List Item = at p signs.RightBrace ∷ ws in
+    subst (λ (n : ℕ). n ≤ length (us ++ (vs ++ rest))) (sym (count-followed c d)) (two_lists (count_of c) (count_of d) us (vs ++ rest) (counted s) (then_some (count_of d) vs rest (returned r)))
+
+main_counted : {us : List Item} {c : Code} {p : Place} → MainWithin us c p → count_of c ≤ length us
+main_counted (within.main q r s t u {ts} {us} {vs} {c} y o b) =
+    behind_some (count_of c) ts _ (more_of (count_of c) _ (more_of (count_of c) _ (behind_some (count_of c) us _ (more_of (count_of c) _ (more_of (count_of c) _ (body_counted b))))))
+
+file_counted : {items : List Item} {f : File} → FormsWithin items f → count_of f.body ≤ length items
+file_counted (within.file {us} {vs} {ds} {c} {p} d m) = behind_some (count_of c) us vs (main_counted m)
+
+pub few_statements : (names : List (List ℕ)) (p : Whole) (items : List Item) → SpellsWithin names p items → count_of p.body ≤ length items
+few_statements names p items s = subst (λ (w : Whole). count_of w.body ≤ length items) (sym s.is) (file_counted s.forms)

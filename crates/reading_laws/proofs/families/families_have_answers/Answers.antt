@@ -1,0 +1,29 @@
+use Rattle.reading_laws.proofs.Fitting.{over_read}
+use Rattle.reading_laws.proofs.ReadFamilies.{families_promised, families_answered}
+use Rattle.reading_laws.proofs.families.families_have_answers.Goals as goal
+
+pub returns-clause-promised : goal.returns-clause-promised
+returns-clause-promised c = families_promised (record {
+  tokens = record { read = c.reads_longest_lexemes.ensures; literal = c.literals_are_numbers.ensures.small; rise = c.places_rise.ensures };
+  occur = c.family_names_occur.ensures;
+  blanked_length = c.places_stay.ensures.blanked_len;
+  code_length = c.places_stay.ensures.code_len;
+  formed = c.files_are_programs.ensures.formed;
+  conditions = c.files_are_programs.ensures.conditions;
+  within = c.within_the_limits_is_a_file.ensures;
+  few = c.few_atoms_are_not_more.ensures;
+  fit = λ unknown features bytes p ranges reads. (over_read features ranges unknown bytes _ reads).fit;
+})
+
+pub returns-clause-answer : goal.returns-clause-answer
+returns-clause-answer c = families_answered (record {
+  tokens = record { read = c.reads_longest_lexemes.ensures; literal = c.literals_are_numbers.ensures.small; rise = c.places_rise.ensures };
+  occur = c.family_names_occur.ensures;
+  blanked_length = c.places_stay.ensures.blanked_len;
+  code_length = c.places_stay.ensures.code_len;
+  formed = c.files_are_programs.ensures.formed;
+  conditions = c.files_are_programs.ensures.conditions;
+  within = c.within_the_limits_is_a_file.ensures;
+  few = c.few_atoms_are_not_more.ensures;
+  fit = λ unknown features bytes p ranges reads. (over_read features ranges unknown bytes _ reads).fit;
+}) c.files_have_answers.ensures
