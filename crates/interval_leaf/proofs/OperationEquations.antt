@@ -14,7 +14,7 @@ use Rattle.interval_leaf.specs.Laws.RangeLists.{pairs_numbers}
 pub same_lengths : (a b : LeafValue) (us bs : List Range) → a.variables ≡ b.variables → a ≡ interval_of us → b ≡ interval_of bs → length us ≡ length bs
 same_lengths a b us bs s e f = sym (ap (λ v. v.variables) e) ∙ s ∙ ap (λ v. v.variables) f
 
-pub few_zipped : (f : Range → Range → Range) (a b : LeafValue) (us bs rs : List Range) → a.variables ≤ 16 → a.variables ≡ b.variables → a ≡ interval_of us → b ≡ interval_of bs → rs ≡ map (λ (a, b). f a b) (zip us bs) → length rs ≤ 16
+pub few_zipped : (f : Range → Range → Range) (a b : LeafValue) (us bs rs : List Range) → a.variables ≤ 48 → a.variables ≡ b.variables → a ≡ interval_of us → b ≡ interval_of bs → rs ≡ map (λ (a, b). f a b) (zip us bs) → length rs ≤ 48
 few_zipped f a b us bs rs h s e g k =
     omega (arith, ap length k, length_zipped f us bs (same_lengths a b us bs s e g), ap (λ v. v.variables) e)
 

@@ -43,7 +43,7 @@ impl Model for IntervalLeaf {
 impl IntervalLeaf {
     /// The leaf that holds no store.
     fn none(variables: u32) -> IntervalLeaf
-        requires { variables ≤ 16 }
+        requires { variables ≤ 48 }
         ensures { result ≡ nothing_of variables }
     {
         IntervalLeaf {
@@ -54,7 +54,7 @@ impl IntervalLeaf {
 
     /// The leaf of these ranges.
     fn of(ranges: Vec<Range>) -> IntervalLeaf
-        requires few { length ranges.items ≤ 16 }
+        requires few { length ranges.items ≤ 48 }
         requires own { AllOwn ranges.items }
         ensures { result ≡ interval_of ranges.items }
     {
@@ -69,7 +69,7 @@ impl IntervalLeaf {
         ensures nothing { IfNone result (self.now ≡ nothing_of self.now.variables) }
         ensures ranges { IfSome result (λ rs. self.now ≡ interval_of rs.now) }
         ensures own { IfSome result (λ rs. AllOwn rs.now) }
-        ensures few { self.now.variables ≤ 16 }
+        ensures few { self.now.variables ≤ 48 }
     {
         match &self.ranges {
             None => None,
@@ -79,7 +79,7 @@ impl IntervalLeaf {
 
     /// The leaf of these ranges; Nothing where one is empty.
     fn settled(ranges: Vec<Range>) -> IntervalLeaf
-        requires few { length ranges.items ≤ 16 }
+        requires few { length ranges.items ≤ 48 }
         requires within { AllEnds ranges.items }
         ensures { result ≡ settled ranges.items }
     {
@@ -120,7 +120,7 @@ impl IntervalLeaf {
     /// The number of variables.
     fn count(&self) -> u32
         ensures value { result ≡ self.now.variables }
-        ensures few { result ≤ 16 }
+        ensures few { result ≤ 48 }
         ensures valid { IsInterval self.now }
     {
         let _ranges = &self.ranges;
@@ -263,6 +263,10 @@ impl Leaf for IntervalLeaf {
             None => Range::EMPTY,
             Some(ranges) => ranges[x as usize],
         }
+    }
+
+    fn step_of(&self, _x: u32) -> u64 {
+        1
     }
 
     fn form_range(&self, _f: &Form) -> Option<Range> {

@@ -14,6 +14,7 @@ use Rattle.c_tree.specs.declared.tree.Op.{Op}
 use Rattle.c_tree.specs.declared.tree.Op.TheVariants.{Add, Sub, Mul, Div, Rem}
 use Rattle.c_tree.specs.Value.{least}
 use Rattle.leaf_domain.specs.Ranges.{exact}
+use Rattle.leaf_domain.specs.Leaves.{IsStepsFrom}
 use Rattle.leaf_domain.proofs.RangeEquations.{quotients_some}
 
 -- ---- sums and products
@@ -202,6 +203,10 @@ remainders_hold a b n m h k z s = by_tests (is_zero_range b) (is_single a && is_
       low = low_left_bounds a.low n m (int_rem n m) (greatest_size_of b) (rem_is_left n m z) h.low (greatest_size_bounds b m k);
       high = high_left_bounds a.high n m (int_rem n m) (greatest_size_of b) (rem_is_left n m z) h.high (greatest_size_bounds b m k);
     }
+
+-- any number is so many steps of 1 from another
+pub one_step : (l n : ℤ) → IsStepsFrom l 1 n
+one_step l n = record { steps = n -ℤ l; value = omega (arith, ints) }
 
 pub not_empty : (n : ℤ) (a : Range) → Within n a → is_empty_range a ≡ false
 not_empty n a h = grind (arith, ints)

@@ -132,11 +132,11 @@ operator_stops mode op raw left right r s = record {
 abbrev pub survey_of : LeafMeaning → Mode → Term → LeafValue → Survey
 survey_of M mode e v = record { evaluation = evaluation_of (transfer M mode e) v; form = form_of_term e; operation = (transfer M mode e).operation v; stops = stops_of M mode e v }
 
--- a range within `int`, and a form and an operation over so many variables, which are at most 16
+-- a range within `int`, and a form and an operation over so many variables, which are at most 48
 pub record IsOver (count : ℕ) (s : Survey) : Type 0 where
   pub range : IsInInt s.evaluation.range
   pub form : HasForm count s.form
-  pub few : HasForm 16 s.form
+  pub few : HasForm 48 s.form
   pub operation : HasOperation count s.operation
 
 abbrev pub number_survey : ℤ → LeafValue → Survey

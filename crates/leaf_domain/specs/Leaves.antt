@@ -1,6 +1,6 @@
 -- What a leaf is, what its operations mean, and the laws of their meanings.
 use Rattle.std.specs.Ordering.{int_eq}
-use Rattle.std.specs.Prelude.{◌≡◌, ◌==◌, ◌&&◌, [], ◌∷◌, ◌⊎◌, ℕ, ◌+◌, ◌*◌, ◌<◌, ◌≤◌, ℤ, pos, Bool, true, false, List, Option, Some, None, length, slice_index_or, slice_set, is_none, All, ◌↔◌}
+use Rattle.std.specs.Prelude.{◌≡◌, ◌==◌, ◌&&◌, [], ◌∷◌, ◌⊎◌, ℕ, ◌+◌, ◌*◌, ◌<◌, ◌≤◌, ℤ, pos, ◌+ℤ◌, ◌*ℤ◌, Bool, true, false, List, Option, Some, None, length, slice_index_or, slice_set, is_none, All, ◌↔◌}
 use Rattle.leaf_domain.specs.declared.form.Form.{Form}
 use Rattle.leaf_domain.specs.declared.operation.Operation.{Operation}
 use Rattle.leaf_domain.specs.declared.range.Range.{Range}
@@ -26,6 +26,11 @@ is_nothing_of v = is_none v.content
 abbrev pub at_store : List ℤ → ℕ → ℤ
 at_store s x = slice_index_or s x (pos 0)
 
+-- a number is so many steps from another
+pub record IsStepsFrom (low : ℤ) (step : ℕ) (n : ℤ) : Type 0 where
+  pub steps : ℤ
+  pub value : n ≡ low +ℤ steps *ℤ pos step
+
 -- what the operations of a kind of leaf mean
 pub record LeafMeaning : Type 1 where
   -- the values that leaves of the kind have
@@ -41,6 +46,7 @@ pub record LeafMeaning : Type 1 where
   pub widen : List ℤ → LeafValue → LeafValue → LeafValue
   pub narrow : List ℤ → LeafValue → LeafValue → LeafValue
   pub bounds_of : LeafValue → ℕ → Range
+  pub step_of : LeafValue → ℕ → ℕ
   pub form_range : LeafValue → Form → Option Range
   pub meet_range : LeafValue → ℕ → Range → LeafValue
   pub meet_form : LeafValue → Form → Compare → LeafValue
@@ -64,11 +70,11 @@ pub record IsLeafLike (M : LeafMeaning) (a r : LeafValue) : Type 0 where
 -- the laws that every kind of leaf keeps
 pub record LeafLaws (M : LeafMeaning) : Type 0 where
   -- values that leaves have, the leaf of one store, and Nothing, which holds no store
-  pub valid_few : (a : LeafValue) → M.valid a → a.variables ≤ 16
-  pub start_valid : (s : List ℤ) → length s ≤ 16 → All IsInt s → M.valid (M.start s)
+  pub valid_few : (a : LeafValue) → M.valid a → a.variables ≤ 48
+  pub start_valid : (s : List ℤ) → length s ≤ 48 → All IsInt s → M.valid (M.start s)
   pub start_variables : (s : List ℤ) → (M.start s).variables ≡ length s
   pub start_holds : (s t : List ℤ) → (M.holds (M.start s) t) ↔ (t ≡ s)
-  pub nothing_valid : (n : ℕ) → n ≤ 16 → M.valid (nothing_of n)
+  pub nothing_valid : (n : ℕ) → n ≤ 48 → M.valid (nothing_of n)
   pub nothing_holds : (n : ℕ) (s : List ℤ) → M.holds (nothing_of n) s → ⊥
   pub holds_length : (a : LeafValue) (s : List ℤ) → M.valid a → M.holds a s → length s ≡ a.variables
   -- the same stores
@@ -100,6 +106,7 @@ pub record LeafLaws (M : LeafMeaning) : Type 0 where
   pub bounds_hold : (a : LeafValue) (x : ℕ) (s : List ℤ) → M.valid a → x < a.variables → M.holds a s → Within (at_store s x) (M.bounds_of a x)
   pub bounds_some : (a : LeafValue) (x : ℕ) → M.valid a → x < a.variables → is_nothing_of a ≡ false → is_empty_range (M.bounds_of a x) ≡ false
   pub bounds_nothing : (n x : ℕ) → is_empty_range (M.bounds_of (nothing_of n) x) ≡ true
+  pub step_holds : (a : LeafValue) (x : ℕ) (s : List ℤ) → M.valid a → x < a.variables → M.holds a s → IsStepsFrom (M.bounds_of a x).low (M.step_of a x) (at_store s x)
   pub form_holds : (a : LeafValue) (f : Form) (r : Range) (s : List ℤ) → M.valid a → IsForm a.variables f → M.holds a s → M.form_range a f ≡ Some r → Within (form_at f s) r
   pub form_nothing : (n : ℕ) (f : Form) (r : Range) → M.form_range (nothing_of n) f ≡ Some r → is_empty_range r ≡ true
   -- each store that meets the range or the comparison with 0

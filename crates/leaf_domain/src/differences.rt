@@ -25,8 +25,8 @@ pub(crate) fn difference_where(
     g: &Option<Form>,
     counts: bool,
 ) -> Result<Option<Form>, NoMemory>
-    requires f { HasForm 16 f.now }
-    requires g { HasForm 16 g.now }
+    requires f { HasForm 48 f.now }
+    requires g { HasForm 48 g.now }
     ensures value { IfOk result (λ made. made ≡ form_where counts (difference_form f.now g.now)) }
     ensures form { (count : ℕ) → HasForm count f.now → HasForm count g.now → IfOk result (HasForm count) }
 {
@@ -43,7 +43,7 @@ pub(crate) fn less_zero_where(
     f: &Option<Form>,
     counts: bool,
 ) -> Result<Option<Form>, NoMemory>
-    requires { HasForm 16 f.now }
+    requires { HasForm 48 f.now }
     ensures value { IfOk result (λ made. made ≡ form_where counts (form_less_zero f.now)) }
     ensures form { (count : ℕ) → HasForm count f.now → IfOk result (HasForm count) }
 {

@@ -28,11 +28,11 @@ pub fn equality_is_exact<L: Leaf>()
     ensures value { (a b : L) → L.value a ≡ L.value b → a ≡ b }
 {}
 
-/// Each leaf has one of the values of its kind, of at most 16 variables. A law of the trait can't say
+/// Each leaf has one of the values of its kind, of at most 48 variables. A law of the trait can't say
 /// so of every leaf, so it is a clause of `Leaf::variables`, and a proof learns it from a call: generic
 /// code makes this one, which does nothing, where a proof needs it.
 pub fn leaf_is_valid<L: Leaf>(leaf: &L)
-    ensures few { (L.value leaf.now).variables ≤ 16 }
+    ensures few { (L.value leaf.now).variables ≤ 48 }
     ensures valid { L.meaning.valid (L.value leaf.now) }
 {
     let _count = leaf.variables();

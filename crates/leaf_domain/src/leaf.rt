@@ -29,25 +29,25 @@ pub trait Leaf: Eq + Hash + Drop {
 
     /// The leaf that holds no store.
     fn nothing(alloc: Global, variables: u32) -> Result<Self, NoMemory>
-        requires { variables ≤ 16 }
+        requires { variables ≤ 48 }
         ensures { IfOk result (λ leaf. value leaf ≡ nothing_of variables) };
 
     /// The leaf of one store.
     fn start(alloc: Global, values: &[i64]) -> Result<Self, NoMemory>
-        requires few { length values.now ≤ 16 }
+        requires few { length values.now ≤ 48 }
         requires int { All IsInt values.now }
         ensures { IfOk result (λ leaf. value leaf ≡ meaning.start values.now) };
 
     /// How many bounds a leaf has.
     fn bound_count(variables: u32) -> u32
-        requires { variables ≤ 16 }
+        requires { variables ≤ 48 }
         ensures value { result ≡ meaning.bound_count variables }
-        ensures small { result ≤ 2048 };
+        ensures small { result ≤ 16384 };
 
     /// The number of variables. Each leaf of the kind has one of the kind's values.
     fn variables(&self) -> u32
         ensures value { result ≡ (value self.now).variables }
-        ensures few { result ≤ 16 }
+        ensures few { result ≤ 48 }
         ensures valid { meaning.valid (value self.now) };
 
     /// Whether it holds no store.
@@ -87,6 +87,12 @@ pub trait Leaf: Eq + Hash + Drop {
     fn bounds_of(&self, x: u32) -> Range
         requires { x < (value self.now).variables }
         ensures { result ≡ meaning.bounds_of (value self.now) x };
+
+    /// How far apart the values of a variable are known to lie: each is the low end of its range and a multiple of the step. 1 tells no
+    /// more than the range, and 0 that there is one value.
+    fn step_of(&self, x: u32) -> u64
+        requires { x < (value self.now).variables }
+        ensures { result ≡ meaning.step_of (value self.now) x };
 
     /// The range of a form, where the kind of leaf has one.
     fn form_range(&self, f: &Form) -> Option<Range>

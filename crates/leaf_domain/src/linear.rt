@@ -60,8 +60,8 @@ fn constants(f: &Form, g: &Form) -> Option<i64>
 #[tactic(auto, using(crate::proofs::FormLemmas::form_rises))]
 /// The sum of two forms, where no number of it passes 2^40 in size.
 fn sum_of(alloc: Global, f: &Form, g: &Form) -> Result<Option<Form>, NoMemory>
-    requires f { IsForm 16 f.now }
-    requires g { IsForm 16 g.now }
+    requires f { IsForm 48 f.now }
+    requires g { IsForm 48 g.now }
     ensures { IfOk result (λ made. made ≡ kept_form (form_sum f.now g.now)) }
 {
     let terms = f.terms.add(alloc, &g.terms, LARGEST)?;
@@ -78,8 +78,8 @@ fn multiple_of(alloc: Global, by: i64, f: &Form) -> Result<Option<Form>, NoMemor
 
 /// The sum of two forms, where there are both.
 fn sum(alloc: Global, f: &Option<Form>, g: &Option<Form>) -> Result<Option<Form>, NoMemory>
-    requires f { HasForm 16 f.now }
-    requires g { HasForm 16 g.now }
+    requires f { HasForm 48 f.now }
+    requires g { HasForm 48 g.now }
     ensures { IfOk result (λ made. made ≡ sum_form f.now g.now) }
 {
     match (f, g) {
@@ -104,8 +104,8 @@ pub(crate) fn difference(
     f: &Option<Form>,
     g: &Option<Form>,
 ) -> Result<Option<Form>, NoMemory>
-    requires f { HasForm 16 f.now }
-    requires g { HasForm 16 g.now }
+    requires f { HasForm 48 f.now }
+    requires g { HasForm 48 g.now }
     ensures { IfOk result (λ made. made ≡ difference_form f.now g.now) }
 {
     let negated = multiple(alloc, -1, g)?;
@@ -155,8 +155,8 @@ pub(crate) fn combined(
     f: &Option<Form>,
     g: &Option<Form>,
 ) -> Result<Option<Form>, NoMemory>
-    requires f { HasForm 16 f.now }
-    requires g { HasForm 16 g.now }
+    requires f { HasForm 48 f.now }
+    requires g { HasForm 48 g.now }
     ensures { IfOk result (λ made. made ≡ binary_form op f.now g.now) }
 {
     match op {
@@ -170,7 +170,7 @@ pub(crate) fn combined(
 /// The linear form of an expression. There is none where it is not linear, or where a number on the
 /// way passes 2^40 in size. A negation, a sum, a difference and a product by a constant are linear.
 pub fn form_of(alloc: Global, e: &Expr) -> Result<Option<Form>, NoMemory>
-    requires { IsTermOf 16 (term e.now) }
+    requires { IsTermOf 48 (term e.now) }
     ensures value { IfOk result (λ f. f ≡ form_of_term (term e.now)) }
     ensures form { (count : ℕ) → IsTermOf count (term e.now) → IfOk result (HasForm count) }
 {

@@ -6,8 +6,8 @@ use Rattle.leaf_domain.specs.declared.form.Form.{Form}
 use Rattle.leaf_domain.specs.declared.range.Range.{Range}
 use Rattle.leaf_domain.specs.Ranges.{Within, IsInInt, is_empty_range}
 use Rattle.leaf_domain.specs.Forms.{form_at, IsForm}
-use Rattle.leaf_domain.specs.Leaves.{LeafValue, LeafLaws, IsLeafLike, nothing_of, is_nothing_of}
-use Rattle.leaf_domain.proofs.ArithmeticLemmas.{not_empty}
+use Rattle.leaf_domain.specs.Leaves.{LeafValue, LeafLaws, IsLeafLike, nothing_of, is_nothing_of, at_store}
+use Rattle.leaf_domain.proofs.ArithmeticLemmas.{not_empty, one_step}
 use Rattle.leaf_domain.proofs.Variables.{length_zipped, length_replaced, held_length, held_read, held_set, held_part}
 use Rattle.nonrelational_leaf.specs.Parts.{PartMeaning}
 use Rattle.nonrelational_leaf.specs.PartLaws.{PartLaws}
@@ -24,7 +24,7 @@ no_form_range = None
 no_range : (r : Range) (Q : Type 0) → no_form_range ≡ Some r → Q
 no_range r Q e = cc
 
-few_of : (n m : ℕ) → n ≤ 16 → n ≡ m → m ≤ 16
+few_of : (n m : ℕ) → n ≤ 48 → n ≡ m → m ≤ 48
 few_of n m h e = omega arith
 
 pub below_of : (x n m : ℕ) → x < n → n ≡ m → x < m
@@ -39,10 +39,10 @@ module _ {P : Type 0} (D : PartMeaning P) (L : PartLaws D) where
   made_back ps s h = subst (λ xs. AllHave D xs s) (L.parts_told ps) h
 
   -- a leaf that is made of as many parts
-  made_answers : (n : ℕ) (c : Option (List ℤ)) (ps : List P) → n ≤ 16 → n ≡ length ps → AllOwn D ps → IsLeafLike (lifted D) (at n c) (leaf_of D ps)
+  made_answers : (n : ℕ) (c : Option (List ℤ)) (ps : List P) → n ≤ 48 → n ≡ length ps → AllOwn D ps → IsLeafLike (lifted D) (at n c) (leaf_of D ps)
   made_answers n c ps h e k = record { valid = lists.is_leaf D L ps (few_of n (length ps) h e) k; same = sym e }
 
-  nothing_answers : (n m : ℕ) (c : Option (List ℤ)) → n ≤ 16 → n ≡ m → IsLeafLike (lifted D) (at n c) (nothing_of m)
+  nothing_answers : (n m : ℕ) (c : Option (List ℤ)) → n ≤ 48 → n ≡ m → IsLeafLike (lifted D) (at n c) (nothing_of m)
   nothing_answers n m c h e = record { valid = (few_of n m h e, tt); same = sym e }
 
   -- ---- start
@@ -283,6 +283,7 @@ module _ {P : Type 0} (D : PartMeaning P) (L : PartLaws D) where
     bounds_hold = λ a x s. bounds_hold a.variables a.content x s;
     bounds_some = λ a x. bounds_some a.variables a.content x;
     bounds_nothing = λ n x. subst (λ q. is_empty_range (D.range q) ≡ true) (sym (none_at x)) L.bare_is_empty;
+    step_holds = λ a x s p l h. one_step (bounds_at D a x).low (at_store s x);
     form_holds = λ a f r s p g h e. no_range r (Within (form_at f s) r) e;
     form_nothing = λ n f r e. no_range r (is_empty_range r ≡ true) e;
     meet_answers = λ a x r p l h. meet_answers a.variables a.content x r p l h;

@@ -52,7 +52,7 @@ module _ {P : Type 0} (D : PartMeaning P) (L : PartLaws D) where
   length_best ps = length_reduced D.reduction ps
 
   -- ---- parts that leaves have
-  pub is_leaf : (ps : List P) → length ps ≤ 16 → AllOwn D ps → IsLeaf D (leaf_of D ps)
+  pub is_leaf : (ps : List P) → length ps ≤ 48 → AllOwn D ps → IsLeaf D (leaf_of D ps)
   is_leaf ps h k = (h, (ap D.numbers (L.parts_told ps), ap length (sym (L.parts_told ps)), subst (AllOwn D) (sym (L.parts_told ps)) k))
 
   pub own_best : (ps : List P) → AllOwn D ps → AllOwn D (all_best D ps)

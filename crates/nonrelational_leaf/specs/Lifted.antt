@@ -53,7 +53,7 @@ module _ {P : Type 0} (D : PartMeaning P) where
   IsContent n (Some ns) = (D.numbers (D.parts ns) ≡ ns) × (n ≡ length (D.parts ns)) × AllOwn (D.parts ns)
 
   abbrev pub IsLeaf : LeafValue → Type 0
-  IsLeaf v = (v.variables ≤ 16) × IsContent v.variables v.content
+  IsLeaf v = (v.variables ≤ 48) × IsContent v.variables v.content
 
   abbrev pub ContentHolds : Option (List ℤ) → List ℤ → Type 0
   ContentHolds None s = ⊥
@@ -141,6 +141,7 @@ module _ {P : Type 0} (D : PartMeaning P) where
     widen = widened_leaf;
     narrow = narrowed_leaf;
     bounds_of = bounds_at;
+    step_of = λ v x. 1;
     form_range = λ v f. None;
     meet_range = met_leaf;
     meet_form = λ v f op. best_leaf v;

@@ -28,14 +28,14 @@ fn lesser(a: i64, b: i64) -> i64
 }
 
 /// For each term the shorter of two walks: `near` and the entry from `p`, or `far` and the entry from `q`.
-fn row_from(matrix: &Matrix, p: u32, near: i64, q: u32, far: i64) -> [i64; 32]
+fn row_from(matrix: &Matrix, p: u32, near: i64, q: u32, far: i64) -> [i64; 96]
     requires first { p < 2 * matrix.now.variables }
     requires second { q < 2 * matrix.now.variables }
     requires near { IsSmall near }
     requires far { IsSmall far }
     ensures { IsRow matrix.now.variables result (row_from (entry_of matrix.now) p near q far) }
 {
-    let mut row = [0; 32];
+    let mut row = [0; 96];
     for c in 0..2 * matrix.variables() {
         row[c as usize] = lesser(near + matrix.entry(p, c), far + matrix.entry(q, c));
     }
@@ -43,10 +43,10 @@ fn row_from(matrix: &Matrix, p: u32, near: i64, q: u32, far: i64) -> [i64; 32]
 }
 
 /// For each term half of the bound of twice its opposite, rounded down.
-fn halves(matrix: &Matrix) -> [i64; 32]
+fn halves(matrix: &Matrix) -> [i64; 96]
     ensures { IsRow matrix.now.variables result (halves (entry_of matrix.now)) }
 {
-    let mut row = [0; 32];
+    let mut row = [0; 96];
     for c in 0..2 * matrix.variables() {
         row[c as usize] = matrix.entry(opposite(c), c).div_euclid(2);
     }
@@ -54,8 +54,8 @@ fn halves(matrix: &Matrix) -> [i64; 32]
 }
 
 /// The lesser of the sums of two rows for the entry `(a, b)` and for its coherent twin.
-fn sums(variables: u32, first: &[i64; 32], second: &[i64; 32], a: u32, b: u32) -> i64
-    requires few { variables ≤ 16 }
+fn sums(variables: u32, first: &[i64; 96], second: &[i64; 96], a: u32, b: u32) -> i64
+    requires few { variables ≤ 48 }
     requires first_row { IsRow variables first.now (bound_at first.now) }
     requires second_row { IsRow variables second.now (bound_at second.now) }
     requires first_term { a < 2 * variables }
@@ -72,7 +72,7 @@ fn sums(variables: u32, first: &[i64; 32], second: &[i64; 32], a: u32, b: u32) -
 
 /// Lowers each entry to the sums of two rows. Answers Empty at once where an entry and the one opposite to
 /// its ends are together below 0, so that no entry passes -2^34.
-fn meet_sums(matrix: &mut Matrix, first: &[i64; 32], second: &[i64; 32]) -> Closed
+fn meet_sums(matrix: &mut Matrix, first: &[i64; 96], second: &[i64; 96]) -> Closed
     requires first_row { IsRow matrix.old.variables first.now (bound_at first.now) }
     requires second_row { IsRow matrix.old.variables second.now (bound_at second.now) }
     ensures lowered { result ≡ Closed.Closed

@@ -58,7 +58,7 @@ pub settled-is : (n : ℕ) (d : MatrixValue) (o : Option MatrixValue) → IsBoun
 settled-is n d None b e h = sym (best-unmet d b h ∙ ap nothing_of e)
 settled-is n d (Some m) b e h = sym (best-is d m b h.0 h.1)
 
-pub sound-best : (n : ℕ) (o : Option MatrixValue) → n ≤ 16 → IsOwnBest n o → AreMatrices n o None
+pub sound-best : (n : ℕ) (o : Option MatrixValue) → n ≤ 48 → IsOwnBest n o → AreMatrices n o None
 sound-best n None l h = tt
 sound-best n (Some m) l h = record { few = l; own_variables = h.2; variables = h.2; own_kept = h.1; kept = h.1; best = h.0 }
 

@@ -40,7 +40,7 @@ IsOctagonContent n (Some ns) = IsMatrix (matrix_at n ns) × ((s : List ℤ) × H
 
 -- Nothing, or a matrix that some store meets
 abbrev pub IsOctagon : LeafValue → Type 0
-IsOctagon v = (v.variables ≤ 16) × IsOctagonContent v.variables v.content
+IsOctagon v = (v.variables ≤ 48) × IsOctagonContent v.variables v.content
 
 abbrev pub ContentHolds : ℕ → Option (List ℤ) → List ℤ → Type 0
 ContentHolds n None s = ⊥
@@ -218,6 +218,7 @@ octagons = record {
   widen = octagon_widen;
   narrow = octagon_narrow;
   bounds_of = octagon_bounds;
+  step_of = λ v x. 1;
   form_range = octagon_form_range;
   meet_range = octagon_meet_range;
   meet_form = octagon_meet_form;

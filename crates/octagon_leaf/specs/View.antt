@@ -16,7 +16,7 @@ view_of s = record { variables = s.variables; content = content_of s.closed s.wi
 
 -- a matrix of so many variables with best bounds of another
 pub record IsClosedCopy (n : ℕ) (m c : MatrixValue) : Type 0 where
-  pub few : n ≤ 16
+  pub few : n ≤ 48
   pub own_variables : m.variables ≡ n
   pub variables : c.variables ≡ n
   pub own_kept : IsMatrix m
@@ -29,4 +29,4 @@ AreMatrices n (Some c) None = IsClosedCopy n c c
 AreMatrices n (Some c) (Some w) = IsClosedCopy n w c
 
 abbrev pub IsSound : Inside → Type 0
-IsSound s = (s.variables ≤ 16) × AreMatrices s.variables s.closed s.widened
+IsSound s = (s.variables ≤ 48) × AreMatrices s.variables s.closed s.widened

@@ -26,7 +26,7 @@ fn filled<F: Fn(u32, u32) -> i64>(
     variables: u32,
     entry: F,
 ) -> Result<Matrix, NoMemory>
-    requires few { variables ≤ 16 }
+    requires few { variables ≤ 48 }
     requires callable { (a b : ℕ) → a < 2 * variables → b < 2 * variables → a ≢ b → F.pre entry a b }
     requires large { (a b : ℕ) (r : ℤ) → a < 2 * variables → b < 2 * variables → a ≢ b → F.post entry a b r
         → least_entry ≤ℤ r }
@@ -60,7 +60,7 @@ fn term_value(values: &[i64], a: u32) -> i64
 
 /// The differences of the terms at a store.
 pub(crate) fn differences(alloc: Global, values: &[i64]) -> Result<Matrix, NoMemory>
-    requires few { length values.now ≤ 16 }
+    requires few { length values.now ≤ 48 }
     requires int { All IsInt values.now }
     ensures entries { IfOk result (λ m. HasEntries m (length values.now) (difference values.now)) }
     ensures kept { IfOk result (λ m. IsMatrix m) }
@@ -84,7 +84,7 @@ pub(crate) fn joined(alloc: Global, first: &Matrix, second: &Matrix) -> Result<M
 
 /// What the entry of two terms bounds: a variable twice, its negation twice, or the sum or difference of two variables.
 fn multiple_of(a: u32, b: u32) -> Multiple
-    requires { a < 32 }
+    requires { a < 96 }
     ensures { result ≡ multiple_of a b }
 {
     if b != opposite(a) {
@@ -207,7 +207,7 @@ pub(crate) fn with_range(
 
 /// The term `t` for `+x`, its opposite for `-x`, and every other term itself.
 fn renamed(x: u32, t: u32, a: u32) -> u32
-    requires { t < 32 }
+    requires { t < 96 }
     ensures { result ≡ renamed x t a }
 {
     if a / 2 != x {

@@ -54,7 +54,7 @@ impl Model for OctagonLeaf {
 impl OctagonLeaf {
     /// The leaf that holds no store.
     fn none(variables: u32) -> OctagonLeaf
-        requires { variables ≤ 16 }
+        requires { variables ≤ 48 }
         ensures { result ≡ nothing_of variables }
     {
         OctagonLeaf {
@@ -66,7 +66,7 @@ impl OctagonLeaf {
 
     /// The leaf of a matrix with best bounds, and Nothing where there is none.
     fn from_best(variables: u32, closed: Option<Matrix>) -> OctagonLeaf
-        requires few { variables ≤ 16 }
+        requires few { variables ≤ 48 }
         requires best { IsOwnBest variables closed }
         ensures { result ≡ leaf_from variables closed }
     {
@@ -97,7 +97,7 @@ impl OctagonLeaf {
     fn best_matrix(&self) -> Option<&Matrix>
         ensures nothing { IfNone result (self.now ≡ nothing_of self.now.variables) }
         ensures best { IfSome result (λ m. IsClosedOf self.now m.now) }
-        ensures few { self.now.variables ≤ 16 }
+        ensures few { self.now.variables ≤ 48 }
     {
         match &self.closed {
             None => None,
@@ -109,7 +109,7 @@ impl OctagonLeaf {
     fn own_matrix(&self) -> Option<&Matrix>
         ensures nothing { IfNone result (self.now ≡ nothing_of self.now.variables) }
         ensures standing { IfSome result (λ m. IsStandingOf self.now m.now) }
-        ensures few { self.now.variables ≤ 16 }
+        ensures few { self.now.variables ≤ 48 }
     {
         match (&self.closed, &self.widened) {
             (None, _) => None,
@@ -121,7 +121,7 @@ impl OctagonLeaf {
     /// The number of variables.
     fn count(&self) -> u32
         ensures value { result ≡ self.now.variables }
-        ensures few { result ≤ 16 }
+        ensures few { result ≤ 48 }
         ensures valid { IsOctagon self.now }
     {
         let _closed = &self.closed;
@@ -389,6 +389,10 @@ impl Leaf for OctagonLeaf {
                 high: half(matrix.entry(2 * x, 2 * x + 1)),
             },
         }
+    }
+
+    fn step_of(&self, _x: u32) -> u64 {
+        1
     }
 
     fn form_range(&self, f: &Form) -> Option<Range> {

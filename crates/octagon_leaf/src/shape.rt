@@ -44,16 +44,16 @@ fn is_unit(k: i64) -> bool
 
 /// The term of a variable with coefficient 1 or -1.
 fn term_of(x: u32, k: i64) -> u32
-    requires { x < 16 }
+    requires { x < 48 }
     ensures value { result ≡ term_of x k }
-    ensures small { result < 32 }
+    ensures small { result < 96 }
 {
     if k == 1 { 2 * x } else { 2 * x + 1 }
 }
 
 /// The shape of one term and a constant.
 fn single(x: u32, k: i64, constant: i64) -> Shape
-    requires { x < 16 }
+    requires { x < 48 }
     ensures { result ≡ single x k constant }
 {
     if !is_unit(k) {
@@ -70,8 +70,8 @@ fn single(x: u32, k: i64, constant: i64) -> Shape
 
 /// The shape of two terms and a constant.
 fn double(x: u32, k: i64, y: u32, l: i64, constant: i64) -> Shape
-    requires first { x < 16 }
-    requires second { y < 16 }
+    requires first { x < 48 }
+    requires second { y < 48 }
     ensures { result ≡ double x k y l constant }
 {
     if !(is_unit(k) && is_unit(l)) {
@@ -87,7 +87,7 @@ fn double(x: u32, k: i64, y: u32, l: i64, constant: i64) -> Shape
 
 /// How an octagon sees a form.
 pub(crate) fn shape_of(f: &Form, variables: u32) -> Shape
-    requires few { variables ≤ 16 }
+    requires few { variables ≤ 48 }
     requires form { IsForm variables f.now }
     ensures { result ≡ shape_of f.now }
 {
@@ -201,7 +201,7 @@ fn different(matrix: Matrix, e: Edge, range: Range) -> Option<Matrix>
 
 /// That the term lies from `low` to `high`.
 pub(crate) fn term_between(t: u32, low: i64, high: i64) -> [Meet; 2]
-    requires t { t < 32 }
+    requires t { t < 96 }
     requires low { IsSmall low }
     requires high { IsSmall high }
     ensures { result ≡ term_between t low high }
@@ -223,7 +223,7 @@ pub(crate) fn term_between(t: u32, low: i64, high: i64) -> [Meet; 2]
 
 /// That variable `x` lies in the range.
 pub(crate) fn between(x: u32, r: Range) -> [Meet; 2]
-    requires x { x < 16 }
+    requires x { x < 48 }
     requires small { IsSmallRange r }
     ensures { result ≡ between x r }
 {
@@ -243,7 +243,7 @@ pub(crate) fn between(x: u32, r: Range) -> [Meet; 2]
 
 /// That variable `x` is the term and the constant.
 pub(crate) fn equal_to(x: u32, t: u32, c: i64) -> [Meet; 2]
-    requires x { x < 16 }
+    requires x { x < 48 }
     requires constant { IsFormNumber c }
     ensures { result ≡ equal_to x t c }
 {

@@ -17,7 +17,7 @@ use std::marker::Model;
 /// Upper bounds of the differences of signed terms, after A. Miné, "The octagon abstract domain".
 ///
 /// Of variable `x`, term `2x` is `+x` and term `2x + 1` is `-x`. Entry `(a, b)` bounds the value of
-/// term `a` minus that of term `b`. Contracts see the number of variables, at most 16, and the whole
+/// term `a` minus that of term `b`. Contracts see the number of variables, at most 48, and the whole
 /// list of entries, row by row. The diagonal is 0, the entries `(a, b)` and `(-b, -a)` are equal
 /// (coherence), and each entry lies between -2^34 and the bound that the values of `int` give.
 ///
@@ -77,7 +77,7 @@ pub fn opposite(a: u32) -> u32
 /// The place of the first cell of a row. Row `a` has the entries up to the variable of `a`.
 #[tactic(auto, unfolding(crate::specs::View::row_of))]
 fn row(a: u32) -> usize
-    requires { a < 32 }
+    requires { a < 96 }
     ensures { result ≡ row_of a }
 {
     let variable = (a / 2) as usize;
@@ -88,8 +88,8 @@ fn row(a: u32) -> usize
 /// The place of the cell of an entry, which its coherent twin shares.
 #[tactic(auto, unfolding(crate::specs::View::place_of))]
 fn place(a: u32, b: u32) -> usize
-    requires first { a < 32 }
-    requires second { b < 32 }
+    requires first { a < 96 }
+    requires second { b < 96 }
     ensures { result ≡ place_of a b }
 {
     if b / 2 <= a / 2 {
@@ -130,7 +130,7 @@ pub fn type_bound(a: u32, b: u32) -> i64
 
 /// Cells that hold the type's bounds.
 fn filled(alloc: Global, variables: u32) -> Result<Vec<i64>, NoMemory>
-    requires { variables ≤ 16 }
+    requires { variables ≤ 48 }
     ensures { IfOk result (λ v. IsFilled variables v.items (2 * variables) 0) }
 {
     let size = (variables * (2 * variables + 2)) as usize;
@@ -149,7 +149,7 @@ fn filled(alloc: Global, variables: u32) -> Result<Vec<i64>, NoMemory>
 impl Matrix {
     /// The matrix of the type's bounds, which all stores within `int` meet. Refuses only for want of memory.
     pub fn top(alloc: Global, variables: u32) -> Result<Matrix, NoMemory>
-        requires { variables ≤ 16 }
+        requires { variables ≤ 48 }
         ensures entries { IfOk result (λ m. HasEntries m variables type_bound) }
         ensures stores { IfOk result (λ m. (s : List ℤ) → Holds m s ↔ IsStore variables s) }
         ensures kept { IfOk result (λ m. IsMatrix m) }

@@ -109,7 +109,7 @@ module _ (A B : LeafMeaning) (L : LeafLaws A) (K : LeafLaws B) where
           let Q : LeafValue → Type 0 = λ v. B.holds v s in
           (subst P (first_is (at n (Some ns)) (at m (Some ms)) refl refl) h.0, subst Q (second_is (at n (Some ns)) (at m (Some ms)) e refl refl) h.1)
 
-  pub nothing_pair : (n : ℕ) → n ≤ 16 → IsPair A B (nothing_of n)
+  pub nothing_pair : (n : ℕ) → n ≤ 48 → IsPair A B (nothing_of n)
   nothing_pair n h = record { first = L.nothing_valid n h; second = K.nothing_valid n h; is = refl }
 
   pub pair_valid : (a b : LeafValue) → A.valid a → B.valid b → a.variables ≡ b.variables → IsPair A B (pair_of a b)

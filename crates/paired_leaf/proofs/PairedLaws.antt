@@ -16,7 +16,7 @@ use Rattle.leaf_domain.specs.Leaves.{LeafValue, LeafMeaning, LeafLaws, Alike, Is
 use Rattle.leaf_domain.specs.Exactness.{LeafExactness}
 use Rattle.paired_leaf.specs.Pairs.{pair_of, first_of, second_of, IsPair, HoldsBoth}
 use Rattle.paired_leaf.specs.Exchange.{exchanged}
-use Rattle.paired_leaf.specs.PairedLeaves.{both_ranges, widened_to, joined, both_compared, either_side, compared, paired}
+use Rattle.paired_leaf.specs.PairedLeaves.{both_ranges, both_bounds, widened_to, joined, both_compared, either_side, compared, paired}
 use Rattle.paired_leaf.proofs.PairLemmas as pairs
 use Rattle.paired_leaf.proofs.PairLemmas.{at, of_either, both_true, true_both}
 use Rattle.paired_leaf.proofs.ExchangeLaws as exchanges
@@ -417,6 +417,7 @@ module _ (A B : LeafMeaning) (L : LeafLaws A) (K : LeafLaws B) where
       bounds_hold = λ a x s p l h. ranges.bounds_have (A.bounds_of (first_of a) x) (B.bounds_of (second_of a) x) (at_store s x) (L.bounds_hold (first_of a) x s p.first l h.0) (K.bounds_hold (second_of a) x s p.second l h.1);
       bounds_some = λ a x p l e. ranges.bounds_some (A.bounds_of (first_of a) x) (B.bounds_of (second_of a) x) (L.bounds_some (first_of a) x p.first l (first_some a e));
       bounds_nothing = λ n x. ranges.bounds_empty (A.bounds_of (nothing_of n) x) (B.bounds_of (nothing_of n) x) (L.bounds_nothing n x);
+      step_holds = λ a x s p l h. ranges.steps_from (both_bounds (A.bounds_of (first_of a) x) (B.bounds_of (second_of a) x)) (B.bounds_of (second_of a) x) (B.step_of (second_of a) x) (at_store s x) (K.step_holds (second_of a) x s p.second l h.1);
       form_holds = form_holds;
       form_nothing = form_nothing;
       meet_answers = λ a x r p l i. refined_answers a (A.meet_range (first_of a) x r) (B.meet_range (second_of a) x r) (L.meet_answers (first_of a) x r p.first l i) (K.meet_answers (second_of a) x r p.second l i);

@@ -1,11 +1,14 @@
 -- What lies in both of two ranges.
-use Rattle.std.proofs.Common.{◌≡◌, ℤ, Bool, true, false, if◌then◌else◌, Option, Some, None, IfSome, refl, subst, arith, int_lt}
+use Rattle.std.proofs.Common.{◌≡◌, ℕ, ℤ, Bool, true, false, if◌then◌else◌, Option, Some, None, IfSome, refl, sym, subst, arith, int_lt}
 use Rattle.std.specs.Int.{int_min, int_max}
+use Rattle.std.specs.Ordering.{int_eq}
 use Rattle.std.proofs.lemmas.Int.{ints, clamps}
 use Rattle.leaf_domain.specs.declared.range.Range.{Range}
 use Rattle.leaf_domain.specs.Ranges.{Within, IsInInt, meet_of, empty_range, is_empty_range}
+use Rattle.leaf_domain.specs.Leaves.{IsStepsFrom}
+use Rattle.leaf_domain.proofs.ArithmeticLemmas.{one_step}
 use Rattle.leaf_domain.proofs.CutLemmas.{ends_in_int, ends_hold}
-use Rattle.paired_leaf.specs.PairedLeaves.{both_ranges, both_bounds}
+use Rattle.paired_leaf.specs.PairedLeaves.{both_ranges, both_bounds, step_where}
 use Rattle.paired_leaf.proofs.PairLemmas.{of_either}
 
 pub meet_in_int : (r q : Range) → IsInInt r → IsInInt q → IsInInt (meet_of r q)
@@ -56,6 +59,17 @@ bounds_in_int r q i j = of_either IsInInt (is_empty_range (meet_of r q)) r (meet
 
 pub bounds_have : (r q : Range) (n : ℤ) → Within n r → Within n q → Within n (both_bounds r q)
 bounds_have r q n h k = of_either (Within n) (is_empty_range (meet_of r q)) r (meet_of r q) h (meet_has r q n h k)
+
+-- the step of the second, where its low end is the low end
+pub steps_from : (r q : Range) (k : ℕ) (n : ℤ) → IsStepsFrom q.low k n → IsStepsFrom r.low (step_where r q k) n
+steps_from r q k n h = by_test (int_eq r.low q.low) refl
+  where
+    same_low : (l m : ℤ) → int_eq l m ≡ true → l ≡ m
+    same_low l m e = grind (arith, ints)
+
+    by_test : (t : Bool) → int_eq r.low q.low ≡ t → IsStepsFrom r.low (if t then k else 1) n
+    by_test true e = subst (λ l. IsStepsFrom l k n) (sym (same_low r.low q.low e)) h
+    by_test false e = one_step r.low n
 
 pub bounds_some : (r q : Range) → is_empty_range r ≡ false → is_empty_range (both_bounds r q) ≡ false
 bounds_some r q e = by_test (is_empty_range (meet_of r q)) refl

@@ -1,5 +1,6 @@
 -- The reduced product of two kinds of leaf (after Cousot and Cousot): each operation is that of both, and then both refine each other.
-use Rattle.std.specs.Prelude.{◌+◌, ℤ, ◌&&◌, if◌then◌else◌, List, Option, Some, None}
+use Rattle.std.specs.Prelude.{ℕ, ◌+◌, ℤ, ◌&&◌, if◌then◌else◌, List, Option, Some, None}
+use Rattle.std.specs.Ordering.{int_eq}
 use Rattle.leaf_domain.specs.declared.form.Form.{Form}
 use Rattle.leaf_domain.specs.declared.range.Range.{Range}
 use Rattle.leaf_domain.specs.declared.compare.Compare.{Compare}
@@ -18,6 +19,10 @@ both_ranges (Some r) (Some q) = Some (meet_of r q)
 -- what lies in both ranges, and the first where nothing does: two leaves that are not Nothing may have no store in common
 abbrev pub both_bounds : Range → Range → Range
 both_bounds r q = if is_empty_range (meet_of r q) then r else meet_of r q
+
+-- the step of the second leaf where both ranges begin with its low end, and else 1
+abbrev pub step_where : Range → Range → ℕ → ℕ
+step_where r q k = if int_eq r.low q.low then k else 1
 
 -- the leaf as it is where it is above the other, and else widened
 abbrev pub widened_to : LeafMeaning → List ℤ → LeafValue → LeafValue → LeafValue
@@ -54,6 +59,7 @@ paired A B = record {
   widen = λ ts x g. pair_of (widened_to A ts (first_of x) (first_of g)) (widened_to B ts (second_of x) (second_of g));
   narrow = λ ts x g. pair_of (A.narrow ts (first_of x) (first_of g)) (B.narrow ts (second_of x) (second_of g));
   bounds_of = λ v x. both_bounds (A.bounds_of (first_of v) x) (B.bounds_of (second_of v) x);
+  step_of = λ v x. step_where (both_bounds (A.bounds_of (first_of v) x) (B.bounds_of (second_of v) x)) (B.bounds_of (second_of v) x) (B.step_of (second_of v) x);
   form_range = λ v f. both_ranges (A.form_range (first_of v) f) (B.form_range (second_of v) f);
   meet_range = λ v x r. exchanged A B (A.meet_range (first_of v) x r) (B.meet_range (second_of v) x r);
   meet_form = compared A B;

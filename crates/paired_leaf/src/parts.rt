@@ -22,7 +22,7 @@ pub(crate) fn nothing<A: Leaf, B: Leaf>(
     alloc: Global,
     variables: u32,
 ) -> Result<Parts<A, B>, NoMemory>
-    requires { variables ≤ 16 }
+    requires { variables ≤ 48 }
     ensures value { IfOk result
         (λ made. pair_of (A.value made.first) (B.value made.second) ≡ nothing_of variables) }
     ensures parts { IfOk result

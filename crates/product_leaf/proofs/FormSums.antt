@@ -20,7 +20,7 @@ use Rattle.product_leaf.specs.Laws.Parts.{read_own, read_residue}
 pub record IsSum (parts : List Strided) (f : Form) (modulus : ℕ) (value : ℤ) (rest : List (ℕ × ℤ)) : Type 0 where
   pub from : ℕ
   pub terms : AreTerms from (length parts) rest
-  pub few : from ≤ 16
+  pub few : from ≤ 48
   pub modulus_is : common_modulus modulus parts rest ≡ common_modulus 0 parts f.terms
   pub value_is : value +ℤ terms_at rest (residues_of parts) ≡ form_at f (residues_of parts)
   pub modulus_small : modulus ≤ 2 ^ 74
@@ -66,10 +66,10 @@ small_back : (n : ℤ) → unsigned_abs n ≤ 4294967296 → to_z w64 (of_z w64 
 small_back n h = omega (arith, ints)
 
 -- a sum of what is found so far and of a product fits 128 bits
-pub add_fits : (v p : ℤ) → unsigned_abs v ≤ 2 ^ 79 → unsigned_abs p ≤ 2 ^ 72 → FitsSigned w128 (v +ℤ to_z w128 (of_z w128 p))
+pub add_fits : (v p : ℤ) → unsigned_abs v ≤ 2 ^ 80 → unsigned_abs p ≤ 2 ^ 72 → FitsSigned w128 (v +ℤ to_z w128 (of_z w128 p))
 add_fits v p h k = let e : to_z w128 (of_z w128 p) ≡ p = omega (arith, ints) in omega (arith, ints)
 
-pub add_back : (v p : ℤ) → unsigned_abs v ≤ 2 ^ 79 → unsigned_abs p ≤ 2 ^ 72 → to_z w128 (of_z w128 (v +ℤ to_z w128 (of_z w128 p))) ≡ v +ℤ p
+pub add_back : (v p : ℤ) → unsigned_abs v ≤ 2 ^ 80 → unsigned_abs p ≤ 2 ^ 72 → to_z w128 (of_z w128 (v +ℤ to_z w128 (of_z w128 p))) ≡ v +ℤ p
 add_back v p h k =
     let e : to_z w128 (of_z w128 p) ≡ p = omega (arith, ints) in
     let f : to_z w128 (of_z w128 (v +ℤ p)) ≡ v +ℤ p = omega (arith, ints) in
@@ -99,7 +99,7 @@ next_term parts f g v rest behind x a o s e =
     wider : (m : ℕ) → m ≤ 4294967295 → m ≤ 4294967296
     wider m h = omega arith
 
-pub sum_next : (parts : List Strided) (f : Form) (g g' : ℕ) (v v' : ℤ) (rest behind : List (ℕ × ℤ)) (x : ℕ) (a : ℤ) → AllOwn parts → length parts ≤ 16 → IsSum parts f g v rest → rest ≡ (x, a) ∷ behind → IsGcd g (unsigned_abs a * (part_at parts x).stride.modulus) g' → v' ≡ v +ℤ (a *ℤ (part_at parts x).stride.residue) → IsSum parts f g' v' behind
+pub sum_next : (parts : List Strided) (f : Form) (g g' : ℕ) (v v' : ℤ) (rest behind : List (ℕ × ℤ)) (x : ℕ) (a : ℤ) → AllOwn parts → length parts ≤ 48 → IsSum parts f g v rest → rest ≡ (x, a) ∷ behind → IsGcd g (unsigned_abs a * (part_at parts x).stride.modulus) g' → v' ≡ v +ℤ (a *ℤ (part_at parts x).stride.residue) → IsSum parts f g' v' behind
 sum_next parts f g g' v v' rest behind x a o few s e d k =
     let t : AreTerms s.from (length parts) ((x, a) ∷ behind) = subst (AreTerms s.from (length parts)) e s.terms in
     let n : IsNextTerm parts x a = next_term parts f g v rest behind x a o s e in
@@ -115,7 +115,7 @@ sum_next parts f g g' v v' rest behind x a o few s e d k =
       value_small = subst (λ y. unsigned_abs y ≤ (x + 1 + 1) * 2 ^ 74) (sym k) (sum_small s.from x v (a *ℤ (part_at parts x).stride.residue) t.0 s.value_small n.product);
     }
   where
-    above : (x l : ℕ) → x < l → l ≤ 16 → x + 1 ≤ 16
+    above : (x l : ℕ) → x < l → l ≤ 48 → x + 1 ≤ 48
     above x l p q = omega arith
 
     wider : (p : ℕ) → p ≤ 2 ^ 72 → p ≤ 2 ^ 74
@@ -128,10 +128,10 @@ sum_next parts f g g' v v' rest behind x a o few s e d k =
     sum_small from x v p h i j = omega (arith, ints)
 
 -- a sum that is found so far fits 128 bits
-pub sum_fits : (parts : List Strided) (f : Form) (g : ℕ) (v : ℤ) (rest : List (ℕ × ℤ)) → IsSum parts f g v rest → unsigned_abs v ≤ 2 ^ 79
+pub sum_fits : (parts : List Strided) (f : Form) (g : ℕ) (v : ℤ) (rest : List (ℕ × ℤ)) → IsSum parts f g v rest → unsigned_abs v ≤ 2 ^ 80
 sum_fits parts f g v rest s = small s.from (unsigned_abs v) s.few s.value_small
   where
-    small : (from n : ℕ) → from ≤ 16 → n ≤ (from + 1) * 2 ^ 74 → n ≤ 2 ^ 79
+    small : (from n : ℕ) → from ≤ 48 → n ≤ (from + 1) * 2 ^ 74 → n ≤ 2 ^ 80
     small from n h k = omega arith
 
 pub sum_end : (parts : List Strided) (f : Form) (g : ℕ) (v : ℤ) (rest : List (ℕ × ℤ)) → IsSum parts f g v rest → rest ≡ [] → (g ≡ common_modulus 0 parts f.terms) × (v ≡ form_at f (residues_of parts))
@@ -148,13 +148,13 @@ form_stride_is parts f g v w rest s e k =
     let (m, u) = sum_end parts f g v rest s e in
     ap (stride_of g) (k ∙ u) ∙ ap (λ y. stride_of y (form_at f (residues_of parts))) m
 
-pub wide_of : (m : ℕ) (c : ℤ) → m ≤ 2 ^ 74 → unsigned_abs c ≤ 2 ^ 79 → IsWide (stride_of m c)
+pub wide_of : (m : ℕ) (c : ℤ) → m ≤ 2 ^ 74 → unsigned_abs c ≤ 2 ^ 80 → IsWide (stride_of m c)
 wide_of m c h k =
     by_modulus m
     (λ t z. subst IsWide (sym (stride_zero m c z)) (zero_wide m c h k))
     (λ t p. subst IsWide (sym (stride_some m c p)) (some_wide m (int_rem_euclid c (pos m)) h (remainder_is m c p)))
   where
-    zero_wide : (m : ℕ) (c : ℤ) → m ≤ 2 ^ 74 → unsigned_abs c ≤ 2 ^ 79 → IsWide (stride_at m c)
+    zero_wide : (m : ℕ) (c : ℤ) → m ≤ 2 ^ 74 → unsigned_abs c ≤ 2 ^ 80 → IsWide (stride_at m c)
     zero_wide m c h k = record { modulus = omega arith; low = omega (arith, ints); high = omega (arith, ints) }
 
     some_wide : (m : ℕ) (r : ℤ) → m ≤ 2 ^ 74 → IsRemainder m c r → IsWide (stride_at m r)

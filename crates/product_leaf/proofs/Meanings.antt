@@ -29,7 +29,7 @@ best_count v bs h = ap length h.best ∙ length_best stride_parts stride_part_la
 pub best_all_own : (v : LeafValue) (bs : List Strided) → IsBestOf v bs → AllOwn bs
 best_all_own v bs h = subst AllOwn (sym h.best) (own_best stride_parts stride_part_laws h.parts h.own)
 
-pub few_zipped : (f : Strided → Strided → Strided) (us bs rs : List Strided) (n : ℕ) → length us ≡ n → length bs ≡ n → n ≤ 16 → rs ≡ map (λ (a, b). f a b) (zip us bs) → length rs ≤ 16
+pub few_zipped : (f : Strided → Strided → Strided) (us bs rs : List Strided) (n : ℕ) → length us ≡ n → length bs ≡ n → n ≤ 48 → rs ≡ map (λ (a, b). f a b) (zip us bs) → length rs ≤ 48
 few_zipped f us bs rs n p q h e = omega (arith, ap length e, length_zipped f us bs (p ∙ sym q))
 
 -- past the end aside, the default does not matter

@@ -26,7 +26,7 @@ AreParts n (Some b) None = AreBestParts n b.items b.items
 AreParts n (Some b) (Some w) = AreBestParts n w.items b.items
 
 abbrev pub IsSound : Inside → Type 0
-IsSound s = (s.variables ≤ 16) × AreParts s.variables s.best s.standing
+IsSound s = (s.variables ≤ 48) × AreParts s.variables s.best s.standing
 
 -- the parts of a leaf as they stand
 pub record IsOwnOf (v : LeafValue) (bs : List Strided) : Type 0 where

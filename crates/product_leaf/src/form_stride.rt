@@ -22,7 +22,7 @@ fn times(coefficient: i64, modulus: u64) -> u128
 /// The stride of the value of a form, where the variables have these parts: its modulus is the greatest
 /// common divisor of each coefficient times its variable's modulus.
 pub fn form_stride(parts: &[Strided], f: &Form) -> WideStride
-    requires few { length parts.now ≤ 16 }
+    requires few { length parts.now ≤ 48 }
     requires own { AllOwn parts.now }
     requires form { IsForm (length parts.now) f.now }
     ensures value { stride_at result.modulus result.residue ≡ form_stride parts.now f.now }

@@ -52,7 +52,7 @@ impl Model for StrideLeaf {
 impl StrideLeaf {
     /// The leaf that holds no store.
     fn none(variables: u32) -> StrideLeaf
-        requires { variables ≤ 16 }
+        requires { variables ≤ 48 }
         ensures { result ≡ nothing_of variables }
     {
         StrideLeaf {
@@ -64,7 +64,7 @@ impl StrideLeaf {
 
     /// The leaf of parts that have their best bounds.
     fn of_best(best: Vec<Strided>) -> StrideLeaf
-        requires few { length best.items ≤ 16 }
+        requires few { length best.items ≤ 48 }
         requires own { AllOwn best.items }
         requires best { best.items ≡ map reduced best.items }
         ensures { result ≡ leaf_of best.items }
@@ -78,7 +78,7 @@ impl StrideLeaf {
 
     /// The leaf of parts as they stand, whose best bounds are found here once.
     fn standing_as(alloc: Global, standing: Vec<Strided>) -> Result<StrideLeaf, NoMemory>
-        requires few { length standing.items ≤ 16 }
+        requires few { length standing.items ≤ 48 }
         requires own { AllOwn standing.items }
         ensures { IfOk result (λ leaf. leaf ≡ leaf_of standing.items) }
     {
@@ -94,7 +94,7 @@ impl StrideLeaf {
     pub fn best_parts(&self) -> Option<&[Strided]>
         ensures nothing { IfNone result (self.now ≡ nothing_of self.now.variables) }
         ensures best { IfSome result (λ bs. IsBestOf self.now bs.now) }
-        ensures few { self.now.variables ≤ 16 }
+        ensures few { self.now.variables ≤ 48 }
     {
         match &self.best {
             None => None,
@@ -106,7 +106,7 @@ impl StrideLeaf {
     fn own_parts(&self) -> Option<&[Strided]>
         ensures nothing { IfNone result (self.now ≡ nothing_of self.now.variables) }
         ensures standing { IfSome result (λ bs. IsOwnOf self.now bs.now) }
-        ensures few { self.now.variables ≤ 16 }
+        ensures few { self.now.variables ≤ 48 }
     {
         match (&self.best, &self.standing) {
             (None, _) => None,
@@ -128,7 +128,7 @@ impl StrideLeaf {
     /// The number of variables.
     fn count(&self) -> u32
         ensures value { result ≡ self.now.variables }
-        ensures few { result ≤ 16 }
+        ensures few { result ≤ 48 }
         ensures valid { IsStrideLeaf self.now }
     {
         let _best = &self.best;
@@ -303,6 +303,10 @@ impl Leaf for StrideLeaf {
             None => Range::EMPTY,
             Some(parts) => parts[x as usize].range(),
         }
+    }
+
+    fn step_of(&self, _x: u32) -> u64 {
+        1
     }
 
     fn form_range(&self, _f: &Form) -> Option<Range> {

@@ -19,7 +19,7 @@ loop-c-preserved c =
     let e : c.entry.result ≡ entry_of m (opposite b) b = c.entry.ensures ∙ ap (λ i. entry_of m i b) c.opposite.ensures in
     let f : to_z w64 (of_z w64 c.div_euclid.result) ≡ half c.entry.result =
     half-is c.entry.result c.div_euclid.result (rw (e) (entry-least m (opposite b) b c.variables-c-end.ensures.kept k h)) (rw (e) (entry-most m (opposite b) b c.variables-c-end.ensures.kept k h)) c.div_euclid.ensures in
-    let d : length c.loop-c.row ≡ 32 = c.loop-c.invariant.0 in
+    let d : length c.loop-c.row ≡ 96 = c.loop-c.invariant.0 in
     (length-set _ _ _ ∙ d, row-more c.loop-c.row (halves (entry_of m)) b (to_z w64 (of_z w64 c.div_euclid.result)) (omega (arith, d)) (f ∙ (ap half e ∙ halves-at m b)) c.loop-c.invariant.1)
 
 pub returns : goal.returns

@@ -35,7 +35,7 @@ loop-c-preserved c =
     let w : to_z w64 (of_z w64 c.lesser.result) ≡ row_from (entry_of m) p c.args.near q c.args.far k =
     row-is c.args.near (entry_of m p k) c.args.far (entry_of m q k) c.lesser.result
     c.requires.near (entry-least m p k z c.requires.first h) (entry-most m p k z c.requires.first h) c.requires.far (entry-least m q k z c.requires.second h) (entry-most m q k z c.requires.second h) g in
-    let d : length c.loop-c.row ≡ 32 = c.loop-c.invariant.0 in
+    let d : length c.loop-c.row ≡ 96 = c.loop-c.invariant.0 in
     rw (u, v)
     (length-set _ _ _ ∙ d, row-more c.loop-c.row (row_from (entry_of m) p c.args.near q c.args.far) k (to_z w64 (of_z w64 c.lesser.result)) (omega (arith, d)) w o)
 

@@ -4,4 +4,4 @@ use Rattle.octagon_closure.specs.Sweeps.{row_from, bound_at}
 use Rattle.octagon_closure.proofs.row_from.Given as goal
 
 abbrev pub invariant-loop-c : goal.invariant-loop-c
-invariant-loop-c l = (length l.row ≡ 32) × ((k : ℕ) → k < l.c → bound_at l.row k ≡ row_from (entry_of l.matrix) l.p l.near l.q l.far k)
+invariant-loop-c l = (length l.row ≡ 96) × ((k : ℕ) → k < l.c → bound_at l.row k ≡ row_from (entry_of l.matrix) l.p l.near l.q l.far k)

@@ -33,14 +33,14 @@ of-bounds n f s a b h i j = rw (of-entry n f a b i j) at (h.bounds a b i j)
 -- ---- stores within `int`
 -- no entry is above the type's bound
 pub record IsBounded (m : MatrixValue) : Type 0 where
-  pub few : m.variables ≤ 16
+  pub few : m.variables ≤ 48
   pub most : (a b : ℕ) → a < 2 * m.variables → b < 2 * m.variables → entry_of m a b ≤ℤ type_bound a b
 
 pub type_bound-same : (a : ℕ) → type_bound a a ≡ pos 0
 unfolding type_bound
 type_bound-same a = let e : nat_eq a a ≡ true = grind (arith, nat_tests) in rw e refl
 
-top-matrix : (n : ℕ) → n ≤ 16 → IsMatrix (matrix_of n type_bound)
+top-matrix : (n : ℕ) → n ≤ 48 → IsMatrix (matrix_of n type_bound)
 top-matrix n l = record {
   few = l;
   size = table-size (2 * n) type_bound;

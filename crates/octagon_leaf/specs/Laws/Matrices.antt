@@ -20,7 +20,7 @@ use Rattle.octagon_leaf.specs.Laws.Best.{of-entry, of-holds, of-bounds, IsBounde
 use Rattle.octagon_leaf.specs.Laws.Terms.{plus-value, minus-value}
 
 -- ---- full entries make a matrix
-pub full-kept : (n : ℕ) (f : ℕ → ℕ → ℤ) → n ≤ 16 → IsFull n f → ((a b : ℕ) → a < 2 * n → b < 2 * n → least_entry ≤ℤ f a b) → IsMatrix (matrix_of n f)
+pub full-kept : (n : ℕ) (f : ℕ → ℕ → ℤ) → n ≤ 48 → IsFull n f → ((a b : ℕ) → a < 2 * n → b < 2 * n → least_entry ≤ℤ f a b) → IsMatrix (matrix_of n f)
 full-kept n f l u g = record {
   few = l;
   size = table-size (2 * n) f;
@@ -37,7 +37,7 @@ kept-full n f k = record {
   most = λ a b h i. rw (of-entry n f a b h i) at (k.most a b h i);
 }
 
-pub bounded-by : (n : ℕ) (f : ℕ → ℕ → ℤ) → n ≤ 16 → ((a b : ℕ) → a < 2 * n → b < 2 * n → f a b ≤ℤ type_bound a b) → IsBounded (matrix_of n f)
+pub bounded-by : (n : ℕ) (f : ℕ → ℕ → ℤ) → n ≤ 48 → ((a b : ℕ) → a < 2 * n → b < 2 * n → f a b ≤ℤ type_bound a b) → IsBounded (matrix_of n f)
 bounded-by n f l h = record { few = l; most = λ a b i j. rw (of-entry n f a b i j) (h a b i j) }
 
 -- ---- the differences at one store
@@ -65,7 +65,7 @@ start-itself s = of-holds (length s) (difference s) s refl (λ a b i j. omega (a
 pub int-store : (s : List ℤ) → All IsInt s → IsStore (length s) s
 int-store s h = record { size = refl; least = λ x l. omega (arith, ints, (h x (pos 0) l).low); most = λ x l. omega (arith, ints, (h x (pos 0) l).high) }
 
-pub start-bounded : (s : List ℤ) → length s ≤ 16 → All IsInt s → IsBounded (matrix_of (length s) (difference s))
+pub start-bounded : (s : List ℤ) → length s ≤ 48 → All IsInt s → IsBounded (matrix_of (length s) (difference s))
 start-bounded s l h = bounded-by (length s) (difference s) l (λ a b i j. store-below (length s) s a b (int-store s h) i j)
 
 pub start-best : (s : List ℤ) → IsBest (matrix_of (length s) (difference s)) (matrix_of (length s) (difference s))
@@ -76,7 +76,7 @@ start-best s = record {
   met = (s, start-itself s);
 }
 
-pub start-kept : (s : List ℤ) → length s ≤ 16 → All IsInt s → IsMatrix (matrix_of (length s) (difference s))
+pub start-kept : (s : List ℤ) → length s ≤ 48 → All IsInt s → IsMatrix (matrix_of (length s) (difference s))
 start-kept s l h = best-kept (matrix_of (length s) (difference s)) (matrix_of (length s) (difference s)) (start-bounded s l h) (start-best s) (table-size (2 * length s) (difference s))
 
 -- ---- the greater of two best matrices' entries

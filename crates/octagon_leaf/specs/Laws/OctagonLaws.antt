@@ -9,6 +9,7 @@ use Rattle.leaf_domain.specs.declared.compare.Compare.{Compare}
 use Rattle.leaf_domain.specs.Compares.{holds_between}
 use Rattle.leaf_domain.specs.Ranges.{Within, IsInInt, is_empty_range, empty_range, range_at}
 use Rattle.leaf_domain.specs.Forms.{form_at, IsForm}
+use Rattle.leaf_domain.proofs.ArithmeticLemmas.{one_step}
 use Rattle.leaf_domain.proofs.Answered.{some_held}
 use Rattle.leaf_domain.proofs.ArithmeticLemmas.{not_empty}
 use Rattle.leaf_domain.specs.Leaves.{LeafValue, LeafLaws, IsLeafLike, nothing_of, is_nothing_of, at_store}
@@ -85,7 +86,7 @@ pub closed-holds : (n : ℕ) (ns : List ℤ) (c : IsClosed n ns) (s : List ℤ) 
 closed-holds n ns c s h = stores-best (matrix_at n ns) c.matrix s c.best h
 
 -- ---- start
-start-valid : (s : List ℤ) → length s ≤ 16 → All IsInt s → IsOctagon (octagon_start s)
+start-valid : (s : List ℤ) → length s ≤ 48 → All IsInt s → IsOctagon (octagon_start s)
 start-valid s l h = (l, (start-kept s l h, (s, start-itself s)))
 
 start-holds : (s t : List ℤ) → octagon_holds (octagon_start s) t ↔ (t ≡ s)
@@ -343,7 +344,7 @@ between-met x r s w = (
 not-empty : (v : ℤ) (r : Range) → Within v r → is_empty_range r ≡ false
 not-empty v r w = grind (arith, ints)
 
-unless-empty : (n : ℕ) (us : List ℤ) (r : Range) (m : MatrixValue) (t : Bool) → n ≤ 16 → IsBounded m → m.variables ≡ n → IsLeafLike octagons (at n (Some us)) (if t then nothing_of n else best_of m)
+unless-empty : (n : ℕ) (us : List ℤ) (r : Range) (m : MatrixValue) (t : Bool) → n ≤ 48 → IsBounded m → m.variables ≡ n → IsLeafLike octagons (at n (Some us)) (if t then nothing_of n else best_of m)
 unless-empty n us r m true l p e = record { valid = (l, tt); same = refl }
 unless-empty n us r m false l p e = of-best-answers (at n (Some us)) m p e
 
@@ -452,7 +453,7 @@ set-shape-answers n us x (Terms e) r p =
     (set-term-bounded (best_matrix (at n (Some us))) x e.first e.constant r (has_variable x e.first) (rw (z.is) (bounded-kept z.matrix z.kept)))
     (set-term-variables (best_matrix (at n (Some us))) x e.first e.constant r (has_variable x e.first) ∙ rw (z.is) (z.best.variables))
 
-if-set-answers : (n : ℕ) (us : List ℤ) (w : LeafValue) (t : Bool) → n ≤ 16 → IsLeafLike octagons (at n (Some us)) w → IsLeafLike octagons (at n (Some us)) (if t then nothing_of n else w)
+if-set-answers : (n : ℕ) (us : List ℤ) (w : LeafValue) (t : Bool) → n ≤ 48 → IsLeafLike octagons (at n (Some us)) w → IsLeafLike octagons (at n (Some us)) (if t then nothing_of n else w)
 if-set-answers n us w true l a = record { valid = (l, tt); same = refl }
 if-set-answers n us w false l a = a
 
@@ -559,6 +560,7 @@ octagon_laws = record {
   bounds_hold = λ a x s. bounds-hold a.variables a.content x s;
   bounds_some = λ a x p l e. let t = some-holds a.variables a.content p e in not_empty _ (octagon_bounds a x) (bounds-hold a.variables a.content x t.0 p l t.1);
   bounds_nothing = λ n x. refl;
+  step_holds = λ a x s p l h. one_step (octagon_bounds a x).low (at_store s x);
   form_holds = λ a f r s. form-holds a.variables a.content f r s;
   form_nothing = λ n f r. form-nothing n (shape_of f) r;
   meet_answers = λ a x r p l i. meet-answers a.variables a.content x r p;

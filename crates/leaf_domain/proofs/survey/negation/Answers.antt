@@ -9,6 +9,6 @@ pub returns-clause-over : goal.returns-clause-over
 returns-clause-over g c = record {
   range = c.negation-found.ensures.int;
   form = rw c.in_ok-form.ensures (multiple_is_form _ (negsuc 0) c.args.a.now.form c.requires.form);
-  few = rw c.in_ok-form.ensures (multiple_is_form 16 (negsuc 0) c.args.a.now.form c.requires.few);
+  few = rw c.in_ok-form.ensures (multiple_is_form 48 (negsuc 0) c.args.a.now.form c.requires.few);
   operation = tt;
 }

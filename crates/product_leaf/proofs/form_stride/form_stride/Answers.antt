@@ -16,7 +16,7 @@ overflow_add-value c =
     let e : c.product-value.result ≡ c.in-Some.coefficient *ℤ (part_at c.args.parts.now c.in-Some.x).stride.residue =
     c.product-value.ensures ∙ ap (λ y. y *ℤ to_z w64 (of_z w64 (part_at c.args.parts.now c.in-Some.x).stride.residue)) u ∙ ap (λ y. c.in-Some.coefficient *ℤ y) n.back in
     let p : unsigned_abs c.product-value.result ≤ 2 ^ 72 = subst (λ y. unsigned_abs y ≤ 2 ^ 72) (sym e) n.product in
-    let v : unsigned_abs (to_z w128 c.terms.value-bits) ≤ 2 ^ 79 = sum_fits _ _ _ _ _ c.terms.invariant in
+    let v : unsigned_abs (to_z w128 c.terms.value-bits) ≤ 2 ^ 80 = sum_fits _ _ _ _ _ c.terms.invariant in
     add_fits (to_z w128 c.terms.value-bits) c.product-value.result v p
 
 pub terms-preserved : goal.terms-preserved
@@ -26,7 +26,7 @@ terms-preserved c =
     let e : c.product-value.result ≡ c.in-Some.coefficient *ℤ (part_at c.args.parts.now c.in-Some.x).stride.residue =
     c.product-value.ensures ∙ ap (λ y. y *ℤ to_z w64 (of_z w64 (part_at c.args.parts.now c.in-Some.x).stride.residue)) u ∙ ap (λ y. c.in-Some.coefficient *ℤ y) n.back in
     let p : unsigned_abs c.product-value.result ≤ 2 ^ 72 = subst (λ y. unsigned_abs y ≤ 2 ^ 72) (sym e) n.product in
-    let v : unsigned_abs (to_z w128 c.terms.value-bits) ≤ 2 ^ 79 = sum_fits _ _ _ _ _ c.terms.invariant in
+    let v : unsigned_abs (to_z w128 c.terms.value-bits) ≤ 2 ^ 80 = sum_fits _ _ _ _ _ c.terms.invariant in
     let k : c.times.result ≡ unsigned_abs c.in-Some.coefficient * (part_at c.args.parts.now c.in-Some.x).stride.modulus = c.times.ensures ∙ ap (λ y. unsigned_abs y * (part_at c.args.parts.now c.in-Some.x).stride.modulus) u in
     let g : IsGcd c.terms.modulus (unsigned_abs c.in-Some.coefficient * (part_at c.args.parts.now c.in-Some.x).stride.modulus) c.greatest_common_divisor-modulus.result =
     subst (λ y. IsGcd c.terms.modulus y c.greatest_common_divisor-modulus.result) k c.greatest_common_divisor-modulus.ensures in
