@@ -1,10 +1,10 @@
--- The divisor that the code finds is that of the definition.
-use Rattle.std.proofs.Common.{◌≡◌, ◌≢◌, ℕ, ℤ, pos, negsuc, ◌≤◌, ◌≤ℤ◌, unsigned_abs, Bool, true, false, ◌&&◌, if◌then◌else◌, List, [], ◌∷◌, Option, Some, None, IfSome, to_z, of_z, w64, refl, ap, sym, subst, ◌∙◌, arith}
+-- The divisor that the code finds is that of the definition, and functions have the divisors that they need.
+use Rattle.std.proofs.Common.{◌≡◌, ℕ, ℤ, pos, negsuc, ◌≤◌, ◌≤ℤ◌, unsigned_abs, Bool, true, false, ◌&&◌, if◌then◌else◌, List, [], ◌∷◌, Option, Some, None, IfSome, to_z, of_z, w64, refl, ap, sym, subst, ◌∙◌, arith}
 use Rattle.std.proofs.lemmas.Int.{ints}
 use Rattle.leaf_domain.specs.declared.form.Form.{Form}
 use Rattle.leaf_domain.specs.Forms.{IsFormNumber, has_no_term}
-use Rattle.c_tree.specs.Value.{IsInt}
-use Rattle.congruence_leaf.specs.Congruences.{is_divisor, divisor_of}
+use Rattle.congruence_leaf.specs.declared.functions.Function.{Function}
+use Rattle.congruence_leaf.specs.Congruences.{is_divisor, divisor_of, quotient_by, remainder_by, HasDivisor}
 use Rattle.congruence_leaf.specs.Laws.Results.{divisor_told}
 
 pub number_back : (n : ℤ) → IsFormNumber n → to_z w64 (of_z w64 n) ≡ n
@@ -37,10 +37,11 @@ pub divisor_more : (f : Form) (us vs : List (ℕ × ℤ)) (x : ℕ) (a : ℤ) �
 unfolding divisor_of
 divisor_more f us vs x a e g = ap (λ b. if b && is_divisor f.constant then Some f.constant else None) (subst (λ ts. false ≡ has_no_term ts) (sym g ∙ e) refl)
 
-pub divisor_int : (f : Form) (r : Option ℤ) → r ≡ divisor_of f → IfSome r IsInt
-divisor_int f None e = tt
-divisor_int f (Some m) e = (divisor_told f m (sym e)).int
+-- a function by a divisor that was found has the divisor that it needs
+pub quotient_divisor : (f : Form) (o : Option ℤ) (r : Option Function) → o ≡ divisor_of f → r ≡ quotient_by o → IfSome r HasDivisor
+quotient_divisor f None r e g = subst (λ x. IfSome x HasDivisor) (sym g) tt
+quotient_divisor f (Some m) r e g = let d = divisor_told f m (sym e) in subst (λ x. IfSome x HasDivisor) (sym g) (d.int, d.some)
 
-pub divisor_apart : (f : Form) (r : Option ℤ) → r ≡ divisor_of f → IfSome r (λ m. m ≢ pos 0)
-divisor_apart f None e = tt
-divisor_apart f (Some m) e = (divisor_told f m (sym e)).some
+pub remainder_divisor : (f : Form) (o : Option ℤ) (r : Option Function) → o ≡ divisor_of f → r ≡ remainder_by o → IfSome r HasDivisor
+remainder_divisor f None r e g = subst (λ x. IfSome x HasDivisor) (sym g) tt
+remainder_divisor f (Some m) r e g = let d = divisor_told f m (sym e) in subst (λ x. IfSome x HasDivisor) (sym g) (d.int, d.some)

@@ -3,5 +3,8 @@ pub mod Narrow
 pub mod DividedBy
 pub mod Parts
 pub mod Sizes
+pub mod SquareStrides
+pub mod QuotientStrides
 pub mod Found
 pub mod Back
+pub mod MeetCases

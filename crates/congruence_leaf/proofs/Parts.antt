@@ -24,7 +24,7 @@ results_some v us bs p e g = rw (g, e, fours_numbers us) refl
 pub results_are : (v : LeafValue) (bs : List Strided) (p : Operation) → IsBestOf v bs → results_of bs p ≡ leaf_results v p
 results_are v bs p h = results_some v h.parts bs p h.same h.best
 
-pub few_parts : (v : LeafValue) (bs : List Strided) → IsBestOf v bs → v.variables ≤ 16 → length bs ≤ 16
+pub few_parts : (v : LeafValue) (bs : List Strided) → IsBestOf v bs → v.variables ≤ 48 → length bs ≤ 48
 few_parts v bs h k = omega (arith, best_count v bs h)
 
 pub operation_over : (v : LeafValue) (bs : List Strided) (p : Operation) → IsBestOf v bs → IsOperation v.variables p → IsOperation (length bs) p

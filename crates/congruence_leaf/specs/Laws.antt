@@ -1,4 +1,4 @@
--- Strides with what they say of remainders keep every law of leaves: those of the three operations on
+-- Strides with what they say of squares, quotients and remainders keep every law of leaves: those of the three operations on
 -- operations are new, the others are those of strides. What they rest on stands in the folder Laws, since an `impl` may cite
 -- nothing of its own crate but `specs`.
 use Rattle.std.proofs.Common.{refl}
@@ -8,6 +8,8 @@ use Rattle.product_leaf.specs.Laws.{stride_laws}
 use Rattle.congruence_leaf.specs.Congruences.{congruences}
 use Rattle.congruence_leaf.specs.Laws.Leaves as leaves
 pub mod Remainders
+pub mod Squares
+pub mod Quotients
 pub mod Results
 pub mod Leaves
 
@@ -50,6 +52,7 @@ congruence_laws = record {
   bounds_hold = stride_laws.bounds_hold;
   bounds_some = stride_laws.bounds_some;
   bounds_nothing = stride_laws.bounds_nothing;
+  step_holds = λ a x s. leaves.step_holds a.variables a.content x s;
   form_holds = stride_laws.form_holds;
   form_nothing = stride_laws.form_nothing;
   meet_answers = λ a x r p l i. answered a _ (stride_laws.meet_answers a x r p l i);

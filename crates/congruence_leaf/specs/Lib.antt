@@ -1,3 +1,5 @@
 pub mod Remainders
+pub mod Squares
+pub mod Quotients
 pub mod Congruences
 pub mod Laws

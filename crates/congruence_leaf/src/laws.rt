@@ -1,11 +1,11 @@
-//! What leaves of intervals with strides keep that follow remainders.
+//! What leaves of intervals with strides keep that follow squares, quotients and remainders.
 #![tactic(auto)]
 
 ghost use Rattle.leaf_domain.specs.Leaves.{LeafLaws};
 ghost use Rattle.leaf_domain.specs.Exactness.{LeafExactness};
 ghost use Rattle.congruence_leaf.specs.Congruences.{congruences};
 
-/// Strides with what they say of remainders by a constant keep every law of leaves.
+/// Strides with what they say of squares, and of quotients and remainders by a constant, keep every law of leaves.
 pub fn congruences_keep_the_laws()
     ensures { LeafLaws congruences }
 {}

@@ -1,7 +1,7 @@
-//! A leaf of intervals with strides that follow remainders by a constant.
+//! A leaf of intervals with strides that follow squares, and quotients and remainders by a constant.
 #![tactic(auto)]
 
-ghost use Rattle.std.specs.Prelude.{◌≡◌, ◌≢◌, ◌≤◌, ◌<◌, pos, IfOk, IfSome, IfNone, Some, refl, unsigned_abs};
+ghost use Rattle.std.specs.Prelude.{◌≡◌, ◌≢◌, ◌≤◌, ◌<◌, pos, IfOk, IfSome, IfNone, refl, unsigned_abs};
 ghost use Rattle.c_tree.specs.Value.{IsInt};
 ghost use Rattle.leaf_domain.specs.Forms.{IsForm};
 ghost use Rattle.leaf_domain.specs.Operations.{IsOperation};
@@ -10,18 +10,19 @@ ghost use Rattle.leaf_domain.specs.Leaves.{nothing_of, same_leaf};
 ghost use Rattle.leaf_domain.proofs.LeafEquality.{leaf_decides, leaf_partial, leaf_equiv};
 ghost use Rattle.strides.specs.declared.strided.Strided as strided;
 ghost use Rattle.strides.specs.Strides.{IsReduced};
-ghost use Rattle.strides.specs.Strided.{range_of, IsOwn};
+ghost use Rattle.strides.specs.Strided.{IsOwn};
 ghost use Rattle.product_leaf.specs.StrideLeaves.{IsStrideLeaf, best_parts, part_at, stride_with};
 ghost use Rattle.product_leaf.specs.View.{IsBestOf};
 ghost use Rattle.product_leaf.specs.Laws.{leaf_alike};
 ghost use Rattle.product_leaf.specs.Laws.Parts.{IsLimited};
 ghost use Rattle.product_leaf.specs.Hashing.{fed_leaf};
-ghost use Rattle.congruence_leaf.specs.Congruences.{lone_variable, leaf_results, divided_with, congruences};
+ghost use Rattle.congruence_leaf.specs.Congruences.{lone_variable, HasDivisor, leaf_results, divided_with, value_with, congruences};
 ghost use Rattle.congruence_leaf.specs.Laws.{congruence_laws};
 
-use crate::operands::{lone_variable, modulus};
+use crate::functions::{Function, function_of};
+use crate::operands::lone_variable;
 use crate::remainders::{cut_numbers, met, stride_less, stride_modulo};
-use crate::results::results;
+use crate::results::{is_in_int, results};
 use fam_outer::NoMemory;
 use leaf_domain::{Compare, Form, Leaf, Operation, Range, Thresholds};
 use product_leaf::StrideLeaf;
@@ -31,8 +32,8 @@ use std::hash::{Hash, Hasher};
 use std::marker::Model;
 use strides::Strided;
 
-/// A leaf of intervals with strides, or Nothing, whose operations on remainders by a constant say what the strides tell of them.
-/// All other operations are those of [`StrideLeaf`].
+/// A leaf of intervals with strides, or Nothing, whose operations on squares, and on quotients and remainders by a constant, say
+/// what the strides tell of them. All other operations are those of [`StrideLeaf`].
 #[derive(Drop)]
 pub struct CongruenceLeaf {
     strides: StrideLeaf,
@@ -65,7 +66,7 @@ impl CongruenceLeaf {
     fn best_parts(&self) -> Option<&[Strided]>
         ensures nothing { IfNone result (self.now ≡ nothing_of self.now.variables) }
         ensures best { IfSome result (λ bs. IsBestOf self.now bs.now) }
-        ensures few { self.now.variables ≤ 16 }
+        ensures few { self.now.variables ≤ 48 }
     {
         self.strides.best_parts()
     }
@@ -82,11 +83,10 @@ impl CongruenceLeaf {
         }
     }
 
-    /// The numbers that an operation may give, where it is a remainder by a constant and the leaf is not Nothing.
+    /// The numbers that an operation may give, where it is a function of its left form and the leaf is not Nothing.
     fn results(&self, p: &Operation) -> Option<Strided>
         requires { IsOperation self.now.variables p.now }
         ensures value { result ≡ leaf_results self.now p.now }
-        ensures int { IfSome result (λ b. IsInInt (range_of b)) }
         ensures reduced { IfSome result (λ b. IsReduced b.stride) }
     {
         match self.best_parts() {
@@ -105,23 +105,25 @@ impl CongruenceLeaf {
         Ok(CongruenceLeaf::of(strides))
     }
 
-    /// The leaf in which the form leaves one of these remainders by `m`; Nothing where there is none.
+    /// The leaf in which the function has one of these values at the form; Nothing where there is none.
     fn cut(
         self,
         alloc: Global,
         f: &Form,
-        m: i64,
-        left: Option<Strided>,
+        function: Function,
+        values: Option<Strided>,
     ) -> Result<CongruenceLeaf, NoMemory>
         requires f { IsForm self.variables f.now }
-        requires int { IsInt m }
-        requires some { m ≢ pos 0 }
-        ensures { IfOk result (λ leaf. leaf
-            ≡ divided_with self (lone_variable f.now.terms) f.now.constant m left) }
+        requires divisor { HasDivisor function }
+        ensures { IfOk result (λ leaf. leaf ≡ value_with self f.now values function) }
     {
-        match left {
+        match values {
             None => CongruenceLeaf::nothing(alloc, self.variables()),
-            Some(left) => self.divided(alloc, f, m, left),
+            Some(left) => match function {
+                Function::Square => Ok(self),
+                Function::Quotient(_m) => Ok(self),
+                Function::Remainder(m) => self.divided(alloc, f, m, left),
+            },
         }
     }
 
@@ -137,7 +139,7 @@ impl CongruenceLeaf {
         requires int { IsInt m }
         requires some { m ≢ pos 0 }
         ensures { IfOk result (λ leaf. leaf
-            ≡ divided_with self (lone_variable f.now.terms) f.now.constant m (Some left)) }
+            ≡ divided_with self (lone_variable f.now.terms) f.now.constant m left) }
     {
         match lone_variable(f) {
             None => Ok(self),
@@ -249,6 +251,10 @@ impl Leaf for CongruenceLeaf {
         self.strides().bounds_of(x)
     }
 
+    fn step_of(&self, x: u32) -> u64 {
+        self.part(x).stride.modulus
+    }
+
     fn form_range(&self, f: &Form) -> Option<Range> {
         self.strides().form_range(f)
     }
@@ -293,11 +299,17 @@ impl Leaf for CongruenceLeaf {
         op: Compare,
         r: Range,
     ) -> Result<CongruenceLeaf, NoMemory> {
-        match modulus(p) {
+        match function_of(p) {
             None => Ok(self),
-            Some(m) => match self.results(p) {
+            Some(function) => match self.results(p) {
                 None => Ok(self),
-                Some(results) => self.cut(alloc, &p.left, m, cut_numbers(op, results, r)),
+                Some(results) => {
+                    if is_in_int(results.range()) {
+                        self.cut(alloc, &p.left, function, cut_numbers(op, results, r))
+                    } else {
+                        Ok(self)
+                    }
+                }
             },
         }
     }

@@ -1,13 +1,11 @@
-//! The operands of a remainder by a constant.
+//! Forms that are a variable and a constant, and forms that are a constant to divide by.
 #![tactic(auto)]
 
-ghost use Rattle.std.specs.Prelude.{◌≡◌, ◌≢◌, pos, ◌∷◌, IfSome};
-ghost use Rattle.c_tree.specs.Value.{IsInt};
+ghost use Rattle.std.specs.Prelude.{◌≡◌, ◌∷◌};
 ghost use Rattle.leaf_domain.specs.Forms.{IsFormNumber};
-ghost use Rattle.congruence_leaf.specs.Congruences.{lone_variable, is_divisor, divisor_of, modulus_of};
+ghost use Rattle.congruence_leaf.specs.Congruences.{lone_variable, is_divisor, divisor_of};
 
-use c_tree::Op;
-use leaf_domain::{Form, Operation, Range};
+use leaf_domain::{Form, Range};
 use linear_terms::first_term;
 
 /// The variable of a term with nothing behind it, where its coefficient is 1.
@@ -38,7 +36,7 @@ fn is_divisor(m: i64) -> bool
 }
 
 /// The number of a form that is a constant to divide by.
-fn divisor(f: &Form) -> Option<i64>
+pub(crate) fn divisor(f: &Form) -> Option<i64>
     requires { IsFormNumber f.now.constant }
     ensures { result ≡ divisor_of f.now }
 {
@@ -51,18 +49,5 @@ fn divisor(f: &Form) -> Option<i64>
             }
         }
         Some((_x, _coefficient, _behind)) => None,
-    }
-}
-
-/// The divisor of a remainder by a constant.
-pub(crate) fn modulus(p: &Operation) -> Option<i64>
-    requires { IsFormNumber p.now.right.constant }
-    ensures value { result ≡ modulus_of p.now }
-    ensures int { IfSome result IsInt }
-    ensures some { IfSome result (λ m. m ≢ pos 0) }
-{
-    match p.op {
-        Op::Rem => divisor(&p.right),
-        _ => None,
     }
 }

@@ -105,7 +105,7 @@ fn less(d: Strided, k: i64) -> Strided
 }
 
 /// One number alone.
-fn only(m: i64) -> Range
+pub(crate) fn only(m: i64) -> Range
     ensures { result ≡ range_at m m }
 {
     Range { low: m, high: m }

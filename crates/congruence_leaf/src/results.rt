@@ -1,18 +1,21 @@
-//! What a remainder by a constant gives, where the variables have these parts.
+//! What an operation gives that is a function of one form, where the variables have these parts.
 #![tactic(auto)]
 
-ghost use Rattle.std.specs.Prelude.{◌≡◌, ◌≢◌, ◌≤◌, ◌≤ℤ◌, pos, length, IfSome};
-ghost use Rattle.c_tree.specs.Value.{least, greatest, IsInt};
+ghost use Rattle.std.specs.Prelude.{◌≡◌, ◌≤◌, ◌≤ℤ◌, true, length, IfSome};
+ghost use Rattle.c_tree.specs.Value.{least, greatest};
 ghost use Rattle.leaf_domain.specs.Forms.{IsForm, IsFormNumber};
 ghost use Rattle.leaf_domain.specs.Operations.{IsOperation};
 ghost use Rattle.leaf_domain.specs.Ranges.{IsInInt};
 ghost use Rattle.strides.specs.Strides.{IsReduced};
-ghost use Rattle.strides.specs.Strided.{range_of, best_part, IsOwn};
+ghost use Rattle.strides.specs.Strided.{best_part, IsOwn};
 ghost use Rattle.product_leaf.specs.StrideLeaves.{AllOwn};
-ghost use Rattle.congruence_leaf.specs.Congruences.{moved_within, form_reach, form_numbers, remainders_by, results_of};
+ghost use Rattle.congruence_leaf.specs.Congruences.{moved_within, form_reach, form_numbers, HasDivisor, applied, applied_by, results_of, is_int, is_in_int};
 
-use crate::operands::{lone_variable, modulus};
+use crate::functions::{Function, function_of};
+use crate::operands::lone_variable;
+use crate::quotients::quotients;
 use crate::remainders::{remainders, strided_in};
+use crate::squares::squares;
 use leaf_domain::{Form, Operation, Range};
 use product_leaf::form_stride::form_stride;
 use strides::{Stride, Strided};
@@ -47,7 +50,7 @@ fn reach(parts: &[Strided], f: &Form) -> Range
 
 /// The numbers within `int` that a form may have, by their best bounds; none where there is none.
 fn form_numbers(parts: &[Strided], f: &Form) -> Option<Strided>
-    requires few { length parts.now ≤ 16 }
+    requires few { length parts.now ≤ 48 }
     requires own { AllOwn parts.now }
     requires form { IsForm (length parts.now) f.now }
     ensures value { result ≡ best_part (form_numbers parts.now f.now) }
@@ -58,34 +61,60 @@ fn form_numbers(parts: &[Strided], f: &Form) -> Option<Strided>
     Strided::best(range.low, range.high, stride)
 }
 
-/// The remainders of the numbers, where there are some.
-fn remainders_by(numbers: Option<Strided>, m: i64) -> Strided
-    requires own { IfSome numbers IsOwn }
-    requires int { IsInt m }
-    requires some { m ≢ pos 0 }
-    ensures value { result ≡ remainders_by numbers m }
-    ensures int { IsInInt (range_of result) }
+/// The values of a function at numbers of which the low is one.
+fn applied(numbers: Strided, function: Function) -> Strided
+    requires own { IsOwn numbers }
+    requires divisor { HasDivisor function }
+    ensures { result ≡ applied numbers function }
 {
-    match numbers {
-        None => strided_in(Range::EMPTY, Stride::ALL),
-        Some(numbers) => remainders(numbers, m),
+    match function {
+        Function::Square => squares(numbers),
+        Function::Quotient(m) => quotients(numbers, m),
+        Function::Remainder(m) => remainders(numbers, m),
     }
 }
 
-/// The numbers that an operation may give, by their best bounds, where it is a remainder by a constant.
+/// The values at the numbers, where there are some.
+fn applied_by(numbers: Option<Strided>, function: Function) -> Strided
+    requires own { IfSome numbers IsOwn }
+    requires divisor { HasDivisor function }
+    ensures { result ≡ applied_by numbers function }
+{
+    match numbers {
+        None => strided_in(Range::EMPTY, Stride::ALL),
+        Some(numbers) => applied(numbers, function),
+    }
+}
+
+/// The numbers that an operation may give, by their best bounds, where it is a function of its left form. A square and a
+/// quotient by -1 may pass `int`.
 pub(crate) fn results(parts: &[Strided], p: &Operation) -> Option<Strided>
-    requires few { length parts.now ≤ 16 }
+    requires few { length parts.now ≤ 48 }
     requires own { AllOwn parts.now }
     requires p { IsOperation (length parts.now) p.now }
     ensures value { result ≡ results_of parts.now p.now }
-    ensures int { IfSome result (λ b. IsInInt (range_of b)) }
     ensures reduced { IfSome result (λ b. IsReduced b.stride) }
 {
-    match modulus(p) {
+    match function_of(p) {
         None => None,
-        Some(m) => {
+        Some(function) => {
             let numbers = form_numbers(parts, &p.left);
-            Some(remainders_by(numbers, m).reduced())
+            Some(applied_by(numbers, function).reduced())
         }
     }
+}
+
+/// Whether a number is within `int`.
+fn is_int(n: i64) -> bool
+    ensures { result ≡ is_int n }
+{
+    Range::INT.low <= n && n <= Range::INT.high
+}
+
+/// Whether both ends are within `int`.
+pub(crate) fn is_in_int(range: Range) -> bool
+    ensures value { result ≡ is_in_int range }
+    ensures int { result ≡ true → IsInInt range }
+{
+    is_int(range.low) && is_int(range.high)
 }

@@ -1,7 +1,6 @@
--- The operations on remainders answer leaves of strides, and keep each store.
-use Rattle.std.proofs.Common.{◌≡◌, ℕ, ◌<◌, ℤ, pos, ◌+ℤ◌, ◌-ℤ◌, ◌≤ℤ◌, int_rem, Bool, true, false, if◌then◌else◌, List, [], length, slice_index_or, slice_set, Option, Some, None, IfSome, refl, ap, sym, subst, ◌∙◌, arith, map}
+-- The operations on squares, quotients and remainders answer leaves of strides, and keep each store.
+use Rattle.std.proofs.Common.{◌≡◌, ℕ, zero, suc, ◌<◌, ℤ, pos, ◌+ℤ◌, ◌-ℤ◌, ◌*ℤ◌, ◌≤ℤ◌, int_rem, Bool, true, false, if◌then◌else◌, List, [], ◌∷◌, length, slice_index_or, slice_set, Option, Some, None, IfSome, refl, ap, sym, subst, ◌∙◌, arith, map}
 use Rattle.std.proofs.lemmas.Int.{ints, clamps}
-use Rattle.c_tree.specs.declared.tree.Op.TheVariants.{Rem}
 use Rattle.leaf_domain.specs.declared.form.Form.{Form}
 use Rattle.leaf_domain.specs.declared.operation.Operation.{Operation}
 use Rattle.leaf_domain.specs.declared.range.Range.{Range}
@@ -9,23 +8,28 @@ use Rattle.leaf_domain.specs.declared.compare.Compare.{Compare}
 use Rattle.leaf_domain.specs.Compares.{holds_between}
 use Rattle.leaf_domain.specs.Forms.{IsForm, form_at}
 use Rattle.leaf_domain.specs.Operations.{IsOperation, Operates}
-use Rattle.leaf_domain.specs.Ranges.{Within, IsInInt, empty_range, exact}
-use Rattle.leaf_domain.specs.Leaves.{IsLeafLike, nothing_of}
+use Rattle.leaf_domain.specs.Ranges.{Within, IsInInt, empty_range}
+use Rattle.leaf_domain.specs.Leaves.{IsLeafLike, IsStepsFrom, nothing_of, at_store}
 use Rattle.leaf_domain.proofs.Variables.{length_replaced, held_set, held_part}
 use Rattle.nonrelational_leaf.proofs.PartLists as lists
 use Rattle.nonrelational_leaf.proofs.LiftedLaws.{at}
 use Rattle.strides.specs.declared.stride.Stride.{Stride}
 use Rattle.strides.specs.declared.strided.Strided.{Strided}
+use Rattle.strides.specs.Divisors.{IsMultiple}
 use Rattle.strides.specs.Strides.{HasStride, IsReduced}
-use Rattle.strides.specs.Strided.{least, greatest, Has, IsOwn, is_bare, strided_at, strided_in, range_of, reduced, best_part}
-use Rattle.strides.proofs.StridedLaws.{has_not_bare, reduced_keeps, by_reduced}
-use Rattle.product_leaf.specs.StrideLeaves.{stride_parts, strides, fours_of, part_at, met_part, AllOwn, AllHave, IsStrideLeaf, leaf_of, best_parts, stride_with}
+use Rattle.strides.specs.Strided.{least, greatest, Has, IsOwn, is_bare, point_at, strided_at, strided_in, range_of, reduced, best_part}
+use Rattle.strides.proofs.StridedLaws.{has_not_bare, reduced_keeps, reduced_best, by_reduced}
+use Rattle.strides.proofs.Multiples.{multiple_same, multiple_difference}
+use Rattle.product_leaf.specs.StrideLeaves.{stride_parts, strides, fours_of, part_at, part_in, met_part, AllOwn, AllHave, IsStrideLeaf, leaf_of, best_parts, stride_with}
 use Rattle.product_leaf.specs.Laws.Parts.{IsLimited, limited_best, fours_numbers, read_has, read_own}
+use Rattle.product_leaf.proofs.Meanings.{read_at}
 use Rattle.product_leaf.specs.Laws.StrideLaws.{stride_part_laws, range_limited}
 use Rattle.congruence_leaf.specs.Remainders.{stride_less, stride_modulo, strided_cut, finer_stride, meets, strided_met}
-use Rattle.congruence_leaf.specs.Congruences.{lone_variable, form_numbers, modulus_of, remainders_by, results_by, results_of, leaf_results, results_range, results_in, congruence_set, divided_part, divided_with, divided_by, congruence_meet}
-use Rattle.congruence_leaf.specs.Laws.Remainders.{empty_in_int, less_has, less_reduced, strided_reduced, cut_has, finer_is, met_has, dividend_has, rem_told}
-use Rattle.congruence_leaf.specs.Laws.Results.{IsLone, lone_is, modulus_told, best_has, results_have}
+use Rattle.congruence_leaf.specs.declared.functions.Function.{Function}
+use Rattle.congruence_leaf.specs.declared.functions.Function.TheVariants.{Square, Quotient, Remainder}
+use Rattle.congruence_leaf.specs.Congruences.{lone_variable, form_numbers, is_in_int, function_of, applied_by, results_by, results_of, leaf_results, results_range, results_in, congruence_set, divided_part, divided_with, value_with, met_by, congruence_meet}
+use Rattle.congruence_leaf.specs.Laws.Remainders.{empty_in_int, less_has, less_reduced, cut_has, finer_is, met_has, dividend_has, rem_told}
+use Rattle.congruence_leaf.specs.Laws.Results.{IsLone, lone_is, IsValue, function_told, best_has, applied_reduced, results_have}
 
 -- ---- one part for another
 with_answers : (n : ℕ) (c : Option (List ℤ)) (x : ℕ) (p : Strided) → IsStrideLeaf (at n c) → (is_bare p ≡ false → IsOwn (reduced p)) → IsLeafLike strides (at n c) (stride_with (at n c) x p)
@@ -65,6 +69,32 @@ best_own n us v = lists.own_best stride_parts stride_part_laws (fours_of us) v.1
 best_have : (n : ℕ) (us : List ℤ) (s : List ℤ) → strides.holds (at n (Some us)) s → AllHave (best_parts (at n (Some us))) s
 best_have n us s h = lists.best_have stride_parts stride_part_laws (fours_of us) s h
 
+-- both the value and the low end of its range have the stride
+pub step_holds : (n : ℕ) (c : Option (List ℤ)) (x : ℕ) (s : List ℤ) → IsStrideLeaf (at n c) → x < n → strides.holds (at n c) s
+    → IsStepsFrom (strides.bounds_of (at n c) x).low (part_at (best_parts (at n c)) x).stride.modulus (at_store s x)
+step_holds n None x s v l h = absurd h
+step_holds n (Some us) x s v l h =
+    let bs : List Strided = best_parts (at n (Some us)) in
+    let i : x < length bs = omega (arith, l, best_count n us v) in
+    steps (part_at bs x) (strides.bounds_of (at n (Some us)) x) (at_store s x) (ap (λ (r : Range). r.low) (range_at_best bs x i)) (each_best (fours_of us) x v.1.2 i) (read_has bs s x i (best_have n us s h))
+  where
+    range_at_best : (bs : List Strided) (x : ℕ) → x < length bs → range_of (part_at bs x) ≡ range_of (slice_index_or bs x (part_in empty_range))
+    range_at_best bs x i = ap range_of (read_at bs x (point_at (pos 0)) (part_in empty_range) i)
+
+    apart : (n l k p : ℤ) → l ≡ k → n -ℤ l ≡ p → n ≡ k +ℤ p
+    apart n l k p e v = omega (arith, ints)
+
+    steps : (b : Strided) (r : Range) (n : ℤ) → b.low ≡ r.low → Has b b.low → Has b n → IsStepsFrom r.low b.stride.modulus n
+    steps b r n e low h =
+        let m : IsMultiple b.stride.modulus (n -ℤ b.low) = multiple_same b.stride.modulus ((n -ℤ b.stride.residue) -ℤ (b.low -ℤ b.stride.residue)) (n -ℤ b.low) (omega (arith, ints)) (multiple_difference b.stride.modulus _ _ h.stride low.stride) in
+        let v : n -ℤ b.low ≡ m.times *ℤ pos b.stride.modulus = m.value in
+        record { steps = m.times; value = apart n b.low r.low (m.times *ℤ pos b.stride.modulus) e v }
+
+    each_best : (us : List Strided) (x : ℕ) → AllOwn us → x < length (map reduced us) → Has (part_at (map reduced us) x) (part_at (map reduced us) x).low
+    each_best [] x o i = absurd (omega arith)
+    each_best (b ∷ us) zero o i = (reduced_best b o.0.some).low
+    each_best (b ∷ us) (suc x) o i = each_best us x o.1 (omega arith)
+
 operation_over : (n m : ℕ) (p : Operation) → n ≡ m → IsOperation n p → IsOperation m p
 operation_over n m p e o = subst (λ k. IsOperation k p) e o
 
@@ -87,17 +117,17 @@ operation_holds n c p r s k v o h w e = by_results (leaf_results (at n c) p) (le
 pub best_reduced_stride : (b : Strided) → IsReduced b.stride → IsReduced (reduced b).stride
 best_reduced_stride b h = by_reduced (λ r. IsReduced r.stride) b (λ e. h) (λ e f. record { low = λ p. absurd (omega arith); high = λ p. absurd (omega arith) }) (λ e f. h)
 
-pub remainders_reduced : (d : Option Strided) (m : ℤ) → IsReduced (remainders_by d m).stride
-remainders_reduced None m = (range_limited empty_range empty_in_int).residue
-remainders_reduced (Some d) m = strided_reduced d m
+pub values_reduced : (d : Option Strided) (g : Function) → IsReduced (applied_by d g).stride
+values_reduced None g = (range_limited empty_range empty_in_int).residue
+values_reduced (Some d) g = applied_reduced d g
 
 pub results_reduced : (bs : List Strided) (p : Operation) → IfSome (results_of bs p) (λ b. IsReduced b.stride)
 unfolding results_of
-results_reduced bs p = by_modulus (modulus_of p)
+results_reduced bs p = by_function (function_of p)
   where
-    by_modulus : (m : Option ℤ) → IfSome (results_by bs p.left m) (λ b. IsReduced b.stride)
-    by_modulus None = tt
-    by_modulus (Some m) = best_reduced_stride (remainders_by (best_part (form_numbers bs p.left)) m) (remainders_reduced (best_part (form_numbers bs p.left)) m)
+    by_function : (g : Option Function) → IfSome (results_by bs p.left g) (λ b. IsReduced b.stride)
+    by_function None = tt
+    by_function (Some g) = best_reduced_stride (applied_by (best_part (form_numbers bs p.left)) g) (values_reduced (best_part (form_numbers bs p.left)) g)
 
 pub leaf_reduced : (n : ℕ) (c : Option (List ℤ)) (p : Operation) → IfSome (leaf_results (at n c) p) (λ b. IsReduced b.stride)
 leaf_reduced n None p = tt
@@ -155,11 +185,10 @@ divided_has bs x c m f b v h e k =
     back : (f v c : ℤ) → f ≡ v +ℤ c → f -ℤ c ≡ v
     back f v c e = omega (arith, ints)
 
-with_divided_answers : (n : ℕ) (c : Option (List ℤ)) (f : Form) (m : ℤ) (b : Option Strided) → IsStrideLeaf (at n c) → IsForm n f → IsLeafLike strides (at n c) (divided_with (at n c) (lone_variable f.terms) f.constant m b)
-with_divided_answers n c f m None v g = record { valid = (v.0, tt); same = refl }
-with_divided_answers n c f m (Some b) v g = by_variable (lone_variable f.terms) refl
+divided_answers : (n : ℕ) (c : Option (List ℤ)) (f : Form) (m : ℤ) (b : Strided) → IsStrideLeaf (at n c) → IsForm n f → IsLeafLike strides (at n c) (divided_with (at n c) (lone_variable f.terms) f.constant m b)
+divided_answers n c f m b v g = by_variable (lone_variable f.terms) refl
   where
-    by_variable : (o : Option ℕ) → lone_variable f.terms ≡ o → IsLeafLike strides (at n c) (divided_with (at n c) o f.constant m (Some b))
+    by_variable : (o : Option ℕ) → lone_variable f.terms ≡ o → IsLeafLike strides (at n c) (divided_with (at n c) o f.constant m b)
     by_variable None e = record { valid = v; same = refl }
     by_variable (Some x) e = by_content c v
       where
@@ -170,43 +199,63 @@ with_divided_answers n c f m (Some b) v g = by_variable (lone_variable f.terms) 
             with_answers n (Some us) x (divided_part (best_parts (at n (Some us))) x f.constant m b) v
             (limited_best (divided_part (best_parts (at n (Some us))) x f.constant m b) (divided_limited (best_parts (at n (Some us))) x f.constant m b l (best_own n us v)))
 
+value_answers : (n : ℕ) (c : Option (List ℤ)) (f : Form) (b : Option Strided) (g : Function) → IsStrideLeaf (at n c) → IsForm n f → IsLeafLike strides (at n c) (value_with (at n c) f b g)
+value_answers n c f None g v i = record { valid = (v.0, tt); same = refl }
+value_answers n c f (Some b) Square v i = record { valid = v; same = refl }
+value_answers n c f (Some b) (Quotient m) v i = record { valid = v; same = refl }
+value_answers n c f (Some b) (Remainder m) v i = divided_answers n c f m b v i
+
 pub meet_answers : (n : ℕ) (c : Option (List ℤ)) (p : Operation) (op : Compare) (r : Range) → IsStrideLeaf (at n c) → IsOperation n p → IsLeafLike strides (at n c) (congruence_meet (at n c) p op r)
-meet_answers n c p op r v o = by_results (modulus_of p) (leaf_results (at n c) p)
+meet_answers n c p op r v o = by_results (function_of p) (leaf_results (at n c) p)
   where
-    by_results : (m : Option ℤ) (b : Option Strided) → IsLeafLike strides (at n c) (divided_by (at n c) p.left m b op r)
+    by_test : (g : Function) (b : Strided) (t : Bool) → IsLeafLike strides (at n c) (if t then value_with (at n c) p.left (best_part (strided_cut op b r)) g else at n c)
+    by_test g b true = value_answers n c p.left (best_part (strided_cut op b r)) g v o.left
+    by_test g b false = record { valid = v; same = refl }
+
+    by_results : (g : Option Function) (b : Option Strided) → IsLeafLike strides (at n c) (met_by (at n c) p.left g b op r)
     by_results None b = record { valid = v; same = refl }
-    by_results (Some m) None = record { valid = v; same = refl }
-    by_results (Some m) (Some b) = with_divided_answers n c p.left m (best_part (strided_cut op b r)) v o.left
+    by_results (Some g) None = record { valid = v; same = refl }
+    by_results (Some g) (Some b) = by_test g b (is_in_int (range_of b))
+
+divided_holds : (n : ℕ) (us : List ℤ) (f : Form) (m : ℤ) (b : Strided) (s : List ℤ) → IsStrideLeaf (at n (Some us)) → IsForm n f → strides.holds (at n (Some us)) s → Has b (int_rem (form_at f s) m) → strides.holds (divided_with (at n (Some us)) (lone_variable f.terms) f.constant m b) s
+divided_holds n us f m b s v i h k = by_variable (lone_variable f.terms) refl
+  where
+    by_variable : (x : Option ℕ) → lone_variable f.terms ≡ x → strides.holds (divided_with (at n (Some us)) x f.constant m b) s
+    by_variable None t = h
+    by_variable (Some x) t =
+        let l : IsLone n f s x = lone_is n f s x i t in
+        let u : Has (part_at (best_parts (at n (Some us))) x) (slice_index_or s x (pos 0)) = read_has (best_parts (at n (Some us))) s x (subst (λ i. x < i) (best_count n us v) l.below) (best_have n us s h) in
+        with_kept n (Some us) x (divided_part (best_parts (at n (Some us))) x f.constant m b) s h
+        (divided_has (best_parts (at n (Some us))) x f.constant m (form_at f s) b (slice_index_or s x (pos 0)) u l.value k)
+
+-- the values among which is that of the function at the store
+value_holds : (n : ℕ) (us : List ℤ) (f : Form) (b : Strided) (g : Function) (s : List ℤ) (k : ℤ) → IsStrideLeaf (at n (Some us)) → IsForm n f → strides.holds (at n (Some us)) s → IsValue g (form_at f s) k → Has b k → strides.holds (value_with (at n (Some us)) f (Some b) g) s
+value_holds n us f b Square s k v i h e u = h
+value_holds n us f b (Quotient m) s k v i h e u = h
+value_holds n us f b (Remainder m) s k v i h e u = divided_holds n us f m b s v i h (subst (Has b) (sym (rem_told (form_at f s) m k e.0).1) u)
 
 pub meet_holds : (n : ℕ) (c : Option (List ℤ)) (p : Operation) (op : Compare) (r : Range) (s : List ℤ) (k j : ℤ) → IsStrideLeaf (at n c) → IsOperation n p → strides.holds (at n c) s → Operates p s k → Within j r → holds_between op k j ≡ true → strides.holds (congruence_meet (at n c) p op r) s
 meet_holds n None p op r s k j v o h w i e = absurd h
-meet_holds n (Some us) p op r s k j v o h w i e = by_modulus (modulus_of p) refl
+meet_holds n (Some us) p op r s k j v o h w i e = by_function (function_of p) refl
   where
-    by_variable : (m : ℤ) (b : Strided) → int_rem (form_at p.left s) m ≡ k → Has b k → (x : Option ℕ) → lone_variable p.left.terms ≡ x → strides.holds (divided_with (at n (Some us)) x p.left.constant m (Some b)) s
-    by_variable m b f g None t = h
-    by_variable m b f g (Some x) t =
-        let l : IsLone n p.left s x = lone_is n p.left s x o.left t in
-        let u : Has (part_at (best_parts (at n (Some us))) x) (slice_index_or s x (pos 0)) = read_has (best_parts (at n (Some us))) s x (subst (λ i. x < i) (best_count n us v) l.below) (best_have n us s h) in
-        with_kept n (Some us) x (divided_part (best_parts (at n (Some us))) x p.left.constant m b) s h
-        (divided_has (best_parts (at n (Some us))) x p.left.constant m (form_at p.left s) b (slice_index_or s x (pos 0)) u l.value (subst (λ y. Has b y) (sym f) g))
+    by_test : (g : Function) → IsValue g (form_at p.left s) k → (b : Strided) → Has b k → (t : Bool) → strides.holds (if t then value_with (at n (Some us)) p.left (best_part (strided_cut op b r)) g else at n (Some us)) s
+    by_test g f b u false = h
+    by_test g f b u true =
+        let q : Has (strided_cut op b r) k = cut_has op b r k j u i e in
+        best_has (λ d. strides.holds (value_with (at n (Some us)) p.left d g) s) (strided_cut op b r) (has_not_bare (strided_cut op b r) k q)
+        (value_holds n us p.left (reduced (strided_cut op b r)) g s k v o.left h f (reduced_keeps (strided_cut op b r) k q))
 
-    by_results : (m : ℤ) → int_rem (form_at p.left s) m ≡ k → (b : Option Strided) → IfSome b (λ b. Has b k) → strides.holds (divided_by (at n (Some us)) p.left (Some m) b op r) s
-    by_results m f None g = h
-    by_results m f (Some b) g =
-        let u : Has (strided_cut op b r) k = cut_has op b r k j g i e in
-        best_has (λ q. strides.holds (divided_with (at n (Some us)) (lone_variable p.left.terms) p.left.constant m q) s) (strided_cut op b r) (has_not_bare (strided_cut op b r) k u)
-        (by_variable m (reduced (strided_cut op b r)) f (reduced_keeps (strided_cut op b r) k u) (lone_variable p.left.terms) refl)
+    by_results : (g : Function) → IsValue g (form_at p.left s) k → (b : Option Strided) → IfSome b (λ b. Has b k) → strides.holds (met_by (at n (Some us)) p.left (Some g) b op r) s
+    by_results g f None u = h
+    by_results g f (Some b) u = by_test g f b u (is_in_int (range_of b))
 
-    by_modulus : (m : Option ℤ) → modulus_of p ≡ m → strides.holds (divided_by (at n (Some us)) p.left m (leaf_results (at n (Some us)) p) op r) s
-    by_modulus None f = h
-    by_modulus (Some m) f =
-        let (g, d) = modulus_told p m f in
-        let x : exact Rem (form_at p.left s) m ≡ Some k = ap (λ q. exact q (form_at p.left s) m) (sym g) ∙ ap (λ y. exact p.op (form_at p.left s) y) (sym (d.value s)) ∙ w.is in
-        by_results m (rem_told (form_at p.left s) m k x).1 (leaf_results (at n (Some us)) p) (leaf_results_have n (Some us) p s k v o h w)
+    by_function : (g : Option Function) → function_of p ≡ g → strides.holds (met_by (at n (Some us)) p.left g (leaf_results (at n (Some us)) p) op r) s
+    by_function None f = h
+    by_function (Some g) f = by_results g ((function_told p g f).value s k w) (leaf_results (at n (Some us)) p) (leaf_results_have n (Some us) p s k v o h w)
 
 pub meet_nothing : (n : ℕ) (p : Operation) (op : Compare) (r : Range) → congruence_meet (nothing_of n) p op r ≡ nothing_of n
-meet_nothing n p op r = by_modulus (modulus_of p)
+meet_nothing n p op r = by_function (function_of p)
   where
-    by_modulus : (m : Option ℤ) → divided_by (nothing_of n) p.left m None op r ≡ nothing_of n
-    by_modulus None = refl
-    by_modulus (Some m) = refl
+    by_function : (g : Option Function) → met_by (nothing_of n) p.left g None op r ≡ nothing_of n
+    by_function None = refl
+    by_function (Some g) = refl

@@ -39,7 +39,7 @@ quot_mono (pos a) (negsuc b) k p h = absurd (omega (arith, ints))
 quot_mono (negsuc a) (pos b) k p h = omega (arith, ints)
 quot_mono (negsuc a) (negsuc b) k p h = omega (arith, ints, div_mono (suc b) (suc a) k p (omega (arith, ints)))
 
-quot_neg : (n : ℤ) (k : ℕ) → int_div n (negsuc k) ≡ neg_ℤ (int_div n (pos (suc k)))
+pub quot_neg : (n : ℤ) (k : ℕ) → int_div n (negsuc k) ≡ neg_ℤ (int_div n (pos (suc k)))
 quot_neg (pos a) k = refl
 quot_neg (negsuc a) k = omega (arith, ints)
 

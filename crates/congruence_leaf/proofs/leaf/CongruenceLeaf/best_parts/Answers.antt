@@ -15,5 +15,5 @@ returns-clause-best c =
 
 pub returns-clause-few : goal.returns-clause-few
 returns-clause-few c =
-    let P : LeafValue → Type 0 = λ v. v.variables ≤ 16 in
+    let P : LeafValue → Type 0 = λ v. v.variables ≤ 48 in
     subst P c.self.view_is c.best_parts.ensures.few

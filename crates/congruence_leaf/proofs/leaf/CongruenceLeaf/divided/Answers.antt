@@ -1,4 +1,4 @@
-use Rattle.std.proofs.Common.{◌≡◌, unsigned_abs, ◌≤◌, IfOk, Some, ap, sym, subst, ◌∙◌}
+use Rattle.std.proofs.Common.{◌≡◌, unsigned_abs, ◌≤◌, IfOk, ap, sym, subst, ◌∙◌}
 use Rattle.leaf_domain.specs.Leaves.{LeafValue}
 use Rattle.strides.specs.Strides.{IsReduced}
 use Rattle.product_leaf.specs.StrideLeaves.{best_parts, part_at, stride_with}
@@ -34,7 +34,7 @@ returns-in-Some c =
     ∙ ap (λ t. strided_met (part_at (best_parts c.args.self) c.in-Some.x) t)
     (c.stride_less-stride.ensures ∙ ap (λ k. stride_less k c.stride_modulo.result) n ∙ ap (λ t. stride_less c.args.f.now.constant t) (c.stride_modulo.ensures.value ∙ ap (λ y. stride_modulo y c.args.left.stride) (int_back c.args.m c.requires.int))) in
     let P : LeafValue → Type 0 = λ u. IfOk c.with.result (λ leaf. leaf ≡ u) in
-    subst P (ap (λ b. stride_with c.args.self c.in-Some.x b) e ∙ ap (λ o. divided_with c.args.self o c.args.f.now.constant c.args.m (Some c.args.left)) c.in-Some.ensures) c.with.ensures
+    subst P (ap (λ b. stride_with c.args.self c.in-Some.x b) e ∙ ap (λ o. divided_with c.args.self o c.args.f.now.constant c.args.m c.args.left) c.in-Some.ensures) c.with.ensures
 
 pub returns-in-None : goal.returns-in-None
-returns-in-None c = ap (λ o. divided_with c.args.self o c.args.f.now.constant c.args.m (Some c.args.left)) c.in-None.ensures
+returns-in-None c = ap (λ o. divided_with c.args.self o c.args.f.now.constant c.args.m c.args.left) c.in-None.ensures
