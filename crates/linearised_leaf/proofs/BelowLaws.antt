@@ -1,11 +1,12 @@
 -- A pair of kinds of leaf that is below both is below both linearised too.
-use Rattle.std.proofs.Common.{◌≡◌, ℕ, ◌<◌, ℤ, pos, negsuc, Bool, true, false, ◌||◌, if◌then◌else◌, Option, Some, None, refl, sym}
+use Rattle.std.proofs.Common.{◌≡◌, ℕ, ◌<◌, ℤ, pos, negsuc, ◌||◌, Option, Some, None, refl, sym}
 use Rattle.leaf_domain.specs.declared.form.Form.{Form}
 use Rattle.leaf_domain.specs.declared.range.Range.{Range}
 use Rattle.leaf_domain.specs.declared.compare.Compare.{Compare}
 use Rattle.leaf_domain.specs.declared.compare.Compare.TheVariants.{Lt, Le, Gt, Ge, Eq, Ne}
 use Rattle.leaf_domain.specs.Ranges.{IsInInt}
 use Rattle.leaf_domain.specs.Forms.{IsForm, multiple_form}
+use Rattle.leaf_domain.specs.Sums.{HasForm}
 use Rattle.leaf_domain.specs.Leaves.{LeafValue, LeafMeaning, LeafLaws, Alike, IsLeafLike, is_nothing_of}
 use Rattle.leaf_domain.specs.Exactness.{LeafExactness}
 use Rattle.paired_leaf.specs.Pairs.{first_of, second_of}
@@ -13,9 +14,12 @@ use Rattle.paired_leaf.specs.Exchange.{is_tighter, limited_at}
 use Rattle.paired_leaf.specs.Below.{JoinIsLeast, IsBelow, IsBelowParts}
 use Rattle.paired_leaf.proofs.PairLemmas.{of_either}
 use Rattle.linearised_leaf.specs.Sides.{side_met}
-use Rattle.linearised_leaf.specs.Linearised.{side_of, other_side_met, sides_met, is_octagonal, tightened, has_variable, form_less_variable, set_difference, tightened_where, linearised}
+use Rattle.linearised_leaf.specs.Differences.{set_met}
+use Rattle.linearised_leaf.specs.Linearised.{side_of, other_side_met, sides_met, is_octagonal, tightened, has_variable, form_less_variable, tightened_where, tightened_set, linearised}
 use Rattle.linearised_leaf.proofs.SideLaws.{IsKept, side_kept, side_like, like_kept, form_over, below_count}
-use Rattle.linearised_leaf.proofs.LinearisedLaws.{negated_is, less_is, own_alike, sides_alike, over, counted}
+use Rattle.linearised_leaf.proofs.FormLaws.{negated_is, less_has}
+use Rattle.linearised_leaf.proofs.DifferenceLaws.{IsSetKept, set_kept, set_over, like_kept as like_set_kept}
+use Rattle.linearised_leaf.proofs.LinearisedLaws.{own_alike, sides_alike, over, counted}
 
 -- the parts of a leaf of the one kind are leaves of the two others
 abbrev pub HasParts : LeafMeaning → LeafMeaning → LeafMeaning → Type 0
@@ -73,6 +77,23 @@ module _ (A B P : LeafMeaning) (L : LeafLaws P) (E : LeafExactness A) (F : LeafE
       by_form None e = self_under v
       by_form (Some g) e = side_under v p g n (negated_is v.variables f g i e)
 
+  -- w is the leaf v with a variable set to a form
+  module _ (v : LeafValue) (p : P.valid v) (x : ℕ) (f : Form) (l : x < v.variables) (i : IsForm v.variables f) (w : LeafValue) where
+    record IsSetLess (u : LeafValue) : Type 0 where
+      like : IsLeafLike P v u
+      under : IsUnder w u
+
+    set_less_kept : IsSetKept P L v p x f IsSetLess
+    set_less_kept = record {
+      form = λ u g r k. record {
+        like = (like_set_kept P L v p x f).form u g r.like k;
+        under = under_under w u (P.meet_form u g Le) r.under (form_under u g Le r.like.valid (set_over P L v p x f u g r.like k));
+      };
+    }
+
+    set_under : IsLeafLike P v w → IsUnder w (set_met P v x f w)
+    set_under j = (set_kept P L v p x f IsSetLess set_less_kept l i w (record { like = j; under = self_under w })).under
+
   module _ (least : JoinIsLeast A) (lowest : JoinIsLeast B) where
     join_under : (v a b : LeafValue) → P.valid v → IsLeafLike P v a → Alike P a b → IsUnder v a → IsUnder v b → IsUnder v (P.join a b)
     join_under v a b p i k x y =
@@ -101,16 +122,9 @@ module _ (A B P : LeafMeaning) (L : LeafLaws P) (E : LeafExactness A) (F : LeafE
     tightened_under : (v : LeafValue) (f : Form) (op : Compare) → P.valid v → IsForm v.variables f → IsUnder v (tightened P v f op)
     tightened_under v f op p i = of_either (IsUnder v) (is_nothing_of v || is_octagonal f.terms) v (sides_met P v f op) (self_under v) (sides_under v f op p i)
 
-    where_under : (v : LeafValue) (x : ℕ) (f : Form) → P.valid v → x < v.variables → IsForm v.variables f → IsUnder v (tightened_where P v (set_difference x f))
-    where_under v x f p l i = by_test (has_variable x f.terms)
-      where
-        by_form : (o : Option Form) → form_less_variable x f ≡ o → IsUnder v (tightened_where P v o)
-        by_form None e = self_under v
-        by_form (Some g) e = tightened_under v g Eq p (less_is v.variables x f g l i e)
-
-        by_test : (t : Bool) → IsUnder v (tightened_where P v (if t then None else form_less_variable x f))
-        by_test true = self_under v
-        by_test false = by_form (form_less_variable x f) refl
+    where_under : (v : LeafValue) (o : Option Form) → P.valid v → HasForm v.variables o → IsUnder v (tightened_where P v o)
+    where_under v None p i = self_under v
+    where_under v (Some g) p i = tightened_under v g Eq p i
 
     within : (v w a b : LeafValue) → IsBelow A B v a b → IsUnder v w → IsBelow A B w a b
     within v w a b i j = record { first = λ s h. i.first s (j.first s h); second = λ s h. i.second s (j.second s h) }
@@ -125,8 +139,9 @@ module _ (A B P : LeafMeaning) (L : LeafLaws P) (E : LeafExactness A) (F : LeafE
     set_form_below v x f r p l i k =
         let w = P.set_form v x f r in
         let j = L.set_form_answers v x f r p l i k in
-        within w (tightened_where P w (set_difference x f)) (A.set_form (first_of v) x f r) (B.set_form (second_of v) x f r) (K.set_form v x f r p l i k)
-        (where_under w x f j.valid (counted P L v w x j l) (over P L v w f j i))
+        within w (tightened_set P v x f w) (A.set_form (first_of v) x f r) (B.set_form (second_of v) x f r) (K.set_form v x f r p l i k)
+        (of_either (IsUnder w) (has_variable x f.terms) (set_met P v x f w) (tightened_where P w (form_less_variable x f)) (set_under v p x f l i w j)
+        (where_under w (form_less_variable x f) j.valid (less_has w.variables x f (counted P L v w x j l) (over P L v w f j i))))
 
     pub linearised_below : IsBelowParts A B (linearised P)
     linearised_below = record {

@@ -1,6 +1,9 @@
 pub mod Numbers
 pub mod Terms
+pub mod FormLaws
 pub mod SideLaws
+pub mod Stores
+pub mod DifferenceLaws
 pub mod LinearisedLaws
 pub mod BelowLaws
 pub mod Summing

@@ -30,7 +30,7 @@ product_size (negsuc a) (negsuc b) h i =
 -- the sum so far, with the terms that are left: they begin at a number, and no more terms than that have been added
 pub record IsSumming (M : LeafMeaning) (v : LeafValue) (total sum : ℤ) (rest : List (ℕ × ℤ)) : Type 0 where
   pub from : ℕ
-  pub few : from ≤ 16
+  pub few : from ≤ 48
   pub terms : AreTerms from v.variables rest
   pub low : neg_ℤ (pos (from * 2 ^ 72 + 2 ^ 42)) ≤ℤ sum
   pub high : sum ≤ℤ pos (from * 2 ^ 72 + 2 ^ 42)
@@ -47,7 +47,7 @@ module _ (M : LeafMeaning) (v : LeafValue) where
     split = ap (λ n. n +ℤ least_terms M v f.terms) e;
   }
 
-  pub summing_more : (total sum after a : ℤ) (rest behind : List (ℕ × ℤ)) (x : ℕ) (k : ℤ) → v.variables ≤ 16 → rest ≡ (x, k) ∷ behind → a ≡ least_term M v (x, k) → IsTermSize a → after ≡ sum +ℤ a
+  pub summing_more : (total sum after a : ℤ) (rest behind : List (ℕ × ℤ)) (x : ℕ) (k : ℤ) → v.variables ≤ 48 → rest ≡ (x, k) ∷ behind → a ≡ least_term M v (x, k) → IsTermSize a → after ≡ sum +ℤ a
       → IsSumming M v total sum rest → IsSumming M v total after behind
   summing_more total sum after a rest behind x k l e f z g s =
       let t : AreTerms s.from v.variables ((x, k) ∷ behind) = subst (AreTerms s.from v.variables) e s.terms in
@@ -67,7 +67,7 @@ module _ (M : LeafMeaning) (v : LeafValue) where
       moved n a r t after total g f h = omega (arith, ints, g, f, h)
 
   pub summing_size : (total sum : ℤ) (rest : List (ℕ × ℤ)) → IsSumming M v total sum rest → IsSumSize sum
-  summing_size total sum rest s = let few : s.from ≤ 16 = s.few in record { low = omega (arith, ints, s.low, few); high = omega (arith, ints, s.high, few) }
+  summing_size total sum rest s = let few : s.from ≤ 48 = s.few in record { low = omega (arith, ints, s.low, few); high = omega (arith, ints, s.high, few) }
 
   pub summing_end : (total sum : ℤ) (rest : List (ℕ × ℤ)) → rest ≡ [] → IsSumming M v total sum rest → sum ≡ total
   summing_end total sum rest e s = all sum total (subst (λ ts. sum +ℤ least_terms M v ts ≡ total) e s.split)

@@ -34,7 +34,7 @@ module _ (M : LeafMeaning) (L : LeafLaws M) (v : LeafValue) (p : M.valid v) wher
   term_least : (t : ℕ × ℤ) (s : List ℤ) → t.0 < v.variables → M.holds v s → least_term M v t ≤ℤ value_of t s
   term_least t s l h = least_is_least t.1 (at_store s t.0) (M.bounds_of v t.0) (L.bounds_hold v t.0 s p l h)
 
-  terms_least : (from : ℕ) (ts : List (ℕ × ℤ)) (s : List ℤ) → AreTerms from v.variables ts → M.holds v s → least_terms M v ts ≤ℤ terms_at ts s
+  pub terms_least : (from : ℕ) (ts : List (ℕ × ℤ)) (s : List ℤ) → AreTerms from v.variables ts → M.holds v s → least_terms M v ts ≤ℤ terms_at ts s
   terms_least from [] s a h = omega (arith, ints)
   terms_least from (t ∷ ts) s a h = sums (least_term M v t) (least_terms M v ts) (value_of t s) (terms_at ts s) (term_least t s a.1 h) (terms_least (t.0 + 1) ts s a.4 h)
     where

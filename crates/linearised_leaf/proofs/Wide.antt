@@ -1,5 +1,5 @@
 -- The numbers of the code are those that are computed: none wraps.
-use Rattle.std.proofs.Common.{◌≡◌, ℕ, ◌≤◌, ℤ, ◌+ℤ◌, ◌-ℤ◌, ◌*ℤ◌, Option, Some, None, IfSome, List, [], ◌∷◌, Bool, true, false, ◌&&◌, if◌then◌else◌, FitsSigned, to_z, of_z, w64, refl, sym, subst, ap, ◌∙◌, arith}
+use Rattle.std.proofs.Common.{◌≡◌, ℕ, ◌≤◌, ℤ, pos, ◌+ℤ◌, ◌-ℤ◌, ◌*ℤ◌, Option, Some, None, IfSome, List, [], ◌∷◌, Bool, true, false, ◌&&◌, if◌then◌else◌, FitsSigned, to_z, of_z, w64, refl, sym, subst, ap, ◌∙◌, arith}
 use Rattle.std.specs.Int.{w128}
 use Rattle.std.proofs.lemmas.Int.{ints, to_z-of_z}
 use Rattle.c_tree.specs.Value.{IsInt}
@@ -11,6 +11,7 @@ use Rattle.leaf_domain.proofs.FormLemmas.{number_is}
 use Rattle.linearised_leaf.specs.LeastValues.{least_term, least_value}
 use Rattle.linearised_leaf.specs.Sizes.{IsTermSize, IsSumSize}
 use Rattle.linearised_leaf.specs.Sides.{is_unit, two_terms, met_pair, pair_met, pairs_met, all_pairs_met, term_met, terms_met, side_met}
+use Rattle.linearised_leaf.specs.Differences.{is_other_unit, met_in_order, difference_met, differences_met, form_met}
 use Rattle.linear_terms.proofs.Sums.{wide_sum}
 use Rattle.linearised_leaf.specs.LeastValues.{multiples_below}
 use Rattle.paired_leaf.specs.Exchange.{limited_at}
@@ -76,6 +77,14 @@ pair_form count t u o n a e = subst (λ p. IfSome p (λ k. IsForm count (two_ter
     by_test true i = record { terms = a; constant = number_is n i }
     by_test false i = tt
 
+-- a number that is kept is a number of a form
+pub kept_has : (n : ℤ) (o : Option ℤ) → o ≡ kept_number n → IfSome o IsFormNumber
+kept_has n o e = subst (λ p. IfSome p IsFormNumber) (sym e) (by_test (is_form_number n) refl)
+  where
+    by_test : (c : Bool) → is_form_number n ≡ c → IfSome (if c then Some n else None) IsFormNumber
+    by_test true i = number_is n i
+    by_test false i = tt
+
 module _ (M : LeafMeaning) (v : LeafValue) where
   pub term_back : (r : ℤ) (t : ℕ × ℤ) → IsFormNumber t.1 → r ≡ least_term M v (t.0, narrow t.1) → r ≡ least_term M v t
   term_back r t i e = e ∙ ap (λ k. least_term M v (t.0, k)) (form_narrow t.1 i)
@@ -102,6 +111,17 @@ module _ (M : LeafMeaning) (v : LeafValue) where
       ap (λ y. limited_at M w x y)
       (c ∙ ap (λ y. multiples_below y (wide l)) (form_narrow k i) ∙ ap (λ y. multiples_below k y) (b ∙ ap (λ y. y -ℤ n) (term_back r (x, k) i e)))
 
+  -- ---- differences
+  pub difference_is : (n : ℤ) (own t : ℕ × ℤ) (w : LeafValue) (o : Option ℤ) (l r : ℤ) → IsFormNumber t.1 → is_other_unit own.0 (t.0, narrow t.1) ≡ true → IsSumSize n → IsTermSize r → r ≡ least_term M v (t.0, narrow t.1)
+      → l ≡ wide n -ℤ wide r → o ≡ kept_number (wide l) → met_in_order M w o own t ≡ difference_met M v n own t w
+  difference_is n own t w o l r i c h j e d k =
+      let b : is_other_unit own.0 t ≡ true = subst (λ m. is_other_unit own.0 (t.0, m) ≡ true) (form_narrow t.1 i) c in
+      let x : l ≡ n -ℤ r = d ∙ ap (λ y. y -ℤ wide r) (sum_wide n h) ∙ ap (λ y. n -ℤ y) (term_wide r j) in
+      let y : wide l ≡ n -ℤ r = ap wide x ∙ to_z-of_z w128 (n -ℤ r) (one_fits n r h j) in
+      let z : o ≡ kept_number (n -ℤ least_term M v t) = k ∙ ap kept_number (y ∙ ap (λ a. n -ℤ a) (term_back r t i e)) in
+      ap (λ a. met_in_order M w a own t) z
+      ∙ subst (λ a. met_in_order M w (kept_number (n -ℤ least_term M v t)) own t ≡ (if a then met_in_order M w (kept_number (n -ℤ least_term M v t)) own t else w)) (sym b) refl
+
   -- ---- sums
   pub summing_begin : (f : Form) (m : ℤ) (ts : List (ℕ × ℤ)) → IsForm v.variables f → IsFormNumber m → ts ≡ f.terms → IsSumming M v (least_value M v f (narrow m)) (wide (wide (narrow f.constant) +ℤ wide (narrow m))) ts
   summing_begin f m ts i k e =
@@ -110,7 +130,7 @@ module _ (M : LeafMeaning) (v : LeafValue) where
       subst (λ us. IsSumming M v (least_value M v f (narrow m)) (wide (wide (narrow f.constant) +ℤ wide (narrow m))) us) (sym e)
       (summing_start M v f (narrow m) (wide (wide (narrow f.constant) +ℤ wide (narrow m))) i (subst IsFormNumber (sym n) k) s)
 
-  pub summing_step : (total s r : ℤ) (rest behind : List (ℕ × ℤ)) (x : ℕ) (k : ℤ) → v.variables ≤ 16 → FitsSigned w64 k → rest ≡ (x, k) ∷ behind → r ≡ least_term M v (x, narrow k) → IsTermSize r → IsSumming M v total s rest
+  pub summing_step : (total s r : ℤ) (rest behind : List (ℕ × ℤ)) (x : ℕ) (k : ℤ) → v.variables ≤ 48 → FitsSigned w64 k → rest ≡ (x, k) ∷ behind → r ≡ least_term M v (x, narrow k) → IsTermSize r → IsSumming M v total s rest
       → IsSumming M v total (wide (s +ℤ wide r)) behind
   summing_step total s r rest behind x k l f e d z h =
       let y = summing_size M v total s rest h in
@@ -132,6 +152,14 @@ module _ (M : LeafMeaning) (v : LeafValue) where
       → terms_met M v n behind u ≡ total
   terms_next n rest behind x k w u total f e d h =
       ap (λ y. terms_met M v n behind y) (d ∙ ap (λ j. term_met M v n (x, j) w) (to_z-of_z w64 k f)) ∙ subst (λ ts. terms_met M v n ts w ≡ total) e h
+
+  pub differences_next : (n : ℤ) (own : ℕ × ℤ) (rest behind : List (ℕ × ℤ)) (x : ℕ) (k : ℤ) (w u total : LeafValue) → FitsSigned w64 k → rest ≡ (x, k) ∷ behind → u ≡ difference_met M v n own (x, narrow k) w
+      → differences_met M v n own rest w ≡ total → differences_met M v n own behind u ≡ total
+  differences_next n own rest behind x k w u total f e d h =
+      ap (λ y. differences_met M v n own behind y) (d ∙ ap (λ j. difference_met M v n own (x, j) w) (to_z-of_z w64 k f)) ∙ subst (λ ts. differences_met M v n own ts w ≡ total) e h
+
+  pub form_is : (f : Form) (own : ℕ × ℤ) (n : ℤ) (ts : List (ℕ × ℤ)) (w : LeafValue) → n ≡ least_value M v f (pos 0) → ts ≡ f.terms → differences_met M v n own ts w ≡ form_met M v own f w
+  form_is f own n ts w e d = ap (λ x. differences_met M v n own x w) d ∙ ap (λ x. differences_met M v x own f.terms w) e
 
   pub side_is : (f : Form) (m n : ℤ) (ts : List (ℕ × ℤ)) (w u : LeafValue) → n ≡ least_value M v f m → ts ≡ f.terms → u ≡ v → w ≡ all_pairs_met M v n ts u → terms_met M v n ts w ≡ side_met M v f m
   unfolding side_met

@@ -1,4 +1,5 @@
 pub mod Sizes
 pub mod LeastValues
 pub mod Sides
+pub mod Differences
 pub mod Linearised

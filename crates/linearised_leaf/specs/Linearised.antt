@@ -8,6 +8,7 @@ use Rattle.leaf_domain.specs.Forms.{multiple_form, kept_form}
 use Rattle.leaf_domain.specs.Leaves.{LeafValue, LeafMeaning, is_nothing_of}
 use Rattle.linear_terms.specs.Terms.{terms_sum}
 use Rattle.linearised_leaf.specs.Sides.{is_unit, side_met}
+use Rattle.linearised_leaf.specs.Differences.{set_met}
 
 -- ---- comparisons with 0
 -- the side of a form, where there is one
@@ -48,18 +49,19 @@ has_variable x (t ∷ ts) = nat_eq x t.0 || has_variable x ts
 abbrev pub form_less_variable : ℕ → Form → Option Form
 form_less_variable x f = kept_form (record { terms = terms_sum ((x, negsuc 0) ∷ []) f.terms; constant = f.constant })
 
--- what is 0 once a variable has been set to a form that does not have the variable
-abbrev pub set_difference : ℕ → Form → Option Form
-set_difference x f = if has_variable x f.terms then None else form_less_variable x f
-
 -- a leaf whose form is 0, where there is one, linearised
 abbrev pub tightened_where : LeafMeaning → LeafValue → Option Form → LeafValue
 tightened_where M v None = v
 tightened_where M v (Some f) = tightened M v f Eq
 
+-- w, which is the leaf v with a variable set to a form, linearised: where the form has the variable, its other terms are met with the
+-- variable, and where it has not, the form minus the variable is 0
+abbrev pub tightened_set : LeafMeaning → LeafValue → ℕ → Form → LeafValue → LeafValue
+tightened_set M v x f w = if has_variable x f.terms then set_met M v x f w else tightened_where M w (form_less_variable x f)
+
 -- ---- the kind of leaf
 abbrev pub linearised : LeafMeaning → LeafMeaning
 linearised M = record M {
   meet_form = λ v f op. tightened M (M.meet_form v f op) f op;
-  set_form = λ v x f r. tightened_where M (M.set_form v x f r) (set_difference x f);
+  set_form = λ v x f r. tightened_set M v x f (M.set_form v x f r);
 }

@@ -5,7 +5,8 @@ ghost use Rattle.std.specs.Prelude.{◌≡◌, ◌&&◌, negsuc, Some, IfOk};
 ghost use Rattle.leaf_domain.specs.Forms.{IsForm, multiple_form};
 ghost use Rattle.leaf_domain.specs.Sums.{formed, kept_number};
 ghost use Rattle.linearised_leaf.specs.Sides.{is_unit, two_terms};
-ghost use Rattle.linearised_leaf.specs.Linearised.{is_octagonal, has_variable, form_less_variable, set_difference};
+ghost use Rattle.linearised_leaf.specs.Differences.{is_other_unit};
+ghost use Rattle.linearised_leaf.specs.Linearised.{is_octagonal, has_variable, form_less_variable};
 
 use fam_outer::NoMemory;
 use leaf_domain::{Form, Terms};
@@ -43,8 +44,8 @@ pub(crate) fn negated(alloc: Global, f: &Form) -> Result<Option<Form>, NoMemory>
 
 /// A form minus a variable, where no number of it passes 2^40 in size.
 #[tactic(auto, using(leaf_domain::proofs::FormLemmas::form_rises))]
-fn less_variable(alloc: Global, x: u32, f: &Form) -> Result<Option<Form>, NoMemory>
-    requires { IsForm 16 f.now }
+pub(crate) fn less_variable(alloc: Global, x: u32, f: &Form) -> Result<Option<Form>, NoMemory>
+    requires { IsForm 48 f.now }
     ensures { IfOk result (λ made. made ≡ form_less_variable x f.now) }
 {
     let variable = Terms::single(alloc, x, -1)?;
@@ -52,24 +53,13 @@ fn less_variable(alloc: Global, x: u32, f: &Form) -> Result<Option<Form>, NoMemo
     Ok(formed(terms, kept(f.constant as i128)))
 }
 
-fn has_variable(x: u32, terms: &[(u32, i64)]) -> bool
+/// Whether a variable is among those of the terms.
+pub(crate) fn has_variable(x: u32, terms: &[(u32, i64)]) -> bool
     ensures { result ≡ has_variable x terms.now }
 {
     match first_term(terms) {
         None => false,
         Some((y, _factor, behind)) => x == y || has_variable(x, behind),
-    }
-}
-
-/// What is 0 once a variable has been set to a form that does not have the variable.
-pub(crate) fn set_difference(alloc: Global, x: u32, f: &Form) -> Result<Option<Form>, NoMemory>
-    requires { IsForm 16 f.now }
-    ensures { IfOk result (λ made. made ≡ set_difference x f.now) }
-{
-    if has_variable(x, f.terms.items()) {
-        Ok(None)
-    } else {
-        less_variable(alloc, x, f)
     }
 }
 
@@ -103,6 +93,13 @@ pub(crate) fn are_units(first: i64, second: i64) -> bool
     ensures { result ≡ (is_unit first && is_unit second) }
 {
     is_unit(first) && is_unit(second)
+}
+
+/// Whether a term is another variable than `x`, times 1 or -1.
+pub(crate) fn is_other_unit(x: u32, y: u32, factor: i64) -> bool
+    ensures { result ≡ is_other_unit x (y, factor) }
+{
+    x != y && is_unit(factor)
 }
 
 /// Whether the terms are at most two, each a variable or its negation.

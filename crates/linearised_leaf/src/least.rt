@@ -64,6 +64,15 @@ pub(crate) fn left_for_one(least: i128, term: i128) -> i128
     term - least
 }
 
+/// The least value of a form less that of one of its terms.
+pub(crate) fn left_for_rest(least: i128, term: i128) -> i128
+    requires least { IsSumSize least }
+    requires term { IsTermSize term }
+    ensures { result ≡ least -ℤ term }
+{
+    least - term
+}
+
 /// The least value of a form less those of two of its terms.
 pub(crate) fn left_for_two(least: i128, first: i128, second: i128) -> i128
     requires least { IsSumSize least }

@@ -2,6 +2,7 @@
 //! enhance the precision of numerical abstract domains").
 #![tactic(auto)]
 
+pub mod differences;
 pub mod forms;
 pub mod laws;
 pub mod least;

@@ -4,9 +4,10 @@
 ghost use Rattle.std.specs.Prelude.{◌≡◌, ◌<◌, IfOk, IfSome};
 ghost use Rattle.leaf_domain.specs.Forms.{IsForm, IsFormNumber};
 ghost use Rattle.leaf_domain.specs.Ranges.{IsInInt};
-ghost use Rattle.linearised_leaf.specs.Linearised.{other_side_met, sides_met, tightened, tightened_where, linearised};
+ghost use Rattle.linearised_leaf.specs.Linearised.{other_side_met, sides_met, tightened, tightened_where, tightened_set, linearised};
 
-use crate::forms::{is_octagonal, negated, set_difference};
+use crate::differences::set_met;
+use crate::forms::{has_variable, is_octagonal, less_variable, negated};
 use crate::sides::side_met;
 use fam_outer::NoMemory;
 use leaf_domain::{Compare, Form, Leaf, Range, leaf_is_valid};
@@ -71,6 +72,22 @@ fn tightened_where<L: Leaf>(alloc: Global, leaf: L, f: &Option<Form>) -> Result<
     }
 }
 
+/// A leaf with a variable set to the form, linearised. `leaf` is the leaf before.
+fn tightened_set<L: Leaf>(alloc: Global, leaf: &L, x: u32, f: &Form, set: L) -> Result<L, NoMemory>
+    requires same { (L.value set).variables ≡ (L.value leaf.now).variables }
+    requires x { x < (L.value leaf.now).variables }
+    requires f { IsForm (L.value leaf.now).variables f.now }
+    ensures { IfOk result
+        (λ met. L.value met ≡ tightened_set L.meaning (L.value leaf.now) x f.now (L.value set)) }
+{
+    leaf_is_valid(leaf);
+    if has_variable(x, f.terms.items()) {
+        set_met(alloc, leaf, x, f, set)
+    } else {
+        tightened_where(alloc, set, &less_variable(alloc, x, f)?)
+    }
+}
+
 /// The stores at which the comparison of the form with 0 holds, as far as the kind of leaf sees, linearised: where the form has three terms
 /// or more, or a coefficient other than 1 and -1, each two of its terms with 1 or -1, and each term, is met with what the ranges of the
 /// others leave it. `==` and `!=` look at both sides.
@@ -84,7 +101,8 @@ pub fn linear_met<L: Leaf>(alloc: Global, leaf: &L, f: &Form, op: Compare) -> Re
 }
 
 /// The stores with a variable replaced by the value of the form, which lies in the range, linearised: where the form does not have the
-/// variable, the variable then equals the form, and that is met as a comparison is.
+/// variable, the variable then equals the form, and that is met as a comparison is. Where it has the variable, as `x = x + y`, the variable
+/// less each other term with 1 or -1 is met with the range that the rest of the form had before.
 pub fn linear_set<L: Leaf>(
     alloc: Global,
     leaf: &L,
@@ -100,5 +118,5 @@ pub fn linear_set<L: Leaf>(
 {
     leaf_is_valid(leaf);
     let set = leaf.set_form(alloc, x, f, r)?;
-    tightened_where(alloc, set, &set_difference(alloc, x, f)?)
+    tightened_set(alloc, leaf, x, f, set)
 }

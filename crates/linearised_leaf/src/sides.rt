@@ -39,7 +39,7 @@ fn met_at_most<L: Leaf>(alloc: Global, leaf: L, f: &Form) -> Result<L, NoMemory>
 }
 
 /// The leaf met with two terms and a constant, where there is one, being at most 0.
-fn met_pair<L: Leaf>(
+pub(crate) fn met_pair<L: Leaf>(
     alloc: Global,
     leaf: L,
     constant: Option<i64>,

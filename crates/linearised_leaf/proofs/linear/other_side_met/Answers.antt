@@ -1,5 +1,5 @@
 use Rattle.std.proofs.Common.{sym, ◌∙◌}
-use Rattle.linearised_leaf.proofs.LinearisedLaws.{negated_is}
+use Rattle.linearised_leaf.proofs.FormLaws.{negated_is}
 use Rattle.linearised_leaf.proofs.linear.other_side_met.Goals as goal
 
 pub side_met-requires-clause-form : goal.side_met-requires-clause-form
