@@ -24,13 +24,13 @@ stride_least a b c k p e f g s h =
     let l : Alike strides (strides.join a b) c = record { first = r.valid; second = p; same = r.same ∙ sym e } in
     (ordered_by_stores (strides.join a b) c l).0 (join_least a b c i j ((ordered_by_stores a c i).1 f) ((ordered_by_stores b c j).1 g)) s h
 
-congruence_least : JoinIsLeast congruences
+pub congruence_least : JoinIsLeast congruences
 congruence_least a b c k p e f g s h = stride_least a b c (alike a b k) p e f g s h
 
 reduced_below : IsBelowParts octagons congruences reduced
 reduced_below = paired_below octagons congruences octagon_laws congruence_laws leaf-exact congruences_exact join-least congruence_least
 
-reduced_parts : HasParts octagons congruences reduced
+pub reduced_parts : HasParts octagons congruences reduced
 reduced_parts v p = (p.first, p.second)
 
 pub sharp_below : IsBelowParts octagons congruences sharp

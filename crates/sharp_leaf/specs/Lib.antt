@@ -2,3 +2,5 @@ pub mod SharpLeaves
 pub mod View
 pub mod Hashing
 pub mod Laws
+pub mod BelowIntervals
+pub mod BelowStrides

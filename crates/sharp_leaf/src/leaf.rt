@@ -151,6 +151,10 @@ impl Leaf for SharpLeaf {
         self.reduced().bounds_of(x)
     }
 
+    fn step_of(&self, x: u32) -> u64 {
+        self.reduced().step_of(x)
+    }
+
     fn form_range(&self, f: &Form) -> Option<Range> {
         self.reduced().form_range(f)
     }

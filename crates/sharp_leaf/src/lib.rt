@@ -5,5 +5,8 @@ pub mod laws;
 pub mod leaf;
 mod reduced;
 
-pub use laws::sharp_is_below_its_parts;
+pub use laws::{
+    sharp_is_below_intervals, sharp_is_below_its_parts, sharp_is_below_strides,
+    strides_are_below_intervals,
+};
 pub use leaf::SharpLeaf;

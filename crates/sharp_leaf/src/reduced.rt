@@ -9,7 +9,7 @@ ghost use Rattle.octagon_leaf.specs.Octagons.{octagons};
 ghost use Rattle.congruence_leaf.specs.Congruences.{congruences as strides};
 ghost use Rattle.paired_leaf.specs.Pairs.{pair_of, first_of, second_of, IsPair, AreParts};
 ghost use Rattle.paired_leaf.specs.Exchange.{exchanged};
-ghost use Rattle.paired_leaf.specs.PairedLeaves.{both_ranges, both_bounds, both_compared, either_side};
+ghost use Rattle.paired_leaf.specs.PairedLeaves.{both_ranges, both_bounds, step_where, both_compared, either_side};
 ghost use Rattle.sharp_leaf.specs.SharpLeaves.{reduced};
 ghost use Rattle.sharp_leaf.specs.Laws.{reduced_laws, leaf_alike};
 ghost use Rattle.sharp_leaf.specs.Hashing.{fed_leaf};
@@ -97,7 +97,7 @@ impl ReducedLeaf {
     /// The octagon.
     fn octagon(&self) -> &OctagonLeaf
         ensures value { result.now ≡ first_of self.now }
-        ensures few { self.now.variables ≤ 16 }
+        ensures few { self.now.variables ≤ 48 }
         ensures valid { IsPair octagons strides self.now }
     {
         &self.octagon
@@ -129,6 +129,13 @@ fn both_bounds(first: Range, second: Range) -> Range
 {
     let both = first.meet(second);
     if both.is_empty() { first } else { both }
+}
+
+/// The step of the second part where both ranges begin with its low end, and else 1.
+fn step_where(both: Range, second: Range, step: u64) -> u64
+    ensures { result ≡ step_where both second step }
+{
+    if both.low == second.low { step } else { 1 }
 }
 
 /// Two parts met with a comparison.
@@ -280,6 +287,11 @@ impl Leaf for ReducedLeaf {
 
     fn bounds_of(&self, x: u32) -> Range {
         both_bounds(self.octagon().bounds_of(x), self.strides().bounds_of(x))
+    }
+
+    fn step_of(&self, x: u32) -> u64 {
+        let strides = self.strides();
+        step_where(self.bounds_of(x), strides.bounds_of(x), strides.step_of(x))
     }
 
     fn form_range(&self, f: &Form) -> Option<Range> {

@@ -13,7 +13,7 @@ returns-clause-value c = sym (part_first octagons strides c.self.inside.octagon 
 
 pub returns-clause-few : goal.returns-clause-few
 returns-clause-few c =
-    let P : LeafValue → Type 0 = λ v. v.variables ≤ 16 in
+    let P : LeafValue → Type 0 = λ v. v.variables ≤ 48 in
     subst P c.self.view_is (octagon_laws.valid_few c.self.inside.octagon c.self.invariant.first)
 
 pub returns-clause-valid : goal.returns-clause-valid
