@@ -82,7 +82,7 @@ module _ {L : Type 0} (value : L → LeafValue) (family : FamilyContext) where
       → ((v : List Bool) → is_nothing_of (value (leaf_of (erase t) v)) ≡ true) → (v : List Bool) → value (leaf_of (erase t) v) ≡ after_at M family c v (value (leaf_of (erase t) v))
   nothing_stays M laws answers is forest t c s e v =
       let x = value (leaf_of (erase t) v) in
-      let few : x.variables ≤ 16 = subst (λ n. n ≤ 16) (sym (counted value family forest t v s)) is.few in
+      let few : x.variables ≤ 48 = subst (λ n. n ≤ 48) (sym (counted value family forest t v s)) is.few in
       sym (after_stays M laws family.options.now answers x few (e v) (projected (truths_in family.choices.now v) c))
 
   pub nothing_ends : (M : LeafMeaning) → LeafLaws M → TransferAnswers M family.options.now.mode → IsFamily family → (forest : List (Plain L)) (t : Numbered L) (test : Term) (c : Code) → IsState value family forest t

@@ -162,9 +162,9 @@ module _ {L : Type 0} (value : L → LeafValue) (family : FamilyContext) where
   module _ (M : LeafMeaning) (laws : LeafLaws M) (A : TransferAnswers M family.options.now.mode) (N : NothingStops M family.options.now.mode) (p : Whole) (program : IsProgram p) (count : family.variables ≡ length p.names) where
     begin_valid : (b : Bool) (ts : List Bool) → M.valid (if b then M.start (projected_start ts p.declared p.start) else nothing_of family.variables)
     begin_valid true ts =
-        laws.start_valid (projected_start ts p.declared p.start) (subst (λ n. n ≤ 16) (sym (length-start ts p.declared 0 p.start ∙ program.starts)) program.few)
+        laws.start_valid (projected_start ts p.declared p.start) (subst (λ n. n ≤ 48) (sym (length-start ts p.declared 0 p.start ∙ program.starts)) program.few)
         (ints-start ts p.declared (length p.names) 0 p.start program.declared program.ints)
-    begin_valid false ts = laws.nothing_valid family.variables (subst (λ n. n ≤ 16) (sym count) program.few)
+    begin_valid false ts = laws.nothing_valid family.variables (subst (λ n. n ≤ 48) (sym count) program.few)
 
     begin_count : (b : Bool) (ts : List Bool) → (if b then M.start (projected_start ts p.declared p.start) else nothing_of family.variables).variables ≡ length p.names
     begin_count true ts = laws.start_variables (projected_start ts p.declared p.start) ∙ (length-start ts p.declared 0 p.start ∙ program.starts)
@@ -278,7 +278,7 @@ variant_runs M laws o A T p program cs pl v =
   where
     valid : (b : Bool) → M.valid (if b then M.start (variant_at p cs v).start else nothing_of (length p.names))
     valid true =
-        laws.start_valid (projected_start (truths_of cs v) p.declared p.start) (subst (λ n. n ≤ 16) (sym (length-start (truths_of cs v) p.declared 0 p.start ∙ program.starts)) program.few)
+        laws.start_valid (projected_start (truths_of cs v) p.declared p.start) (subst (λ n. n ≤ 48) (sym (length-start (truths_of cs v) p.declared 0 p.start ∙ program.starts)) program.few)
         (ints-start (truths_of cs v) p.declared (length p.names) 0 p.start program.declared program.ints)
     valid false = laws.nothing_valid (length p.names) program.few
 

@@ -154,7 +154,7 @@ module _ (M : LeafMeaning) (mode : Mode) (n : ℕ) where
   kept_nothing true b = either b
   kept_nothing false b = either b
 
-  module _ (laws : LeafLaws M) (A : TransferAnswers M mode) (few : n ≤ 16) (ts : List Bool) where
+  module _ (laws : LeafLaws M) (A : TransferAnswers M mode) (few : n ≤ 48) (ts : List Bool) where
     at_nothing : (c : Code) (x : LeafValue) → x ≡ nothing_of n → AllLost (visits_at M mode ts no_heads c (nothing_of n)) → AllLost (visits_at M mode ts no_heads c x)
     at_nothing c x e h = subst (λ y. AllLost (visits_at M mode ts no_heads c y)) (sym e) h
 

@@ -72,7 +72,7 @@ module _ (M : LeafMeaning) (family : FamilyContext) where
       ∙ ap (λ c. after_of M family.options.now c x) (sym (ap (λ s. projected ts (front s Done)) h ∙ projected-Cond ts number p q b e))
 
   -- where two sides are entered with Nothing where they are not kept, their join is what the kept one gives
-  module _ (laws : LeafLaws M) (answers : TransferAnswers M family.options.now.mode) (few : family.variables ≤ 16) where
+  module _ (laws : LeafLaws M) (answers : TransferAnswers M family.options.now.mode) (few : family.variables ≤ 48) where
     pub kept_joins : (p q : Code) (v : List Bool) (b : Bool) (x : LeafValue) → x.variables ≡ family.variables
         → (after_at M family p v (kept_by true b x)).variables ≡ family.variables → (after_at M family q v (kept_by false b x)).variables ≡ family.variables
         → M.join (after_at M family p v (kept_by true b x)) (after_at M family q v (kept_by false b x)) ≡ (if b then after_at M family p v x else after_at M family q v x)

@@ -146,7 +146,7 @@ pass_runs M laws mode A T p program cs pl lines bounds v inductive =
   where
     valid : (b : Bool) → M.valid (if b then M.start (variant_at p cs v).start else nothing_of (length p.names))
     valid true =
-        laws.start_valid (projected_start (truths_of cs v) p.declared p.start) (subst (λ n. n ≤ 16) (sym (length-start (truths_of cs v) p.declared 0 p.start ∙ program.starts)) program.few)
+        laws.start_valid (projected_start (truths_of cs v) p.declared p.start) (subst (λ n. n ≤ 48) (sym (length-start (truths_of cs v) p.declared 0 p.start ∙ program.starts)) program.few)
         (ints-start (truths_of cs v) p.declared (length p.names) 0 p.start program.declared program.ints)
     valid false = laws.nothing_valid (length p.names) program.few
 

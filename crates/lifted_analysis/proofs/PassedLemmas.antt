@@ -83,7 +83,7 @@ module _ (M : LeafMeaning) (laws : LeafLaws M) (mode : Mode) (A : TransferAnswer
 
 -- ---- statements that are not kept
 
-module _ (M : LeafMeaning) (laws : LeafLaws M) (mode : Mode) (A : TransferAnswers M mode) (n : ℕ) (few : n ≤ 16) where
+module _ (M : LeafMeaning) (laws : LeafLaws M) (mode : Mode) (A : TransferAnswers M mode) (n : ℕ) (few : n ≤ 48) where
   abbrev o : Options
   o = without_rounds mode
 

@@ -47,7 +47,7 @@ abbrev pub without_rounds : Mode → Options
 without_rounds mode = record { delay = 0; narrow = 0; thresholds = []; mode = mode }
 
 -- a step of Nothing
-pub stepped_stays : (M : LeafMeaning) → LeafLaws M → (mode : Mode) → TransferAnswers M mode → (x : LeafValue) → x.variables ≤ 16 → is_nothing_of x ≡ true → (s : Step) → stepped_by M mode s x ≡ x
+pub stepped_stays : (M : LeafMeaning) → LeafLaws M → (mode : Mode) → TransferAnswers M mode → (x : LeafValue) → x.variables ≤ 48 → is_nothing_of x ≡ true → (s : Step) → stepped_by M mode s x ≡ x
 stepped_stays M laws mode answers x few is (step.Assign y e) = after_stays M laws (without_rounds mode) answers x few is (Assign (record { line = 0; column = 0 }) y (term e.now) Done)
 stepped_stays M laws mode answers x few is (step.Forget y) = after_stays M laws (without_rounds mode) answers x few is (Input (record { line = 0; column = 0 }) y Done)
 stepped_stays M laws mode answers x few is (step.Assume e want) = answers.assumed_of_nothing (term e.now) want x is

@@ -75,7 +75,7 @@ module _ (M : LeafMeaning) (family : FamilyContext) (H : List Bool → Heads) wh
       ∙ ap (λ c. passed M family.options.now.mode (H v) c x) (sym (ap (λ s. projected ts (front s Done)) h ∙ projected-Cond ts number p q b e))
 
 -- where two sides are entered with Nothing where they are not kept, their join is what the kept one gives
-pub sides_join : (M : LeafMeaning) → LeafLaws M → (family : FamilyContext) → TransferAnswers M family.options.now.mode → family.variables ≤ 16 → (H : Heads) (ts : List Bool) (p q : Code) (b : Bool) (x : LeafValue) → x.variables ≡ family.variables
+pub sides_join : (M : LeafMeaning) → LeafLaws M → (family : FamilyContext) → TransferAnswers M family.options.now.mode → family.variables ≤ 48 → (H : Heads) (ts : List Bool) (p q : Code) (b : Bool) (x : LeafValue) → x.variables ≡ family.variables
     → (passed M family.options.now.mode (heads_where b H) (projected ts p) (kept_by true b x)).variables ≡ family.variables → (passed M family.options.now.mode (heads_where (not b) H) (projected ts q) (kept_by false b x)).variables ≡ family.variables
     → M.join (passed M family.options.now.mode (heads_where b H) (projected ts p) (kept_by true b x)) (passed M family.options.now.mode (heads_where (not b) H) (projected ts q) (kept_by false b x))
     ≡ (if b then passed M family.options.now.mode H (projected ts p) x else passed M family.options.now.mode H (projected ts q) x)

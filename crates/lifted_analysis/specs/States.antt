@@ -31,10 +31,10 @@ HasRegionNumber k (l ∷ ls) = HasNumber k (formula l.region) ⊎ HasRegionNumbe
 abbrev pub IsTest : FamilyContext → ℕ → Type 0
 IsTest family k = HasTest k (plain family.plausible.now) ⊎ (HasTestIn k family.choices.now ⊎ HasRegionNumber k family.lines.now)
 
--- at most 16 variables, trees of conditions that are reduced and numbered, the tree that is false everywhere, and lines whose
+-- at most 48 variables, trees of conditions that are reduced and numbered, the tree that is false everywhere, and lines whose
 -- numbers are below 64, with bounds for all variables
 pub record IsFamily (family : FamilyContext) : Type 0 where
-  pub few : family.variables ≤ 16
+  pub few : family.variables ≤ 48
   pub never : (x : ℕ) × (numbered family.never.now ≡ kept x false)
   pub regions : AreRegionsBelow 64 family.lines.now
   pub bounds : All (λ (l : LoopLine). AreVariableBounds family.variables l.bounds) family.lines.now

@@ -102,7 +102,7 @@ impl StartValues {
 impl Beginning {
     /// The leaf of the start values, or Nothing.
     fn leaf<L: Leaf>(&self, alloc: Global, variables: u32) -> Result<L, NoMemory>
-        requires few { variables ≤ 16 }
+        requires few { variables ≤ 48 }
         requires fits { IsBeginningOf variables self.now }
         ensures { IfOk result (λ leaf. L.value leaf ≡ leaf_with L.meaning variables self.now) }
     {
@@ -273,7 +273,7 @@ pub(crate) fn start_tree<L: Leaf, K: Ledger>(
     let variables = family.variables;
     let values = values_tree(tables, family, start, declared)?;
     let begins = |beginning: &Beginning| -> Result<L, NoMemory>
-        requires few { variables ≤ 16 }
+        requires few { variables ≤ 48 }
         requires fits { IsBeginningOf variables beginning.now }
         ensures { IfOk result (λ leaf. L.value leaf ≡ leaf_with L.meaning variables beginning.now) }
     { beginning.leaf::<L>(alloc, variables) };

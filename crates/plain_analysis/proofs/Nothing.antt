@@ -23,7 +23,7 @@ same_content m (Some ns) e = cc
 pub nothing_value : (v : LeafValue) (n : ℕ) → is_nothing_of v ≡ true → v.variables ≡ n → v ≡ nothing_of n
 nothing_value v n e f = same_content v.variables v.content e ∙ ap (λ m. nothing_of m) f
 
-module _ (M : LeafMeaning) (laws : LeafLaws M) (o : Options) (answers : TransferAnswers M o.mode) (n : ℕ) (few : n ≤ 16) where
+module _ (M : LeafMeaning) (laws : LeafLaws M) (o : Options) (answers : TransferAnswers M o.mode) (n : ℕ) (few : n ≤ 48) where
   alike : Alike M (nothing_of n) (nothing_of n)
   alike = record { first = laws.nothing_valid n few; second = laws.nothing_valid n few; same = refl }
 
@@ -83,12 +83,12 @@ module _ (M : LeafMeaning) (laws : LeafLaws M) (o : Options) (answers : Transfer
   after_nothing (Cond number p q rest) = after_nothing rest
 
 -- a leaf that is Nothing stays as it is
-pub after_stays : (M : LeafMeaning) → LeafLaws M → (o : Options) → TransferAnswers M o.mode → (v : LeafValue) → v.variables ≤ 16 → is_nothing_of v ≡ true → (c : Code) → after_of M o c v ≡ v
+pub after_stays : (M : LeafMeaning) → LeafLaws M → (o : Options) → TransferAnswers M o.mode → (v : LeafValue) → v.variables ≤ 48 → is_nothing_of v ≡ true → (c : Code) → after_of M o c v ≡ v
 after_stays M laws o answers v few is c =
     let e : v ≡ nothing_of v.variables = nothing_value v v.variables is refl in
     ap (after_of M o c) e ∙ (after_nothing M laws o answers v.variables few c ∙ sym e)
 
-pub loop_stays : (M : LeafMeaning) → LeafLaws M → (o : Options) → TransferAnswers M o.mode → (v : LeafValue) → v.variables ≤ 16 → is_nothing_of v ≡ true → (test : Term) (c : Code)
+pub loop_stays : (M : LeafMeaning) → LeafLaws M → (o : Options) → TransferAnswers M o.mode → (v : LeafValue) → v.variables ≤ 48 → is_nothing_of v ≡ true → (test : Term) (c : Code)
     → final_leaf M o test (after_of M o c) v ≡ v
 loop_stays M laws o answers v few is test c =
     let e : v ≡ nothing_of v.variables = nothing_value v v.variables is refl in

@@ -11,10 +11,10 @@ use std::alloc::Global;
 
 /// So many steps of each of so many bounds.
 fn steps_of_all(bounds: u32, steps: u32) -> u64
-    requires bounds { bounds ≤ 2048 }
+    requires bounds { bounds ≤ 16384 }
     requires steps { steps ≤ 65 }
     ensures value { result ≡ bounds * steps }
-    ensures small { result ≤ 133120 }
+    ensures small { result ≤ 1064960 }
 {
     u64::from(bounds) * u64::from(steps)
 }
@@ -22,7 +22,7 @@ fn steps_of_all(bounds: u32, steps: u32) -> u64
 /// How many rounds of joining and widening a loop has over so many variables: those of joining, so many of widening as the
 /// bounds of a leaf can step through the thresholds and to the type's, and one.
 pub fn round_count<L: Leaf>(options: &Options, variables: u32) -> u64
-    requires { variables ≤ 16 }
+    requires { variables ≤ 48 }
     ensures { result ≡ round_count L.meaning options.now.thresholds options.now.delay variables }
 {
     let steps = steps_of_all(L::bound_count(variables), options.thresholds.count() + 1);

@@ -11,7 +11,7 @@ use Rattle.lifted_analysis.proofs.pass.pass_in.Goals as goal
 pub noted_in-requires-clause-family : goal.noted_in-requires-clause-family
 noted_in-requires-clause-family g c =
     let trees : AreTreesOf c.args.conditions.now c.deref.result.now = subst (AreTreesOf c.args.conditions.now) (sym c.deref.ensures.value) c.in_ok-trees.ensures.choices in
-    let few : length c.items.result.now ≤ 16 = subst (λ n. n ≤ 16) (sym (ap length c.items.ensures)) c.requires.program.few in
+    let few : length c.items.result.now ≤ 48 = subst (λ n. n ≤ 48) (sym (ap length c.items.ensures)) c.requires.program.few in
     record {
       few = few;
       never = c.in_ok-trees.ensures.never;

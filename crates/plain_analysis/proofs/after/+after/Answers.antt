@@ -125,7 +125,7 @@ pub after_list-returns-then-is_nothing-clause-value : goal.after_list-returns-th
 after_list-returns-then-is_nothing-clause-value g t c =
     let value = g.L.Leaf.value in
     let v = value c.args.leaf.now in
-    let few : v.variables ≤ 16 = c.leaf_is_valid.ensures.few in
+    let few : v.variables ≤ 48 = c.leaf_is_valid.ensures.few in
     let stays = after_stays g.L.Leaf.meaning g.met.L.Leaf.laws c.args.task.now.options.now (c.transfer_is_sound.ensures.answers c.args.task.now.options.now.mode) v few (sym c.is_nothing.ensures ∙ c.if-is_nothing.true) (code c.args.list.now) in
     subst (λ u. IfOk c.copy.result (λ made. value made ≡ u)) (sym stays) c.copy.ensures
 
