@@ -1,6 +1,6 @@
 -- The texts of leaves, and of invariants.
-use Rattle.std.specs.Prelude.{ℕ, ◌+◌, ℤ, pos, negsuc, Bool, ◌&&◌, if◌then◌else◌, List, [], ◌∷◌, ◌++◌, codes, flat_map, take, Option, Some, None}
-use Rattle.std.specs.Fmt.{signed_decimal}
+use Rattle.std.specs.Prelude.{ℕ, nat_le, ◌+◌, ℤ, pos, negsuc, Bool, ◌&&◌, if◌then◌else◌, List, [], ◌∷◌, ◌++◌, codes, flat_map, take, Option, Some, None}
+use Rattle.std.specs.Fmt.{decimal, signed_decimal}
 use Rattle.std.specs.Ordering.{int_eq}
 use Rattle.c_tree.specs.declared.tree.Op.{Op}
 use Rattle.c_tree.specs.declared.tree.Op.TheVariants.{Add, Sub}
@@ -19,10 +19,14 @@ use Rattle.alarm_report.specs.Texts.{joined, place_text, region_text}
 abbrev pub within_text : Range → List ℕ
 within_text r = codes " in [" ++ signed_decimal r.low ++ codes "," ++ signed_decimal r.high ++ codes "]"
 
--- `x in [l,h]` of each name, for the variables from this one on
+-- ` step k`, where the values are known to lie apart
+abbrev pub step_text : ℕ → List ℕ
+step_text k = if nat_le k 1 then [] else codes " step " ++ decimal k
+
+-- `x in [l,h]` or `x in [l,h] step k` of each name, for the variables from this one on
 abbrev pub variable_items : LeafMeaning → LeafValue → ℕ → List (List ℕ) → List (List ℕ)
 variable_items M v x [] = []
-variable_items M v x (name ∷ names) = (name ++ within_text (M.bounds_of v x)) ∷ variable_items M v (x + 1) names
+variable_items M v x (name ∷ names) = ((name ++ within_text (M.bounds_of v x)) ++ step_text (M.step_of v x)) ∷ variable_items M v (x + 1) names
 
 -- ---- pairs
 

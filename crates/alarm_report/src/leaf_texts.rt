@@ -7,7 +7,7 @@ ghost use Rattle.leaf_domain.specs.Ranges.{is_arithmetic};
 ghost use Rattle.linear_atoms.specs.Atoms.{AreLiterals};
 ghost use Rattle.alarm_report.specs.declared.invariants.FamilyInvariant.{FamilyInvariant};
 ghost use Rattle.alarm_report.specs.Invariants.{invariant};
-ghost use Rattle.alarm_report.specs.LeafTexts.{within_text, variable_items, same_range, item_of, pair_form, pair_range, pair_items, items_with, all_pairs, leaf_text as text_of_leaf, known_text, invariant_line, invariant_text};
+ghost use Rattle.alarm_report.specs.LeafTexts.{within_text, step_text, variable_items, same_range, item_of, pair_form, pair_range, pair_items, items_with, all_pairs, leaf_text as text_of_leaf, known_text, invariant_line, invariant_text};
 ghost use Rattle.alarm_report.specs.Forming.{IsSign};
 
 use crate::invariants::FamilyInvariant;
@@ -54,7 +54,20 @@ fn item(alloc: Global, front: &[u8], range: Range) -> Result<Text, NoMemory>
     Ok(Text::from_vec(text))
 }
 
-/// Adds `x in [l,h]` of each name.
+/// The item of a variable: its name, ` in [l,h]`, and ` step k` where its values are known to lie apart.
+fn variable_item(alloc: Global, name: &[u8], range: Range, step: u64) -> Result<Text, NoMemory>
+    ensures { IfOk result (λ text. text ≡ (name.now ++ within_text range) ++ step_text step) }
+{
+    let within = item(alloc, name, range)?;
+    let mut text = Vec::from_slice(alloc, within.bytes())?;
+    if step > 1 {
+        let apart = format!(in alloc; " step {step}")?;
+        text.extend_from_slice(apart.as_bytes())?;
+    }
+    Ok(Text::from_vec(text))
+}
+
+/// Adds `x in [l,h]` or `x in [l,h] step k` of each name.
 fn push_variables<L: Leaf>(
     alloc: Global,
     names: &[Text],
@@ -69,7 +82,8 @@ fn push_variables<L: Leaf>(
     let mut rest = names;
     let mut x = 0;
     'variables: while let Some((name, behind)) = cut(rest) {
-        items.push(item(alloc, name.bytes(), leaf.bounds_of(x))?)?;
+        let item = variable_item(alloc, name.bytes(), leaf.bounds_of(x), leaf.step_of(x))?;
+        items.push(item)?;
         rest = behind;
         x += 1;
     }
@@ -248,7 +262,8 @@ fn items_of<L: Leaf>(alloc: Global, names: &[Text], leaf: &L) -> Result<Vec<Text
 }
 
 /// The text of a leaf, over the names of its variables: `unreachable` where it holds no store, `reachable` where there are no
-/// variables. Else an item `x in [l,h]` for each variable, then for each pair of variables `x-y in [l,h]` and `x+y in [l,h]` where
+/// variables. Else an item `x in [l,h]` for each variable, with ` step k` behind it where the kind of leaf tells that its values lie k
+/// apart from the low end on (k above 1), then for each pair of variables `x-y in [l,h]` and `x+y in [l,h]` where
 /// the leaf has a range of the difference or the sum that is not the one that the two variables' ranges give. The items are joined
 /// by `, `. The only refusal is want of memory.
 pub fn leaf_text<L: Leaf>(alloc: Global, names: &[Text], leaf: &L) -> Result<Text, NoMemory>

@@ -100,7 +100,7 @@ module _ (M : LeafMeaning) (laws : LeafLaws M) (transfer : (m : Mode) → Transf
   count = laws.start_variables q.start ∙ variant.starts
 
   start_valid : M.valid d
-  start_valid = laws.start_valid q.start (subst (λ n. n ≤ 16) (sym variant.starts) variant.few) variant.ints
+  start_valid = laws.start_valid q.start (subst (λ n. n ≤ 48) (sym variant.starts) variant.few) variant.ints
 
   held_content : (n : ℕ) (x : Option (List ℤ)) (s : List ℤ) → M.holds (record { variables = n; content = x }) s → is_nothing_of (record { variables = n; content = x }) ≡ false
   held_content n None s k = absurd (laws.nothing_holds n s k)

@@ -39,7 +39,7 @@ use Rattle.certificate_laws.specs.Laws.{AnswersBack}
 use Rattle.certificate_laws.specs.ReadBack.{IsBoundsOf, SaysInvariant, SaysAlarm, SayInvariants, SayAlarms}
 use Rattle.certificate_laws.specs.ReadBack as back
 use Rattle.certificate_laws.specs.Written.{IsOneLine}
-use Rattle.certificate_laws.proofs.Writable.{AreOver, TellsNoForm, IsLoopWritten, IsAlarmWritten}
+use Rattle.certificate_laws.proofs.Writable.{AreOver, TellsRangesAlone, IsLoopWritten, IsAlarmWritten}
 use Rattle.certificate_laws.proofs.Texts.{IsInLine, region_in_line}
 use Rattle.certificate_laws.proofs.Formulas.{region_says, region_known}
 use Rattle.certificate_laws.proofs.Standing.{over_fit}
@@ -47,7 +47,7 @@ use Rattle.certificate_laws.proofs.Leaves.{IsToldBy, leaf_told, one_bounds}
 use Rattle.certificate_laws.proofs.LineTexts as texts
 use Rattle.certificate_laws.proofs.Known.{lines_text, IsKnown, whole_text, no_fault, all_read}
 
-module _ (M : LeafMeaning) (laws : LeafLaws M) (tells : TellsNoForm M) (model : Model) (named : HaveNames model.features) (atoms : List Atom) (well : AreAtoms (length model.features) atoms)
+module _ (M : LeafMeaning) (laws : LeafLaws M) (tells : TellsRangesAlone M) (model : Model) (named : HaveNames model.features) (atoms : List Atom) (well : AreAtoms (length model.features) atoms)
     (names : List (List ℕ)) (lines : AllByRecursion IsOneLine names) (regions : Regions) where
   abbrev of : List ℕ → Option Piece
   of = piece_of model.features atoms

@@ -8,32 +8,33 @@ use Rattle.std.proofs.lemmas.Bool.Decides.{nat_tests}
 use Rattle.linear_atoms.specs.declared.atoms.Feature.{Feature}
 use Rattle.linear_atoms.specs.Texts.{name_at}
 use Rattle.cpp_conditions.specs.Expressions.{found}
-use Rattle.cpp_conditions.specs.Tokens.{is_first, is_word, is_identifier}
+use Rattle.c_words.specs.Bytes.{is_nondigit, is_word_byte}
+use Rattle.c_words.specs.Identifiers.{is_identifier}
 use Rattle.feature_model.specs.Features.{AreDistinct, AreNamed}
 use Rattle.certificate_laws.proofs.Naming.{IsWordByte, AreWordBytes, IsName, HaveNames}
 use Rattle.certificate_laws.proofs.Literals.{by_truth}
 
 -- ---- names
 
-word_byte : (b : ℕ) → is_word b ≡ true → IsWordByte b
+word_byte : (b : ℕ) → is_word_byte b ≡ true → IsWordByte b
 word_byte b e =
     let low : 48 ≤ b = grind (arith, nat_tests) in
     let high : b ≤ 122 = grind (arith, nat_tests) in
-    (low, high, λ f. colon (subst (λ n. is_word n ≡ true) f e))
+    (low, high, λ f. colon (subst (λ n. is_word_byte n ≡ true) f e))
   where
-    colon : is_word 58 ≡ true → ⊥
+    colon : is_word_byte 58 ≡ true → ⊥
     colon e = true≢false (sym e)
 
-first_byte : (b : ℕ) → is_first b ≡ true → 58 < b
+first_byte : (b : ℕ) → is_nondigit b ≡ true → 58 < b
 first_byte b e = grind (arith, nat_tests)
 
 and_parts : (a b : Bool) → (a && b) ≡ true → (a ≡ true) × (b ≡ true)
 and_parts true b e = (refl, e)
 and_parts false b e = absurd (true≢false (sym e))
 
-word_bytes : (bs : List ℕ) → list_all is_word bs ≡ true → AreWordBytes bs
+word_bytes : (bs : List ℕ) → list_all is_word_byte bs ≡ true → AreWordBytes bs
 word_bytes [] e = tt
-word_bytes (b ∷ bs) e = let parts = and_parts (is_word b) (list_all is_word bs) e in (word_byte b parts.0, word_bytes bs parts.1)
+word_bytes (b ∷ bs) e = let parts = and_parts (is_word_byte b) (list_all is_word_byte bs) e in (word_byte b parts.0, word_bytes bs parts.1)
 
 or_first : (a b : Bool) → a ≡ true → (a || b) ≡ true
 or_first a b e = ap (λ x. x || b) e
@@ -41,8 +42,8 @@ or_first a b e = ap (λ x. x || b) e
 identifier_name : (name : List ℕ) → is_identifier name ≡ true → IsName name
 identifier_name [] e = true≢false (sym e)
 identifier_name (b ∷ bs) e =
-    let parts = and_parts (is_first b) (list_all is_word bs) e in
-    (first_byte b parts.0, (word_byte b (or_first (is_first b) _ parts.0), word_bytes bs parts.1))
+    let parts = and_parts (is_nondigit b) (list_all is_word_byte bs) e in
+    (first_byte b parts.0, (word_byte b (or_first (is_nondigit b) _ parts.0), word_bytes bs parts.1))
 
 not_or : (a b : Bool) → (not a || b) ≡ false → a ≡ true
 not_or true b e = refl

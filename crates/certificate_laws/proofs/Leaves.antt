@@ -10,12 +10,12 @@ use Rattle.leaf_domain.specs.declared.range.Range.{Range}
 use Rattle.leaf_domain.specs.Leaves.{LeafValue, LeafMeaning, LeafLaws, is_nothing_of}
 use Rattle.leaf_domain.specs.Ranges.{arithmetic_range, is_empty_range}
 use Rattle.alarm_report.specs.Texts.{joined}
-use Rattle.alarm_report.specs.LeafTexts.{within_text, variable_items, new_range, item_of, pair_form, pair_items, items_with, all_pairs, items_text, leaf_text}
+use Rattle.alarm_report.specs.LeafTexts.{within_text, step_text, variable_items, new_range, item_of, pair_form, pair_items, items_with, all_pairs, items_text, leaf_text}
 use Rattle.certificate_format.specs.Bounds.{items, bounds_text, IsIntRange, AreIntBounds}
 use Rattle.certificate_format.specs.Forms.{further}
 use Rattle.certificate_format.proofs.Ranging.{one_item, bounds_cons, further_cons}
 use Rattle.certificate_laws.specs.ReadBack.{bounds_from, IsBoundsOf}
-use Rattle.certificate_laws.proofs.Writable.{TellsNoForm}
+use Rattle.certificate_laws.proofs.Writable.{TellsRangesAlone}
 use Rattle.certificate_laws.proofs.Literals.{by_truth}
 
 -- a range that is not empty has its low at most at its high
@@ -24,12 +24,12 @@ ordered r e = grind (arith, ints)
 
 -- ---- the text of a leaf
 
-module _ (M : LeafMeaning) (none : TellsNoForm M) (v : LeafValue) where
+module _ (M : LeafMeaning) (none : TellsRangesAlone M) (v : LeafValue) where
   no_pair : (x y : ℕ) (first second : List ℕ) → pair_items M v x first y second ≡ []
   no_pair x y first second =
       ap₂ (λ a b. item_of (first ++ codes "-" ++ second) a ++ item_of (first ++ codes "+" ++ second) b)
-      (ap (λ r. new_range r (arithmetic_range Sub (M.bounds_of v x) (M.bounds_of v y))) (none v (pair_form x y (negsuc 0))))
-      (ap (λ r. new_range r (arithmetic_range Add (M.bounds_of v x) (M.bounds_of v y))) (none v (pair_form x y (pos 1))))
+      (ap (λ r. new_range r (arithmetic_range Sub (M.bounds_of v x) (M.bounds_of v y))) (none.forms v (pair_form x y (negsuc 0))))
+      (ap (λ r. new_range r (arithmetic_range Add (M.bounds_of v x) (M.bounds_of v y))) (none.forms v (pair_form x y (pos 1))))
 
   no_items : (x : ℕ) (first : List ℕ) (y : ℕ) (names : List (List ℕ)) → items_with M v x first y names ≡ []
   no_items x first y [] = refl
@@ -41,7 +41,9 @@ module _ (M : LeafMeaning) (none : TellsNoForm M) (v : LeafValue) where
 
   items_are : (x : ℕ) (names : List (List ℕ)) → variable_items M v x names ≡ items names (bounds_from M v x names)
   items_are x [] = refl
-  items_are x (name ∷ names) = ap (λ l. (name ++ within_text (M.bounds_of v x)) ∷ l) (items_are (x + 1) names)
+  items_are x (name ∷ names) =
+      ap (λ item. item ∷ variable_items M v (x + 1) names) (ap (λ k. (name ++ within_text (M.bounds_of v x)) ++ step_text k) (none.steps v x) ∙ append-nil (name ++ within_text (M.bounds_of v x)))
+      ∙ ap (λ l. (name ++ within_text (M.bounds_of v x)) ∷ l) (items_are (x + 1) names)
 
   items_are_bounds : (names : List (List ℕ)) → items_text M v names ≡ bounds_text names (Some (bounds_from M v 0 names))
   items_are_bounds [] = refl
@@ -77,7 +79,7 @@ taken zero (name ∷ names) e = absurd (omega (arith, e))
 taken (suc n) [] e = refl
 taken (suc n) (name ∷ names) e = ap (λ l. name ∷ l) (taken n names (omega (arith, e)))
 
-pub leaf_told : (M : LeafMeaning) → LeafLaws M → TellsNoForm M → (names : List (List ℕ)) (v : LeafValue) → M.valid v → v.variables ≡ length names → IsToldBy M names v
+pub leaf_told : (M : LeafMeaning) → LeafLaws M → TellsRangesAlone M → (names : List (List ℕ)) (v : LeafValue) → M.valid v → v.variables ≡ length names → IsToldBy M names v
 leaf_told M laws none names v valid e = by (by_truth (is_nothing_of v))
   where
     by : (is_nothing_of v ≡ true) ⊎ (is_nothing_of v ≡ false) → IsToldBy M names v

@@ -112,7 +112,7 @@ module _ (M : LeafMeaning) (laws : LeafLaws M) (o : Options) (A : TransferAnswer
       started =
           let count = length-start (truths_of cs v) p.declared 0 p.start ∙ program.starts in
           record {
-            valid = laws.start_valid (projected_start (truths_of cs v) p.declared p.start) (subst (λ n. n ≤ 16) (sym count) program.few) (ints-start (truths_of cs v) p.declared (length p.names) 0 p.start program.declared program.ints);
+            valid = laws.start_valid (projected_start (truths_of cs v) p.declared p.start) (subst (λ n. n ≤ 48) (sym count) program.few) (ints-start (truths_of cs v) p.declared (length p.names) 0 p.start program.declared program.ints);
             variables = laws.start_variables (projected_start (truths_of cs v) p.declared p.start) ∙ count;
           }
 

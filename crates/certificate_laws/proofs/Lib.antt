@@ -26,3 +26,11 @@ pub mod AcceptedIntervals
 pub mod AcceptedWhole
 pub mod Values
 pub mod Standing
+pub mod Lists
+pub mod CertificateOnce
+pub mod Deciding
+pub mod Parting
+pub mod LineForms
+pub mod RegionTexts
+pub mod CertificateTexts
+pub mod WrittenTexts

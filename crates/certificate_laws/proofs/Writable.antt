@@ -15,9 +15,10 @@ abbrev pub AreOver : List Atom → List Literal → Type 0
 AreOver atoms [] = Unit {0}
 AreOver atoms (l ∷ ls) = IsAmong l.atom atoms × AreOver atoms ls
 
--- no form has a range of its own
-abbrev pub TellsNoForm : LeafMeaning → Type 0
-TellsNoForm M = (v : LeafValue) (f : Form) → M.form_range v f ≡ None
+-- no form has a range of its own, and no values are known to lie apart
+pub record TellsRangesAlone (M : LeafMeaning) : Type 0 where
+  pub forms : (v : LeafValue) (f : Form) → M.form_range v f ≡ None
+  pub steps : (v : LeafValue) (x : ℕ) → M.step_of v x ≡ 1
 
 -- the line of a loop: its place, its region, and its leaf over as many variables as there are names
 pub record IsLoopWritten (M : LeafMeaning) (atoms : List Atom) (names : List (List ℕ)) (i : Invariant) : Type 0 where

@@ -3,3 +3,4 @@ pub mod Written
 pub mod Laws
 pub mod Accepted
 pub mod Certified
+pub mod Readings

@@ -5,6 +5,7 @@ ghost use Rattle.interval_leaf.specs.Intervals.{intervals};
 ghost use Rattle.certificate_laws.specs.Accepted.{AreToldByBounds, AreBelowJoins, AnalysesAreAccepted};
 ghost use Rattle.certificate_laws.specs.Certified.{WrittenAnalysesAreAccepted};
 ghost use Rattle.certificate_laws.specs.Laws.{FamiliesAreOfFiles, CertificatesAreReadBack, FamilyCertificatesAreReadBack};
+ghost use Rattle.certificate_laws.specs.Readings.{EachTextIsRead, NoneIsReadAndRefused, CertificatesAreAlike, FaultsAreOne, WrittenAnalysesAreSpelled};
 
 use interval_leaf::IntervalLeaf;
 use leaf_domain::{Leaf, transfer_is_sound};
@@ -54,4 +55,22 @@ pub fn written_analyses_are_accepted()
     ensures { WrittenAnalysesAreAccepted }
 {
     transfer_is_sound::<IntervalLeaf>();
+}
+
+/// Each text has one reading, over any names and any pieces of regions: it spells a certificate or has a fault, and not both;
+/// certificates that it spells have the same mode, and line by line the same places, kinds, bounds and formulas of regions; and it
+/// has one fault.
+pub fn certificate_texts_have_one_reading()
+    ensures some { EachTextIsRead }
+    ensures apart { NoneIsReadAndRefused }
+    ensures alike { CertificatesAreAlike }
+    ensures alone { FaultsAreOne }
+{}
+
+/// What is written of an analysis by intervals of a family, which is not too long, spells a certificate over the family.
+pub fn written_analyses_are_spelled()
+    ensures { WrittenAnalysesAreSpelled }
+{
+    certificate_texts_have_one_reading();
+    written_analyses_are_accepted();
 }

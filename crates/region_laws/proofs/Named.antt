@@ -7,8 +7,8 @@ use Rattle.linear_atoms.specs.declared.atoms.Feature.{Feature}
 use Rattle.linear_atoms.specs.Atoms.{IsWithin}
 use Rattle.linear_atoms.specs.Texts.{name_at, boolean_at}
 use Rattle.cpp_conditions.specs.Expressions.{Name, found, value, value_at}
-use Rattle.cpp_conditions.specs.Grammar.{is_reserved}
-use Rattle.cpp_conditions.specs.Tokens.{Word, Defined, is_identifier, word_token}
+use Rattle.c_words.specs.Identifiers.{is_identifier, begins_with_two_underscores}
+use Rattle.cpp_conditions.specs.Tokens.{Word, Defined, word_token}
 use Rattle.feature_model.specs.Features.{AreDistinct, AreNamed, HaveSwitches}
 use Rattle.feature_model.specs.Names.{is_misnamed}
 
@@ -26,17 +26,17 @@ named_at (f ∷ fs) zero h lt = h.0
 named_at (f ∷ fs) (suc n) h lt = named_at fs n h.1 (omega (arith, lt))
 
 identifier : (name : List ℕ) → is_misnamed name ≡ false → is_identifier name ≡ true
-identifier name e = not_false (is_identifier name) (neither (not (is_identifier name)) (is_reserved name || (is_among keywords name || is_among other_words name)) e).0
+identifier name e = not_false (is_identifier name) (neither (not (is_identifier name)) (begins_with_two_underscores name || (is_among keywords name || is_among other_words name)) e).0
 
-unreserved : (name : List ℕ) → is_misnamed name ≡ false → is_reserved name ≡ false
+unreserved : (name : List ℕ) → is_misnamed name ≡ false → begins_with_two_underscores name ≡ false
 unreserved name e =
-    let own = (neither (not (is_identifier name)) (is_reserved name || (is_among keywords name || is_among other_words name)) e).1 in
-    (neither (is_reserved name) (is_among keywords name || is_among other_words name) own).0
+    let own = (neither (not (is_identifier name)) (begins_with_two_underscores name || (is_among keywords name || is_among other_words name)) e).1 in
+    (neither (begins_with_two_underscores name) (is_among keywords name || is_among other_words name) own).0
 
 no_defined : (name : List ℕ) → is_misnamed name ≡ false → bytes_eq name (codes "defined") ≡ false
 no_defined name e =
-    let own = (neither (not (is_identifier name)) (is_reserved name || (is_among keywords name || is_among other_words name)) e).1 in
-    let words = (neither (is_reserved name) (is_among keywords name || is_among other_words name) own).1 in
+    let own = (neither (not (is_identifier name)) (begins_with_two_underscores name || (is_among keywords name || is_among other_words name)) e).1 in
+    let words = (neither (begins_with_two_underscores name) (is_among keywords name || is_among other_words name) own).1 in
     let others = (neither (is_among keywords name) (is_among other_words name) words).1 in
     let second = (neither (bytes_eq name (codes "main")) _ others).1 in
     let third = (neither (bytes_eq name (codes "assert")) _ second).1 in
@@ -47,7 +47,7 @@ no_defined name e =
 pub record IsNamed (name : List ℕ) : Type 0 where
   pub identifier : is_identifier name ≡ true
   pub word : word_token name ≡ Word name
-  pub free : is_reserved name ≡ false
+  pub free : begins_with_two_underscores name ≡ false
 
 pub is_named : (features : List Feature) (n : ℕ) → AreNamed features → n < length features → IsNamed (name_at features n)
 is_named features n h lt =

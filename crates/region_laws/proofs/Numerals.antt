@@ -4,7 +4,8 @@ use Rattle.std.proofs.lemmas.Bool.{and_parts}
 use Rattle.std.proofs.lemmas.Fmt.{decimal_nonempty}
 use Rattle.std.specs.Fmt.{decimal}
 use Rattle.std.specs.List.{list_all}
-use Rattle.cpp_conditions.specs.Tokens.{Token, Digits, Twice, SpellsTokens, StopsAt, NoPair, is_digit, is_alphabetic, is_alphanumeric, is_word}
+use Rattle.c_words.specs.Bytes.{is_digit, is_letter, is_alphanumeric, is_word_byte}
+use Rattle.cpp_conditions.specs.Tokens.{Token, Digits, Twice, SpellsTokens, StopsAt, NoPair}
 use Rattle.cpp_conditions.specs.Tokens as tokens
 use Rattle.cpp_conditions.proofs.IntegerWords.{decimal_integer, decimal_integer_value, decimal_alone}
 use Rattle.c_words.proofs.Decimals.{decimal_digits}
@@ -14,12 +15,12 @@ no_word true y z e = absurd cc
 no_word false true z e = absurd cc
 no_word false false z e = e
 
-pub alphanumeric_stops : (bs : List ℕ) → StopsAt is_word bs → StopsAt is_alphanumeric bs
+pub alphanumeric_stops : (bs : List ℕ) → StopsAt is_word_byte bs → StopsAt is_alphanumeric bs
 alphanumeric_stops [] h = tt
-alphanumeric_stops (b ∷ bs) h = no_word (is_alphabetic b) (nat_eq b 95) (is_digit b) h
+alphanumeric_stops (b ∷ bs) h = no_word (is_letter b) (nat_eq b 95) (is_digit b) h
 
 -- a number's digits are its token
-pub number_token : (n : ℕ) (rest : List ℕ) (ts : List Token) → n < 2 ^ 64 → StopsAt is_word rest → SpellsTokens rest ts → SpellsTokens (decimal n ++ rest) (Digits n ∷ ts)
+pub number_token : (n : ℕ) (rest : List ℕ) (ts : List Token) → n < 2 ^ 64 → StopsAt is_word_byte rest → SpellsTokens rest ts → SpellsTokens (decimal n ++ rest) (Digits n ∷ ts)
 number_token n rest ts lt stops s =
     subst (λ m. SpellsTokens (decimal n ++ rest) (Digits m ∷ ts)) (decimal_integer_value n lt)
     (tokens.number (decimal n) (decimal_integer n lt) (alphanumeric_stops rest stops) (decimal_alone n rest lt) s)

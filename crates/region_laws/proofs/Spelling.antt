@@ -10,7 +10,9 @@ use Rattle.cpp_conditions.specs.Expressions.{Expression, Number, Name, Unary, Bi
 use Rattle.cpp_conditions.specs.Grammar.{Spells, CSpells, tighter, has_reserved, has_unknown}
 use Rattle.cpp_conditions.specs.Meaning.{is_linear, is_truth, gives_truth, names_feature, suits_operator}
 use Rattle.cpp_conditions.specs.Grammar as grammar
-use Rattle.cpp_conditions.specs.Tokens.{Token, Digits, Word, Bang, Oper, SpellsTokens, StopsAt, NoPair, is_first, is_word, is_identifier}
+use Rattle.c_words.specs.Bytes.{is_nondigit, is_word_byte}
+use Rattle.c_words.specs.Identifiers.{is_identifier}
+use Rattle.cpp_conditions.specs.Tokens.{Token, Digits, Word, Bang, Oper, SpellsTokens, StopsAt, NoPair}
 use Rattle.cpp_conditions.specs.Tokens as tokens
 use Rattle.feature_model.specs.Features.{AreDistinct, AreNamed}
 use Rattle.cpp_conditions.specs.declared.operators.Operator.{Operator}
@@ -24,7 +26,7 @@ use Rattle.region_laws.proofs.Numerals.{number_token, alphanumeric_stops, minus_
 pub record IsTold (features : List Feature) (level : ℕ) (numeric : Bool) (text : List ℕ) (of : List ℤ → ℤ) : Type 0 where
   pub tokens : List Token
   pub tree : Expression
-  pub read : (rest : List ℕ) (us : List Token) → StopsAt is_word rest → SpellsTokens rest us → SpellsTokens (text ++ rest) (tokens ++ us)
+  pub read : (rest : List ℕ) (us : List Token) → StopsAt is_word_byte rest → SpellsTokens rest us → SpellsTokens (text ++ rest) (tokens ++ us)
   pub spells : Spells level tokens tree
   pub value_is : (values : List ℤ) → IsWithin features values → value features values tree ≡ of values
   pub allowed : has_reserved tree ≡ false
@@ -48,7 +50,7 @@ module _ {features : List Feature} where
 
 -- ---- one token
 
-word_token_read : (name rest : List ℕ) (us : List Token) → IsNamed name → StopsAt is_word rest → SpellsTokens rest us → SpellsTokens (name ++ rest) (Word name ∷ us)
+word_token_read : (name rest : List ℕ) (us : List Token) → IsNamed name → StopsAt is_word_byte rest → SpellsTokens rest us → SpellsTokens (name ++ rest) (Word name ∷ us)
 word_token_read name rest us h stops s = subst (λ t. SpellsTokens (name ++ rest) (t ∷ us)) h.word (tokens.word name h.identifier stops s)
 
 pub told_name : (features : List Feature) (n : ℕ) → AreNamed features → AreDistinct features → n < length features → IsTold features 0 true (name_at features n) (λ values. slice_index_or values n (pos 0))
@@ -92,7 +94,7 @@ told_one features = record {
   number = λ e. refl;
 }
   where
-    one_read : (rest : List ℕ) (us : List Token) → StopsAt is_word rest → SpellsTokens rest us → SpellsTokens (49 ∷ rest) (Digits 1 ∷ us)
+    one_read : (rest : List ℕ) (us : List Token) → StopsAt is_word_byte rest → SpellsTokens rest us → SpellsTokens (49 ∷ rest) (Digits 1 ∷ us)
     one_read rest us stops s = tokens.number (49 ∷ []) refl (alphanumeric_stops rest stops) refl s
 
 pub told_integer : (features : List Feature) (z : ℤ) → unsigned_abs z < 2 ^ 64 → IsTold features 0 true (signed_decimal z) (λ values. z)
@@ -111,7 +113,7 @@ told_integer features (negsuc n) lt = record {
 
 -- ---- `!`
 
-first_no_equals : (b : ℕ) → is_first b ≡ true → nat_eq b 61 ≡ false
+first_no_equals : (b : ℕ) → is_nondigit b ≡ true → nat_eq b 61 ≡ false
 first_no_equals b h = grind arith
 
 and_left : (a b : Bool) → (a && b) ≡ true → a ≡ true
@@ -120,7 +122,7 @@ and_left false b e = e
 
 bang_apart : (name rest : List ℕ) → is_identifier name ≡ true → NoPair 33 (name ++ rest)
 bang_apart [] rest h = absurd cc
-bang_apart (b ∷ bs) rest h = ap (λ x. if x then Some (Oper Differs) else None) (first_no_equals b (and_left (is_first b) _ h))
+bang_apart (b ∷ bs) rest h = ap (λ x. if x then Some (Oper Differs) else None) (first_no_equals b (and_left (is_nondigit b) _ h))
 
 pub told_inverse : (features : List Feature) (n : ℕ) → AreNamed features → AreDistinct features → n < length features
     → IsTold features 0 false (codes "!" ++ name_at features n) (λ values. before Inverse (slice_index_or values n (pos 0)))
@@ -143,7 +145,7 @@ told_inverse features n named distinct lt =
 
 -- the text is the operator's mark, perhaps between spaces
 pub record IsMark (op : Operator) (text : List ℕ) : Type 0 where
-  pub stops : (rest : List ℕ) → StopsAt is_word (text ++ rest)
+  pub stops : (rest : List ℕ) → StopsAt is_word_byte (text ++ rest)
   pub read : (rest : List ℕ) (us : List Token) → SpellsTokens rest us → SpellsTokens (text ++ rest) (Oper op ∷ us)
 
 star_apart : (rest : List ℕ) → NoPair 42 rest

@@ -10,7 +10,8 @@ use Rattle.std.proofs.lemmas.List.{append_cancel_left}
 use Rattle.linear_atoms.specs.declared.atoms.Feature.{Feature}
 use Rattle.linear_atoms.specs.Atoms.{AreRanges, IsWithin}
 use Rattle.linear_atoms.specs.SettingTexts.{setting_text, spaced_settings, config_text}
-use Rattle.cpp_conditions.specs.Tokens.{is_first, is_word, is_identifier}
+use Rattle.c_words.specs.Bytes.{is_nondigit, is_word_byte}
+use Rattle.c_words.specs.Identifiers.{is_identifier}
 use Rattle.fam_outer.specs.Limits.{most_value}
 use Rattle.feature_model.specs.Features.{AreNamed}
 use Rattle.certificate_laws.proofs.Words.{AreDigits, are_digits, digits_words, Stops, one_run, both_all}
@@ -25,16 +26,16 @@ IsSettingByte b = (31 < b) × (b ≢ 58) × (b ≢ 59)
 abbrev pub AreSettingBytes : List ℕ → Type 0
 AreSettingBytes bytes = AllByRecursion IsSettingByte bytes
 
-word_above : (b : ℕ) → is_word b ≡ true → 31 < b
+word_above : (b : ℕ) → is_word_byte b ≡ true → 31 < b
 word_above b e = grind (arith, nat_tests)
 
-setting_byte : (b : ℕ) → is_word b ≡ true → IsSettingByte b
-setting_byte b e = (word_above b e, λ f. colon (subst (λ n. is_word n ≡ true) f e), λ f. semicolon (subst (λ n. is_word n ≡ true) f e))
+setting_byte : (b : ℕ) → is_word_byte b ≡ true → IsSettingByte b
+setting_byte b e = (word_above b e, λ f. colon (subst (λ n. is_word_byte n ≡ true) f e), λ f. semicolon (subst (λ n. is_word_byte n ≡ true) f e))
   where
-    colon : is_word 58 ≡ true → ⊥
+    colon : is_word_byte 58 ≡ true → ⊥
     colon h = true≢false (sym h)
 
-    semicolon : is_word 59 ≡ true → ⊥
+    semicolon : is_word_byte 59 ≡ true → ⊥
     semicolon h = true≢false (sym h)
 
 or_first : (a b : Bool) → a ≡ true → (a || b) ≡ true
@@ -44,15 +45,15 @@ not_or : (a b : Bool) → (not a || b) ≡ false → a ≡ true
 not_or true b e = refl
 not_or false b e = absurd (true≢false e)
 
-word_bytes : (bs : List ℕ) → list_all is_word bs ≡ true → AreSettingBytes bs
+word_bytes : (bs : List ℕ) → list_all is_word_byte bs ≡ true → AreSettingBytes bs
 word_bytes [] e = tt
-word_bytes (b ∷ bs) e = let parts = and_parts (is_word b) (list_all is_word bs) e in (setting_byte b parts.0, word_bytes bs parts.1)
+word_bytes (b ∷ bs) e = let parts = and_parts (is_word_byte b) (list_all is_word_byte bs) e in (setting_byte b parts.0, word_bytes bs parts.1)
 
 name_bytes : (name : List ℕ) → is_identifier name ≡ true → AreSettingBytes name
 name_bytes [] e = tt
 name_bytes (b ∷ bs) e =
-    let parts = and_parts (is_first b) (list_all is_word bs) e in
-    (setting_byte b (or_first (is_first b) _ parts.0), word_bytes bs parts.1)
+    let parts = and_parts (is_nondigit b) (list_all is_word_byte bs) e in
+    (setting_byte b (or_first (is_nondigit b) _ parts.0), word_bytes bs parts.1)
 
 digit_bytes : (ds : List ℕ) → AreDigits ds → AreSettingBytes ds
 digit_bytes [] h = tt

@@ -7,7 +7,7 @@ use Rattle.c_tree.specs.declared.tree.Op.TheVariants.{Add, Sub}
 use Rattle.leaf_domain.specs.declared.range.Range.{Range}
 use Rattle.leaf_domain.specs.Leaves.{LeafValue, LeafMeaning, LeafLaws, at_store, is_nothing_of}
 use Rattle.leaf_domain.specs.Ranges.{Within, arithmetic_range}
-use Rattle.alarm_report.specs.LeafTexts.{within_text, variable_items, same_range, new_range, item_of, pair_form, pair_range, pair_items, items_with, all_pairs, items_text, leaf_text}
+use Rattle.alarm_report.specs.LeafTexts.{within_text, step_text, variable_items, same_range, new_range, item_of, pair_form, pair_range, pair_items, items_with, all_pairs, items_text, leaf_text}
 use Rattle.alarm_report.proofs.Pairing.{pair_is_form}
 use Rattle.report_laws.specs.Stores.{IsSo, variable, difference, sum, told_as, TellsStore, LeafTextsTellStores}
 
@@ -47,7 +47,7 @@ module _ (M : LeafMeaning) (laws : LeafLaws M) (v : LeafValue) (store : List ℤ
   variables_so : (x : ℕ) (ms : List (List ℕ)) → Stand all x ms → x + length ms ≤ v.variables → AllByRecursion (IsSo all store) (variable_items M v x ms)
   variables_so x [] h le = tt
   variables_so x (m ∷ ms) h le =
-      (variable x m (M.bounds_of v x) (first_stands all x m ms h) (laws.bounds_hold v x store valid (omega (arith, le)) holds), variables_so (x + 1) ms (later_stand all x m ms h) (omega (arith, le)))
+      (variable x m (M.bounds_of v x) (M.step_of v x) (first_stands all x m ms h) (laws.bounds_hold v x store valid (omega (arith, le)) holds) (laws.step_holds v x store valid (omega (arith, le)) holds), variables_so (x + 1) ms (later_stand all x m ms h) (omega (arith, le)))
 
   difference_within : (x y : ℕ) (r : Range) → x < y → y < v.variables → M.form_range v (pair_form x y (negsuc 0)) ≡ Some r → Within (at_store store x -ℤ at_store store y) r
   difference_within x y r lt le e =
@@ -78,15 +78,18 @@ module _ (M : LeafMeaning) (laws : LeafLaws M) (v : LeafValue) (store : List ℤ
       (with_so x m (first_stands all x m ms h) (x + 1) ms (later_stand all x m ms h) (omega arith) (omega (arith, le))) (pairs_so (x + 1) ms (later_stand all x m ms h) (omega (arith, le)))
 
   -- the item of a variable
-  variable_at : (x : ℕ) (ms more : List (List ℕ)) (j : ℕ) (name : List ℕ) → slice_get ms j ≡ Some name → slice_get (variable_items M v x ms ++ more) j ≡ Some (name ++ within_text (M.bounds_of v (x + j)))
+  abbrev item_at : ℕ → List ℕ → List ℕ
+  item_at x name = (name ++ within_text (M.bounds_of v x)) ++ step_text (M.step_of v x)
+
+  variable_at : (x : ℕ) (ms more : List (List ℕ)) (j : ℕ) (name : List ℕ) → slice_get ms j ≡ Some name → slice_get (variable_items M v x ms ++ more) j ≡ Some (item_at (x + j) name)
   variable_at x [] more j name e = absurd cc
   variable_at x (m ∷ ms) more zero name e =
       let same : m ≡ name = cc in
       let at : x ≡ x + 0 = omega arith in
-      ap (λ (n : List ℕ). Some (n ++ within_text (M.bounds_of v x))) same ∙ ap (λ (k : ℕ). Some (name ++ within_text (M.bounds_of v k))) at
+      ap (λ (n : List ℕ). Some (item_at x n)) same ∙ ap (λ (k : ℕ). Some (item_at k name)) at
   variable_at x (m ∷ ms) more (suc j) name e =
       let at : (x + 1) + j ≡ x + suc j = omega arith in
-      variable_at (x + 1) ms more j name e ∙ ap (λ (k : ℕ). Some (name ++ within_text (M.bounds_of v k))) at
+      variable_at (x + 1) ms more j name e ∙ ap (λ (k : ℕ). Some (item_at k name)) at
 
   not_nothing : is_nothing_of v ≡ false
   not_nothing = elim v.content as (λ c. v.content ≡ c → is_nothing_of (record { variables = v.variables; content = c }) ≡ false) [
@@ -107,8 +110,10 @@ module _ (M : LeafMeaning) (laws : LeafLaws M) (v : LeafValue) (store : List ℤ
         each = all_both (IsSo all store) (variable_items M v 0 all) (all_pairs M v 0 all) (variables_so 0 all stand (omega (arith, le))) (pairs_so 0 all stand (omega (arith, le)));
         variables = λ x name e. (
           M.bounds_of v x,
-          (let at : 0 + x ≡ x = omega arith in variable_at 0 all (all_pairs M v 0 all) x name e ∙ ap (λ (k : ℕ). Some (name ++ within_text (M.bounds_of v k))) at),
+          M.step_of v x,
+          (let at : 0 + x ≡ x = omega arith in variable_at 0 all (all_pairs M v 0 all) x name e ∙ ap (λ (k : ℕ). Some (item_at k name)) at),
           laws.bounds_hold v x store valid (omega (arith, le, within all x name e)) holds,
+          laws.step_holds v x store valid (omega (arith, le, within all x name e)) holds,
         );
       } where
         within : (ms : List (List ℕ)) (x : ℕ) (name : List ℕ) → slice_get ms x ≡ Some name → x < length ms
