@@ -18,9 +18,10 @@ use Rattle.clap.specs.Values.{Accepts}
 use Rattle.clap.specs.Words.{ReadsOne}
 use Rattle.clap.proofs.ValueTestLemmas.{accepts-Accepts, Accepts-accepts}
 use Rattle.clap.specs.declared.builder.value_parser.ValueParser.TheVariants as vp
+use Rattle.c_words.specs.Bytes.{is_digit}
 use Rattle.command_words.specs.Arguments.{texts_of}
 use Rattle.command_words.specs.Options.{IsNumberBelow}
-use Rattle.command_words.specs.Spelling.{is_digit, is_positive, is_number, is_input, is_in_int, number_up_to, input_of, without_minus}
+use Rattle.command_words.specs.Spelling.{is_positive, is_number, is_input, is_in_int, number_up_to, input_of, without_minus}
 
 pub texts_after : {Z : Type 0} (words : List (String Z)) (word : String Z) → texts_of (words ++ word ∷ []) ≡ texts_of words ++ string_bytes word ∷ []
 texts_after words word = map-append string_bytes words (word ∷ [])

@@ -4,6 +4,7 @@ use Rattle.std.specs.Prelude.{Option, Some, None, option_and_then}
 use Rattle.std.specs.List.{slice_split, list_all}
 use Rattle.std.specs.Str.{bytes_eq}
 use Rattle.std.specs.Str.Parse.{digits_value, signed_digits_value}
+use Rattle.c_words.specs.Bytes.{is_digit}
 use Rattle.fam_outer.specs.declared.dialect.Unknown.{Unknown}
 use Rattle.fam_outer.specs.declared.dialect.Unknown.TheVariants.{Zero, Refuse}
 use Rattle.fam_outer.specs.declared.dialect.Includes.{Includes}
@@ -90,9 +91,6 @@ includes_name Assert = codes "assert"
 includes_name Skip = codes "skip"
 
 -- ---- numbers
-
-abbrev pub is_digit : ℕ → Bool
-is_digit c = nat_le 48 c && nat_le c 57
 
 -- one digit or more, the first of them not `0`
 abbrev pub is_positive : List ℕ → Bool

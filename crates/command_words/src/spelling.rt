@@ -3,14 +3,10 @@
 
 ghost use Rattle.std.specs.Prelude.{◌≡◌};
 ghost use Rattle.std.specs.List.{list_all};
-ghost use Rattle.command_words.specs.Spelling.{is_digit as digit, is_positive as positive, is_number as number, number_up_to as read_number, is_input as input, without_minus};
+ghost use Rattle.c_words.specs.Bytes.{is_digit as digit};
+ghost use Rattle.command_words.specs.Spelling.{is_positive as positive, is_number as number, number_up_to as read_number, is_input as input, without_minus};
 
-/// The byte is a digit.
-fn is_digit(byte: u8) -> bool
-    ensures { result ≡ digit byte }
-{
-    matches!(byte, b'0'..=b'9')
-}
+use c_words::is_digit;
 
 /// The bytes are digits.
 fn are_digits(bytes: &[u8]) -> bool

@@ -1,12 +1,13 @@
 //! `check`: whether a certificate holds of a family, without the analysis.
 #![tactic(auto)]
 
-ghost use Rattle.std.specs.Prelude.{◌≡◌, ◌≤◌, ℕ, List, [], ◌∷◌, Some, IfOk};
+ghost use Rattle.std.specs.Prelude.{◌≡◌, ◌≤◌, ℕ, List, [], ◌∷◌, IfOk, IsOk};
+ghost use Rattle.fam_outer.specs.Loading.{AreGiven};
 ghost use Rattle.famlint_checks.specs.Checked.{AnswersCheck, PromisedCheck};
-ghost use Rattle.famlint_loads.specs.Contents.{Contents};
+ghost use Rattle.famlint_loads.specs.Contents.{of_check};
 ghost use Rattle.famlint_loads.specs.CertificateLoads.{ReadsCertificate, IsUsableCertificate, IsLoadedForCheck};
 ghost use Rattle.famlint_checks.specs.Checked.{IsCheckDone, IsCheckPromised, IsVerdictFor, no_text, verdict_text, verdict_status as status_of};
-ghost use Rattle.famlint_loads.specs.Loads.{Comes, IsReadFault, IsReadOf};
+ghost use Rattle.famlint_loads.specs.Loads.{IsReadOf, IsRight, model_source, file_source, certificate_source};
 ghost use Rattle.famlint_loads.specs.ProductLines.{IsUsableLine};
 ghost use Rattle.c_tree.specs.View.{whole};
 ghost use Rattle.interval_leaf.specs.Intervals.{intervals};
@@ -135,18 +136,11 @@ pub fn check<F: Files>(
     dialect: Dialect,
     files: &mut F,
 ) -> Result<Done, Failure>
-    ensures answer { (told : Contents) → F.content files.old model.now ≡ Some told.model
-        → F.content files.old file.now ≡ Some told.file
-        → F.content files.old certificate.now ≡ Some told.certificate
-        → Comes (AnswersCheck dialect told) result }
-    ensures promise { (told : Contents) → F.content files.old model.now ≡ Some told.model
-        → F.content files.old file.now ≡ Some told.file
-        → F.content files.old certificate.now ≡ Some told.certificate
-        → IfOk result (λ done. PromisedCheck dialect told done.status done.text) }
+    ensures given { AreGiven F.loads (F.content files.old) files.old files.new
+        (model_source model.now ∷ file_source file.now ∷ certificate_source certificate.now ∷ []) of_check (IsOk result)
+        (λ told. IsRight (AnswersCheck dialect told) (PromisedCheck dialect told)
+        (IsLoadedForCheck dialect model.now file.now certificate.now told.model told.file) (F.failed files.new) result) }
     ensures status { IfOk result (λ done. done.status ≤ 1) }
-    ensures order { (m f : List ℕ) → F.content files.old model.now ≡ Some m
-        → F.content files.old file.now ≡ Some f → IsReadFault result
-        → IsLoadedForCheck dialect model.now file.now certificate.now m f (F.failed files.new) }
     ensures kept { F.content files.new ≡ F.content files.old }
     ensures read { IsReadOf (model.now ∷ file.now ∷ certificate.now ∷ [])
         (F.faults files.old) (F.faults files.new) (F.failed files.new) result }

@@ -1,7 +1,7 @@
 -- What a model leaves open is answered once, and so is advice.
 use Rattle.std.proofs.Common.{◌≡◌, ℕ, ℤ, Bool, true, not, ◌&&◌, List, [], ◌∷◌, ◌++◌, codes, map, length, Option, Some, None, Result, Ok, Err, refl, sym, ap, ap₂, subst, ◌∙◌}
 use Rattle.std.specs.Prelude.{if◌then◌else◌}
-use Rattle.std.specs.List.{All, AllByRecursion}
+use Rattle.std.specs.List.{AllByRecursion}
 use Rattle.std.proofs.lemmas.List.{length-map}
 use Rattle.std.proofs.lemmas.List.Elements.{recursion_from_All}
 use Rattle.fam_outer.specs.declared.dialect.Dialect.{Dialect}
@@ -15,9 +15,7 @@ use Rattle.c_tree.specs.View.{whole}
 use Rattle.linear_atoms.specs.declared.atoms.Feature.{Feature}
 use Rattle.linear_atoms.specs.declared.regions.Regions.TheVariants.{Paths}
 use Rattle.linear_atoms.specs.SettingTexts.{config_text}
-use Rattle.cpp_conditions.specs.declared.models.Model.{Model}
 use Rattle.cpp_conditions.specs.Numbering.{vector_at}
-use Rattle.cpp_conditions.specs.Propositions.{true_on}
 use Rattle.cpp_conditions.specs.Validity.{Plain, plain, IsValid}
 use Rattle.cpp_conditions.specs.View.{formula}
 use Rattle.atom_solver.proofs.Ordered.{valid_plausible}
@@ -42,7 +40,6 @@ use Rattle.famlint_loads.specs.declared.fault.Fault.{Fault}
 use Rattle.famlint_loads.specs.declared.product_line.ProductLine.{ProductLine}
 use Rattle.famlint_loads.specs.declared.selected.Selected.{Selected}
 use Rattle.famlint_loads.specs.Contents.{Contents}
-use Rattle.famlint_loads.specs.Loads.{IsModel}
 use Rattle.famlint_loads.specs.Selected.{AreSelected}
 use Rattle.famlint_programs.proofs.Keys.{key}
 use Rattle.famlint_programs.specs.AnalysisOptions.{options_of}

@@ -1,12 +1,11 @@
 -- What `certify` writes is answered yes by `check`.
-use Rattle.std.proofs.Common.{◌≡◌, ◌≢◌, ◌⊎◌, ◌≤◌, ℕ, ℤ, Bool, true, false, not, ◌||◌, List, ◌++◌, map, length, refl, sym, ap, subst, ◌∙◌, inl, inr, nat_eq}
+use Rattle.std.proofs.Common.{◌≡◌, ◌≢◌, ◌⊎◌, ◌≤◌, ℕ, ℤ, Bool, true, false, not, ◌||◌, List, map, length, refl, sym, ap, subst, ◌∙◌, inl, inr, nat_eq}
 use Rattle.std.proofs.lemmas.Bool.{eqb-true, eqb-false, ltb-false}
 use Rattle.std.proofs.lemmas.List.Elements.{All-weaker}
 use Rattle.std.specs.Prelude.{nat_lt, Option, Some, None, Result, Ok, Err, if◌then◌else◌}
 use Rattle.std.specs.List.{All}
 use Rattle.fam_outer.specs.declared.dialect.Dialect.{Dialect}
 use Rattle.fam_outer.specs.declared.dialect.Unknown.{Unknown}
-use Rattle.fam_outer.specs.declared.faults.FileCode.{FileCode}
 use Rattle.fam_outer.specs.declared.faults.Place.{Place}
 use Rattle.fam_outer.specs.declared.refusal.Refusal.{Refusal}
 use Rattle.fam_outer.specs.declared.refusal.Refusal.TheVariants as refusals
@@ -20,12 +19,9 @@ use Rattle.linear_atoms.specs.declared.regions.Regions.{Regions}
 use Rattle.linear_atoms.specs.Atoms.{AreRanges}
 use Rattle.cpp_conditions.specs.declared.formulas.Formula.{Formula}
 use Rattle.cpp_conditions.specs.declared.models.Model.{Model}
-use Rattle.cpp_conditions.specs.Distinct.{AreAtomsOf}
 use Rattle.cpp_conditions.specs.Numbering.{vector_at}
 use Rattle.cpp_conditions.specs.Validity.{Plain, plain, IsValid}
 use Rattle.cpp_conditions.specs.View.{formula}
-use Rattle.cpp_conditions.proofs.Collected.{one_list}
-use Rattle.cpp_lines.specs.Sections.{Told, TextIsRead}
 use Rattle.feature_model.specs.declared.faults.ModelFault.{ModelFault}
 use Rattle.feature_model.specs.declared.faults.ModelFault.TheVariants as model_faults
 use Rattle.feature_model.specs.Features.{AreDistinct, AreNamed, HaveSwitches, feature, fault_of}
@@ -36,10 +32,7 @@ use Rattle.feature_model.specs.Stages.{◌>>=◌, unless, told_from}
 use Rattle.feature_model.specs.Stages as stages
 use Rattle.feature_model.proofs.Judging.{named_so, distinct_so, features_so, switches_so}
 use Rattle.atom_solver.proofs.Ordered.{valid_plausible}
-use Rattle.c_parser.specs.declared.family.Family.{Family}
-use Rattle.c_parser.specs.FamilyReading.{IsFamilyOf}
-use Rattle.c_parser.specs.Variants.{AreSameFamily}
-use Rattle.c_parser.proofs.KeptTexts.{TextsAreReadOnce, same_blanked}
+use Rattle.c_parser.proofs.KeptTexts.{TextsAreReadOnce}
 use Rattle.leaf_domain.specs.Leaves.{LeafMeaning}
 use Rattle.interval_leaf.specs.Intervals.{intervals}
 use Rattle.plain_analysis.specs.declared.options.Options.{Options}
@@ -61,6 +54,7 @@ use Rattle.invariant_certificate.specs.Passes.{is_inductive, is_covered, is_list
 use Rattle.invariant_certificate.specs.Verdicts.{IsVerdict}
 use Rattle.certificate_laws.specs.Certified.{IsWrittenOf, IsReadAndAccepted, WrittenAnalysesAreAccepted}
 use Rattle.certificate_laws.specs.Laws.{AreNames, FamiliesAreOfFiles}
+use Rattle.certificate_laws.specs.Readings.{WrittenAnalysesAreSpelled}
 use Rattle.famlint_loads.specs.declared.fault.Done.{Done}
 use Rattle.famlint_loads.specs.declared.fault.Fault.{Fault}
 use Rattle.famlint_loads.specs.declared.fault.Fault.TheVariants as fault
@@ -70,7 +64,7 @@ use Rattle.famlint_requests.specs.declared.request.Request.{Request}
 use Rattle.famlint_requests.specs.declared.request.Request.TheVariants as request
 use Rattle.famlint_requests.specs.declared.request.Role.{Role}
 use Rattle.famlint_loads.specs.Contents.{Contents}
-use Rattle.famlint_core.specs.Answers.{Answers, AsksOfCertified}
+use Rattle.famlint_core.specs.Answers.{Answers, AsksOfCertified, IsRead}
 use Rattle.famlint_checks.specs.Checked.{AnswersCheck}
 use Rattle.famlint_loads.specs.CertificateLoads.{ReadsCertificate, IsCheckRefused}
 use Rattle.famlint_checks.specs.Checked.{IsCheckDone, verdict_status}
@@ -81,7 +75,8 @@ use Rattle.famlint_families.specs.FamilyReports.{IsFamilyDone, IsLeafTree, IsAla
 use Rattle.famlint_loads.specs.Loads.{IsModel}
 use Rattle.famlint_loads.specs.ProductLines.{IsProductLine}
 use Rattle.famlint_families.proofs.Told.{told_leads}
-use Rattle.famlint_core.proofs.VariantOnce.{VariantLaws, same_line_model, no_line_refusal}
+use Rattle.famlint_core.proofs.SameLines.{AreSameLines, are_same, over_line}
+use Rattle.famlint_core.proofs.VariantOnce.{VariantLaws, no_line_refusal}
 
 -- what laws of lower crates say
 pub record CertifiedLaws : Type 0 where
@@ -170,47 +165,12 @@ have_switches features h = switches_so h.outline.entries features h.are
 pub are_distinct : (features : List Feature) → HaveEntries features → AreDistinct features
 are_distinct features h = distinct_so h.outline.entries h.outline.entries h.outline.entries features refl refl (sym h.sound) h.are
 
--- ---- two product lines of the same bytes
-
-pub record AreSameLines (k l : ProductLine) : Type 0 where
-  pub model : plain k.model ≡ plain l.model
-  pub code : whole k.family.code ≡ whole l.family.code
-  pub atoms : k.family.atoms ≡ l.family.atoms
-  pub truths : (values : List ℤ) → truths_of k.family.conditions (vector_at k.family.atoms values) ≡ truths_of l.family.conditions (vector_at l.family.atoms values)
-
-abbrev lines_ok : Told → Result Told (FileCode × Place)
-lines_ok t = Ok t
-
-same_lines : (s t : Told) → lines_ok s ≡ lines_ok t → s ≡ t
-same_lines s t e = let k : lines_ok s ≡ lines_ok t = e in cc
-
--- the atoms are those of the constraints and of the conditions of the text
-same_atoms : TextsAreReadOnce → (dialect : Dialect) (a b : Model) (bytes : List ℕ) (f g : Family) → plain a ≡ plain b → IsFamilyOf dialect a bytes f → IsFamilyOf dialect b bytes g → f.atoms ≡ g.atoms
-same_atoms once dialect a b bytes f g e o p =
-    let blanked = same_blanked bytes o.are.items.blanked p.are.items.blanked o.are.items.without_comments p.are.items.without_comments in
-    let read : TextIsRead dialect (plain b) p.are.items.blanked (Ok o.are.told) =
-    subst (λ (m : Plain). TextIsRead dialect m p.are.items.blanked (Ok o.are.told)) e (subst (λ (z : List ℕ). TextIsRead dialect (plain a) z (Ok o.are.told)) blanked o.are.items.read) in
-    let told : o.are.told ≡ p.are.told = same_lines o.are.told p.are.told (once dialect (plain b) p.are.items.blanked (Ok o.are.told) (Ok p.are.told) read p.are.items.read) in
-    let mine : AreAtomsOf ((plain b).constraints ++ p.are.told.conditions) f.atoms =
-    subst (λ (t : Told). AreAtomsOf ((plain b).constraints ++ t.conditions) f.atoms) told
-    (subst (λ (m : Plain). AreAtomsOf (m.constraints ++ o.are.told.conditions) f.atoms) e o.are.conditions.atoms_are) in
-    one_list ((plain b).constraints ++ p.are.told.conditions) f.atoms g.atoms mine p.are.conditions.atoms_are
-
-pub are_same : CertifiedLaws → (dialect : Dialect) (m f : List ℕ) (k l : ProductLine) → IsProductLine dialect m f k → IsProductLine dialect m f l → AreSameLines k l
-are_same laws dialect m f k l h i =
-    let e : plain k.model ≡ plain l.model = same_line_model laws.once dialect m f k l h i in
-    let family : AreSameFamily k.family l.family = laws.once.families dialect k.model l.model f k.family l.family e h.family i.family in
-    record { model = e; code = family.code; atoms = same_atoms laws.texts dialect k.model l.model f k.family l.family e h.family i.family; truths = family.truths }
-
 -- ---- the same reading and the same verdict
 
 read_over : (k l : ProductLine) (bytes : List ℕ) (result : Result Certificate (Refusal CertificateFault)) → AreSameLines k l
     → reader.IsCertificateRead (piece_of k.model.features k.family.atoms) (whole k.family.code).names bytes result
     → reader.IsCertificateRead (piece_of l.model.features l.family.atoms) (whole l.family.code).names bytes result
-read_over k l bytes result e h =
-    subst (λ (p : Whole). reader.IsCertificateRead (piece_of l.model.features l.family.atoms) p.names bytes result) e.code
-    (subst (λ (atoms : List Atom). reader.IsCertificateRead (piece_of l.model.features atoms) (whole k.family.code).names bytes result) e.atoms
-    (subst (λ (m : Plain). reader.IsCertificateRead (piece_of m.features k.family.atoms) (whole k.family.code).names bytes result) e.model h))
+read_over k l bytes result e h = over_line k l e (λ of names. reader.IsCertificateRead of names bytes result) h
 
 module _ {X : Type 0} (a b : Model) (e : plain a ≡ plain b) (holds says : X → List ℤ → Bool) (same : (x : X) (values : List ℤ) → holds x values ≡ says x values) where
   always : (x : X) → HoldsAlways a (holds x) → HoldsAlways b (says x)
@@ -232,7 +192,7 @@ module _ {X : Type 0} (a b : Model) (e : plain a ≡ plain b) (holds says : X �
     };
   }
 
-module _ (M : LeafMeaning) (a b : Model) (e : plain a ≡ plain b) (p : Whole) (cs ds : List Formula) (atoms : List Atom)
+module _ (M : LeafMeaning) (p : Whole) (cs ds : List Formula) (atoms : List Atom)
     (truths : (values : List ℤ) → truths_of cs (vector_at atoms values) ≡ truths_of ds (vector_at atoms values)) (c : Certificate) where
   same_inductive : (x : Place) (values : List ℤ) → is_inductive M p cs atoms c x values ≡ is_inductive M p ds atoms c x values
   same_inductive x values =
@@ -245,25 +205,31 @@ module _ (M : LeafMeaning) (a b : Model) (e : plain a ≡ plain b) (p : Whole) (
       not (alarm_by M c.mode (given_heads M c.loops.items (vector_at atoms values) (M.start q.start)) q (M.start q.start) at.0 at.1)
       || is_listed c.alarms.items at (vector_at atoms values)) (truths values)
 
-  same_verdict : (verdict : Verdict) → IsVerdict M a p cs atoms c verdict → IsVerdict M b p ds atoms c verdict
+-- a verdict, over certificates of which the same is inductive and covered
+module _ (M : LeafMeaning) (a b : Model) (e : plain a ≡ plain b) (p : Whole) (cs ds : List Formula) (atoms : List Atom) (c d : Certificate)
+    (inductive : (x : Place) (values : List ℤ) → is_inductive M p cs atoms c x values ≡ is_inductive M p ds atoms d x values)
+    (covered : (at : Place × Kind) (values : List ℤ) → is_covered M p cs atoms c at values ≡ is_covered M p ds atoms d at values) where
+  pub same_verdict : (verdict : Verdict) → IsVerdict M a p cs atoms c verdict → IsVerdict M b p ds atoms d verdict
   same_verdict Yes h = (
-    all_always a b e (is_inductive M p cs atoms c) (is_inductive M p ds atoms c) same_inductive _ h.0,
-    all_always a b e (is_covered M p cs atoms c) (is_covered M p ds atoms c) same_covered _ h.1,
+    all_always a b e (is_inductive M p cs atoms c) (is_inductive M p ds atoms d) inductive _ h.0,
+    all_always a b e (is_covered M p cs atoms c) (is_covered M p ds atoms d) covered _ h.1,
   )
-  same_verdict (NotInductive place config) h = first_failing a b e (is_inductive M p cs atoms c) (is_inductive M p ds atoms c) same_inductive _ place config.values h
+  same_verdict (NotInductive place config) h = first_failing a b e (is_inductive M p cs atoms c) (is_inductive M p ds atoms d) inductive _ place config.values h
   same_verdict (Unlisted place kind config) h = (
-    all_always a b e (is_inductive M p cs atoms c) (is_inductive M p ds atoms c) same_inductive _ h.0,
-    first_failing a b e (is_covered M p cs atoms c) (is_covered M p ds atoms c) same_covered _ (place, kind) config.values h.1,
+    all_always a b e (is_inductive M p cs atoms c) (is_inductive M p ds atoms d) inductive _ h.0,
+    first_failing a b e (is_covered M p cs atoms c) (is_covered M p ds atoms d) covered _ (place, kind) config.values h.1,
   )
 
-verdict_over : (k l : ProductLine) (c : Certificate) (verdict : Verdict) → AreSameLines k l
+pub verdict_over : (k l : ProductLine) (c : Certificate) (verdict : Verdict) → AreSameLines k l
     → IsVerdict intervals k.model (whole k.family.code) k.family.conditions k.family.atoms c verdict
     → IsVerdict intervals l.model (whole l.family.code) l.family.conditions l.family.atoms c verdict
 verdict_over k l c verdict e h =
+    let w : Whole = whole l.family.code in
     let truths : (values : List ℤ) → truths_of k.family.conditions (vector_at l.family.atoms values) ≡ truths_of l.family.conditions (vector_at l.family.atoms values) =
-    λ values. subst (λ (atoms : List Atom). truths_of k.family.conditions (vector_at atoms values) ≡ truths_of l.family.conditions (vector_at l.family.atoms values)) e.atoms (e.truths values) in
-    same_verdict intervals k.model l.model e.model (whole l.family.code) k.family.conditions l.family.conditions l.family.atoms truths c verdict
-    (subst (λ (atoms : List Atom). IsVerdict intervals k.model (whole l.family.code) k.family.conditions atoms c verdict) e.atoms
+    λ values. e.truths (vector_at l.family.atoms values) in
+    same_verdict intervals k.model l.model e.model w k.family.conditions l.family.conditions l.family.atoms c c
+    (same_inductive intervals w k.family.conditions l.family.conditions l.family.atoms truths c) (same_covered intervals w k.family.conditions l.family.conditions l.family.atoms truths c) verdict
+    (subst (λ (atoms : List Atom). IsVerdict intervals k.model w k.family.conditions atoms c verdict) e.atoms
     (subst (λ (p : Whole). IsVerdict intervals k.model p k.family.conditions k.family.atoms c verdict) e.code h))
 
 -- ---- what is certified is written of an analysis
@@ -295,7 +261,7 @@ written_of o r l done bytes (loops, alarms, a, b, e) text = record {
   text = text ∙ ap (λ (d : Done). d.text) e;
 }
 
-module _ (laws : CertifiedLaws) (dialect : Dialect) (m f bytes : List ℕ) (h : IsWrittenByCertify dialect m f bytes) where
+module _ (files : FamiliesAreOfFiles) (dialect : Dialect) (m f bytes : List ℕ) (h : IsWrittenByCertify dialect m f bytes) where
   abbrev l : ProductLine
   l = h.line
 
@@ -306,21 +272,31 @@ module _ (laws : CertifiedLaws) (dialect : Dialect) (m f bytes : List ℕ) (h : 
         named = are_named l.model.features entries;
         distinct = are_distinct l.model.features entries;
         well = h.line_is.usable.atoms;
-        lines = (laws.files dialect l.model f l.family h.line_is.family).lines;
+        lines = (files dialect l.model f l.family h.line_is.family).lines;
       }
 
+  written : IsWrittenOf h.options l.model (whole l.family.code) l.family.conditions l.family.atoms bytes
+  written = written_of h.options h.regions l h.done bytes h.done_is h.text
+
+  spelled : WrittenAnalysesAreSpelled → (c : Certificate) × ReadsCertificate l bytes (Ok c)
+  spelled law =
+      law h.options l.model (whole l.family.code) l.family.conditions l.family.atoms bytes h.line_is.usable.program
+      (files dialect l.model f l.family h.line_is.family).placed names written h.short
+
+module _ (laws : CertifiedLaws) (dialect : Dialect) (m f bytes : List ℕ) (h : IsWrittenByCertify dialect m f bytes) where
   read_accepted : (k : ProductLine) (result : Result Certificate (Refusal CertificateFault)) → IsProductLine dialect m f k
       → reader.IsCertificateRead (piece_of k.model.features k.family.atoms) (whole k.family.code).names bytes result
-      → IsReadAndAccepted l.model (whole l.family.code) l.family.conditions l.family.atoms result
+      → IsReadAndAccepted h.line.model (whole h.line.family.code) h.line.family.conditions h.line.family.atoms result
   read_accepted k result line answers =
+      let l : ProductLine = h.line in
       laws.written h.options l.model (whole l.family.code) l.family.conditions l.family.atoms bytes result h.line_is.usable.program
-      (laws.files dialect l.model f l.family h.line_is.family).placed names (written_of h.options h.regions l h.done bytes h.done_is h.text) h.short
-      (read_over k l bytes result (are_same laws dialect m f k l line h.line_is) answers)
+      (laws.files dialect l.model f l.family h.line_is.family).placed (names laws.files dialect m f bytes h) (written laws.files dialect m f bytes h) h.short
+      (read_over k l bytes result (are_same laws.once laws.texts dialect m f k l line h.line_is) answers)
 
   status_yes : (k : ProductLine) (done : Done) → IsProductLine dialect m f k → IsCheckDone k bytes done → done.status ≡ 0
   status_yes k done line d =
       d.status
-      ∙ ap verdict_status (read_accepted k (Ok d.certificate) line d.is d.verdict (verdict_over k l d.certificate d.verdict (are_same laws dialect m f k l line h.line_is) d.verdict_is))
+      ∙ ap verdict_status (read_accepted k (Ok d.certificate) line d.is d.verdict (verdict_over k h.line d.certificate d.verdict (are_same laws.once laws.texts dialect m f k h.line line h.line_is) d.verdict_is))
 
   not_refused : (k : ProductLine) (given : Fault) → IsProductLine dialect m f k → ReadsCertificate k bytes (Err given) → ⊥
   not_refused k (fault.Certificate given) line i = read_accepted k (Err (refusals.Fault given)) line i
@@ -329,7 +305,7 @@ module _ (laws : CertifiedLaws) (dialect : Dialect) (m f bytes : List ℕ) (h : 
   not_refused k (fault.Settings given name) line i = i
 
   never : (given : Fault) → IsCheckRefused dialect m f bytes given → ⊥
-  never given (checked.no_product_line i) = no_line_refusal laws.once dialect m f l given h.line_is i
+  never given (checked.no_product_line i) = no_line_refusal laws.once dialect m f h.line given h.line_is i
   never given (checked.no_certificate k line i) = not_refused k given line i
 
 pub certified_yes : CertifiedLaws → (dialect : Dialect) (told : Contents) (answer : Result Done Fault) → IsWrittenByCertify dialect told.model told.file told.certificate → AnswersCheck dialect told answer → IsYes answer
@@ -338,7 +314,7 @@ certified_yes laws dialect told (Err given) h i = never laws dialect told.model 
 
 -- ---- the request
 
-abbrev SaysYes : Type 0
+abbrev pub SaysYes : Type 0
 SaysYes = (dialect : Dialect) (told : Contents) (answer : Result Done Fault) → IsWrittenByCertify dialect told.model told.file told.certificate → AnswersCheck dialect told answer → IsYes answer
 
 asked_yes : SaysYes → (r : Request) (told : Contents) (answer : Result Done Fault) → AsksOfCertified r told → Answers r told answer → IsYes answer
@@ -371,3 +347,17 @@ certified law r told role status before after asked (inl read) six seven = absur
 certified law r told role status before after asked (inr (inl memory)) six seven = inr memory
 certified law r told role status before after asked (inr (inr (answer, answers, ends))) six seven =
     by_yes status answer (asked_yes law r told answer asked answers) six seven ends.exact
+
+-- what is certified is read
+pub certified_read : FamiliesAreOfFiles → WrittenAnalysesAreSpelled → (r : Request) (told : Contents) → AsksOfCertified r told → IsRead r told
+certified_read files law (request.Check model file certificate dialect) told h =
+    let read = spelled files dialect told.model told.file told.certificate h law in
+    (h.line, h.line_is, read.0, read.1)
+certified_read files law (request.Plain file includes analysis) told asked = absurd asked
+certified_read files law (request.Variant model file dialect settings t) told asked = absurd asked
+certified_read files law (request.Family model file dialect analysis regions t) told asked = absurd asked
+certified_read files law (request.Page model file dialect analysis regions) told asked = absurd asked
+certified_read files law (request.Generate number analysis regions) told asked = absurd asked
+certified_read files law (request.Advice model file dialect settings analysis) told asked = absurd asked
+certified_read files law (request.Features model unknown) told asked = absurd asked
+certified_read files law (request.Guide guide) told asked = absurd asked

@@ -2,7 +2,7 @@
 use Rattle.std.proofs.Common.{◌≡◌, ◌≢◌, ◌≤◌, ◌⊎◌, ℕ, true, false, List, refl, subst, sym, ◌∙◌, arith, inl, inr, nat_eq, length}
 use Rattle.std.proofs.lemmas.Bool.{eqb-true, eqb-false}
 use Rattle.std.specs.Prelude.{Option, Some, None, Result, Ok, Err, IfOk, if◌then◌else◌, nat_lt}
-use Rattle.std.specs.Io.KnownBytes.{append_known}
+use Rattle.std.specs.Io.KnownBytes.{Appends}
 use Rattle.c_tree.specs.Tree.{Whole}
 use Rattle.c_tree.specs.View.{whole}
 use Rattle.leaf_domain.specs.Leaves.{LeafMeaning}
@@ -32,7 +32,7 @@ use Rattle.famlint_requests.specs.declared.request.VariantTask.{VariantTask}
 use Rattle.famlint_requests.specs.declared.request.VariantTask.TheVariants as task
 use Rattle.famlint_loads.specs.declared.selected.Selected.{Selected}
 use Rattle.famlint_loads.specs.Contents.{Contents}
-use Rattle.famlint_core.specs.Answers.{IsAccepted, IsTold, Answers}
+use Rattle.famlint_core.specs.Answers.{IsAccepted, Answers}
 use Rattle.famlint_programs.specs.AnalysisOptions.{options_of}
 use Rattle.famlint_programs.specs.ProgramAnswers.{IsDone, program_done, file_of, meaning_of}
 use Rattle.famlint_checks.specs.Checked.{verdict_status}
@@ -41,7 +41,6 @@ use Rattle.famlint_families.specs.FamilyReports.{IsFamilyDone, family_status}
 use Rattle.famlint_loads.specs.Faults.{status_of}
 use Rattle.famlint_loads.specs.Loads.{Comes}
 use Rattle.famlint_programs.specs.Report.{report_status, some_alarm, start_alarms}
-use Rattle.famlint_requests.specs.Requests.{role_of}
 
 -- what the work came to is what the program ended with
 pub ends_with : (MayBe : Result Done Fault → Type 0) (came : Result Done Failure) (role : Role) (status : ℕ)
@@ -52,7 +51,7 @@ ends_with MayBe (Err (failure.Refused given)) role status before after comes end
 ends_with MayBe (Err failure.ReadFault) role status before after comes ended = inl ended.ends.0
 ends_with MayBe (Err failure.NoMemory) role status before after comes ended = inr (inl ended.ends.0)
 
-refused_high : (f : Fault) → 3 ≤ status_of f
+pub refused_high : (f : Fault) → 3 ≤ status_of f
 refused_high (fault.Model given) = omega arith
 refused_high (fault.File code place example) = omega arith
 refused_high (fault.Settings given name) = omega arith
@@ -61,7 +60,7 @@ refused_high (fault.Certificate given) = omega arith
 -- at 0 and 1 the whole output was appended, of which this holds
 pub appended : (P : ℕ → List ℕ → Type 0) (came : Result Done Failure) (role : Role) (status : ℕ) (before after : Streams)
     → IfOk came (λ done. P done.status done.text) → IsEnded came role status before after → status ≤ 1
-    → (text : List ℕ) × (after.out ≡ append_known before.out text) × P status text
+    → (text : List ℕ) × Appends before.out after.out text × P status text
 appended P (Ok done) role status before after promised ended low =
     let e : status ≡ done.status = ended.ends.exact (omega (arith, low)) (omega (arith, low)) (omega (arith, low)) in
     (done.text, ended.ends.whole low, subst (λ (n : ℕ). P n done.text) (sym e) promised)
@@ -135,16 +134,6 @@ completed r told role status before after accepted (inr (inl memory)) six seven 
 completed r told role status before after accepted (inr (inr (Ok done, answers, ends))) six seven =
     by_exact status done.status (answered_low r told done answers) six seven ends.exact
 completed r told role status before after accepted (inr (inr (Err given, answers, ends))) six seven = absurd (accepted given answers)
-
--- the program ended with an answer to the request that was read
-pub by_role : (mine request : Request) (content : List ℕ → Option (List ℕ)) (told : Contents) (came : Result Done Failure) (failed : Option (List ℕ)) (role : Role) (status : ℕ)
-    (before after : Streams) → mine ≡ request → (IsTold mine content told → Comes (Answers mine told) came)
-    → role ≡ role_of mine failed → IsEnded came role status before after → IsTold request content told
-    → EndsWith (Answers request told) (role_of request failed) status before after
-by_role mine request content told came failed role status before after same comes role_is ended is_told =
-    let P : Request → Type 0 = λ r. IsTold r content told → EndsWith (Answers r told) (role_of r failed) status before after in
-    subst P same (λ t. subst (λ x. EndsWith (Answers mine told) x status before after) role_is
-    (ends_with (Answers mine told) came role status before after (comes t) ended)) is_told
 
 -- where no load failed and memory did not run out, the status is that of an answer, if no write failed
 pub exactly : (MayBe : Result Done Fault → Type 0) (role : Role) (status : ℕ) (before after : Streams)

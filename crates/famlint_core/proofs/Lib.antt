@@ -1,8 +1,26 @@
+pub mod Accepting
 pub mod AdviceOnce
 pub mod Answering
 pub mod Certified
+pub mod CheckOnce
 pub mod Ended
-mod Risen
+pub mod FamilyOnce
+pub mod OneNumbering
+pub mod OneRegions
 pub mod OneReport
+pub mod OneTree
+pub mod PageOnce
+pub mod Running
+pub mod SameLines
+pub mod SomeAdvice
+pub mod SomeCheck
+pub mod SomeFamily
+pub mod SomeFeatures
+pub mod SomeGenerated
+pub mod SomeLine
+pub mod SomeNumbering
+pub mod SomeRegions
+pub mod SomeTree
+pub mod SomeVariant
 pub mod Theorem
 pub mod VariantOnce

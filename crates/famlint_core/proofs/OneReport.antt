@@ -1,11 +1,10 @@
 -- A report on a family tells one list of alarms, and its regions are conditions.
-use Rattle.std.proofs.Common.{◌≡◌, ℕ, ◌<◌, ℤ, List, ◌++◌, map, length, sym, ap, subst, ◌∙◌}
+use Rattle.std.proofs.Common.{◌≡◌, ℕ, ℤ, List, length, sym, ap, subst, ◌∙◌}
 use Rattle.std.specs.Prelude.{slice_get, slice_index_or, Some, Ok}
 use Rattle.std.specs.List.{All}
 use Rattle.std.proofs.lemmas.Option.{slice_get-get_or}
 use Rattle.fam_outer.specs.declared.dialect.Dialect.{Dialect}
 use Rattle.fam_outer.specs.declared.dialect.Unknown.{Unknown}
-use Rattle.fam_outer.specs.declared.faults.Place.{Place}
 use Rattle.c_tree.specs.Places.{program_places}
 use Rattle.c_tree.specs.View.{whole}
 use Rattle.linear_atoms.specs.declared.atoms.Atom.{Atom}
@@ -15,7 +14,7 @@ use Rattle.linear_atoms.specs.declared.regions.Regions.{Regions}
 use Rattle.linear_atoms.specs.Atoms.{AreLiterals, IsWithin}
 use Rattle.cpp_conditions.specs.Grammar.{ReadsAs}
 use Rattle.cpp_conditions.specs.Propositions.{Proposition, true_at}
-use Rattle.cpp_conditions.specs.Validity.{Plain, plain, IsValid}
+use Rattle.cpp_conditions.specs.Validity.{Plain, plain}
 use Rattle.cpp_conditions.proofs.Within.{valid_parts}
 use Rattle.atom_solver.specs.Solutions.{all_hold}
 use Rattle.feature_model.specs.Features.{AreDistinct, AreNamed, HaveSwitches}
@@ -24,7 +23,7 @@ use Rattle.alarm_report.specs.Texts.{alarm_text, region_text}
 use Rattle.certificate_format.specs.Lines.{IsPlace}
 use Rattle.certificate_laws.specs.Laws.{FamiliesAreOfFiles}
 use Rattle.region_laws.specs.Spelled.{SpellsRegion}
-use Rattle.report_laws.specs.FamilyReports.{AreShownFeatures, IsShown, shown_of, ReportsOfFamiliesTellAlarms}
+use Rattle.report_laws.specs.FamilyReports.{AreShownFeatures, IsShown, ReportsOfFamiliesTellAlarms}
 use Rattle.plain_analysis.specs.declared.options.Options.{Options}
 use Rattle.leaf_domain.specs.Leaves.{LeafMeaning}
 use Rattle.famlint_loads.specs.declared.product_line.ProductLine.{ProductLine}

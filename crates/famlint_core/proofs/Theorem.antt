@@ -21,7 +21,6 @@ use Rattle.alarm_report.specs.Texts.{alarm_text, kind_text}
 use Rattle.alarm_page.specs.Pages.{Texts, texts_told}
 use Rattle.certificate_format.specs.declared.certificates.Certificate.{Certificate}
 use Rattle.certificate_format.specs.Certificates.{SpellsCertificate}
-use Rattle.certificate_format.specs.Regions.{piece_of}
 use Rattle.invariant_certificate.specs.declared.verdicts.Verdict.{Verdict}
 use Rattle.invariant_certificate.specs.declared.verdicts.Verdict.TheVariants.{Yes, NotInductive, Unlisted}
 use Rattle.invariant_certificate.specs.Passes.{is_listed}
@@ -41,7 +40,8 @@ use Rattle.famlint_checks.specs.Checked.{no_text, verdict_text, verdict_status, 
 use Rattle.famlint_families.specs.Advised.{HasAlarmAt, HasNoAlarmAt, IsGood, IsGoodAdvice, advice_status}
 use Rattle.famlint_core.specs.Theorem.{QuietFamiliesAreSafe, ReportsTellEachStop, FamiliesAreRead, PagesTellEachStop, QuietProgramsAreSafe, ProgramsAreRead, CheckedCertificatesListEachStop, RefusedCertificatesDoNotHold, AdviceIsSafe}
 use Rattle.famlint_core.proofs.Answering.{OneReading, one_program as one_plain_program}
-use Rattle.famlint_core.proofs.Certified.{CertifiedLaws, AreSameLines, are_same}
+use Rattle.famlint_core.proofs.Certified.{CertifiedLaws}
+use Rattle.famlint_core.proofs.SameLines.{AreSameLines, are_same, over_line}
 use Rattle.famlint_core.proofs.VariantOnce.{VariantLaws, AreAlike, alike, program_moved, one_program, AreSame, same_selected}
 
 -- ---- families
@@ -114,10 +114,7 @@ read_programs file includes analysis told status text (q, read, report) = (q, re
 
 -- a certificate is spelled over the features, the atoms and the names
 read_over : (k l : ProductLine) (bytes : List ℕ) (c : Certificate) → AreSameLines k l → ReadsCertificate k bytes (Ok c) → ReadsCertificate l bytes (Ok c)
-read_over k l bytes c e h =
-    subst (λ (p : Whole). SpellsCertificate (piece_of l.model.features l.family.atoms) p.names bytes c) e.code
-    (subst (λ (atoms : List Atom). SpellsCertificate (piece_of l.model.features atoms) (whole k.family.code).names bytes c) e.atoms
-    (subst (λ (m : Plain). SpellsCertificate (piece_of m.features k.family.atoms) (whole k.family.code).names bytes c) e.model h))
+read_over k l bytes c e h = over_line k l e (λ of names. SpellsCertificate of names bytes c) h
 
 -- each stop of each run of the program is listed
 abbrev ListsStops : Certificate → List Atom → List ℤ → Whole → Type 0
@@ -133,7 +130,7 @@ listed_at_0 l c (Unlisted place kind config) zero h = cc
 pub listed_stops : CertifiedLaws → CheckedCertificatesListEachStop
 listed_stops laws model file certificate dialect told text (k, line, promised) l is =
     let e : AreAlike k l = alike laws.once dialect told.model told.file k l line is in
-    let same : AreSameLines k l = are_same laws dialect told.model told.file k l line is in
+    let same : AreSameLines k l = are_same laws.once laws.texts dialect told.model told.file k l line is in
     let c : Certificate = promised.certificate in
     let lists : ListsAllStops k c = listed_at_0 k c promised.verdict promised.status_is promised.holds in (
       c,
@@ -186,7 +183,7 @@ fails_at_1 k l c e same alarms text (Unlisted place kind config) one text_is h =
 pub failing_places : CertifiedLaws → RefusedCertificatesDoNotHold
 failing_places laws model file certificate dialect told text (k, line, promised) l is =
     let e : AreAlike k l = alike laws.once dialect told.model told.file k l line is in
-    let same : AreSameLines k l = are_same laws dialect told.model told.file k l line is in
+    let same : AreSameLines k l = are_same laws.once laws.texts dialect told.model told.file k l line is in
     let c : Certificate = promised.certificate in
     let at : FailsAt l c text = fails_at_1 k l c e same (length c.alarms.items) text promised.verdict promised.status_is promised.text_is promised.holds in
     (c, read_over k l told.certificate c same promised.is, at.0, at.1, at.2)

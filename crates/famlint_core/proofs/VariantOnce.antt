@@ -151,7 +151,7 @@ pub no_line_refusal : VariantLaws → (dialect : Dialect) (m f : List ℕ) (l : 
 no_line_refusal laws dialect m f l g h (lines.no_model k) = no_model_fault laws dialect.unknown m l.model g h.model k
 no_line_refusal laws dialect m f l g h (lines.no_family b i k) = no_family_fault laws dialect l.model b (same_model laws dialect.unknown m l.model b h.model i) f l.family g h.family k
 
-same_line_refusal : VariantLaws → (dialect : Dialect) (m f : List ℕ) (x y : Fault) → IsLineRefused dialect m f x → IsLineRefused dialect m f y → x ≡ y
+pub same_line_refusal : VariantLaws → (dialect : Dialect) (m f : List ℕ) (x y : Fault) → IsLineRefused dialect m f x → IsLineRefused dialect m f y → x ≡ y
 same_line_refusal laws dialect m f x y (lines.no_model h) (lines.no_model k) = same_model_fault laws dialect.unknown m x y h k
 same_line_refusal laws dialect m f x y (lines.no_model h) (lines.no_family b i k) = absurd (no_model_fault laws dialect.unknown m b x i h)
 same_line_refusal laws dialect m f x y (lines.no_family a i h) (lines.no_model k) = absurd (no_model_fault laws dialect.unknown m a y i k)

@@ -1,7 +1,7 @@
 -- How the program ends.
 use Rattle.std.specs.Prelude.{ℕ, false, ◌≡◌, ◌≢◌, ◌≤◌, ◌⊎◌, ◌==◌, List, [], codes, if◌then◌else◌, Option, Result, Ok, Err}
-use Rattle.std.specs.Io.KnownBytes.{append_known}
-use Rattle.fam_outer.specs.Causes.{Rose}
+use Rattle.std.specs.Io.KnownBytes.{Appends}
+use Rattle.fam_outer.specs.Causes.{one_more}
 use Rattle.fam_outer.specs.Writing.{Delivers, Reports}
 use Rattle.famlint_loads.specs.declared.fault.Done.{Done}
 use Rattle.famlint_loads.specs.declared.fault.Fault.{Fault}
@@ -27,7 +27,7 @@ write_fault_line = codes "write fault\n"
 abbrev pub memory_line : List ℕ
 memory_line = codes "want of memory\n"
 
--- the two streams at one time: what was written to each, where that is told, and how many writes to it failed
+-- the two streams at one time: what was written to each, where that is known, and how many writes to it failed
 pub record Streams : Type 0 where
   pub out : Option (List ℕ)
   pub err : Option (List ℕ)
@@ -67,7 +67,7 @@ Tells before after line = Reports before.err after.err line before.err_faults af
 -- whole output was appended at 0 and 1 and a prefix of it that is not all at 7, and at 2 to 9 the fault's line was written
 pub record Ends (answer : Result Done Fault) (failed : Role) (status : ℕ) (before after : Streams) : Type 0 where
   pub exact : status ≢ 6 → status ≢ 7 → status ≢ 8 → status ≡ status_at answer
-  pub whole : status ≤ 1 → after.out ≡ append_known before.out (output_of answer)
+  pub whole : status ≤ 1 → Appends before.out after.out (output_of answer)
   pub part : status ≡ 7 → Delivers before.out after.out (output_of answer) false
   pub line : 2 ≤ status → Tells before after (line_at status failed answer)
 
@@ -92,6 +92,10 @@ pub record HasLines (failed : Role) (status : ℕ) (before after : Streams) : Ty
   pub write : status ≡ 7 → Tells before after write_fault_line
   pub memory : status ≡ 8 → Tells before after memory_line
 
+-- the count of faults behind a run that ends with this status: one more where it tells such a fault, and else as before
+abbrev pub faults_at : (fault status before : ℕ) → ℕ
+faults_at fault status before = if status == fault then one_more before else before
+
 -- the run ended with what the work came to
 pub record IsEnded (came : Result Done Failure) (failed : Role) (status : ℕ) (before after : Streams) : Type 0 where
   pub known : status ≤ 9
@@ -99,7 +103,7 @@ pub record IsEnded (came : Result Done Failure) (failed : Role) (status : ℕ) (
   pub read : status ≡ 6 → IsReadFault came
   pub ends : EndsAs came failed status before after
   pub lines : HasLines failed status before after
-  pub write : status ≡ 7 → Rose before.out_faults after.out_faults
+  pub writes : after.out_faults ≡ faults_at 7 status before.out_faults
   pub quiet : 2 ≤ status → status ≢ 7 → after.out ≡ before.out
   pub silent : status ≤ 1 → after.err ≡ before.err
   pub outs_later : before.out_faults ≤ after.out_faults

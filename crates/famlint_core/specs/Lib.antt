@@ -1,6 +1,7 @@
 pub mod Answers
 pub mod Certified
 pub mod Endings
+pub mod Runs
 pub mod Theorem
 pub use Rattle.famlint_loads.specs.Contents
 pub use Rattle.famlint_loads.specs.Loads

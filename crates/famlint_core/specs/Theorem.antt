@@ -3,9 +3,10 @@
 -- In one sentence: where a run of `analyse` ends with 0 or 1, each stop of each run of each valid configuration's variant is told by
 -- exactly one line of the report, and with 0 no such run stops.
 --
--- The clause `promise` of the top call `famlint` says: where the words ask for this request, and the paths that it names hold what is
--- told, a run that ends with status 0 or 1 has appended a text to the output, of which what is `Promised` holds. What follows from this in
--- the words of runs stands here; laws in src/laws.rt have these statements.
+-- The clause `given` of the top call `famlint` says: where the words ask for this request, the run loaded each of its paths once, and for
+-- whatever these hold that agrees with what the loads answered, a run that ends with status 0 or 1 has appended a text to the output, of which
+-- what is `Promised` holds; `promise` says so of files whose contents are told beforehand. What follows from this in the words of runs stands
+-- here; laws in src/laws.rt have these statements.
 --
 -- `IsProductLine dialect told.model told.file l` says that the bytes of MODEL and FILE spell the model and the family of l, `IsValid` that values
 -- are a valid configuration of the model, and `IsProgramAt l values p` that the preprocessed text of its variant is read as the program p.

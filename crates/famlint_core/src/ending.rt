@@ -16,7 +16,6 @@ const USAGE: &str =
     "usage: famlint plain FILE, project MODEL FILE SETTINGS, variant MODEL FILE SETTINGS, run MODEL FILE SETTINGS, analyse MODEL FILE, invariants MODEL FILE, page MODEL FILE, generate NUMBER, certify MODEL FILE, check MODEL FILE CERTIFICATE, advise MODEL FILE SETTINGS, features MODEL\n";
 
 /// Writes a line, as far as the sink takes it.
-#[tactic(auto, using(crate::proofs::Risen::risen))]
 fn tell<E: Sink>(err: &mut E, line: &[u8])
     ensures line { Reports (E.written err.old) (E.written err.new) line.now (E.faults err.old)
         (E.faults err.new) }

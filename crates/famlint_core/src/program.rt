@@ -2,14 +2,16 @@
 #![tactic(auto)]
 
 ghost use Rattle.std.specs.Prelude.{◌≡◌, ◌≢◌, ◌≤◌, ◌⊎◌, ℕ, List, Some, None};
-ghost use Rattle.std.specs.Io.KnownBytes.{append_known};
+ghost use Rattle.std.specs.Io.KnownBytes.{Appends};
 ghost use Rattle.fam_outer.specs.Causes.{Rose};
+ghost use Rattle.fam_outer.specs.Loading.{AreGiven};
 ghost use Rattle.fam_outer.specs.Writing.{Reports};
 ghost use Rattle.command_words.specs.Arguments.{texts_of};
 ghost use Rattle.famlint_requests.specs.declared.request.Request.{Request};
 ghost use Rattle.famlint_loads.specs.Contents.{Contents};
-ghost use Rattle.famlint_core.specs.Answers.{IsTold, IsAccepted, IsLoaded, Answers, Promised, AsksOfCertified};
-ghost use Rattle.famlint_core.specs.Endings.{EndsWith, HasLines, streams};
+ghost use Rattle.famlint_core.specs.Answers.{IsTold, IsAccepted, IsLoaded, Answers, Promised, AsksOfCertified, sources_of, contents_of};
+ghost use Rattle.famlint_core.specs.Endings.{EndsWith, HasLines, faults_at, streams};
+ghost use Rattle.famlint_core.specs.Runs.{IsRun};
 ghost use Rattle.famlint_core.specs.Endings.{usage_line, memory_line};
 ghost use Rattle.famlint_loads.specs.Loads.{IsOneOf};
 ghost use Rattle.famlint_requests.specs.Requests.{reading, paths_of, role_of};
@@ -36,8 +38,16 @@ pub fn famlint<F: Files, S: Sink, E: Sink>(
     out: &mut S,
     err: &mut E,
 ) -> u8
+    // Where the words ask for something, the run made these loads alone: of the first paths of the request, in order, each once, and of
+    // all of them at 0 and 1. Whatever the paths hold that agrees with what the loads answered, the run ended with an answer of it, what is
+    // promised of the output holds of it, and a load that failed is of a path that is loaded for it.
+    ensures given { (request : Request) → reading (texts_of words.now) ≡ Some request
+        → AreGiven F.loads (F.content files.old) files.old files.new (sources_of request) (contents_of request) (result ≤ 1)
+        (IsRun request (F.failed files.new) result
+        (streams (S.written out.old) (E.written err.old) (S.faults out.old) (E.faults err.old))
+        (streams (S.written out.new) (E.written err.new) (S.faults out.new) (E.faults err.new))) }
     // Where the contents of the paths are told, the run ended with an answer of theirs to the request: its status, its whole
-    // output and its line.
+    // output and its line. This, what is promised, and the order follow from `given`.
     ensures answer { (request : Request) → reading (texts_of words.now) ≡ Some request
         → (told : Contents) → IsTold request (F.content files.old) told
         → EndsWith (Answers request told) (role_of request (F.failed files.new)) result
@@ -48,7 +58,7 @@ pub fn famlint<F: Files, S: Sink, E: Sink>(
     // `page` by those that the page tells.
     ensures promise { (request : Request) → reading (texts_of words.now) ≡ Some request
         → (told : Contents) → IsTold request (F.content files.old) told → result ≤ 1
-        → (text : List ℕ) × (S.written out.new ≡ append_known (S.written out.old) text) × Promised request told result text }
+        → (text : List ℕ) × Appends (S.written out.old) (S.written out.new) text × Promised request told result text }
     // What is accepted is answered, unless memory runs out, a load fails or a write fails.
     ensures complete { (request : Request) → reading (texts_of words.now) ≡ Some request
         → (told : Contents) → IsTold request (F.content files.old) told → IsAccepted request told
@@ -76,10 +86,11 @@ pub fn famlint<F: Files, S: Sink, E: Sink>(
     ensures known { result ≤ 9 }
     ensures usage { result ≡ 2 → reading (texts_of words.now) ≡ None }
     ensures refused { reading (texts_of words.now) ≡ None → (result ≡ 2) ⊎ (result ≡ 8) }
-    ensures read { result ≡ 6 → Rose (F.faults files.old) (F.faults files.new) }
+    // One load failed at 6 and one write to `out` at 7, and none else.
+    ensures loads_counted { F.faults files.new ≡ faults_at 6 result (F.faults files.old) }
+    ensures writes_counted { S.faults out.new ≡ faults_at 7 result (S.faults out.old) }
     ensures path { (request : Request) → reading (texts_of words.now) ≡ Some request
         → result ≡ 6 → IsOneOf (F.failed files.new) (paths_of request) }
-    ensures write { result ≡ 7 → Rose (S.faults out.old) (S.faults out.new) }
     ensures quiet { 2 ≤ result → result ≢ 7 → S.written out.new ≡ S.written out.old }
     ensures silent { result ≤ 1 → E.written err.new ≡ E.written err.old }
     // Contents stay, and no count falls, so that calls can be chained.

@@ -1,10 +1,10 @@
 //! What is done for a request: its loads, and then its work.
 #![tactic(auto)]
 
-ghost use Rattle.std.specs.Prelude.{◌≡◌, ◌≤◌, IfOk};
-ghost use Rattle.famlint_loads.specs.Contents.{Contents};
-ghost use Rattle.famlint_core.specs.Answers.{IsTold, Answers, Promised, IsLoaded};
-ghost use Rattle.famlint_loads.specs.Loads.{Comes, IsReadFault, IsReadOf};
+ghost use Rattle.std.specs.Prelude.{◌≡◌, ◌≤◌, IfOk, IsOk};
+ghost use Rattle.fam_outer.specs.Loading.{AreGiven};
+ghost use Rattle.famlint_core.specs.Answers.{Answers, Promised, IsLoaded, sources_of, contents_of};
+ghost use Rattle.famlint_loads.specs.Loads.{IsReadOf, IsRight};
 ghost use Rattle.famlint_requests.specs.Guides.{guide_text};
 ghost use Rattle.famlint_requests.specs.Requests.{paths_of, IsWithinRanges};
 
@@ -34,13 +34,11 @@ fn guided(alloc: Global, guide: &Guide) -> Result<Done, NoMemory>
 /// Does what a request asks for: first the loads, then the work.
 pub fn work<F: Files>(alloc: Global, request: &Request, files: &mut F) -> Result<Done, Failure>
     requires { IsWithinRanges request.now }
-    ensures answer { (told : Contents) → IsTold request.now (F.content files.old) told
-        → Comes (Answers request.now told) result }
-    ensures promise { (told : Contents) → IsTold request.now (F.content files.old) told
-        → IfOk result (λ done. Promised request.now told done.status done.text) }
+    ensures given { AreGiven F.loads (F.content files.old) files.old files.new (sources_of request.now)
+        (contents_of request.now) (IsOk result)
+        (λ told. IsRight (Answers request.now told) (Promised request.now told) (IsLoaded request.now told)
+        (F.failed files.new) result) }
     ensures status { IfOk result (λ done. done.status ≤ 1) }
-    ensures order { (told : Contents) → IsTold request.now (F.content files.old) told
-        → IsReadFault result → IsLoaded request.now told (F.failed files.new) }
     ensures kept { F.content files.new ≡ F.content files.old }
     ensures read { IsReadOf (paths_of request.now) (F.faults files.old) (F.faults files.new)
         (F.failed files.new) result }

@@ -10,7 +10,7 @@ use Rattle.fam_outer.specs.declared.faults.Place.{Place}
 use Rattle.c_tree.specs.declared.tree.Kind.{Kind}
 use Rattle.c_tree.specs.declared.tree.Kind.TheVariants.{Overflow, ZeroDivisor, Assertion}
 use Rattle.c_tree.specs.Places.{program_places}
-use Rattle.c_tree.specs.Run.{End, AtEnd, StoppedEnd, WaitingEnd, EndedEnd, run_of}
+use Rattle.c_tree.specs.Run.{StoppedEnd, run_of}
 use Rattle.c_tree.specs.Tree.{Whole}
 use Rattle.c_tree.specs.Value.{IsInt}
 use Rattle.c_tree.specs.View.{whole}
@@ -27,8 +27,7 @@ use Rattle.decision_tree.specs.Plain.{Plain, leaf_of}
 use Rattle.leaf_domain.specs.Leaves.{LeafValue, LeafMeaning, LeafLaws, nothing_of}
 use Rattle.lifted_analysis.specs.declared.findings.AlarmTree.{AlarmTree}
 use Rattle.lifted_analysis.specs.declared.findings.FamilyFindings.{FamilyFindings}
-use Rattle.lifted_analysis.specs.declared.findings.PlaceTree.{PlaceTree}
-use Rattle.lifted_analysis.specs.Promises.{begin_at, leaf_at, stop_at, by_kind}
+use Rattle.lifted_analysis.specs.Promises.{begin_at, stop_at, by_kind}
 use Rattle.plain_analysis.specs.declared.alarm.Alarm.{Alarm}
 use Rattle.plain_analysis.specs.declared.options.Options.{Options}
 use Rattle.plain_analysis.specs.Places.{at_of, alarm_of, alarms_of, alarm_where, alarms_at, alarms_over}
@@ -37,7 +36,6 @@ use Rattle.c_parser.specs.FamilyReading.{IsFamilyOf}
 use Rattle.c_parser.specs.Variants.{VariantsAreRead, projection, truths_in}
 use Rattle.alarm_report.specs.declared.alarms.FamilyAlarm.{FamilyAlarm}
 use Rattle.alarm_report.specs.Alarms.{PlainAlarmTree, plain_alarm_tree, AreAlarms, AreKeyed, CoversStops, Tells, TellsOnce}
-use Rattle.alarm_report.specs.Invariants.{LeafTree, leaf_tree, Invariant, AreInvariants, ArePlaced, CoversPlaces, HasOnce}
 use Rattle.configuration_advice.specs.declared.comparing.Advice.{Advice}
 use Rattle.configuration_advice.specs.Nearest.{differing, are_false, is_quiet, Advises}
 use Rattle.famlint_loads.specs.declared.product_line.ProductLine.{ProductLine}
@@ -45,13 +43,13 @@ use Rattle.famlint_families.specs.Advised.{HasAlarmAt, HasNoAlarmAt, IsNearestWi
 use Rattle.famlint_programs.specs.Report.{NeverStops}
 use Rattle.famlint_requests.specs.declared.request.FamilyTask.{FamilyTask}
 use Rattle.famlint_requests.specs.declared.request.FamilyTask.TheVariants as tasks
-use Rattle.famlint_families.specs.FamilyReports.{IsAlarmTreeOf, IsLeafTree, IsFamilyDone, family_status}
-use Rattle.famlint_families.specs.Findings.{IsFound, AreAlarmsWithLiterals, AreGoodAlarms, AreGoodInvariants, IsGoodText}
-use Rattle.famlint_families.specs.Headline.{AreItsAlarms, AreItsInvariants, AreAlarmsOfAll, HasState, Reaches, PromisedOfAll}
+use Rattle.famlint_families.specs.FamilyReports.{IsAlarmTreeOf, IsFamilyDone, family_status}
+use Rattle.famlint_families.specs.Findings.{IsFound, AreAlarmsWithLiterals, AreGoodAlarms, IsGoodText}
+use Rattle.famlint_families.specs.Headline.{AreItsAlarms, AreAlarmsOfAll, PromisedOfAll}
 use Rattle.famlint_loads.specs.ProductLines.{IsUsableLine}
 use Rattle.famlint_families.proofs.Told.{told_leads}
-use Rattle.famlint_programs.proofs.Keys.{all_at, key, keyed, placed, place_there, alarm_tree_there, leaf_tree_there}
-use Rattle.famlint_programs.proofs.Reached.{alarm_there, leaf_there}
+use Rattle.famlint_programs.proofs.Keys.{all_at, key, keyed, alarm_tree_there}
+use Rattle.famlint_programs.proofs.Reached.{alarm_there}
 use Rattle.famlint_loads.proofs.Selecting.{is_program_at}
 
 -- ---- an alarm that is listed is one

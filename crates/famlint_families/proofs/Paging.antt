@@ -3,7 +3,7 @@ use Rattle.std.proofs.Common.{◌≡◌, ℕ, List, refl, sym, ap, subst, ◌∙
 use Rattle.linear_atoms.specs.declared.regions.Regions.{Regions}
 use Rattle.leaf_domain.specs.Leaves.{LeafMeaning}
 use Rattle.plain_analysis.specs.declared.options.Options.{Options}
-use Rattle.alarm_page.specs.Pages.{Texts, page_of, told_by, texts_told}
+use Rattle.alarm_page.specs.Pages.{page_of, told_by, texts_told}
 use Rattle.famlint_loads.specs.declared.product_line.ProductLine.{ProductLine}
 use Rattle.famlint_families.specs.declared.page.PageReport.{PageReport}
 use Rattle.famlint_families.specs.Headline.{AreAlarmsOfAll}

@@ -1,9 +1,9 @@
 -- The states that runs reach, and the invariants of places and of loops.
-use Rattle.std.proofs.Common.{◌≡◌, ◌≤◌, ℕ, zero, suc, ℤ, Bool, true, false, List, [], ◌∷◌, ◌++◌, cond, map, length, take, refl, ap, sym, subst, ◌∙◌, arith}
+use Rattle.std.proofs.Common.{◌≡◌, ℕ, zero, suc, ℤ, Bool, true, false, List, [], ◌∷◌, cond, map, length, take, refl, ap, subst, ◌∙◌, arith}
 use Rattle.std.proofs.lemmas.List.{take_all}
 use Rattle.std.proofs.lemmas.List.Elements.{All-from_recursion, recursion_from_All}
 use Rattle.std.proofs.lemmas.Option.{none-some, same_Some}
-use Rattle.std.specs.Prelude.{slice_get, slice_index_or, Option, Some, None}
+use Rattle.std.specs.Prelude.{slice_get, slice_index_or, Some}
 use Rattle.std.specs.List.{All}
 use Rattle.fam_outer.specs.declared.faults.Place.{Place}
 use Rattle.c_tree.specs.Places.{places_of, program_places}
@@ -11,7 +11,6 @@ use Rattle.c_tree.specs.Run.{End, AtEnd, StoppedEnd, WaitingEnd, EndedEnd, run_o
 use Rattle.c_tree.specs.Tree.{Whole}
 use Rattle.c_tree.specs.Value.{IsInt}
 use Rattle.c_tree.specs.View.{whole}
-use Rattle.c_tree.specs.Whole.{IsRising}
 use Rattle.linear_atoms.specs.declared.atoms.Atom.{Atom}
 use Rattle.linear_atoms.specs.declared.regions.Regions.{Regions}
 use Rattle.cpp_conditions.specs.declared.models.Model.{Model}
@@ -22,7 +21,6 @@ use Rattle.decision_tree.specs.Plain.{Plain, leaf, node, leaf_of}
 use Rattle.leaf_domain.specs.Leaves.{LeafValue, LeafMeaning, LeafLaws}
 use Rattle.leaf_domain.specs.Soundness.{TransferAnswers}
 use Rattle.lifted_analysis.specs.declared.findings.FamilyFindings.{FamilyFindings}
-use Rattle.lifted_analysis.specs.declared.findings.PlaceTree.{PlaceTree}
 use Rattle.lifted_analysis.specs.Promises.{leaf_at}
 use Rattle.lifted_analysis.specs.Turns.{loop_places}
 use Rattle.merged_findings.specs.Merged.{IsTreeWhere}
@@ -43,7 +41,7 @@ use Rattle.report_laws.specs.Stores.{TellsStore, LeafTextsTellStores}
 use Rattle.famlint_loads.specs.declared.product_line.ProductLine.{ProductLine}
 use Rattle.famlint_loads.specs.ProductLines.{IsUsableLine}
 use Rattle.famlint_loads.proofs.Selecting.{is_program_at}
-use Rattle.famlint_families.specs.FamilyReports.{IsLeafTree, AreLoopsOf}
+use Rattle.famlint_families.specs.FamilyReports.{IsLeafTree}
 use Rattle.famlint_families.specs.Findings.{IsFound, AreGoodInvariants, AreGoodLoops}
 use Rattle.famlint_families.specs.Headline.{HasState, ShowsState, Reaches, AtLoops, AreItsInvariants, AreItsLoops}
 use Rattle.famlint_families.proofs.Foretold.{begins, long, foreseen}

@@ -1,6 +1,6 @@
 -- What the commands on all variants are answered, and what is promised of it: `analyse`, `invariants`, `certify`, `page`, `generate`, `advise`
 -- and `features`.
-use Rattle.std.specs.Prelude.{ℕ, List, Result, Ok, Err}
+use Rattle.std.specs.Prelude.{ℕ, ◌≡◌, List, Result, Ok, Err}
 use Rattle.fam_outer.specs.declared.dialect.Dialect.{Dialect}
 use Rattle.fam_outer.specs.declared.dialect.Unknown.{Unknown}
 use Rattle.c_tree.specs.View.{whole}
@@ -81,3 +81,7 @@ PromisedGenerate analysis r number status text =
 abbrev pub PromisedAdvice : Dialect → Analysis → List (List ℕ) → Contents → ℕ → List ℕ → Type 0
 PromisedAdvice dialect analysis settings told status text =
     (s : Selected) × AreSelected dialect told.model told.file settings s × TellsGoodAdvice (meaning_of analysis.domain) (options_of analysis (whole s.line.family.code)) s.line s.config.values status text
+
+-- of what a model leaves open no more is promised than its answer
+abbrev pub PromisedFeatures : ℕ → List ℕ → Type 0
+PromisedFeatures status text = status ≡ 0

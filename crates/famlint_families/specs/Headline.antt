@@ -57,7 +57,7 @@ pub record HasState (M : LeafMeaning) (o : Options) (invariants : List Invariant
   pub holds : M.holds (at_of M o p (M.start p.start) place) store
 
 -- exactly one line of this place has a region that the configuration meets, and what is printed of its leaf is so of the store: each
--- variable lies in its range, and the difference and the sum of two in theirs
+-- variable lies in its range, by so many of its steps from the low end, and the difference and the sum of two in theirs
 pub record ShowsState (M : LeafMeaning) (names : List (List ℕ)) (invariants : List Invariant) (values : List ℤ) (place : Place) (store : List ℤ) : Type 0 where
   pub leaf : LeafValue
   pub once : HasOnce invariants place leaf values

@@ -1,7 +1,8 @@
 //! `advise`: the nearest configuration without alarms.
 #![tactic(auto)]
 
-ghost use Rattle.std.specs.Prelude.{◌≡◌, ◌≤◌, ◌<◌, ℕ, List, [], ◌∷◌, Bool, Some, IfOk, map};
+ghost use Rattle.std.specs.Prelude.{◌≡◌, ◌≤◌, ◌<◌, ℕ, [], ◌∷◌, Bool, Some, IfOk, IsOk, map};
+ghost use Rattle.fam_outer.specs.Loading.{AreGiven};
 ghost use Rattle.c_tree.specs.View.{whole};
 ghost use Rattle.std.specs.List.{All};
 ghost use Rattle.cpp_conditions.specs.Validity.{IsConfig};
@@ -13,10 +14,10 @@ ghost use Rattle.alarm_report.specs.Alarms.{plain_alarm_tree};
 ghost use Rattle.configuration_advice.specs.declared.comparing.Advice.{Advice};
 ghost use Rattle.famlint_families.specs.Advised.{IsNearestWithoutAlarms, IsGood, IsAdviseDone, TellsGoodAdvice, advice_status as status_of, trees_of};
 ghost use Rattle.famlint_families.specs.FamilyAnswers.{AnswersAdvice, PromisedAdvice};
-ghost use Rattle.famlint_loads.specs.Contents.{Contents};
+ghost use Rattle.famlint_loads.specs.Contents.{of_line};
 ghost use Rattle.famlint_programs.specs.AnalysisOptions.{options_of};
 ghost use Rattle.famlint_programs.specs.ProgramAnswers.{meaning_of};
-ghost use Rattle.famlint_loads.specs.Loads.{Comes, IsReadFault, IsReadOf};
+ghost use Rattle.famlint_loads.specs.Loads.{IsReadOf, IsRight, model_source, file_source};
 ghost use Rattle.famlint_loads.specs.ProductLines.{IsLoadedFor, IsUsableLine};
 
 use crate::family::found_in;
@@ -127,15 +128,11 @@ pub fn advice<F: Files>(
     analysis: &Analysis,
     files: &mut F,
 ) -> Result<Done, Failure>
-    ensures answer { (told : Contents) → F.content files.old model.now ≡ Some told.model
-        → F.content files.old file.now ≡ Some told.file
-        → Comes (AnswersAdvice dialect analysis.now settings.now told) result }
-    ensures promise { (told : Contents) → F.content files.old model.now ≡ Some told.model
-        → F.content files.old file.now ≡ Some told.file
-        → IfOk result (λ done. PromisedAdvice dialect analysis.now settings.now told done.status done.text) }
+    ensures given { AreGiven F.loads (F.content files.old) files.old files.new
+        (model_source model.now ∷ file_source file.now ∷ []) of_line (IsOk result)
+        (λ told. IsRight (AnswersAdvice dialect analysis.now settings.now told) (PromisedAdvice dialect analysis.now settings.now told)
+        (IsLoadedFor dialect.unknown model.now file.now told.model) (F.failed files.new) result) }
     ensures status { IfOk result (λ done. done.status ≤ 1) }
-    ensures order { (m : List ℕ) → F.content files.old model.now ≡ Some m → IsReadFault result
-        → IsLoadedFor dialect.unknown model.now file.now m (F.failed files.new) }
     ensures kept { F.content files.new ≡ F.content files.old }
     ensures read { IsReadOf (model.now ∷ file.now ∷ []) (F.faults files.old) (F.faults files.new)
         (F.failed files.new) result }

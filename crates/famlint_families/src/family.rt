@@ -1,7 +1,8 @@
 //! What is asked of all variants of a family at once: `analyse`, `invariants` and `certify`.
 #![tactic(auto)]
 
-ghost use Rattle.std.specs.Prelude.{◌≡◌, ◌≤◌, ◌++◌, ℕ, List, [], ◌∷◌, Some, IfOk, map};
+ghost use Rattle.std.specs.Prelude.{◌≡◌, ◌≤◌, ◌++◌, [], ◌∷◌, IfOk, IsOk, map};
+ghost use Rattle.fam_outer.specs.Loading.{AreGiven};
 ghost use Rattle.std.specs.List.{All};
 ghost use Rattle.c_tree.specs.View.{whole};
 ghost use Rattle.decision_tree.specs.Listed.{IsNumberedTree};
@@ -12,13 +13,13 @@ ghost use Rattle.linear_atoms.specs.declared.regions.Regions.TheVariants.{Paths}
 ghost use Rattle.plain_analysis.specs.declared.options.Options.{Options};
 ghost use Rattle.alarm_report.specs.Invariants.{invariant};
 ghost use Rattle.famlint_families.specs.FamilyAnswers.{AnswersFamily, PromisedFamily};
-ghost use Rattle.famlint_loads.specs.Contents.{Contents};
+ghost use Rattle.famlint_loads.specs.Contents.{of_line};
 ghost use Rattle.famlint_programs.specs.AnalysisOptions.{options_of};
 ghost use Rattle.famlint_programs.specs.ProgramAnswers.{meaning_of};
 ghost use Rattle.famlint_families.specs.FamilyReports.{IsFamilyDone, sizes_text, family_status as status_of};
 ghost use Rattle.famlint_families.specs.Findings.{IsFound, AreTested, AreAlarmsWithLiterals, AreInvariantsWithLiterals, AreGoodAlarms, AreGoodInvariants, AreInvariantsBefore, IsGoodText};
 ghost use Rattle.famlint_families.specs.Headline.{PromisedOfAll};
-ghost use Rattle.famlint_loads.specs.Loads.{Comes, IsReadFault, IsReadOf};
+ghost use Rattle.famlint_loads.specs.Loads.{IsReadOf, IsRight, model_source, file_source};
 ghost use Rattle.famlint_loads.specs.ProductLines.{IsLoadedFor, IsUsableLine};
 
 use crate::certify::certificate_of;
@@ -250,15 +251,11 @@ pub fn family<F: Files>(
     task: FamilyTask,
     files: &mut F,
 ) -> Result<Done, Failure>
-    ensures answer { (told : Contents) → F.content files.old model.now ≡ Some told.model
-        → F.content files.old file.now ≡ Some told.file
-        → Comes (AnswersFamily dialect analysis.now regions task told) result }
-    ensures promise { (told : Contents) → F.content files.old model.now ≡ Some told.model
-        → F.content files.old file.now ≡ Some told.file
-        → IfOk result (λ done. PromisedFamily dialect analysis.now regions task told done.status done.text) }
+    ensures given { AreGiven F.loads (F.content files.old) files.old files.new
+        (model_source model.now ∷ file_source file.now ∷ []) of_line (IsOk result)
+        (λ told. IsRight (AnswersFamily dialect analysis.now regions task told) (PromisedFamily dialect analysis.now regions task told)
+        (IsLoadedFor dialect.unknown model.now file.now told.model) (F.failed files.new) result) }
     ensures status { IfOk result (λ done. done.status ≤ 1) }
-    ensures order { (m : List ℕ) → F.content files.old model.now ≡ Some m → IsReadFault result
-        → IsLoadedFor dialect.unknown model.now file.now m (F.failed files.new) }
     ensures kept { F.content files.new ≡ F.content files.old }
     ensures read { IsReadOf (model.now ∷ file.now ∷ []) (F.faults files.old) (F.faults files.new)
         (F.failed files.new) result }

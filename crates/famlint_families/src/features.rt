@@ -1,10 +1,11 @@
 //! `features MODEL`: what a model leaves open of each feature.
 #![tactic(auto)]
 
-ghost use Rattle.std.specs.Prelude.{◌≡◌, ℕ, List, [], ◌∷◌, Some, IfOk};
-ghost use Rattle.famlint_families.specs.FamilyAnswers.{AnswersFeatures};
+ghost use Rattle.std.specs.Prelude.{◌≡◌, [], ◌∷◌, Some, IfOk, IsOk};
+ghost use Rattle.fam_outer.specs.Loading.{AreGiven, only};
+ghost use Rattle.famlint_families.specs.FamilyAnswers.{AnswersFeatures, PromisedFeatures};
 ghost use Rattle.famlint_families.specs.FeatureUses.{AreUsesDone};
-ghost use Rattle.famlint_loads.specs.Loads.{Comes, IsReadOf, IsUsable};
+ghost use Rattle.famlint_loads.specs.Loads.{IsReadOf, IsRight, IsUsable, model_source};
 
 use command_words::Word;
 use configuration_advice::{uses, uses_text};
@@ -32,8 +33,9 @@ pub fn features<F: Files>(
     unknown: Unknown,
     files: &mut F,
 ) -> Result<Done, Failure>
-    ensures answer { (bytes : List ℕ) → F.content files.old model.now ≡ Some bytes
-        → Comes (AnswersFeatures unknown bytes) result }
+    ensures given { AreGiven F.loads (F.content files.old) files.old files.new (model_source model.now ∷ [])
+        only (IsOk result) (λ bytes. IsRight (AnswersFeatures unknown bytes) PromisedFeatures
+        (λ failed. failed ≡ Some model.now) (F.failed files.new) result) }
     ensures status { IfOk result (λ done. done.status ≡ 0) }
     ensures kept { F.content files.new ≡ F.content files.old }
     ensures read { IsReadOf (model.now ∷ []) (F.faults files.old) (F.faults files.new)

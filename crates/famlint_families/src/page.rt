@@ -1,13 +1,14 @@
 //! `page`: the report on all variants beside MODEL and FILE, as one page.
 #![tactic(auto)]
 
-ghost use Rattle.std.specs.Prelude.{◌≡◌, ◌≤◌, ℕ, List, [], ◌∷◌, Some, IfOk};
+ghost use Rattle.std.specs.Prelude.{◌≡◌, ◌≤◌, [], ◌∷◌, IfOk, IsOk};
+ghost use Rattle.fam_outer.specs.Loading.{AreGiven};
 ghost use Rattle.c_tree.specs.View.{whole};
 ghost use Rattle.alarm_page.specs.Pages.{page_of, told_by, texts_told};
 ghost use Rattle.famlint_families.specs.FamilyAnswers.{AnswersPage, PromisedPage};
 ghost use Rattle.famlint_families.specs.Pages.{IsPageReport, IsPageDone, TellsOfAll, texts_with};
-ghost use Rattle.famlint_loads.specs.Contents.{Contents};
-ghost use Rattle.famlint_loads.specs.Loads.{Comes, IsReadFault, IsReadOf};
+ghost use Rattle.famlint_loads.specs.Contents.{of_line};
+ghost use Rattle.famlint_loads.specs.Loads.{IsReadOf, IsRight, model_source, file_source};
 ghost use Rattle.famlint_loads.specs.ProductLines.{IsLoadedFor, IsUsableLine};
 ghost use Rattle.famlint_programs.specs.AnalysisOptions.{options_of};
 ghost use Rattle.famlint_programs.specs.ProgramAnswers.{meaning_of};
@@ -130,15 +131,11 @@ pub fn page<F: Files>(
     regions: Regions,
     files: &mut F,
 ) -> Result<Done, Failure>
-    ensures answer { (told : Contents) → F.content files.old model.now ≡ Some told.model
-        → F.content files.old file.now ≡ Some told.file
-        → Comes (AnswersPage dialect analysis.now regions told) result }
-    ensures promise { (told : Contents) → F.content files.old model.now ≡ Some told.model
-        → F.content files.old file.now ≡ Some told.file
-        → IfOk result (λ done. PromisedPage dialect analysis.now regions told done.status done.text) }
+    ensures given { AreGiven F.loads (F.content files.old) files.old files.new
+        (model_source model.now ∷ file_source file.now ∷ []) of_line (IsOk result)
+        (λ told. IsRight (AnswersPage dialect analysis.now regions told) (PromisedPage dialect analysis.now regions told)
+        (IsLoadedFor dialect.unknown model.now file.now told.model) (F.failed files.new) result) }
     ensures status { IfOk result (λ done. done.status ≤ 1) }
-    ensures order { (m : List ℕ) → F.content files.old model.now ≡ Some m → IsReadFault result
-        → IsLoadedFor dialect.unknown model.now file.now m (F.failed files.new) }
     ensures kept { F.content files.new ≡ F.content files.old }
     ensures read { IsReadOf (model.now ∷ file.now ∷ []) (F.faults files.old) (F.faults files.new)
         (F.failed files.new) result }

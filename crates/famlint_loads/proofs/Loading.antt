@@ -78,6 +78,29 @@ line_refused_alone dialect m f (failure.Refused given) h = h
 line_refused_alone dialect m f failure.ReadFault h = h
 line_refused_alone dialect m f failure.NoMemory h = h
 
+-- a failed load stays one, whatever was wanted
+pub fault_of_any : (X Y : Type 0) (s : Failure) → IsReadFault {X = X} (Err s) → IsReadFault {X = Y} (Err s)
+fault_of_any X Y (failure.Refused given) h = h
+fault_of_any X Y failure.ReadFault h = h
+fault_of_any X Y failure.NoMemory h = h
+
+pub not_a_fault : (s : Failure) → (IsReadFault {X = Config} (Err s) → ⊥) → IsReadFault {X = Selected} (Err s) → ⊥
+not_a_fault (failure.Refused given) never h = absurd h
+not_a_fault failure.ReadFault never h = never h
+not_a_fault failure.NoMemory never h = absurd h
+
+-- MODEL is loaded first
+first_of : (unknown : Unknown) (failed : Option (List ℕ)) (model_path file_path m : List ℕ) → IsOneOf failed (model_path ∷ [])
+    → IsLoadedFor unknown model_path file_path m failed
+first_of unknown failed model_path file_path m (inl e) = inl e
+first_of unknown failed model_path file_path m (inr h) = absurd h
+
+pub loaded_first : (unknown : Unknown) (failed : Option (List ℕ)) (model_path file_path m : List ℕ) (s : Failure)
+    → (IsReadFault {X = ModelFile} (Err s) → IsOneOf failed (model_path ∷ [])) → IsReadFault {X = ProductLineFiles} (Err s) → IsLoadedFor unknown model_path file_path m failed
+loaded_first unknown failed model_path file_path m (failure.Refused given) path h = absurd h
+loaded_first unknown failed model_path file_path m failure.ReadFault path h = first_of unknown failed model_path file_path m (path h)
+loaded_first unknown failed model_path file_path m failure.NoMemory path h = absurd h
+
 -- FILE is loaded where MODEL is accepted
 second_of : (unknown : Unknown) (failed : Option (List ℕ)) (model_path file_path m : List ℕ) (model : Model) → IsModel unknown m (Ok model) → IsOneOf failed (file_path ∷ [])
     → IsLoadedFor unknown model_path file_path m failed

@@ -93,6 +93,7 @@ file_code code.TooManyVariables = codes "F17"
 file_code code.GroupInsideStatement = codes "F19"
 file_code code.TooLong = codes "F20"
 file_code code.GroupHere = codes "F21"
+file_code code.ChangedConstant = codes "F23"
 
 -- behind it, the code of a condition's fault
 abbrev pub condition_part : FileCode → List ℕ

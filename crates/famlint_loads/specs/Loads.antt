@@ -1,10 +1,11 @@
 -- Loads and readings, and how what a stage of the work came to is tied to what it should answer.
-use Rattle.std.specs.Prelude.{ℕ, ℤ, ◌≡◌, ◌≤◌, ◌<◌, ◌⊎◌, ⊤, List, [], ◌∷◌, length, Option, Some, None, Result, Ok, Err}
+use Rattle.std.specs.Prelude.{ℕ, ℤ, ◌≡◌, ◌≤◌, ◌<◌, ◌⊎◌, ⊤, List, [], ◌∷◌, length, Option, Some, None, Result, Ok, Err, IfOk}
 use Rattle.std.specs.List.{All}
 use Rattle.fam_outer.specs.declared.dialect.Dialect.{Dialect}
 use Rattle.fam_outer.specs.declared.dialect.Unknown.{Unknown}
-use Rattle.fam_outer.specs.Causes.{Rose}
-use Rattle.fam_outer.specs.Limits.{file_bytes}
+use Rattle.fam_outer.specs.Causes.{one_more}
+use Rattle.fam_outer.specs.Limits.{model_bytes, file_bytes, certificate_bytes}
+use Rattle.fam_outer.specs.Loading.{Source}
 use Rattle.fam_outer.specs.declared.faults.FileCode.TheVariants.{TooLong}
 use Rattle.linear_atoms.specs.Atoms.{AreAtoms}
 use Rattle.cpp_conditions.specs.declared.models.Model.{Model}
@@ -19,6 +20,7 @@ use Rattle.c_tree.specs.View.{whole}
 use Rattle.c_tree.specs.Whole.{IsProgram}
 use Rattle.c_parser.specs.declared.family.Family.{Family}
 use Rattle.c_parser.specs.FamilyReading.{IsFamilyOf, IsFamilyRefused}
+use Rattle.famlint_loads.specs.declared.fault.Done.{Done}
 use Rattle.famlint_loads.specs.declared.fault.Fault.{Fault}
 use Rattle.famlint_loads.specs.declared.fault.Fault.TheVariants as fault
 use Rattle.famlint_loads.specs.declared.fault.Failure.{Failure}
@@ -46,11 +48,39 @@ abbrev pub IsOneOf : Option (List ℕ) → List (List ℕ) → Type 0
 IsOneOf failed [] = ⊥
 IsOneOf failed (path ∷ paths) = (failed ≡ Some path) ⊎ IsOneOf failed paths
 
--- the count has not fallen, and where a load failed it rose and the path that failed is one of these
+-- the count of failed loads behind this: one more where a load failed, and else as before
+abbrev pub faults_read : {X : Type 0} → Result X Failure → ℕ → ℕ
+faults_read (Err failure.ReadFault) n = one_more n
+faults_read other n = n
+
+-- the count has not fallen, and is one more exactly where a load failed; the path that failed is one of these
 pub record IsReadOf {X : Type 0} (paths : List (List ℕ)) (before now : ℕ) (failed : Option (List ℕ)) (result : Result X Failure) : Type 0 where
   pub later : before ≤ now
-  pub risen : IsReadFault result → Rose before now
+  pub counted : now ≡ faults_read result before
   pub path : IsReadFault result → IsOneOf failed paths
+
+-- ---- what was loaded
+
+-- a path, of which at most so many bytes are taken
+abbrev pub text_source : List ℕ → ℕ → Source
+text_source path limit = record { path = path; limit = limit }
+
+abbrev pub model_source : List ℕ → Source
+model_source path = text_source path model_bytes
+
+abbrev pub file_source : List ℕ → Source
+file_source path = text_source path file_bytes
+
+abbrev pub certificate_source : List ℕ → Source
+certificate_source path = text_source path certificate_bytes
+
+-- what a command's loads and work came to is right for what its paths hold: it is an answer that may be, what is promised of it holds, and
+-- where a load failed it is of a path that is loaded for them
+pub record IsRight (MayBe : Result Done Fault → Type 0) (Promised : ℕ → List ℕ → Type 0) (IsLoaded : Option (List ℕ) → Type 0)
+    (failed : Option (List ℕ)) (result : Result Done Failure) : Type 0 where
+  pub answer : Comes MayBe result
+  pub promise : IfOk result (λ done. Promised done.status done.text)
+  pub order : IsReadFault result → IsLoaded failed
 
 -- ---- texts
 

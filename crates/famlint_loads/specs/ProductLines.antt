@@ -10,10 +10,11 @@ use Rattle.c_parser.specs.FamilyReading.{IsFamilyOf}
 use Rattle.c_parser.specs.Reading.{IsPlainReadOver}
 use Rattle.c_parser.specs.Variants.{names_in}
 use Rattle.variant_projector.specs.Variant.{IsVariant}
+use Rattle.famlint_loads.specs.declared.fault.Failure.{Failure}
 use Rattle.famlint_loads.specs.declared.fault.Fault.{Fault}
 use Rattle.famlint_loads.specs.declared.product_line.ProductLine.{ProductLine}
 use Rattle.famlint_loads.specs.declared.product_line.ProductLineFiles.{ProductLineFiles}
-use Rattle.famlint_loads.specs.Loads.{IsModel, IsFamily, IsUsable, IsUsableFamily}
+use Rattle.famlint_loads.specs.Loads.{Comes, IsReadFault, IsModel, IsFamily, IsUsable, IsUsableFamily}
 
 -- the model is refused, or else the file
 pub data IsLineRefused (dialect : Dialect) (m f : List ℕ) (fault : Fault) : Type 0 where
@@ -40,6 +41,12 @@ ReadsProductLineFiles dialect m f (Err fault) = IsLineRefused dialect m f fault
 -- a path that is loaded: MODEL, and where it is accepted FILE
 abbrev pub IsLoadedFor : Unknown → List ℕ → List ℕ → List ℕ → Option (List ℕ) → Type 0
 IsLoadedFor unknown model_path file_path m failed = (failed ≡ Some model_path) ⊎ ((failed ≡ Some file_path) × (model : Model) × IsModel unknown m (Ok model))
+
+-- the loads of MODEL and FILE came to a result that may be, and a load that failed is of a path that is loaded for these bytes of MODEL
+pub record ComesOfLine {X : Type 0} (MayBe : Result X Fault → Type 0) (unknown : Unknown) (model_path file_path m : List ℕ)
+    (failed : Option (List ℕ)) (result : Result X Failure) : Type 0 where
+  pub comes : Comes MayBe result
+  pub order : IsReadFault result → IsLoadedFor unknown model_path file_path m failed
 
 -- what is known of them once they are loaded
 pub record IsUsableLine (l : ProductLine) : Type 0 where

@@ -1,9 +1,10 @@
 //! The load of a certificate, and its reading over a product line.
 #![tactic(auto)]
 
-ghost use Rattle.std.specs.Prelude.{◌≡◌, ℕ, List, [], ◌∷◌, Some, IfOk};
+ghost use Rattle.std.specs.Prelude.{◌≡◌, [], ◌∷◌, IfOk, IsOk};
+ghost use Rattle.fam_outer.specs.Loading.{AreGiven, only};
 ghost use Rattle.famlint_loads.specs.CertificateLoads.{ReadsCertificate, IsUsableCertificate};
-ghost use Rattle.famlint_loads.specs.Loads.{Comes, IsReadFault, IsReadOf};
+ghost use Rattle.famlint_loads.specs.Loads.{Comes, IsReadFault, IsReadOf, certificate_source};
 ghost use Rattle.famlint_loads.specs.ProductLines.{IsUsableLine};
 
 use crate::fault::{Failure, Fault};
@@ -38,8 +39,8 @@ pub fn load_certificate<F: Files>(
     files: &mut F,
 ) -> Result<Certificate, Failure>
     requires { IsUsableLine line.now }
-    ensures certificate { (bytes : List ℕ) → F.content files.old path.now ≡ Some bytes
-        → Comes (ReadsCertificate line.now bytes) result }
+    ensures given { AreGiven F.loads (F.content files.old) files.old files.new (certificate_source path.now ∷ [])
+        only (IsOk result) (λ bytes. Comes (ReadsCertificate line.now bytes) result) }
     ensures usable { IfOk result (λ made. IsUsableCertificate line.now made) }
     ensures kept { F.content files.new ≡ F.content files.old }
     ensures read { IsReadOf (path.now ∷ []) (F.faults files.old) (F.faults files.new)

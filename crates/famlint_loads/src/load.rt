@@ -1,9 +1,11 @@
 //! Loads, and the reading of what was loaded.
 #![tactic(auto)]
 
-ghost use Rattle.std.specs.Prelude.{◌≡◌, ℕ, List, [], ◌∷◌, Some, IfOk, length};
+ghost use Rattle.std.specs.Prelude.{◌≡◌, ℕ, List, [], ◌∷◌, Some, IfOk, IsOk, length};
+ghost use Rattle.fam_outer.specs.Causes.{faults_loaded};
+ghost use Rattle.fam_outer.specs.Loading.{AreGiven, IsLoaded, only};
 ghost use Rattle.c_parser.specs.FamilyReading.{IsFamilyOf};
-ghost use Rattle.famlint_loads.specs.Loads.{Comes, IsReadOf, IsText, IsFileText, IsModel, IsModelFile, IsFamilyFile, IsUsable, IsUsableFamily, IsReadFault, long_file};
+ghost use Rattle.famlint_loads.specs.Loads.{Comes, faults_read, IsReadOf, IsText, IsFileText, IsModel, IsModelFile, IsFamilyFile, IsUsable, IsUsableFamily, IsReadFault, long_file, text_source, model_source, file_source};
 
 use crate::fault::{Failure, Fault, file_fault};
 use c_parser::{Family, read_family};
@@ -25,6 +27,20 @@ fn long_file() -> Fault
     }
 }
 
+/// What the answer of a load of at most so many bytes comes to; a longer text has the fault.
+fn text_of(limit: u32, long: Fault, answer: Loaded) -> Result<Text, Failure>
+    ensures text { (bytes : List ℕ) → IsLoaded (Some bytes) limit answer → Comes (IsText limit long bytes) result }
+    ensures counted { (n : ℕ) → faults_read result n ≡ faults_loaded answer n }
+    ensures failed { IsReadFault result → answer ≡ Loaded.Failed }
+{
+    match answer {
+        Loaded::NoMemory => Err(Failure::NoMemory),
+        Loaded::Failed => Err(Failure::ReadFault),
+        Loaded::TooLong => Err(Failure::Refused(long)),
+        Loaded::Whole(text) => Ok(text),
+    }
+}
+
 /// The text of a path, of at most so many bytes; a longer one has the fault.
 pub fn load_text<F: Files>(
     alloc: Global,
@@ -33,24 +49,20 @@ pub fn load_text<F: Files>(
     long: Fault,
     files: &mut F,
 ) -> Result<Text, Failure>
-    ensures text { (bytes : List ℕ) → F.content files.old path.now ≡ Some bytes
-        → Comes (IsText limit long bytes) result }
+    ensures given { AreGiven F.loads (F.content files.old) files.old files.new (text_source path.now limit ∷ [])
+        only (IsOk result) (λ bytes. Comes (IsText limit long bytes) result) }
     ensures kept { F.content files.new ≡ F.content files.old }
     ensures read { IsReadOf (path.now ∷ []) (F.faults files.old) (F.faults files.new)
         (F.failed files.new) result }
 {
-    match files.load(alloc, path, limit) {
-        Loaded::NoMemory => Err(Failure::NoMemory),
-        Loaded::Failed => Err(Failure::ReadFault),
-        Loaded::TooLong => Err(Failure::Refused(long)),
-        Loaded::Whole(text) => Ok(text),
-    }
+    let answer = files.load(alloc, path, limit);
+    text_of(limit, long, answer)
 }
 
 /// The text of FILE, of at most 1,048,576 bytes; a longer one is refused as a whole, at 1:1.
 pub fn load_file<F: Files>(alloc: Global, path: &str, files: &mut F) -> Result<Text, Failure>
-    ensures text { (bytes : List ℕ) → F.content files.old path.now ≡ Some bytes
-        → Comes (IsFileText bytes) result }
+    ensures given { AreGiven F.loads (F.content files.old) files.old files.new (file_source path.now ∷ [])
+        only (IsOk result) (λ bytes. Comes (IsFileText bytes) result) }
     ensures kept { F.content files.new ≡ F.content files.old }
     ensures read { IsReadOf (path.now ∷ []) (F.faults files.old) (F.faults files.new)
         (F.failed files.new) result }
@@ -85,8 +97,8 @@ pub fn load_model_file<F: Files>(
     path: &str,
     files: &mut F,
 ) -> Result<ModelFile, Failure>
-    ensures model { (bytes : List ℕ) → F.content files.old path.now ≡ Some bytes
-        → Comes (IsModelFile unknown bytes) result }
+    ensures given { AreGiven F.loads (F.content files.old) files.old files.new (model_source path.now ∷ [])
+        only (IsOk result) (λ bytes. Comes (IsModelFile unknown bytes) result) }
     ensures usable { IfOk result (λ made. IsUsable made.model) }
     ensures kept { F.content files.new ≡ F.content files.old }
     ensures read { IsReadOf (path.now ∷ []) (F.faults files.old) (F.faults files.new)
@@ -109,8 +121,8 @@ pub fn load_model<F: Files>(
     path: &str,
     files: &mut F,
 ) -> Result<Model, Failure>
-    ensures model { (bytes : List ℕ) → F.content files.old path.now ≡ Some bytes
-        → Comes (IsModel unknown bytes) result }
+    ensures given { AreGiven F.loads (F.content files.old) files.old files.new (model_source path.now ∷ [])
+        only (IsOk result) (λ bytes. Comes (IsModel unknown bytes) result) }
     ensures usable { IfOk result (λ model. IsUsable model) }
     ensures kept { F.content files.new ≡ F.content files.old }
     ensures read { IsReadOf (path.now ∷ []) (F.faults files.old) (F.faults files.new)
@@ -161,8 +173,8 @@ pub fn load_family<F: Files>(
     files: &mut F,
 ) -> Result<FamilyFile, Failure>
     requires { IsUsable model.now }
-    ensures family { (bytes : List ℕ) → F.content files.old path.now ≡ Some bytes
-        → Comes (IsFamilyFile dialect model.now bytes) result }
+    ensures given { AreGiven F.loads (F.content files.old) files.old files.new (file_source path.now ∷ [])
+        only (IsOk result) (λ bytes. Comes (IsFamilyFile dialect model.now bytes) result) }
     ensures spelled { IfOk result (λ made. IsFamilyOf dialect model.now made.text made.family) }
     ensures usable { IfOk result (λ made. IsUsableFamily (length model.now.features) made.family) }
     ensures kept { F.content files.new ≡ F.content files.old }

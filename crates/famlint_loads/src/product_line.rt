@@ -1,9 +1,11 @@
 //! A model and a family over it: the loads of each command with MODEL and FILE.
 #![tactic(auto)]
 
-ghost use Rattle.std.specs.Prelude.{◌≡◌, ℕ, List, [], ◌∷◌, Some, IfOk};
-ghost use Rattle.famlint_loads.specs.Loads.{Comes, IsReadFault, IsReadOf};
-ghost use Rattle.famlint_loads.specs.ProductLines.{ReadsProductLine, ReadsProductLineFiles, IsLoadedFor, IsUsableLine};
+ghost use Rattle.std.specs.Prelude.{◌≡◌, [], ◌∷◌, IfOk, IsOk};
+ghost use Rattle.fam_outer.specs.Loading.{AreGiven};
+ghost use Rattle.famlint_loads.specs.Contents.{of_line};
+ghost use Rattle.famlint_loads.specs.Loads.{IsReadOf, model_source, file_source};
+ghost use Rattle.famlint_loads.specs.ProductLines.{ComesOfLine, ReadsProductLine, ReadsProductLineFiles, IsUsableLine};
 
 use crate::fault::Failure;
 use crate::load::{FamilyFile, ModelFile, load_family, load_model_file};
@@ -36,15 +38,14 @@ pub fn load_product_line_files<F: Files>(
     file_path: &str,
     files: &mut F,
 ) -> Result<ProductLineFiles, Failure>
-    ensures line { (m f : List ℕ) → F.content files.old model_path.now ≡ Some m
-        → F.content files.old file_path.now ≡ Some f
-        → Comes (ReadsProductLineFiles dialect m f) result }
+    ensures given { AreGiven F.loads (F.content files.old) files.old files.new
+        (model_source model_path.now ∷ file_source file_path.now ∷ []) of_line (IsOk result)
+        (λ told. ComesOfLine (ReadsProductLineFiles dialect told.model told.file) dialect.unknown model_path.now file_path.now
+        told.model (F.failed files.new) result) }
     ensures usable { IfOk result (λ made. IsUsableLine made.line) }
     ensures kept { F.content files.new ≡ F.content files.old }
     ensures read { IsReadOf (model_path.now ∷ file_path.now ∷ []) (F.faults files.old) (F.faults files.new)
         (F.failed files.new) result }
-    ensures order { (m : List ℕ) → F.content files.old model_path.now ≡ Some m → IsReadFault result
-        → IsLoadedFor dialect.unknown model_path.now file_path.now m (F.failed files.new) }
 {
     let ModelFile {
         model,
@@ -68,15 +69,14 @@ pub fn load_product_line<F: Files>(
     file_path: &str,
     files: &mut F,
 ) -> Result<ProductLine, Failure>
-    ensures line { (m f : List ℕ) → F.content files.old model_path.now ≡ Some m
-        → F.content files.old file_path.now ≡ Some f
-        → Comes (ReadsProductLine dialect m f) result }
+    ensures given { AreGiven F.loads (F.content files.old) files.old files.new
+        (model_source model_path.now ∷ file_source file_path.now ∷ []) of_line (IsOk result)
+        (λ told. ComesOfLine (ReadsProductLine dialect told.model told.file) dialect.unknown model_path.now file_path.now
+        told.model (F.failed files.new) result) }
     ensures usable { IfOk result (λ made. IsUsableLine made) }
     ensures kept { F.content files.new ≡ F.content files.old }
     ensures read { IsReadOf (model_path.now ∷ file_path.now ∷ []) (F.faults files.old) (F.faults files.new)
         (F.failed files.new) result }
-    ensures order { (m : List ℕ) → F.content files.old model_path.now ≡ Some m → IsReadFault result
-        → IsLoadedFor dialect.unknown model_path.now file_path.now m (F.failed files.new) }
 {
     let ProductLineFiles {
         line,

@@ -1,10 +1,12 @@
 //! The variant of a family that settings select: the loads of a command with MODEL, FILE and settings.
 #![tactic(auto)]
 
-ghost use Rattle.std.specs.Prelude.{◌≡◌, ℕ, List, [], ◌∷◌, map, string_bytes, Some, IfOk};
+ghost use Rattle.std.specs.Prelude.{◌≡◌, [], ◌∷◌, map, string_bytes, IfOk, IsOk};
+ghost use Rattle.fam_outer.specs.Loading.{AreGiven};
 ghost use Rattle.cpp_conditions.specs.Validity.{plain, IsValid, IsConfig};
-ghost use Rattle.famlint_loads.specs.Loads.{Comes, IsReadFault, IsReadOf, IsUsable};
-ghost use Rattle.famlint_loads.specs.ProductLines.{IsLoadedFor, IsUsableLine};
+ghost use Rattle.famlint_loads.specs.Contents.{of_line};
+ghost use Rattle.famlint_loads.specs.Loads.{Comes, IsReadFault, IsReadOf, IsUsable, model_source, file_source};
+ghost use Rattle.famlint_loads.specs.ProductLines.{ComesOfLine, IsUsableLine};
 ghost use Rattle.famlint_loads.specs.Selected.{IsSelected, IsSettled};
 
 use crate::fault::{Failure, settings_fault};
@@ -50,17 +52,16 @@ pub fn select<F: Files>(
     settings: &[String],
     files: &mut F,
 ) -> Result<Selected, Failure>
-    ensures selected { (m f : List ℕ) → F.content files.old model_path.now ≡ Some m
-        → F.content files.old file_path.now ≡ Some f
-        → Comes (IsSelected dialect m f (map string_bytes settings.now)) result }
+    ensures given { AreGiven F.loads (F.content files.old) files.old files.new
+        (model_source model_path.now ∷ file_source file_path.now ∷ []) of_line (IsOk result)
+        (λ told. ComesOfLine (IsSelected dialect told.model told.file (map string_bytes settings.now)) dialect.unknown
+        model_path.now file_path.now told.model (F.failed files.new) result) }
     ensures line { IfOk result (λ made. IsUsableLine made.line) }
     ensures valid { IfOk result (λ made. IsValid (plain made.line.model) made.config.values) }
     ensures config { IfOk result (λ made. IsConfig made.line.model.features made.config.values) }
     ensures kept { F.content files.new ≡ F.content files.old }
     ensures read { IsReadOf (model_path.now ∷ file_path.now ∷ []) (F.faults files.old) (F.faults files.new)
         (F.failed files.new) result }
-    ensures order { (m : List ℕ) → F.content files.old model_path.now ≡ Some m → IsReadFault result
-        → IsLoadedFor dialect.unknown model_path.now file_path.now m (F.failed files.new) }
 {
     let line = load_product_line(alloc, dialect, model_path, file_path, files)?;
     let config = settled(alloc, &line.model, settings)?;

@@ -1,9 +1,10 @@
 //! `plain FILE`: the report on the program of a file.
 #![tactic(auto)]
 
-ghost use Rattle.std.specs.Prelude.{◌≡◌, ◌≤◌, ℕ, List, [], ◌∷◌, Some, Ok, IfOk};
+ghost use Rattle.std.specs.Prelude.{◌≡◌, ◌≤◌, [], ◌∷◌, Some, Ok, IfOk, IsOk};
+ghost use Rattle.fam_outer.specs.Loading.{AreGiven, only};
 ghost use Rattle.famlint_programs.specs.ProgramAnswers.{AnswersPlain, PromisedPlain};
-ghost use Rattle.famlint_loads.specs.Loads.{Comes, IsReadFault, IsReadOf};
+ghost use Rattle.famlint_loads.specs.Loads.{Comes, IsReadFault, IsReadOf, IsRight, file_source};
 
 use crate::report::report_by;
 use c_parser::read_plain;
@@ -44,10 +45,9 @@ pub fn plain<F: Files>(
     analysis: &Analysis,
     files: &mut F,
 ) -> Result<Done, Failure>
-    ensures answer { (bytes : List ℕ) → F.content files.old file.now ≡ Some bytes
-        → Comes (AnswersPlain includes analysis.now bytes) result }
-    ensures promise { (bytes : List ℕ) → F.content files.old file.now ≡ Some bytes
-        → IfOk result (λ done. PromisedPlain includes analysis.now bytes done.status done.text) }
+    ensures given { AreGiven F.loads (F.content files.old) files.old files.new (file_source file.now ∷ [])
+        only (IsOk result) (λ bytes. IsRight (AnswersPlain includes analysis.now bytes) (PromisedPlain includes analysis.now bytes)
+        (λ failed. failed ≡ Some file.now) (F.failed files.new) result) }
     ensures status { IfOk result (λ done. done.status ≤ 1) }
     ensures kept { F.content files.new ≡ F.content files.old }
     ensures read { IsReadOf (file.now ∷ []) (F.faults files.old) (F.faults files.new)

@@ -1,15 +1,16 @@
 //! What is asked of a variant: `project`, `variant` and `run`.
 #![tactic(auto)]
 
-ghost use Rattle.std.specs.Prelude.{◌≡◌, ◌≤◌, ℕ, List, [], ◌∷◌, ◌++◌, Some, IfOk};
+ghost use Rattle.std.specs.Prelude.{◌≡◌, ◌≤◌, [], ◌∷◌, ◌++◌, IfOk, IsOk};
+ghost use Rattle.fam_outer.specs.Loading.{AreGiven};
 ghost use Rattle.std.specs.List.{All};
 ghost use Rattle.c_tree.specs.Value.{IsInt};
 ghost use Rattle.c_tree.specs.View.{whole};
 ghost use Rattle.c_tree.specs.Whole.{IsProgram, IsPlainProgram};
 ghost use Rattle.cpp_conditions.specs.Validity.{plain, IsValid, IsConfig};
 ghost use Rattle.famlint_programs.specs.ProgramAnswers.{AnswersVariant, PromisedVariant, PromisedOf, IsDone, run_done};
-ghost use Rattle.famlint_loads.specs.Contents.{Contents};
-ghost use Rattle.famlint_loads.specs.Loads.{Comes, IsReadFault, IsReadOf};
+ghost use Rattle.famlint_loads.specs.Contents.{of_line};
+ghost use Rattle.famlint_loads.specs.Loads.{IsReadOf, IsRight, model_source, file_source};
 ghost use Rattle.famlint_requests.specs.Requests.{HaveInts};
 ghost use Rattle.famlint_programs.specs.RunText.{run_text, front_text, store_text};
 ghost use Rattle.famlint_requests.specs.declared.request.VariantTask.TheVariants as tasks;
@@ -163,15 +164,11 @@ pub fn variant<F: Files>(
     files: &mut F,
 ) -> Result<Done, Failure>
     requires { HaveInts task.now }
-    ensures answer { (told : Contents) → F.content files.old model.now ≡ Some told.model
-        → F.content files.old file.now ≡ Some told.file
-        → Comes (AnswersVariant dialect task.now settings.now told) result }
-    ensures promise { (told : Contents) → F.content files.old model.now ≡ Some told.model
-        → F.content files.old file.now ≡ Some told.file
-        → IfOk result (λ done. PromisedVariant dialect task.now settings.now told done.status done.text) }
+    ensures given { AreGiven F.loads (F.content files.old) files.old files.new
+        (model_source model.now ∷ file_source file.now ∷ []) of_line (IsOk result)
+        (λ told. IsRight (AnswersVariant dialect task.now settings.now told) (PromisedVariant dialect task.now settings.now told)
+        (IsLoadedFor dialect.unknown model.now file.now told.model) (F.failed files.new) result) }
     ensures status { IfOk result (λ done. done.status ≤ 1) }
-    ensures order { (m : List ℕ) → F.content files.old model.now ≡ Some m → IsReadFault result
-        → IsLoadedFor dialect.unknown model.now file.now m (F.failed files.new) }
     ensures kept { F.content files.new ≡ F.content files.old }
     ensures read { IsReadOf (model.now ∷ file.now ∷ []) (F.faults files.old) (F.faults files.new)
         (F.failed files.new) result }

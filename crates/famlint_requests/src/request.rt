@@ -209,56 +209,18 @@ impl Request {
         ensures { result ≡ role_of self.now (option_copied failed.entry) }
     {
         match self {
-            Request::Plain {
-                file: _,
-                includes: _,
-                analysis: _,
-            } => Role::File,
-            Request::Variant {
-                model,
-                file: _,
-                dialect: _,
-                settings: _,
-                task: _,
-            } => role_beside(failed, model),
-            Request::Family {
-                model,
-                file: _,
-                dialect: _,
-                analysis: _,
-                regions: _,
-                task: _,
-            } => role_beside(failed, model),
-            Request::Page {
-                model,
-                file: _,
-                dialect: _,
-                analysis: _,
-                regions: _,
-            } => role_beside(failed, model),
-            Request::Generate {
-                number: _,
-                analysis: _,
-                regions: _,
-            } => Role::File,
+            Request::Plain { .. } | Request::Generate { .. } | Request::Guide(_) => Role::File,
+            Request::Features { .. } => Role::Model,
+            Request::Variant { model, .. }
+            | Request::Family { model, .. }
+            | Request::Page { model, .. }
+            | Request::Advice { model, .. } => role_beside(failed, model),
             Request::Check {
                 model,
                 file,
                 certificate,
-                dialect: _,
+                ..
             } => role_of_three(failed, model, file, certificate),
-            Request::Advice {
-                model,
-                file: _,
-                dialect: _,
-                settings: _,
-                analysis: _,
-            } => role_beside(failed, model),
-            Request::Features {
-                model: _,
-                unknown: _,
-            } => Role::Model,
-            Request::Guide(_) => Role::File,
         }
     }
 }

@@ -2,7 +2,7 @@
 #![tactic(auto)]
 
 /// The codes and the statuses, each with its text.
-pub const CODES: [(&str, &str); 55] = [
+pub const CODES: [(&str, &str); 56] = [
     (
         "F20",
         "F20: A file is refused.\nCause: more than 1,048,576 bytes; at 1:1.\nWhat to do: cut the file.\n",
@@ -13,7 +13,7 @@ pub const CODES: [(&str, &str); 55] = [
     ),
     (
         "F2",
-        "F2: A file is refused.\nCause: a backslash directly before a newline, or before a carriage return and a\nnewline; at it. Also in a comment.\nWhat to do: join the two lines.\n",
+        "F2: A file is refused.\nCause: a backslash, or the trigraph `??/` that means one, directly before a\nnewline, or before a carriage return and a newline; at it. Also in a comment.\nWhat to do: join the two lines; in a comment leave it out.\n",
     ),
     (
         "F3",
@@ -54,6 +54,10 @@ pub const CODES: [(&str, &str); 55] = [
     (
         "F17",
         "F17: A file is refused.\nCause: the first declaration of the 17th name; at the name.\nWhat to do: cut the program into parts.\n",
+    ),
+    (
+        "F23",
+        "F23: A file is refused.\nCause: a constant that is assigned, raised, lowered or read from input; at its\nname. Or: a name that some valid configuration keeps changed, together with a\ndeclaration of it with `const`; no configuration is told.\nWhat to do: leave out its `const`, or the statement. Or: the statement within a\ngroup in which it is a variable.\n",
     ),
     (
         "F5",

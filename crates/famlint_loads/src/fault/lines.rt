@@ -91,6 +91,7 @@ fn file_code(code: &FileCode) -> &'static str
         FileCode::GroupInsideStatement => "F19",
         FileCode::TooLong => "F20",
         FileCode::GroupHere => "F21",
+        FileCode::ChangedConstant => "F23",
     }
 }
 

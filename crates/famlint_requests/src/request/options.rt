@@ -2,6 +2,7 @@
 #![tactic(auto)]
 
 ghost use Rattle.std.specs.Prelude.{◌≡◌};
+ghost use Rattle.command_words.specs.Arguments.{nothing_given};
 ghost use Rattle.famlint_requests.specs.Commands as commands;
 ghost use Rattle.famlint_requests.specs.Requests as specs;
 
@@ -53,103 +54,122 @@ impl Command {
         ensures { result ≡ commands.taken_by self }
     {
         match self {
-            Command::Plain => Given {
-                domain: true,
-                delay: true,
-                narrow: true,
-                widening: true,
-                overflow: true,
-                regions: false,
-                unknown: false,
-                includes: true,
-                steps: false,
-                inputs: false,
-            },
-            Command::Variant | Command::Advise => Given {
-                domain: true,
-                delay: true,
-                narrow: true,
-                widening: true,
-                overflow: true,
-                regions: false,
-                unknown: true,
-                includes: true,
-                steps: false,
-                inputs: false,
-            },
-            Command::Analyse | Command::Invariants | Command::Page => Given {
-                domain: true,
-                delay: true,
-                narrow: true,
-                widening: true,
-                overflow: true,
-                regions: true,
-                unknown: true,
-                includes: true,
-                steps: false,
-                inputs: false,
-            },
-            Command::Generate => Given {
-                domain: true,
-                delay: true,
-                narrow: true,
-                widening: true,
-                overflow: true,
-                regions: true,
-                unknown: false,
-                includes: false,
-                steps: false,
-                inputs: false,
-            },
-            Command::Certify => Given {
-                domain: false,
-                delay: true,
-                narrow: true,
-                widening: true,
-                overflow: true,
-                regions: true,
-                unknown: true,
-                includes: true,
-                steps: false,
-                inputs: false,
-            },
-            Command::Project | Command::Check => Given {
-                domain: false,
-                delay: false,
-                narrow: false,
-                widening: false,
-                overflow: false,
-                regions: false,
-                unknown: true,
-                includes: true,
-                steps: false,
-                inputs: false,
-            },
-            Command::Features => Given {
-                domain: false,
-                delay: false,
-                narrow: false,
-                widening: false,
-                overflow: false,
-                regions: false,
-                unknown: true,
-                includes: false,
-                steps: false,
-                inputs: false,
-            },
-            Command::Run => Given {
-                domain: false,
-                delay: false,
-                narrow: false,
-                widening: false,
-                overflow: true,
-                regions: false,
-                unknown: true,
-                includes: true,
-                steps: true,
-                inputs: true,
-            },
+            Command::Plain => plain_options(),
+            Command::Variant | Command::Advise => analysis_options(),
+            Command::Analyse | Command::Invariants | Command::Page => family_options(),
+            Command::Generate => generated_options(),
+            Command::Certify => interval_options(),
+            Command::Project | Command::Check => dialect_options(),
+            Command::Run => run_options(),
+            Command::Features => model_options(),
         }
+    }
+}
+
+/// No option.
+fn no_options() -> Given
+    ensures { result ≡ nothing_given }
+{
+    Given {
+        domain: false,
+        delay: false,
+        narrow: false,
+        widening: false,
+        overflow: false,
+        regions: false,
+        unknown: false,
+        includes: false,
+        steps: false,
+        inputs: false,
+    }
+}
+
+/// Those of how FILE is read over MODEL.
+fn dialect_options() -> Given
+    ensures { result ≡ commands.dialect_options }
+{
+    Given {
+        unknown: true,
+        includes: true,
+        ..no_options()
+    }
+}
+
+/// Those of a model alone.
+fn model_options() -> Given
+    ensures { result ≡ commands.model_options }
+{
+    Given {
+        unknown: true,
+        ..no_options()
+    }
+}
+
+/// Those of a run.
+fn run_options() -> Given
+    ensures { result ≡ commands.run_options }
+{
+    Given {
+        overflow: true,
+        steps: true,
+        inputs: true,
+        ..dialect_options()
+    }
+}
+
+/// Those of an analysis of a file without a model.
+fn plain_options() -> Given
+    ensures { result ≡ commands.plain_options }
+{
+    Given {
+        domain: true,
+        delay: true,
+        narrow: true,
+        widening: true,
+        overflow: true,
+        includes: true,
+        ..no_options()
+    }
+}
+
+/// Those of an analysis.
+fn analysis_options() -> Given
+    ensures { result ≡ commands.analysis_options }
+{
+    Given {
+        unknown: true,
+        ..plain_options()
+    }
+}
+
+/// Those of an analysis whose report has regions.
+fn family_options() -> Given
+    ensures { result ≡ commands.family_options }
+{
+    Given {
+        regions: true,
+        ..analysis_options()
+    }
+}
+
+/// The same, by intervals.
+fn interval_options() -> Given
+    ensures { result ≡ commands.interval_options }
+{
+    Given {
+        domain: false,
+        ..family_options()
+    }
+}
+
+/// The same, of a family that is made and has no model to load.
+fn generated_options() -> Given
+    ensures { result ≡ commands.generated_options }
+{
+    Given {
+        unknown: false,
+        includes: false,
+        ..family_options()
     }
 }
 

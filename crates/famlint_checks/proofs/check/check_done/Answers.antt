@@ -1,4 +1,4 @@
-use Rattle.std.proofs.Common.{◌≡◌, ◌∙◌, ap, length}
+use Rattle.std.proofs.Common.{◌∙◌, ap, length}
 use Rattle.famlint_checks.specs.Checked.{verdict_text}
 use Rattle.famlint_checks.proofs.check.check_done.Goals as goal
 

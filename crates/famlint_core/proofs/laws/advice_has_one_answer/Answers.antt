@@ -1,8 +1,17 @@
 use Rattle.famlint_core.proofs.AdviceOnce.{one_advice}
+use Rattle.famlint_core.proofs.SomeAdvice.{some_advice}
 use Rattle.famlint_core.proofs.laws.advice_has_one_answer.Goals as goal
 
-pub returns : goal.returns
-returns c = one_advice (record {
+pub returns-clause-some : goal.returns-clause-some
+returns-clause-some c = some_advice (record {
+  models = c.bytes_say_some_model.ensures.answer;
+  families = c.families_have_answers.ensures.answer;
+  configurations = c.phases_have_answers.ensures.configurations;
+  variants = c.variants_are_projections.ensures.read;
+})
+
+pub returns-clause-alone : goal.returns-clause-alone
+returns-clause-alone c = one_advice (record {
   models = c.bytes_say_one_model.ensures;
   families = c.families_are_read_once.ensures.once;
   accepted = c.families_are_read_once.ensures.accepted;

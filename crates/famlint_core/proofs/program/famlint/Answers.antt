@@ -1,36 +1,44 @@
-use Rattle.std.proofs.Common.{◌≡◌, Some, rules, subst, sym}
-use Rattle.std.specs.Prelude.{IfOk}
+use Rattle.std.proofs.Common.{◌≡◌, Some, rules}
 use Rattle.command_words.specs.Arguments.{texts_of}
-use Rattle.famlint_core.specs.Answers.{IsTold, Promised}
 use Rattle.famlint_requests.specs.Requests.{reading}
 use Rattle.famlint_core.proofs.Certified.{certified}
-use Rattle.famlint_core.proofs.Ended.{appended, same_request, by_role}
+use Rattle.famlint_core.proofs.Ended.{completed, same_request}
+use Rattle.famlint_core.proofs.Running.{given_told, loads_counted, risen_at, run_before_loads, run_given}
 use Rattle.famlint_core.proofs.program.famlint.Goals as goal
 
-pub returns-in-Ok-clause-answer : goal.returns-in-Ok-clause-answer
-returns-in-Ok-clause-answer g c = λ request e told is_told.
+pub returns-in-Err-NoMemory-clause-given : goal.returns-in-Err-NoMemory-clause-given
+returns-in-Err-NoMemory-clause-given g c = λ asked e.
+    run_before_loads g.F.Files.loads (g.F.Files.content c.args.files.now) c.args.files.now asked (g.F.Files.failed c.args.files.now) c.give_up.result _ _ c.give_up.ensures.status
+
+pub returns-in-Ok-clause-given : goal.returns-in-Ok-clause-given
+returns-in-Ok-clause-given g c = λ asked e.
     let mine = c.in-Ok.request in
     let read : reading (texts_of c.args.words.now) ≡ Some mine = search rules in
-    let same = same_request (reading (texts_of c.args.words.now)) mine request read e in
-    by_role mine request (g.F.Files.content c.args.files.now) told c.work-came.result (g.F.Files.failed c.work-came.new.files) c.role-failed.result _ _ _
-    same (c.work-came.ensures.answer told) (search rules) c.end.ensures is_told
+    run_given g.F.Files.loads (g.F.Files.content c.args.files.now) c.args.files.now c.work-came.new.files mine asked c.work-came.result
+    (g.F.Files.failed c.work-came.new.files) c.role-failed.result c.end.result _ _
+    (same_request (reading (texts_of c.args.words.now)) mine asked read e) (search rules) c.end.ensures c.work-came.ensures.given
+
+pub returns-in-Ok-clause-answer : goal.returns-in-Ok-clause-answer
+returns-in-Ok-clause-answer g c = λ asked e told is.
+    (given_told _ _ _ _ asked _ _ told (returns-in-Ok-clause-given g c asked e) is).answer
 
 pub returns-in-Ok-clause-promise : goal.returns-in-Ok-clause-promise
-returns-in-Ok-clause-promise g c = λ request e told is_told low.
-    let mine = c.in-Ok.request in
-    let read : reading (texts_of c.args.words.now) ≡ Some mine = search rules in
-    let same = same_request (reading (texts_of c.args.words.now)) mine request read e in
-    let mine_told = subst (λ r. IsTold r (g.F.Files.content c.args.files.now) told) (sym same) is_told in
-    appended (Promised request told) c.work-came.result c.role-failed.result _ _ _
-    (subst (λ r. IfOk c.work-came.result (λ done. Promised r told done.status done.text)) same (c.work-came.ensures.promise told mine_told)) c.end.ensures low
+returns-in-Ok-clause-promise g c = λ asked e told is.
+    (given_told _ _ _ _ asked _ _ told (returns-in-Ok-clause-given g c asked e) is).promise
+
+pub returns-in-Ok-clause-order : goal.returns-in-Ok-clause-order
+returns-in-Ok-clause-order g c = λ asked e told is.
+    (given_told _ _ _ _ asked _ _ told (returns-in-Ok-clause-given g c asked e) is).order
+
+pub returns-in-Ok-clause-loads_counted : goal.returns-in-Ok-clause-loads_counted
+returns-in-Ok-clause-loads_counted g c = loads_counted c.work-came.result c.role-failed.result c.end.result _ _ _ _ c.end.ensures c.work-came.ensures.read.counted
 
 pub returns-in-Ok-clause-certified : goal.returns-in-Ok-clause-certified
-returns-in-Ok-clause-certified g c = λ request e told is_told asked no_load no_write.
-    let mine = c.in-Ok.request in
-    let read : reading (texts_of c.args.words.now) ≡ Some mine = search rules in
-    let same = same_request (reading (texts_of c.args.words.now)) mine request read e in
-    certified c.certificates_are_accepted.ensures request told _ _ _ _ asked
-    (by_role mine request (g.F.Files.content c.args.files.now) told c.work-came.result (g.F.Files.failed c.work-came.new.files) c.role-failed.result _ _ _
-    same (c.work-came.ensures.answer told) (search rules) c.end.ensures is_told)
-    (λ six. no_load (c.work-came.ensures.read.risen (c.end.ensures.read six)))
-    (λ seven. no_write (c.end.ensures.write seven))
+returns-in-Ok-clause-certified g c = λ asked e told is question no_load no_write.
+    certified c.certificates_are_accepted.ensures asked told _ _ _ _ question (returns-in-Ok-clause-answer g c asked e told is)
+    (λ six. no_load (risen_at 6 _ _ _ (returns-in-Ok-clause-loads_counted g c) six)) (λ seven. no_write (risen_at 7 _ _ _ c.end.ensures.writes seven))
+
+pub returns-in-Ok-clause-complete : goal.returns-in-Ok-clause-complete
+returns-in-Ok-clause-complete g c = λ asked e told is accepted no_load no_write.
+    completed asked told _ _ _ _ accepted (returns-in-Ok-clause-answer g c asked e told is)
+    (λ six. no_load (risen_at 6 _ _ _ (returns-in-Ok-clause-loads_counted g c) six)) (λ seven. no_write (risen_at 7 _ _ _ c.end.ensures.writes seven))
