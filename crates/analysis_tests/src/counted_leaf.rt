@@ -165,6 +165,10 @@ impl Leaf for CountedLeaf {
         self.leaf.bounds_of(x)
     }
 
+    fn step_of(&self, x: u32) -> u64 {
+        self.leaf.step_of(x)
+    }
+
     fn form_range(&self, f: &Form) -> Option<Range> {
         self.leaf.form_range(f)
     }

@@ -1,4 +1,4 @@
-//! Tests of runs and of the four kinds of leaf, over their contracts; among them every operation over small leaves of two variables, against
+//! Tests of runs and of the kinds of leaf, over their contracts; among them every operation over small leaves of two variables, against
 //! the stores that it must hold.
 #![tactic(auto)]
 
@@ -20,6 +20,8 @@ mod pairs;
 mod random_chains;
 #[cfg(test)]
 mod ranges;
+#[cfg(test)]
+mod remainders;
 #[cfg(test)]
 mod runs;
 #[cfg(test)]

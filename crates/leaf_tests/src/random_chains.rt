@@ -7,6 +7,7 @@ use crate::models::{Model, Template};
 use crate::numbers::Numbers;
 use crate::small::join_of;
 use crate::stores::{Store, between, met};
+use congruence_leaf::CongruenceLeaf;
 use fam_outer::NoMemory;
 use interval_leaf::IntervalLeaf;
 use leaf_domain::{Leaf, Thresholds};
@@ -251,6 +252,13 @@ fn strides_are_widened_as_defined(rt: HostRuntime) -> Result<(), Fail> {
 #[test]
 fn octagons_are_widened_as_defined(rt: HostRuntime) -> Result<(), Fail> {
     let wrong = first_wrong::<OctagonLeaf>(rt.alloc(), Template::Octagons)?;
+    assert_eq!(rt; wrong, None);
+    Ok(())
+}
+
+#[test]
+fn strides_that_follow_remainders_are_widened_as_defined(rt: HostRuntime) -> Result<(), Fail> {
+    let wrong = first_wrong::<CongruenceLeaf>(rt.alloc(), Template::Strides)?;
     assert_eq!(rt; wrong, None);
     Ok(())
 }

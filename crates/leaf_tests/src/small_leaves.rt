@@ -8,6 +8,7 @@ use crate::operations::{
 use crate::pairs::{both_are_held, common_are_kept, order_is_seen};
 use crate::small::{Sum, small_leaves};
 use crate::stores::{between, held_by};
+use congruence_leaf::CongruenceLeaf;
 use fam_outer::NoMemory;
 use interval_leaf::IntervalLeaf;
 use leaf_domain::{Compare, Leaf, Thresholds};
@@ -166,6 +167,12 @@ fn intervals_hold_what_they_must(rt: HostRuntime) -> Result<(), Fail> {
 #[test]
 fn strides_hold_what_they_must(rt: HostRuntime) -> Result<(), Fail> {
     assert!(rt; all_pass::<StrideLeaf>(rt.alloc(), Template::Strides)?);
+    Ok(())
+}
+
+#[test]
+fn strides_that_follow_remainders_hold_what_they_must(rt: HostRuntime) -> Result<(), Fail> {
+    assert!(rt; all_pass::<CongruenceLeaf>(rt.alloc(), Template::Strides)?);
     Ok(())
 }
 

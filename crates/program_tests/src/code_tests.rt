@@ -1,10 +1,10 @@
 //! Codes that no example file gives: those of `plain` under `analyse`, and the largest model within the limit of tests. Each code has a
 //! file in `examples/refused`, but for those of large inputs, which stand with the tests of their limits.
 
-use crate::comparing::compares;
 use fam_outer::NoMemory;
 use std::alloc::Global;
 use std::test::Fail;
+use test_runs::comparing::compares;
 
 /// A switch, and a number that is at least 4 where the switch is on.
 const MODEL: &str =
@@ -35,13 +35,7 @@ fn a_model_has_64_tests(rt: HostRuntime) -> Result<(), Fail> {
         ("m", model.as_bytes()),
         ("f", b"int main(void) { }\n".as_slice()),
     ];
-    compares(
-        &rt,
-        alloc,
-        "analyse m f",
-        &contents,
-        (0, b"alarms: 0\n", b""),
-    )
+    Ok(compares(alloc, "analyse m f", &contents, (0, b"alarms: 0\n", b""))?)
 }
 
 /// Files without groups, which `plain` refuses with the same codes.
@@ -86,7 +80,6 @@ fn codes_of_files_without_groups(rt: HostRuntime) -> Result<(), Fail> {
     for (file, told) in rows {
         let contents = [("m", MODEL.as_bytes()), ("f", file.as_bytes())];
         compares(
-            &rt,
             rt.alloc(),
             "analyse m f",
             &contents,

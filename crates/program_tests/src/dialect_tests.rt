@@ -1,9 +1,9 @@
 //! Names that no model has, and includes: refused or not, beside what comes without the options.
 
-use crate::cases::USAGE;
-use crate::comparing::{compares, three_files, two_files};
-use crate::running::ran_over;
 use std::test::Fail;
+use test_runs::cases::USAGE;
+use test_runs::comparing::{compares, three_files, two_files};
+use test_runs::running::ran_over;
 
 /// One switch.
 const SWITCH: &[u8] = b"{\"features\":[{\"name\":\"A\"}]}\n";
@@ -109,7 +109,7 @@ fn unknown_names(rt: HostRuntime) -> Result<(), Fail> {
     for (line, model, file, status, output, told) in rows {
         let files = two_files(model, file);
         let wanted = (status, output.as_bytes(), told.as_bytes());
-        compares(&rt, rt.alloc(), line, files.as_slice(), wanted)?;
+        compares(rt.alloc(), line, files.as_slice(), wanted)?;
     }
     Ok(())
 }
@@ -147,18 +147,17 @@ fn includes(rt: HostRuntime) -> Result<(), Fail> {
     for (line, status, output, told) in rows {
         let files = two_files(SWITCH, INCLUDING);
         let wanted = (status, output.as_bytes(), told.as_bytes());
-        compares(&rt, rt.alloc(), line, files.as_slice(), wanted)?;
+        compares(rt.alloc(), line, files.as_slice(), wanted)?;
     }
     let plain = b"#include <stdint.h>\n#include \"a.h\"\nint main(void) { }\n";
     let files = two_files(SWITCH, plain);
     let quiet = (0, b"alarms: 0\n".as_slice(), b"".as_slice());
-    compares(
-        &rt,
+    Ok(compares(
         rt.alloc(),
         "plain f --includes skip",
         files.as_slice(),
         quiet,
-    )
+    )?)
 }
 
 #[test]
@@ -167,10 +166,10 @@ fn certificates(rt: HostRuntime) -> Result<(), Fail> {
     let files = three_files(SWITCH, INCLUDING, certificate);
     let written = (1, certificate.as_slice(), b"".as_slice());
     let line = "certify m f --includes skip";
-    compares(&rt, rt.alloc(), line, files.as_slice(), written)?;
+    compares(rt.alloc(), line, files.as_slice(), written)?;
     let line = "check m f c --includes=skip --unknown=refuse";
     let ran = ran_over(rt.alloc(), line, files.as_slice())?;
     assert_eq!(rt; ran.status, 0);
     let refused = (4, b"".as_slice(), b"file: F4 at 1:1\n".as_slice());
-    compares(&rt, rt.alloc(), "check m f c", files.as_slice(), refused)
+    Ok(compares(rt.alloc(), "check m f c", files.as_slice(), refused)?)
 }

@@ -1,7 +1,7 @@
 //! The example files, and the words of commands on them with what is expected, as `examples/to_tests.sh` writes them.
 
 /// Each file under its path.
-pub(crate) const FILES: [(&str, &str); 66] = [
+pub(crate) const FILES: [(&str, &str); 69] = [
     (
         "assertion.c",
         "int level = 900;\nint limit = 1000;\nint main(void)\n{\n    level = level - limit;\n    assert(level > 0 - 200);\n    assert(level >= 0);\n    level = 0;\n}\n",
@@ -87,6 +87,14 @@ pub(crate) const FILES: [(&str, &str); 66] = [
         "int level;\nint main(void)\n{\n#ifdef FAST\n    level = 1;\n#endif\n}\n",
     ),
     (
+        "F23.c",
+        "const int limit = 100;\nint level;\nint main(void)\n{\n    limit = level + 1;\n}\n",
+    ),
+    (
+        "F2_trigraph.c",
+        "int x;\nint main(void)\n{\n    // why??/\n    x = 1;\n}\n",
+    ),
+    (
         "F3.c",
         "/* the assertions\n   of the sensor */ #include <assert.h>\nint main(void)\n{\n    assert(1);\n}\n",
     ),
@@ -137,6 +145,10 @@ pub(crate) const FILES: [(&str, &str); 66] = [
     (
         "F19.c",
         "int count;\nint level;\nint main(void)\n{\n    if (count > 8)\n        level = 1;\n#ifdef FAST\n    else\n        level = 2;\n#endif\n}\n",
+    ),
+    (
+        "F23_family.c",
+        "#ifdef FAST\nconst int limit = 4;\n#else\nint limit = 8;\n#endif\nint main(void)\n{\n    limit--;\n}\n",
     ),
     (
         "F5.c",
@@ -263,7 +275,7 @@ pub(crate) const FILES: [(&str, &str); 66] = [
 ];
 
 /// The words of each command on a program without variants, with its output and then its line on the error stream.
-pub(crate) const PROGRAMS: [(&str, &str); 27] = [
+pub(crate) const PROGRAMS: [(&str, &str); 29] = [
     ("plain assertion.c", "7:5: assertion\nalarms: 1\n"),
     ("plain digits.c", "alarms: 0\n"),
     (
@@ -298,6 +310,8 @@ pub(crate) const PROGRAMS: [(&str, &str); 27] = [
     ("plain F17.c", "file: F17 at 1:53\n"),
     ("plain F2.c", "file: F2 at 4:13\n"),
     ("plain F21.c", "file: F21 at 4:1\n"),
+    ("plain F23.c", "file: F23 at 5:5\n"),
+    ("plain F2_trigraph.c", "file: F2 at 4:11\n"),
     ("plain F3.c", "file: F3 at 1:1\n"),
     ("plain F4.c", "file: F4 at 1:1\n"),
 ];
@@ -380,7 +394,7 @@ pub(crate) const FAMILIES: [(&str, &str); 19] = [
 ];
 
 /// Those on families that are refused.
-pub(crate) const REFUSED_FAMILIES: [(&str, &str); 40] = [
+pub(crate) const REFUSED_FAMILIES: [(&str, &str); 41] = [
     (
         "check buffer.json buffer.c E2.certificate",
         "certificate: E2\n",
@@ -404,6 +418,7 @@ pub(crate) const REFUSED_FAMILIES: [(&str, &str); 40] = [
     ("analyse buffer.json F15.c", "file: F15 at 4:20\n"),
     ("analyse pins.json F16_family.c", "file: F16 at 132:1\n"),
     ("analyse buffer.json F19.c", "file: F19 at 8:5\n"),
+    ("analyse buffer.json F23_family.c", "file: F23 at 8:5\n"),
     ("analyse buffer.json F5.c", "file: F5 at 5:1\n"),
     ("analyse buffer.json F6.c", "file: F6 at 4:1\n"),
     ("analyse buffer.json F7.c", "file: F7 at 8:1\n"),

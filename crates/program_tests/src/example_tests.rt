@@ -1,11 +1,11 @@
 //! The example files: what is written beside each is what its command writes.
 
 use crate::example_files::{FAMILIES, FILES, PROGRAMS, REFUSED_FAMILIES};
-use crate::running::words_of;
 use fam_outer::{CallNumbers, Entries, MemoryFiles, MemorySink, NoMemory, Text};
 use famlint_core::famlint;
 use std::alloc::Global;
 use std::test::Fail;
+use test_runs::running::words_of;
 
 /// The example files in memory.
 fn example_files(alloc: Global) -> Result<MemoryFiles, NoMemory> {

@@ -1,8 +1,8 @@
 //! Words that ask for a text about the program.
 
-use crate::cases::USAGE;
-use crate::running::ran_over;
 use std::test::Fail;
+use test_runs::cases::USAGE;
+use test_runs::running::ran_over;
 
 const VERSION: &str = "famlint, proved by rattle-kit-13f logic dac8208d650f15bf\n";
 

@@ -1,11 +1,11 @@
 //! The program over files and sinks in memory.
 
-use crate::cases::USAGE;
-use crate::running::{memory_files, ran_over, words_of};
 use fam_outer::{MemorySink, NoMemory};
 use famlint_core::famlint;
 use std::alloc::Global;
 use std::test::Fail;
+use test_runs::cases::USAGE;
+use test_runs::running::{memory_files, ran_over, words_of};
 
 const ROW_1: &[u8] = b"int main(void) { }\n";
 

@@ -1,8 +1,8 @@
 //! `project`, `variant` and `run` over files in memory.
 
-use crate::cases::USAGE;
-use crate::comparing::gives;
 use std::test::Fail;
+use test_runs::cases::USAGE;
+use test_runs::comparing::gives;
 
 #[test]
 fn variants_are_reported(rt: HostRuntime) -> Result<(), Fail> {
@@ -29,7 +29,7 @@ fn variants_are_reported(rt: HostRuntime) -> Result<(), Fail> {
         ("variant m0 f6 --narrow=0", 1, "4:1: assertion\nalarms: 1\n"),
     ];
     for (line, status, output) in rows {
-        gives(&rt, alloc, line, Vec::new(alloc), (status, output, ""))?;
+        gives(alloc, line, Vec::new(alloc), (status, output, ""))?;
     }
     Ok(())
 }
@@ -53,7 +53,7 @@ fn runs_are_told(rt: HostRuntime) -> Result<(), Fail> {
         ),
     ];
     for (line, output) in rows {
-        gives(&rt, alloc, line, Vec::new(alloc), (0, output, ""))?;
+        gives(alloc, line, Vec::new(alloc), (0, output, ""))?;
     }
     Ok(())
 }
@@ -72,7 +72,7 @@ fn texts_of_variants(rt: HostRuntime) -> Result<(), Fail> {
         ),
     ];
     for (line, output) in rows {
-        gives(&rt, alloc, line, Vec::new(alloc), (0, output, ""))?;
+        gives(alloc, line, Vec::new(alloc), (0, output, ""))?;
     }
     Ok(())
 }
@@ -105,7 +105,7 @@ fn models_files_and_settings_are_refused(rt: HostRuntime) -> Result<(), Fail> {
         ("project ma none B=2", 6, "read fault: file\n"),
     ];
     for (line, status, told) in rows {
-        gives(&rt, alloc, line, Vec::new(alloc), (status, "", told))?;
+        gives(alloc, line, Vec::new(alloc), (status, "", told))?;
     }
     Ok(())
 }
@@ -121,7 +121,7 @@ fn loads_fail(rt: HostRuntime) -> Result<(), Fail> {
     ];
     for (line, call, told) in rows {
         let failing = vec![in alloc; call]?;
-        gives(&rt, alloc, line, failing, (6, "", told))?;
+        gives(alloc, line, failing, (6, "", told))?;
     }
     Ok(())
 }
@@ -143,7 +143,7 @@ fn other_options_are_refused(rt: HostRuntime) -> Result<(), Fail> {
         "run m0 f6 --regions merged",
     ];
     for line in lines {
-        gives(&rt, alloc, line, Vec::new(alloc), (2, "", usage))?;
+        gives(alloc, line, Vec::new(alloc), (2, "", usage))?;
     }
     Ok(())
 }

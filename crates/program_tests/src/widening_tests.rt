@@ -1,9 +1,9 @@
 //! Widening to thresholds, beside that to the type's bounds.
 
-use crate::cases::{USAGE, content_of};
-use crate::comparing::{compares, three_files, two_files};
-use crate::running::ran_over;
 use std::test::Fail;
+use test_runs::cases::{USAGE, content_of};
+use test_runs::comparing::{compares, three_files, two_files};
+use test_runs::running::ran_over;
 
 /// A place in a ring of 8, which one way through the loop leaves as it is.
 const RING: &[u8] =
@@ -129,7 +129,7 @@ fn reports_on_all_variants(rt: HostRuntime) -> Result<(), Fail> {
     for (line, file, status, output) in rows {
         let files = two_files(content_of("ma"), file);
         let wanted = (status, output.as_bytes(), "".as_bytes());
-        compares(&rt, alloc, line, &files, wanted)?;
+        compares(alloc, line, &files, wanted)?;
     }
     Ok(())
 }
@@ -139,7 +139,7 @@ fn reports_on_all_variants(rt: HostRuntime) -> Result<(), Fail> {
 fn certificates_are_accepted(rt: HostRuntime) -> Result<(), Fail> {
     let files = three_files(content_of("ma"), RING, RING_CERTIFICATE.as_bytes());
     let wanted = (0, "certificate: yes, 0 alarms\n".as_bytes(), "".as_bytes());
-    compares(&rt, rt.alloc(), "check m f c", &files, wanted)
+    Ok(compares(rt.alloc(), "check m f c", &files, wanted)?)
 }
 
 #[test]

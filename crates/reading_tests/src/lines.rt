@@ -37,7 +37,7 @@ fn lined(rt: &impl Abort, alloc: Global, text: &[u8]) -> Result<Lines, FileRefus
 
 #[test]
 fn comments_become_spaces(rt: HostRuntime) -> Result<(), FileRefusal> {
-    let cases: [(&[u8], &[u8]); 14] = [
+    let cases: [(&[u8], &[u8]); 16] = [
         (b"", b""),
         (b"a/b * c", b"a/b * c"),
         (b"a/* b */c", b"a       c"),
@@ -50,6 +50,8 @@ fn comments_become_spaces(rt: HostRuntime) -> Result<(), FileRefusal> {
         (b"// /*\nx", b"     \nx"),
         (b"\"/* */\"", b"\"     \""),
         (b"x\\ \n\\y", b"x\\ \n\\y"),
+        (b"// a??/ b\nx", b"         \nx"),
+        (b"// ?? /\nx", b"       \nx"),
         (b"#if /* a */\nx /*\n*/ y", b"#if        \nx   \n   y"),
         (b"x /*\n*/ /* b */ ; #", b"x   \n           ; #"),
     ];
@@ -62,7 +64,7 @@ fn comments_become_spaces(rt: HostRuntime) -> Result<(), FileRefusal> {
 
 #[test]
 fn texts_are_refused(rt: HostRuntime) {
-    let cases: [(&[u8], (u8, u32, u32)); 15] = [
+    let cases: [(&[u8], (u8, u32, u32)); 20] = [
         (b"x\n /* a", (1, 2, 2)),
         (b"/*/", (1, 1, 1)),
         (b"#x /*\n", (1, 1, 4)),
@@ -71,6 +73,12 @@ fn texts_are_refused(rt: HostRuntime) {
         (b"// a\\\nx", (2, 1, 5)),
         (b"\\\n/*", (2, 1, 1)),
         (b"/* \\\n */", (2, 1, 4)),
+        // a trigraph is a backslash
+        (b"x = 1;??/\n", (2, 1, 7)),
+        (b"x??/\r\n", (2, 1, 2)),
+        (b"// why??/\nx", (2, 1, 7)),
+        (b"/* a??/\n */", (2, 1, 5)),
+        (b"x\n????/\n", (2, 2, 3)),
         (b"  # if /* a\n*/", (3, 1, 8)),
         (b"x\n /* a\n\n b */ # if", (3, 2, 2)),
         (b"/*\n*/ /* b */ #", (3, 1, 1)),

@@ -1,4 +1,4 @@
-use Rattle.std.proofs.Common.{◌≤◌, List, ℕ, length, sym, subst}
+use Rattle.std.proofs.Common.{◌≤◌, List, ℕ, length, sym, subst, arith}
 use Rattle.fam_outer.specs.declared.dialect.Includes.TheVariants.{Assert}
 use Rattle.c_parser.specs.Items.{AreDistinct}
 use Rattle.c_parser.specs.Reading.{DeclaresAmong}
@@ -7,7 +7,8 @@ use Rattle.reading_tests.proofs.variants.variant.Goals as goal
 
 pub read_plain_with-requires-clause-few : goal.read_plain_with-requires-clause-few
 read_plain_with-requires-clause-few c =
-    subst (λ (names : List (List ℕ)). length names ≤ 16) (sym c.items.ensures) (c.family_names_are_few.ensures c.args.dialect c.args.model.now c.args.file.now c.args.family.now c.requires.family).0
+    let few = (c.family_names_are_few.ensures c.args.dialect c.args.model.now c.args.file.now c.args.family.now c.requires.family).0 in
+    subst (λ (names : List (List ℕ)). length names ≤ 48) (sym c.items.ensures) (omega (arith, few))
 
 pub read_plain_with-requires-clause-distinct : goal.read_plain_with-requires-clause-distinct
 read_plain_with-requires-clause-distinct c =

@@ -2,14 +2,14 @@
 
 ghost use Rattle.std.specs.Prelude.{◌≤◌};
 
-use crate::cases::{USAGE, content_of};
-use crate::comparing::{compares, gives, two_files};
-use crate::running::{memory_files, ran_over, words_of};
 use fam_outer::{MemorySink, NoMemory};
 use famlint_core::famlint;
 use std::alloc::Global;
 use std::process::Abort;
 use std::test::Fail;
+use test_runs::cases::{USAGE, content_of};
+use test_runs::comparing::{compares, gives, two_files};
+use test_runs::running::{memory_files, ran_over, words_of};
 
 #[test]
 fn alarms_of_all_variants(rt: HostRuntime) -> Result<(), Fail> {
@@ -60,7 +60,7 @@ fn alarms_of_all_variants(rt: HostRuntime) -> Result<(), Fail> {
         ),
     ];
     for (line, status, output) in rows {
-        gives(&rt, alloc, line, Vec::new(alloc), (status, output, ""))?;
+        gives(alloc, line, Vec::new(alloc), (status, output, ""))?;
     }
     Ok(())
 }
@@ -108,7 +108,7 @@ fn alarms_with_options(rt: HostRuntime) -> Result<(), Fail> {
         ),
     ];
     for (line, status, output) in rows {
-        gives(&rt, alloc, line, Vec::new(alloc), (status, output, ""))?;
+        gives(alloc, line, Vec::new(alloc), (status, output, ""))?;
     }
     Ok(())
 }
@@ -130,7 +130,7 @@ fn invariants_of_all_variants(rt: HostRuntime) -> Result<(), Fail> {
         (
             "invariants --domain=sharp m0 f42",
             0,
-            "4:1: if 1: x in [0,10], y in [0,10], x-y in [0,0]\n4:15: if 1: x in [0,8], y in [0,8], x-y in [0,0]\n5:1: if 1: x in [0,8], y in [0,8], x-y in [0,0]\n6:1: if 1: x in [2,10], y in [0,8], x-y in [2,2]\n8:1: if 1: x in [10,10], y in [10,10]\n9:1: if 1: x in [10,10], y in [10,10]\nalarms: 0\n",
+            "4:1: if 1: x in [0,10] step 2, y in [0,10] step 2, x-y in [0,0]\n4:15: if 1: x in [0,8] step 2, y in [0,8] step 2, x-y in [0,0]\n5:1: if 1: x in [0,8] step 2, y in [0,8] step 2, x-y in [0,0]\n6:1: if 1: x in [2,10] step 2, y in [0,8] step 2, x-y in [2,2]\n8:1: if 1: x in [10,10], y in [10,10]\n9:1: if 1: x in [10,10], y in [10,10]\nalarms: 0\n",
         ),
         (
             "invariants ma f31",
@@ -145,7 +145,7 @@ fn invariants_of_all_variants(rt: HostRuntime) -> Result<(), Fail> {
         ),
     ];
     for (line, status, output) in rows {
-        gives(&rt, alloc, line, Vec::new(alloc), (status, output, ""))?;
+        gives(alloc, line, Vec::new(alloc), (status, output, ""))?;
     }
     Ok(())
 }
@@ -170,7 +170,7 @@ fn models_and_files_are_refused(rt: HostRuntime) -> Result<(), Fail> {
         ("invariants ma none", 6, "read fault: file\n"),
     ];
     for (line, status, told) in rows {
-        gives(&rt, alloc, line, Vec::new(alloc), (status, "", told))?;
+        gives(alloc, line, Vec::new(alloc), (status, "", told))?;
     }
     Ok(())
 }
@@ -186,7 +186,7 @@ fn loads_of_both_commands_fail(rt: HostRuntime) -> Result<(), Fail> {
     ];
     for (line, call, told) in rows {
         let failing = vec![in alloc; call]?;
-        gives(&rt, alloc, line, failing, (6, "", told))?;
+        gives(alloc, line, failing, (6, "", told))?;
     }
     Ok(())
 }
@@ -207,7 +207,7 @@ fn other_words_are_refused(rt: HostRuntime) -> Result<(), Fail> {
         "invariants ma f8 --regions=paths --regions=paths",
     ];
     for line in lines {
-        gives(&rt, alloc, line, Vec::new(alloc), (2, "", usage))?;
+        gives(alloc, line, Vec::new(alloc), (2, "", usage))?;
     }
     Ok(())
 }
@@ -220,13 +220,7 @@ fn a_long_model_is_refused(rt: HostRuntime) -> Result<(), Fail> {
         model.push(b' ')?;
     }
     let contents = two_files(model.as_slice(), content_of("f8"));
-    compares(
-        &rt,
-        alloc,
-        "analyse m f",
-        &contents,
-        (3, b"", b"model: M8\n"),
-    )
+    Ok(compares(alloc, "analyse m f", &contents, (3, b"", b"model: M8\n"))?)
 }
 
 /// A model of this many switches `F1`, `F2` and so on.
@@ -258,25 +252,13 @@ fn thirty_switches(rt: HostRuntime) -> Result<(), Fail> {
     let model = switches(alloc, 30)?;
     let file = counting(alloc, 30)?;
     let contents = two_files(model.as_slice(), file.as_slice());
-    compares(
-        &rt,
-        alloc,
-        "analyse m f",
-        &contents,
-        (0, b"alarms: 0\n", b""),
-    )?;
+    compares(alloc, "analyse m f", &contents, (0, b"alarms: 0\n", b""))?;
     let ran = ran_over(alloc, "invariants m f", &contents).map_err(|_| "memory")?;
     assert_eq!(rt; ran.status, 0);
     assert!(rt; ran.out.ends_with(b"\n123:1: if 1: x in [0,0]\nalarms: 0\n"));
     let many = switches(alloc, 33)?;
     let refused = two_files(many.as_slice(), file.as_slice());
-    compares(
-        &rt,
-        alloc,
-        "analyse m f",
-        &refused,
-        (3, b"", b"model: M6\n"),
-    )
+    Ok(compares(alloc, "analyse m f", &refused, (3, b"", b"model: M6\n"))?)
 }
 
 /// As many tests of `N` in groups of their own.
@@ -308,17 +290,10 @@ fn limits_of_groups(rt: HostRuntime) -> Result<(), Fail> {
     let model = b"{\"features\":[{\"name\":\"N\",\"min\":0,\"max\":100}]}\n".as_slice();
     let most = tested(alloc, 64)?;
     let contents = two_files(model, most.as_slice());
-    compares(
-        &rt,
-        alloc,
-        "analyse m f",
-        &contents,
-        (0, b"alarms: 0\n", b""),
-    )?;
+    compares(alloc, "analyse m f", &contents, (0, b"alarms: 0\n", b""))?;
     let more = tested(alloc, 65)?;
     let contents = two_files(model, more.as_slice());
     compares(
-        &rt,
         alloc,
         "analyse m f",
         &contents,
@@ -326,13 +301,12 @@ fn limits_of_groups(rt: HostRuntime) -> Result<(), Fail> {
     )?;
     let deep = nested(alloc, 65)?;
     let contents = two_files(content_of("ma"), deep.as_slice());
-    compares(
-        &rt,
+    Ok(compares(
         alloc,
         "analyse m f",
         &contents,
         (4, b"", b"file: F16 at 66:1\n"),
-    )
+    )?)
 }
 
 /// The first line of the section that is open behind this line of the queue, if one is.
@@ -368,7 +342,6 @@ fn cut_files_are_refused(rt: HostRuntime) -> Result<(), Fail> {
     let mut line = 0u32;
     let told = told_of_cut(alloc, 0)?;
     compares(
-        &rt,
         alloc,
         "analyse m f",
         &two_files(model, b""),
@@ -380,13 +353,7 @@ fn cut_files_are_refused(rt: HostRuntime) -> Result<(), Fail> {
             line += 1;
             let told = told_of_cut(alloc, line)?;
             let contents = two_files(model, cut.as_slice());
-            compares(
-                &rt,
-                alloc,
-                "analyse m f",
-                &contents,
-                (4, b"", told.as_slice()),
-            )?;
+            compares(alloc, "analyse m f", &contents, (4, b"", told.as_slice()))?;
             if line == 39 {
                 return Ok(());
             }

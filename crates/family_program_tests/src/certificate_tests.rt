@@ -1,13 +1,12 @@
 //! `certify` and `check` over files in memory.
 
-use crate::cases::{USAGE, content_of};
-use crate::comparing::{compares, gives, three_files, two_files};
-use crate::running::ran_over;
 use fam_outer::NoMemory;
 use family_generator::generated_text;
 use std::alloc::Global;
-use std::process::Abort;
 use std::test::Fail;
+use test_runs::cases::{USAGE, content_of};
+use test_runs::comparing::{Unlike, compares, gives, three_files, two_files};
+use test_runs::running::ran_over;
 
 /// The certificate of a count to 10 that counts a second variable where `A` is off.
 const WHOLE: &str =
@@ -41,23 +40,22 @@ fn certificates_of_families(rt: HostRuntime) -> Result<(), Fail> {
         ("certify m0 f1", 0, "famlint certificate 1 stop\n"),
     ];
     for (line, status, output) in rows {
-        gives(&rt, alloc, line, Vec::new(alloc), (status, output, ""))?;
+        gives(alloc, line, Vec::new(alloc), (status, output, ""))?;
     }
     Ok(())
 }
 
 /// Compares what the check of a certificate over `ma` and a file comes to.
 fn checked(
-    rt: &impl Abort,
     alloc: Global,
     file: &str,
     certificate: &str,
     wanted: (u8, &str, &str),
-) -> Result<(), Fail> {
+) -> Result<(), Unlike> {
     let contents = three_files(content_of("ma"), content_of(file), certificate.as_bytes());
     let (status, output, told) = wanted;
     let wanted = (status, output.as_bytes(), told.as_bytes());
-    compares(rt, alloc, "check m f c", &contents, wanted)
+    compares(alloc, "check m f c", &contents, wanted)
 }
 
 #[test]
@@ -96,7 +94,7 @@ fn certificates_that_hold(rt: HostRuntime) -> Result<(), Fail> {
         ),
     ];
     for (file, certificate, output) in rows {
-        checked(&rt, rt.alloc(), file, certificate, (0, output, ""))?;
+        checked(rt.alloc(), file, certificate, (0, output, ""))?;
     }
     Ok(())
 }
@@ -150,7 +148,7 @@ fn certificates_that_do_not_hold(rt: HostRuntime) -> Result<(), Fail> {
         ),
     ];
     for (certificate, output) in rows {
-        checked(&rt, rt.alloc(), "f8", certificate, (1, output, ""))?;
+        checked(rt.alloc(), "f8", certificate, (1, output, ""))?;
     }
     Ok(())
 }
@@ -180,7 +178,7 @@ fn certificates_that_are_refused(rt: HostRuntime) -> Result<(), Fail> {
         ),
     ];
     for (certificate, told) in rows {
-        checked(&rt, rt.alloc(), "f8", certificate, (9, "", told))?;
+        checked(rt.alloc(), "f8", certificate, (9, "", told))?;
     }
     Ok(())
 }
@@ -210,30 +208,27 @@ fn words_and_loads(rt: HostRuntime) -> Result<(), Fail> {
         ("certify --regions=joined ma f8", 2, USAGE),
     ];
     for (line, status, told) in rows {
-        gives(&rt, alloc, line, Vec::new(alloc), (status, "", told))?;
+        gives(alloc, line, Vec::new(alloc), (status, "", told))?;
     }
     // a path that is CERTIFICATE's and FILE's is FILE's
     let third = vec![in alloc; 3u64]?;
     gives(
-        &rt,
         alloc,
         "check ma f8 f8",
         third,
         (6, "", "read fault: file\n"),
     )?;
     let third = vec![in alloc; 3u64]?;
-    gives(
-        &rt,
+    Ok(gives(
         alloc,
         "check ma f8 f1",
         third,
         (6, "", "read fault: certificate\n"),
-    )
+    )?)
 }
 
 /// What `certify` writes for a model and a file with these options is accepted, with as many alarms.
 fn is_accepted<'x>(
-    rt: &impl Abort,
     alloc: Global,
     options: &str,
     model: &'x [u8],
@@ -244,13 +239,7 @@ fn is_accepted<'x>(
     let contents = two_files(model, file);
     let ran = ran_over(alloc, line.as_str(), &contents).map_err(|_| "memory")?;
     let contents = three_files(model, file, ran.out.as_slice());
-    compares(
-        rt,
-        alloc,
-        "check m f c",
-        &contents,
-        (0, told.as_bytes(), b""),
-    )
+    Ok(compares(alloc, "check m f c", &contents, (0, told.as_bytes(), b""))?)
 }
 
 #[test]
@@ -287,7 +276,7 @@ fn what_is_certified_is_accepted(rt: HostRuntime) -> Result<(), Fail> {
     ];
     for (options, model, file, told) in rows {
         let (model, file) = (content_of(model), content_of(file));
-        is_accepted(&rt, alloc, options, model, file, told)?;
+        is_accepted(alloc, options, model, file, told)?;
     }
     Ok(())
 }
@@ -316,14 +305,7 @@ fn thirty_switches_with_loops(rt: HostRuntime) -> Result<(), Fail> {
     let alloc = rt.alloc();
     let (model, file) = thirty(alloc)?;
     let told = "certificate: yes, 0 alarms\n";
-    is_accepted(
-        &rt,
-        alloc,
-        "--delay 0",
-        model.as_bytes(),
-        file.as_bytes(),
-        told,
-    )
+    is_accepted(alloc, "--delay 0", model.as_bytes(), file.as_bytes(), told)
 }
 
 /// Eight switches and a number, over which thirty blocks are generated.
@@ -334,5 +316,5 @@ fn a_generated_family(rt: HostRuntime) -> Result<(), Fail> {
         b"{\"features\":[{\"name\":\"F0\"},{\"name\":\"F1\"},{\"name\":\"F2\"},{\"name\":\"F3\"},{\"name\":\"F4\"},{\"name\":\"F5\"},{\"name\":\"F6\"},{\"name\":\"F7\"},{\"name\":\"N\",\"min\":0,\"max\":9}]}\n";
     let text = generated_text(alloc, 30)?;
     let told = "certificate: yes, 0 alarms\n";
-    is_accepted(&rt, alloc, "--delay 0", model, text.bytes(), told)
+    is_accepted(alloc, "--delay 0", model, text.bytes(), told)
 }

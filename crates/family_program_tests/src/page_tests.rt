@@ -1,8 +1,8 @@
 //! Pages: their statuses, and what is refused. The page of an example is compared byte for byte beside the other examples.
 
-use crate::cases::{USAGE, ran_over_cases};
-use crate::comparing::gives;
 use std::test::Fail;
+use test_runs::cases::{USAGE, ran_over_cases};
+use test_runs::comparing::gives;
 
 #[test]
 fn pages_end_as_reports_do(rt: HostRuntime) -> Result<(), Fail> {
@@ -42,20 +42,18 @@ fn pages_are_refused_as_reports_are(rt: HostRuntime) -> Result<(), Fail> {
         ("page ma none", 6, "read fault: file\n"),
     ];
     for (line, status, told) in rows {
-        gives(&rt, alloc, line, Vec::new(alloc), (status, "", told))?;
+        gives(alloc, line, Vec::new(alloc), (status, "", told))?;
     }
     gives(
-        &rt,
         alloc,
         "page ma f1",
         vec![in alloc; 1]?,
         (6, "", "read fault: model\n"),
     )?;
-    gives(
-        &rt,
+    Ok(gives(
         alloc,
         "page ma f1",
         vec![in alloc; 2]?,
         (6, "", "read fault: file\n"),
-    )
+    )?)
 }

@@ -1,8 +1,8 @@
 //! `generate`, which names no files.
 
-use crate::cases::USAGE;
-use crate::comparing::gives;
 use std::test::Fail;
+use test_runs::cases::USAGE;
+use test_runs::comparing::gives;
 
 /// The text of one block is 63 bytes long by hand, that of three 164: block 1 counts `b` to 11 where `N` is at least 2.
 #[test]
@@ -31,7 +31,7 @@ fn generated_families(rt: HostRuntime) -> Result<(), Fail> {
         ("generate 3 --regions joined", 2, "", USAGE),
     ];
     for (line, status, output, told) in rows {
-        gives(&rt, alloc, line, Vec::new(alloc), (status, output, told))?;
+        gives(alloc, line, Vec::new(alloc), (status, output, told))?;
     }
     Ok(())
 }

@@ -1,8 +1,8 @@
 //! Merged regions beside those by paths: fewer lines, with the same meaning.
 
-use crate::cases::{USAGE, content_of};
-use crate::comparing::{compares, gives, three_files, two_files};
 use std::test::Fail;
+use test_runs::cases::{USAGE, content_of};
+use test_runs::comparing::{compares, gives, three_files, two_files};
 
 /// A place that all variants have, behind groups that say nothing of it.
 const STEPS: &[u8] = b"int main(void){\n#if N>=3\n#endif\n#if N>=5\n#endif\nassert(0);\n}\n";
@@ -52,7 +52,7 @@ fn reports_by_paths_and_merged(rt: HostRuntime) -> Result<(), Fail> {
     for (line, file, output) in rows {
         let files = two_files(content_of("mn"), file);
         let wanted = (1, output.as_bytes(), "".as_bytes());
-        compares(&rt, alloc, line, &files, wanted)?;
+        compares(alloc, line, &files, wanted)?;
     }
     Ok(())
 }
@@ -62,7 +62,7 @@ fn merged_certificates_are_accepted(rt: HostRuntime) -> Result<(), Fail> {
     let alloc = rt.alloc();
     let files = three_files(content_of("mn"), COUNTED, COUNTED_CERTIFICATE.as_bytes());
     let wanted = (0, "certificate: yes, 1 alarms\n".as_bytes(), "".as_bytes());
-    compares(&rt, alloc, "check m f c", &files, wanted)
+    Ok(compares(alloc, "check m f c", &files, wanted)?)
 }
 
 #[test]
@@ -87,7 +87,7 @@ fn commands_that_have_no_regions(rt: HostRuntime) -> Result<(), Fail> {
         ("check ma f1 c --regions=merged", 2, "", USAGE),
     ];
     for (line, status, output, told) in rows {
-        gives(&rt, alloc, line, Vec::new(alloc), (status, output, told))?;
+        gives(alloc, line, Vec::new(alloc), (status, output, told))?;
     }
     Ok(())
 }

@@ -1,13 +1,13 @@
 //! The certificate of the queue, changed in one number or one literal at a time: what `check` says of the family is what it says of its
 //! members, one after another, each with the lines whose regions it meets.
 
-use crate::cases::content_of;
-use crate::running::{Ran, ran_over};
 use fam_outer::NoMemory;
 use memchr::memmem;
 use std::alloc::Global;
 use std::process::Abort;
 use std::test::Fail;
+use test_runs::cases::content_of;
+use test_runs::running::{Ran, ran_over};
 
 /// The literals of the queue's regions, with their denials, and the bit of a member that is their truth.
 const LITERALS: [(&[u8], &[u8], u32); 7] = [

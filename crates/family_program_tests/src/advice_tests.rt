@@ -1,9 +1,9 @@
 //! `advise` and `features` over files in memory.
 
-use crate::cases::USAGE;
-use crate::comparing::{compares, gives, two_files};
 use std::alloc::Global;
 use std::test::Fail;
+use test_runs::cases::USAGE;
+use test_runs::comparing::{compares, gives, two_files};
 
 #[test]
 fn what_models_leave_open(rt: HostRuntime) -> Result<(), Fail> {
@@ -29,7 +29,7 @@ fn what_models_leave_open(rt: HostRuntime) -> Result<(), Fail> {
         ("features mc --regions paths", 2, "", USAGE),
     ];
     for (line, status, output, told) in rows {
-        gives(&rt, alloc, line, Vec::new(alloc), (status, output, told))?;
+        gives(alloc, line, Vec::new(alloc), (status, output, told))?;
     }
     Ok(())
 }
@@ -82,7 +82,7 @@ fn nearest_configurations(rt: HostRuntime) -> Result<(), Fail> {
         ("advise ma f1 --regions merged", 2, "", USAGE),
     ];
     for (line, status, output, told) in rows {
-        gives(&rt, alloc, line, Vec::new(alloc), (status, output, told))?;
+        gives(alloc, line, Vec::new(alloc), (status, output, told))?;
     }
     Ok(())
 }
@@ -114,7 +114,7 @@ fn thirty_switches_with_alarms_on_six(rt: HostRuntime) -> Result<(), Fail> {
     let contents = two_files(model.as_bytes(), file.as_bytes());
     let told =
         b"advice: F1=1 F2=1 F3=1 F4=1 F5=0 F6=1 F7=1 F8=1 F9=1 F10=0 F11=1 F12=1 F13=1 F14=1 F15=0 F16=1 F17=1 F18=1 F19=1 F20=0 F21=1 F22=1 F23=1 F24=1 F25=0 F26=1 F27=1 F28=1 F29=1 F30=0; changed 6\n".as_slice();
-    compares(&rt, alloc, line.as_str(), &contents, (0, told, b""))
+    Ok(compares(alloc, line.as_str(), &contents, (0, told, b""))?)
 }
 
 /// A model of 24 switches, a file that counts those that are on and has an alarm where more than twelve are, and the words with
@@ -146,7 +146,7 @@ fn half_of_the_switches_that_count_change(rt: HostRuntime) -> Result<(), Fail> {
     let contents = two_files(model.as_bytes(), file.as_bytes());
     let told =
         b"advice: F1=0 F2=0 F3=0 F4=0 F5=0 F6=0 F7=0 F8=0 F9=0 F10=0 F11=0 F12=0 F13=1 F14=1 F15=1 F16=1 F17=1 F18=1 F19=1 F20=1 F21=1 F22=1 F23=1 F24=1; changed 12\n".as_slice();
-    compares(&rt, alloc, line.as_str(), &contents, (0, told, b""))
+    Ok(compares(alloc, line.as_str(), &contents, (0, told, b""))?)
 }
 
 /// A model of 32 numbers, which take more tests than trees have, and the words with each number 3.
@@ -174,18 +174,17 @@ fn one_of_many_numbers_changes(rt: HostRuntime) -> Result<(), Fail> {
     let contents = two_files(model.as_bytes(), file);
     let told =
         b"advice: N1=3 N2=3 N3=3 N4=3 N5=4 N6=3 N7=3 N8=3 N9=3 N10=3 N11=3 N12=3 N13=3 N14=3 N15=3 N16=3 N17=3 N18=3 N19=3 N20=3 N21=3 N22=3 N23=3 N24=3 N25=3 N26=3 N27=3 N28=3 N29=3 N30=3 N31=3 N32=3; changed 1\n".as_slice();
-    compares(&rt, alloc, line.as_str(), &contents, (0, told, b""))
+    Ok(compares(alloc, line.as_str(), &contents, (0, told, b""))?)
 }
 
 #[test]
 fn a_model_that_is_not_loaded(rt: HostRuntime) -> Result<(), Fail> {
     let alloc = rt.alloc();
     let failing = vec![in alloc; 1u64]?;
-    gives(
-        &rt,
+    Ok(gives(
         alloc,
         "features mc",
         failing,
         (6, "", "read fault: model\n"),
-    )
+    )?)
 }
