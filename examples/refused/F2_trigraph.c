@@ -1,0 +1,6 @@
+int x;
+int main(void)
+{
+    // why??/
+    x = 1;
+}
