@@ -4,7 +4,8 @@ use Rattle.fam_outer.specs.declared.faults.Place.{Place}
 use Rattle.c_tree.specs.Value.{greatest}
 use Rattle.c_tree.specs.Tree.{Whole}
 use Rattle.c_tree.specs.Project.{IsConditioned}
-use Rattle.c_tree.specs.Whole.{is_before, IsProgram, IsPlainProgram}
+use Rattle.fam_outer.specs.Places.{is_before}
+use Rattle.c_tree.specs.Whole.{IsProgram, IsPlainProgram}
 use Rattle.c_grammar.specs.declared.items.Item.{Item}
 use Rattle.c_grammar.specs.declared.items.Sign.{Sign}
 use Rattle.c_grammar.specs.declared.items.Sign.TheVariants as signs

@@ -13,9 +13,8 @@ use Rattle.c_tokens.specs.declared.token.Token.{Token}
 use Rattle.c_tokens.specs.declared.token.TokenKind.{TokenKind}
 use Rattle.c_tokens.specs.declared.token.TokenKind.TheVariants as kinds
 use Rattle.c_tokens.specs.Lexemes.{kind_of}
-use Rattle.fam_outer.specs.Places.{place_at, IsEarlier}
+use Rattle.fam_outer.specs.Places.{place_at, is_before}
 use Rattle.c_tokens.specs.Reading.{StandBetween, IsReading, tokens_of}
-use Rattle.c_tree.specs.Whole.{is_before}
 use Rattle.c_grammar.specs.declared.items.Sign.{Sign}
 use Rattle.c_grammar.specs.declared.items.Sign.TheVariants as signs
 use Rattle.c_words.specs.Keywords.{is_keyword}
@@ -32,7 +31,7 @@ use Rattle.c_parser.proofs.Growing.{grows}
 pub record TokenLaws : Type 0 where
   pub read : (text : List ℕ) → IsReading text (tokens_of text)
   pub literal : (lexeme : List ℕ) (value : ℤ) → kind_of lexeme ≡ Some (kinds.Number value) → (n : ℕ) × (value ≡ pos n) × (n ≤ 2147483647)
-  pub rise : (text : List ℕ) (i j : ℕ) → i < j → j ≤ length text → IsEarlier (place_at text i) (place_at text j)
+  pub rise : (text : List ℕ) (i j : ℕ) → i < j → j ≤ length text → IsTrue (is_before (place_at text i) (place_at text j))
 
 pub stand : TokenLaws → (text : List ℕ) (ts : List Token) → tokens_of text ≡ Ok ts → StandBetween text 0 ts (length text)
 stand laws text ts is = subst (IsReading text) is (laws.read text)
@@ -43,18 +42,10 @@ within text start (t ∷ ts) end h = ((omega (arith, h.1.0.begins), omega (arith
 
 -- ---- places
 
-or_right : (a b : Bool) → b ≡ true → (a || b) ≡ true
-or_right true b h = refl
-or_right false b h = h
-
-earlier_before : (p q : Place) → IsEarlier p q → IsTrue (is_before p q)
-earlier_before p q (inl lt) = rw (lt-ltb p.line q.line lt) refl
-earlier_before p q (inr h) = or_right (nat_lt p.line q.line) (nat_eq p.line q.line && nat_lt p.column q.column) (rw (eq-eqb p.line q.line h.0, lt-ltb p.column q.column h.1) refl)
-
 before_all : TokenLaws → (text : List ℕ) (k start : ℕ) → k < start → (names : List (List ℕ)) (ts : List Token) (end : ℕ) → StandBetween text start ts end → IsBeforeItems (place_at text k) (items_from text names ts)
 before_all laws text k start lt names [] end h = tt
 before_all laws text k start lt names (t ∷ ts) end h = (
-  subst (λ (q : Place). IsTrue (is_before (place_at text k) q)) (sym h.1.0.place) (earlier_before (place_at text k) (place_at text t.start) (laws.rise text k t.start (omega (arith, h.0.order)) h.0.within)),
+  subst (λ (q : Place). IsTrue (is_before (place_at text k) q)) (sym h.1.0.place) (laws.rise text k t.start (omega (arith, h.0.order)) h.0.within),
   before_all laws text k t.end (omega (arith, h.0.order, h.1.0.begins)) (names_with names t.kind (lexeme_in text t)) ts end h.1.1,
 )
 

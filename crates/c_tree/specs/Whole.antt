@@ -2,15 +2,12 @@
 use Rattle.std.specs.Prelude.{◌≡◌, ℕ, ◌+◌, ◌≤◌, ◌<◌, max, List, [], ◌∷◌, Bool, nat_lt, nat_eq, ◌&&◌, ◌||◌, IsTrue, length}
 use Rattle.std.specs.List.{All}
 use Rattle.fam_outer.specs.declared.faults.Place.{Place}
+use Rattle.fam_outer.specs.Places.{is_before}
 use Rattle.c_tree.specs.Tree.{Term, Number, Var, Neg, Not, Binary, Code, Done, Assign, Input, Assert, If, While, Block, Skip, Cond, Whole}
 use Rattle.c_tree.specs.Value.{IsInt}
 use Rattle.c_tree.specs.declared.lists.Declared.{Declared}
 use Rattle.c_tree.specs.Fit.{IsCodeOf, IsPlain}
 use Rattle.c_tree.specs.Places.{program_places}
-
--- by line, and then by column
-abbrev pub is_before : Place → Place → Bool
-is_before a b = nat_lt a.line b.line || (nat_eq a.line b.line && nat_lt a.column b.column)
 
 -- a place is before each of a list
 abbrev pub IsBeforeAll : Place → List Place → Type 0

@@ -1,5 +1,5 @@
 -- Places in a text.
-use Rattle.std.specs.Prelude.{◌≡◌, ◌⊎◌, ◌<◌, ℕ, ◌+◌, Bool, ◌==◌, List, [], ◌∷◌, length, take, count_by, if◌then◌else◌}
+use Rattle.std.specs.Prelude.{ℕ, ◌+◌, Bool, ◌==◌, ◌&&◌, ◌||◌, nat_lt, nat_eq, List, [], ◌∷◌, length, take, count_by, if◌then◌else◌}
 use Rattle.std.specs.List.{list_any}
 use Rattle.fam_outer.specs.declared.faults.Place.{Place}
 
@@ -20,5 +20,5 @@ abbrev pub place_at : List ℕ → ℕ → Place
 place_at text offset = end_place (take offset text)
 
 -- one place comes before the other, by line and then by column
-abbrev pub IsEarlier : Place → Place → Type 0
-IsEarlier p q = (p.line < q.line) ⊎ ((p.line ≡ q.line) × (p.column < q.column))
+abbrev pub is_before : Place → Place → Bool
+is_before p q = nat_lt p.line q.line || (nat_eq p.line q.line && nat_lt p.column q.column)

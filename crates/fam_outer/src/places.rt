@@ -1,15 +1,15 @@
 //! Places in a text.
 #![tactic(auto)]
 
-ghost use Rattle.std.specs.Prelude.{◌≡◌, ℕ, ◌<◌, ◌≤◌, ◌+◌, ◌^◌, List, [], ◌∷◌, ◌++◌, length};
-ghost use Rattle.fam_outer.specs.Places.{end_place, place_at, IsEarlier};
+ghost use Rattle.std.specs.Prelude.{◌≡◌, ℕ, ◌<◌, ◌≤◌, ◌+◌, ◌^◌, IsTrue, List, [], ◌∷◌, ◌++◌, length};
+ghost use Rattle.fam_outer.specs.Places.{end_place, place_at, is_before};
 
 use crate::faults::Place;
 
 /// A later byte of a text has a later place.
 pub fn places_rise()
     ensures { (text : List ℕ) (i j : ℕ) → i < j → j ≤ length text
-        → IsEarlier (place_at text i) (place_at text j) }
+        → IsTrue (is_before (place_at text i) (place_at text j)) }
 {}
 
 /// The place behind a byte that stands at this place.

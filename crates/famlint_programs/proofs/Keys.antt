@@ -6,7 +6,8 @@ use Rattle.std.proofs.lemmas.Option.{none-some, same_Some, get_or_from_slice_get
 use Rattle.fam_outer.specs.declared.faults.Place.{Place}
 use Rattle.c_tree.specs.declared.tree.Kind.{Kind}
 use Rattle.c_tree.specs.declared.tree.Kind.TheVariants.{Overflow, ZeroDivisor, Assertion}
-use Rattle.c_tree.specs.Whole.{is_before, IsBeforeAll, IsRising}
+use Rattle.fam_outer.specs.Places.{is_before}
+use Rattle.c_tree.specs.Whole.{IsBeforeAll, IsRising}
 use Rattle.lifted_analysis.specs.Promises.{by_kind}
 use Rattle.plain_analysis.specs.Places.{is_same_place}
 use Rattle.plain_analysis.proofs.Located.{same_place_self}

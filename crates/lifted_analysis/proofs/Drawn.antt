@@ -7,7 +7,8 @@ use Rattle.c_tree.specs.declared.tree.Mode.{Mode}
 use Rattle.c_tree.specs.Tree.{Term, Code, followed, Done, Assign, Input, Assert, If, While, Block, Skip, Cond}
 use Rattle.c_tree.specs.Project.{projected}
 use Rattle.c_tree.specs.Fit.{IsCodeOf}
-use Rattle.c_tree.specs.Whole.{is_before, IsBeforeAll, IsRising}
+use Rattle.fam_outer.specs.Places.{is_before}
+use Rattle.c_tree.specs.Whole.{IsBeforeAll, IsRising}
 use Rattle.leaf_domain.specs.Leaves.{LeafValue, LeafMeaning, LeafLaws, IsLeafLike, nothing_of}
 use Rattle.leaf_domain.specs.Soundness.{TransferAnswers}
 use Rattle.leaf_domain.specs.Transfer.{assumed, assigned, forgotten}

@@ -9,7 +9,8 @@ use Rattle.c_tree.specs.Fit.{IsPlain}
 use Rattle.c_tree.specs.Places.{places_of, program_places}
 use Rattle.c_tree.specs.Project.{projected, projected_program}
 use Rattle.c_tree.specs.Tree.{Code, Done, Assign, Input, Assert, If, While, Block, Skip, Cond, Whole}
-use Rattle.c_tree.specs.Whole.{is_before, IsBeforeAll, IsRising, IsProgram}
+use Rattle.fam_outer.specs.Places.{is_before}
+use Rattle.c_tree.specs.Whole.{IsBeforeAll, IsRising, IsProgram}
 use Rattle.c_tree.proofs.Wholes.{IsPlain-projected, IsProgram-projected}
 use Rattle.leaf_domain.specs.Leaves.{LeafValue, LeafMeaning, LeafLaws, nothing_of, is_nothing_of}
 use Rattle.leaf_domain.specs.Soundness.{TransferAnswers, NothingStops}

@@ -9,7 +9,8 @@ use Rattle.c_tree.specs.declared.tree.Mode.{Mode}
 use Rattle.c_tree.specs.Tree.{Code, Done, Assign, Input, Assert, If, While, Block, Skip, Cond, Whole}
 use Rattle.c_tree.specs.Fit.{IsPlain}
 use Rattle.c_tree.specs.Places.{places_of, program_places}
-use Rattle.c_tree.specs.Whole.{is_before, IsBeforeAll, IsRising}
+use Rattle.fam_outer.specs.Places.{is_before}
+use Rattle.c_tree.specs.Whole.{IsBeforeAll, IsRising}
 use Rattle.leaf_domain.specs.Leaves.{LeafValue, LeafMeaning, nothing_of}
 use Rattle.leaf_domain.specs.Transfer.{assumed, assigned, forgotten}
 use Rattle.leaf_domain.specs.Stops.{may_at}

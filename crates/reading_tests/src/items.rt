@@ -2,7 +2,7 @@
 #![tactic(auto)]
 
 ghost use Rattle.std.specs.Prelude.{◌≡◌, ◌<◌, [], IsTrue, IfOk, length};
-ghost use Rattle.c_tree.specs.Whole.{is_before};
+ghost use Rattle.fam_outer.specs.Places.{is_before};
 ghost use Rattle.c_grammar.specs.Facts.{AreFit, AreRising, IsBeforeItems, IsFit};
 
 use c_grammar::{Item, Sign};
