@@ -12,13 +12,15 @@ mod counted_leaf;
 #[cfg(test)]
 mod families;
 #[cfg(test)]
-mod nearest;
+mod forests;
 #[cfg(test)]
-mod octagon_programs;
+mod nearest;
 #[cfg(test)]
 mod passes;
 #[cfg(test)]
 mod repeated_loops;
+#[cfg(test)]
+mod restricting;
 #[cfg(test)]
 mod small_programs;
 #[cfg(test)]
@@ -26,7 +28,7 @@ mod start_chains;
 #[cfg(test)]
 mod steps;
 #[cfg(test)]
-mod stride_programs;
+mod threshold_lists;
 #[cfg(test)]
 mod threshold_pairs;
 #[cfg(test)]

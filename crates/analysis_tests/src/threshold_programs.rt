@@ -8,7 +8,6 @@ ghost use Rattle.analysis_tests.specs.Loops.{moving_where, moving_loop};
 
 use crate::families::{both, one};
 use crate::small_programs::{at, binary, names, starts};
-use crate::stride_programs::counting;
 use c_tree::{Declarations, Expr, Mode, Op, Program, Stmt};
 use fam_outer::NoMemory;
 use interval_leaf::IntervalLeaf;
@@ -292,9 +291,33 @@ fn steps_keep_strides(rt: HostRuntime) -> Result<(), Fail> {
     Ok(())
 }
 
+/// `while (x < 10) x = x + 2;` in line 3, and the end in line 4.
+fn counting(alloc: Global) -> Result<Program, NoMemory>
+    ensures program { IfOk result (λ p. IsProgram (whole p)) }
+    ensures plain { IfOk result (λ p. IsPlainProgram (whole p)) }
+{
+    let step = Stmt::Assign {
+        place: at(3, 16),
+        target: 0,
+        value: binary(alloc, Op::Add, Expr::Var(0), Expr::Number(2))?,
+    };
+    let turning = Stmt::While {
+        place: at(3, 1),
+        test: binary(alloc, Op::Lt, Expr::Var(0), Expr::Number(10))?,
+        body: one(alloc, step)?,
+    };
+    Ok(Program {
+        names: names(alloc)?,
+        start: starts(alloc)?,
+        declared: Declarations::from_vec(Vec::new(alloc)),
+        body: one(alloc, turning)?,
+        end: at(4, 1),
+    })
+}
+
 /// Whether the bounds of `x` at the head of the loop that counts by 2 and behind it are these, with thresholds and without.
 fn counts<L: Leaf>(alloc: Global, head: (i64, i64), behind: (i64, i64)) -> Result<bool, NoMemory> {
-    let program = counting(alloc, 2, 10)?;
+    let program = counting(alloc)?;
     let start = L::start(alloc, program.start.items())?;
     if start.variables() as usize != program.names.items().len() {
         return Ok(false);

@@ -22,6 +22,3 @@ pub use settings::{
 };
 pub use spelling::number_up_to;
 pub use word::{Word, Words};
-
-#[cfg(test)]
-mod tests;

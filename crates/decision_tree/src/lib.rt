@@ -9,6 +9,3 @@ pub mod tree;
 pub use forest::Forest;
 pub use paths::{Path, Turns};
 pub use tree::{Kept, Node, Tree};
-
-#[cfg(test)]
-mod tests;

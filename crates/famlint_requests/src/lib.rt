@@ -9,6 +9,3 @@ pub use request::{
     Analysis, Command, FamilyTask, Guide, Request, Role, SettingWords, VariantTask, made_by,
     read_request,
 };
-
-#[cfg(test)]
-mod tests;

@@ -5,8 +5,6 @@ mod insertion;
 mod keeping;
 pub mod laws;
 pub mod program;
-#[cfg(test)]
-mod tests;
 
 pub use laws::{thresholds_are_least, thresholds_are_near_numbers};
 pub use program::thresholds_of;

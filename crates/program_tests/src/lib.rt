@@ -3,11 +3,11 @@
 #![tactic(auto)]
 
 #[cfg(test)]
-mod analysis_tests;
-#[cfg(test)]
 mod code_tests;
 #[cfg(test)]
 mod dialect_tests;
+#[cfg(test)]
+mod domain_tests;
 #[cfg(test)]
 mod example_files;
 #[cfg(test)]

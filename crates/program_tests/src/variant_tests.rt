@@ -1,8 +1,9 @@
 //! `project`, `variant` and `run` over files in memory.
 
 use std::test::Fail;
-use test_runs::cases::USAGE;
+use test_runs::cases::{USAGE, content_of};
 use test_runs::comparing::gives;
+use test_runs::running::ran_over;
 
 #[test]
 fn variants_are_reported(rt: HostRuntime) -> Result<(), Fail> {
@@ -54,6 +55,59 @@ fn runs_are_told(rt: HostRuntime) -> Result<(), Fail> {
     ];
     for (line, output) in rows {
         gives(alloc, line, Vec::new(alloc), (0, output, ""))?;
+    }
+    Ok(())
+}
+
+/// What a run of `x = FIRST; x = SECOND;` comes to, in lines 3 and 4.
+const RESULTS: [(&str, &str, &str, &str); 8] = [
+    ("2147483647", "x + 1", "", "stopped 4:1 overflow\n"),
+    (
+        "2147483647",
+        "x + 1",
+        " --overflow=wrap",
+        "ended x=-2147483648\n",
+    ),
+    (
+        "-2147483647 - 1",
+        "x - 1",
+        " --overflow=wrap",
+        "ended x=2147483647\n",
+    ),
+    (
+        "-2147483647 - 1",
+        "x / -1",
+        " --overflow=wrap",
+        "stopped 4:1 overflow\n",
+    ),
+    (
+        "-2147483647 - 1",
+        "x % -1",
+        " --overflow=wrap",
+        "stopped 4:1 overflow\n",
+    ),
+    (
+        "-2147483647 - 1",
+        "x * -1",
+        " --overflow=wrap",
+        "ended x=-2147483648\n",
+    ),
+    ("-7", "x % 1", "", "ended x=0\n"),
+    ("3", "x || -1", "", "ended x=1\n"),
+];
+
+#[test]
+fn results_stop_or_wrap(rt: HostRuntime) -> Result<(), Fail> {
+    let alloc = rt.alloc();
+    for (first, second, mode, told) in RESULTS {
+        let words = format!(in alloc; "run m f{mode}")?;
+        let text = format!(in alloc;
+            "int x;\nint main(void) {{\nx = {first};\nx = {second};\n}}\n"
+        )?;
+        let files: [(&str, &[u8]); 2] = [("m", content_of("m0")), ("f", text.as_bytes())];
+        let ran = ran_over(alloc, words.as_str(), &files)?;
+        assert_eq!(rt; ran.out.as_slice(), told.as_bytes(), "{first}; {second}");
+        assert_eq!(rt; ran.status, 0);
     }
     Ok(())
 }

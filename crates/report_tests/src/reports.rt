@@ -1,9 +1,6 @@
 //! Texts of reports, compared with texts that were written by hand.
 
 ghost use Rattle.std.specs.Prelude.{◌≡◌, ◌<◌, IfOk, [], ◌∷◌, pos, length};
-ghost use Rattle.c_tree.specs.Tree.{Binary};
-ghost use Rattle.c_tree.specs.View.{term, whole};
-ghost use Rattle.c_tree.specs.Whole.{IsProgram, IsPlainProgram};
 ghost use Rattle.linear_atoms.specs.Atoms.{AreLiterals, IsAtom};
 
 use crate::features::{number_feature, switch};
@@ -11,14 +8,14 @@ use alarm_report::{
     FamilyAlarm, FamilyInvariant, Literals, Region, alarm_text, invariant_text, leaf_text,
     variant_report,
 };
-use c_tree::{Declarations, Expr, Kind, Mode, Names, Op, Program, Stmt};
+use c_tree::{Kind, Names};
 use decision_tree::Kept;
 use fam_outer::{NoMemory, Place, Text, Values};
 use interval_leaf::IntervalLeaf;
-use leaf_domain::{Leaf, Thresholds};
+use leaf_domain::Leaf;
 use linear_atoms::{Atom, Config, Feature, Literal, Regions, Terms};
 use octagon_leaf::OctagonLeaf;
-use plain_analysis::{Alarm, Findings, Options, analyse_one};
+use plain_analysis::Alarm;
 use smallvec::SmallVec;
 use std::alloc::Global;
 use std::rc::Rc;
@@ -104,14 +101,6 @@ fn alarms_have_texts(rt: HostRuntime) -> Result<(), Fail> {
 
 // ---- invariants
 
-/// `a op b`.
-fn binary(alloc: Global, op: Op, a: Expr, b: Expr) -> Result<Expr, NoMemory>
-    ensures { IfOk result (λ e. term e ≡ Binary op (term a) (term b)) }
-{
-    let a = Box::new(alloc, a)?;
-    Ok(Expr::Binary(op, a, Box::new(alloc, b)?))
-}
-
 fn names(alloc: Global) -> Result<Names, NoMemory>
     ensures { IfOk result (λ made. made ≡ (120 ∷ []) ∷ (121 ∷ []) ∷ []) }
 {
@@ -121,117 +110,19 @@ fn names(alloc: Global) -> Result<Names, NoMemory>
     Ok(Names::from_vec(list))
 }
 
-fn starts(alloc: Global) -> Result<Values, NoMemory>
-    ensures { IfOk result (λ made. made ≡ pos 0 ∷ pos 0 ∷ []) }
-{
-    let mut list = Vec::new(alloc);
-    list.push(0)?;
-    list.push(0)?;
-    Ok(Values::from_vec(list))
-}
-
-/// `while (x < 100) { x = x + 1; y = y + 1; }` in line 3, and the end in line 4.
-fn counting(alloc: Global) -> Result<Program, NoMemory>
-    ensures program { IfOk result (λ p. IsProgram (whole p)) }
-    ensures plain { IfOk result (λ p. IsPlainProgram (whole p)) }
-    ensures two { IfOk result (λ p. length p.names ≡ 2) }
-    ensures start { IfOk result (λ p. p.start ≡ pos 0 ∷ pos 0 ∷ []) }
-{
-    let names = names(alloc)?;
-    let start = starts(alloc)?;
-    let mut inner = Vec::new(alloc);
-    inner.push(Stmt::Assign {
-        place: at(3, 20),
-        target: 0,
-        value: binary(alloc, Op::Add, Expr::Var(0), Expr::Number(1))?,
-    })?;
-    inner.push(Stmt::Assign {
-        place: at(3, 31),
-        target: 1,
-        value: binary(alloc, Op::Add, Expr::Var(1), Expr::Number(1))?,
-    })?;
-    let mut body = Vec::new(alloc);
-    body.push(Stmt::While {
-        place: at(3, 1),
-        test: binary(alloc, Op::Lt, Expr::Var(0), Expr::Number(100))?,
-        body: inner,
-    })?;
-    Ok(Program {
-        names,
-        start,
-        declared: Declarations::from_vec(Vec::new(alloc)),
-        body,
-        end: at(4, 1),
-    })
-}
-
-/// What the analysis of a program from its start values finds.
-fn found<L: Leaf>(alloc: Global, program: &Program, start: &L) -> Result<Findings<L>, NoMemory>
-    requires program { IsProgram (whole program.now) }
-    requires plain { IsPlainProgram (whole program.now) }
-    requires variables { (L.value start.now).variables ≡ length program.now.names }
-{
-    let options = Options {
-        delay: 0,
-        narrow: 1,
-        thresholds: Thresholds::none(alloc),
-        mode: Mode::Stop,
-    };
-    analyse_one(alloc, program, start, &options)
-}
-
-/// Whether the leaves have these texts, place by place.
-fn have_texts<L: Leaf>(
-    alloc: Global,
-    names: &[Text],
-    findings: &Findings<L>,
-    texts: &[&str],
-) -> Result<bool, NoMemory> {
-    let places = findings.places.items();
-    if places.len() != texts.len() {
-        return Ok(false);
-    }
-    for (found, text) in places.iter().zip(texts) {
-        if leaf_text(alloc, names, &found.leaf)?.bytes() != text.as_bytes() {
-            return Ok(false);
-        }
-    }
-    Ok(true)
-}
-
-// octagons know the difference of both counts, and intervals neither that nor a bound of the second
+// what a leaf of two variables, one without a store and one without variables are told as
 #[test]
 fn leaves_have_texts(rt: HostRuntime) -> Result<(), Fail> {
     let alloc = rt.alloc();
-    let program = counting(alloc)?;
-    let names = program.names.items();
-    let octagons = found(
-        alloc,
-        &program,
-        &OctagonLeaf::start(alloc, program.start.items())?,
-    )?;
-    let by_octagons = [
-        "x in [0,100], y in [0,100], x-y in [0,0]",
-        "x in [0,99], y in [0,99], x-y in [0,0]",
-        "x in [1,100], y in [0,99], x-y in [1,1]",
-        "x in [100,100], y in [100,100]",
-    ];
-    assert!(rt; have_texts(alloc, names, &octagons, &by_octagons)?);
-    let intervals = found(
-        alloc,
-        &program,
-        &IntervalLeaf::start(alloc, program.start.items())?,
-    )?;
-    let by_intervals = [
-        "x in [0,100], y in [0,2147483647]",
-        "x in [0,99], y in [0,2147483647]",
-        "x in [1,100], y in [0,2147483647]",
-        "x in [100,100], y in [0,2147483647]",
-    ];
-    assert!(rt; have_texts(alloc, names, &intervals, &by_intervals)?);
+    let names = names(alloc)?;
+    let both = OctagonLeaf::start(alloc, &[3, -4])?;
+    assert_eq!(rt;
+        leaf_text(alloc, names.items(), &both)?.bytes(),
+        b"x in [3,3], y in [-4,-4]".as_slice()
+    );
     let nothing = IntervalLeaf::nothing(alloc, 2)?;
     assert_eq!(rt;
-        leaf_text(alloc, names, &nothing)?.bytes(),
+        leaf_text(alloc, names.items(), &nothing)?.bytes(),
         b"unreachable".as_slice()
     );
     let bare = IntervalLeaf::start(alloc, &[])?;

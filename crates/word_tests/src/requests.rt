@@ -1,21 +1,13 @@
 //! Words that ask for a text about the program, the words of `page`, and what stands at its foot.
 
-use crate::*;
+use crate::lines::words_of;
 use c_tree::Mode;
 use command_words::{Domain, Widening, WordsRefusal};
 use fam_outer::{Dialect, Includes, NoMemory, Unknown};
+use famlint_requests::{Analysis, Request, made_by, read_request};
 use linear_atoms::Regions;
 use std::alloc::Global;
 use std::test::Fail;
-
-/// The words of a line, with a space between two.
-fn words_of(alloc: Global, line: &str) -> Result<Vec<String>, NoMemory> {
-    let mut words = Vec::new(alloc);
-    for word in line.split_whitespace() {
-        words.push(String::from_str(alloc, word)?)?;
-    }
-    Ok(words)
-}
 
 /// The first line of a text, and the options that begin a line of it.
 fn gist_of(alloc: Global, bytes: &[u8]) -> Result<String, NoMemory> {

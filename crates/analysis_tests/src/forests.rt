@@ -5,13 +5,13 @@ ghost use Rattle.decision_tree.specs.Plain.{leaf, TestsBelow};
 ghost use Rattle.decision_tree.specs.Listed.{IsTreeIn, Keeps};
 ghost use Rattle.decision_tree.specs.View.{numbered, plain};
 
-use super::*;
+use decision_tree::{Forest, Tree};
 use fam_outer::NoMemory;
 use std::alloc::Global;
 use std::test::Fail;
 
 /// The tree of "not test 1, or test 0".
-#[tactic(auto, using(crate::proofs::Numbers::stays))]
+#[tactic(auto, using(decision_tree::proofs::Numbers::stays))]
 fn formula_tree(alloc: Global) -> Result<Tree<bool>, NoMemory>
     ensures { IfOk result (λ t. TestsBelow 2 (plain t)) }
 {
@@ -33,7 +33,7 @@ fn formula_tree_again(alloc: Global) -> Result<Tree<bool>, NoMemory>
 }
 
 /// A leaf of the forest, once more after want of memory.
-#[tactic(auto, using(crate::proofs::Numbers::keeps_same, crate::proofs::Numbers::keeps_both))]
+#[tactic(auto, using(decision_tree::proofs::Numbers::keeps_same, decision_tree::proofs::Numbers::keeps_both))]
 fn leaf_again(forest: &mut Forest<u32>, value: u32) -> Result<Tree<u32>, NoMemory>
     ensures same { IfOk result (λ t. plain t ≡ leaf value) }
     ensures tree { IfOk result (λ t. IsTreeIn 0 64 forest.new (numbered t)) }
@@ -46,7 +46,7 @@ fn leaf_again(forest: &mut Forest<u32>, value: u32) -> Result<Tree<u32>, NoMemor
 }
 
 /// A node of the forest, once more after want of memory.
-#[tactic(auto, using(crate::proofs::Numbers::stays, crate::proofs::Numbers::keeps_both))]
+#[tactic(auto, using(decision_tree::proofs::Numbers::stays, decision_tree::proofs::Numbers::keeps_both))]
 fn node_again(
     forest: &mut Forest<u32>,
     test: u32,
@@ -101,7 +101,7 @@ fn paths_begin_with_no(rt: HostRuntime) -> Result<(), Fail> {
 }
 
 #[test]
-#[tactic(auto, using(crate::proofs::Numbers::stays))]
+#[tactic(auto, using(decision_tree::proofs::Numbers::stays))]
 fn forests_make_each_tree_once(rt: HostRuntime) -> Result<(), Fail> {
     let mut forest = Forest::new(rt.alloc());
     let one = leaf_again(&mut forest, 1u32)?;

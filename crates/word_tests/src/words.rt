@@ -1,18 +1,10 @@
 //! Words and what they say, made by hand.
 
-use crate::*;
+use crate::lines::words_of;
+use command_words::{Arguments, Chosen, Given, WordsRefusal, read_words};
 use fam_outer::NoMemory;
 use std::alloc::Global;
 use std::test::Fail;
-
-/// The words of a line, with a space between two.
-fn words_of(alloc: Global, line: &str) -> Result<Vec<String>, NoMemory> {
-    let mut words = Vec::new(alloc);
-    for word in line.split_whitespace() {
-        words.push(String::from_str(alloc, word)?)?;
-    }
-    Ok(words)
-}
 
 /// Adds a name where it is given.
 fn add_given(text: &mut String, is_given: bool, name: &str) -> Result<(), NoMemory> {

@@ -1,9 +1,9 @@
 //! The thresholds of small programs, compared with lists that were found by hand.
 
-use crate::thresholds_of;
 use c_tree::{Declarations, Declared, Expr, Guards, Names, Op, Program, Stmt};
 use fam_outer::{NoMemory, Place, Values};
 use leaf_domain::{Multiple, Thresholds};
+use loop_thresholds::thresholds_of;
 use std::alloc::Global;
 use std::test::Fail;
 
