@@ -8,3 +8,5 @@ pub mod QuotientStrides
 pub mod Found
 pub mod Back
 pub mod MeetCases
+pub mod Solving
+pub mod MetStrides

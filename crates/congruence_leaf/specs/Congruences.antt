@@ -19,7 +19,8 @@ use Rattle.strides.specs.Strided.{strided_in, range_of, reduced, best_part}
 use Rattle.product_leaf.specs.StrideLeaves.{strides, part_at, part_in, met_part, form_stride, best_parts, stride_with}
 use Rattle.congruence_leaf.specs.declared.functions.Function.{Function}
 use Rattle.congruence_leaf.specs.declared.functions.Function.TheVariants.{Square, Quotient, Remainder}
-use Rattle.congruence_leaf.specs.Remainders.{stride_less, stride_modulo, strided_remainders, strided_cut, strided_met}
+use Rattle.congruence_leaf.specs.Remainders.{stride_less, stride_modulo, strided_remainders, strided_cut}
+use Rattle.congruence_leaf.specs.TwoStrides.{strided_met}
 use Rattle.congruence_leaf.specs.Squares.{strided_squares}
 use Rattle.congruence_leaf.specs.Quotients.{strided_quotients}
 

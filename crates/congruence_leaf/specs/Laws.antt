@@ -8,6 +8,7 @@ use Rattle.product_leaf.specs.Laws.{stride_laws}
 use Rattle.congruence_leaf.specs.Congruences.{congruences}
 use Rattle.congruence_leaf.specs.Laws.Leaves as leaves
 pub mod Remainders
+pub mod TwoStrides
 pub mod Squares
 pub mod Quotients
 pub mod Results

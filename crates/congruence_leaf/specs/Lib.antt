@@ -1,4 +1,5 @@
 pub mod Remainders
+pub mod TwoStrides
 pub mod Squares
 pub mod Quotients
 pub mod Congruences

@@ -1,16 +1,16 @@
 -- What remains of the numbers of a stride behind a division, after Granger's rules for arithmetical congruences.
-use Rattle.std.specs.Prelude.{nat_le, ℤ, pos, ◌+ℤ◌, ◌-ℤ◌, int_div, int_rem, unsigned_abs, Bool, false, ◌&&◌, if◌then◌else◌}
+use Rattle.std.specs.Prelude.{ℤ, pos, ◌+ℤ◌, ◌-ℤ◌, int_div, int_rem, unsigned_abs, Bool, false, ◌&&◌, if◌then◌else◌}
 use Rattle.std.specs.Ordering.{int_eq}
 use Rattle.c_tree.specs.declared.tree.Op.TheVariants.{Rem}
 use Rattle.leaf_domain.specs.declared.range.Range.{Range}
 use Rattle.leaf_domain.specs.declared.compare.Compare.{Compare}
 use Rattle.leaf_domain.specs.declared.compare.Compare.TheVariants.{Ne}
-use Rattle.leaf_domain.specs.Ranges.{range_at, empty_range, is_single, arithmetic_range}
+use Rattle.leaf_domain.specs.Ranges.{range_at, is_single, arithmetic_range}
 use Rattle.leaf_domain.specs.Compares.{cut_of}
 use Rattle.strides.specs.declared.stride.Stride.{Stride}
 use Rattle.strides.specs.declared.strided.Strided.{Strided}
 use Rattle.strides.specs.Divisors.{gcd}
-use Rattle.strides.specs.Strides.{stride_at, stride_of, lies_in_stride}
+use Rattle.strides.specs.Strides.{stride_of}
 use Rattle.strides.specs.Strided.{strided_at, strided_in, range_of}
 
 -- the stride of the numbers with so much taken from each
@@ -45,18 +45,3 @@ cut_stride op b r = if leaves_neighbours op (range_of b) r then stride_of 2 b.lo
 -- the numbers for which the comparison with some number of the range holds
 unfoldable pub strided_cut : Compare → Strided → Range → Strided
 strided_cut op b r = strided_in (cut_of op (range_of b) r) (cut_stride op b r)
-
--- ---- numbers that have two strides
--- the one that lies in the other, else the one of the greater modulus
-unfoldable pub finer_stride : Stride → Stride → Stride
-finer_stride s t = if lies_in_stride s t then s else (if nat_le s.modulus t.modulus then t else s)
-
--- whether they have a number in common
-unfoldable pub meets : Stride → Stride → Bool
-meets s t = lies_in_stride s (stride_at (gcd s.modulus t.modulus) t.residue)
-
--- the numbers that have a stride too, by the finer of both; none where the strides have no number in common
-unfoldable pub strided_met : Strided → Stride → Strided
-strided_met b t =
-    if meets b.stride t then strided_at b.low b.high (finer_stride b.stride t)
-    else strided_in empty_range t

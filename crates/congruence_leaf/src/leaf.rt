@@ -21,8 +21,9 @@ ghost use Rattle.congruence_leaf.specs.Laws.{congruence_laws};
 
 use crate::functions::{Function, function_of};
 use crate::operands::lone_variable;
-use crate::remainders::{cut_numbers, met, stride_less, stride_modulo};
+use crate::remainders::{cut_numbers, stride_less, stride_modulo};
 use crate::results::{is_in_int, results};
+use crate::two_strides::met;
 use fam_outer::NoMemory;
 use leaf_domain::{Compare, Form, Leaf, Operation, Range, Thresholds};
 use product_leaf::StrideLeaf;
@@ -145,7 +146,8 @@ impl CongruenceLeaf {
             None => Ok(self),
             Some(x) => {
                 let stride = stride_less(stride_modulo(left.stride, m), f.constant);
-                self.with(alloc, x, met(self.part(x), stride))
+                let strides = self.strides().with(alloc, x, met(self.part(x), stride))?;
+                Ok(CongruenceLeaf::of(strides))
             }
         }
     }

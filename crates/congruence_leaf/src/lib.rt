@@ -11,6 +11,9 @@ mod quotients;
 mod remainders;
 mod results;
 mod squares;
+mod two_strides;
 
-pub use laws::{congruences_are_exact, congruences_keep_the_laws};
+pub use laws::{
+    congruences_are_exact, congruences_keep_the_laws, parts_keep_the_numbers_of_both_strides,
+};
 pub use leaf::CongruenceLeaf;

@@ -8,7 +8,7 @@ ghost use Rattle.std.specs.Ordering.{int_eq};
 ghost use Rattle.leaf_domain.specs.Ranges.{IsInInt, range_at};
 ghost use Rattle.strides.specs.Strides.{stride_of};
 ghost use Rattle.strides.specs.Strided.{strided_in, range_of, best_part, IsOwn};
-ghost use Rattle.congruence_leaf.specs.Remainders.{stride_less, stride_modulo, strided_less, strided_remainders, leaves_neighbours, cut_stride, strided_cut, finer_stride, meets, strided_met};
+ghost use Rattle.congruence_leaf.specs.Remainders.{stride_less, stride_modulo, strided_less, strided_remainders, leaves_neighbours, cut_stride, strided_cut};
 
 use c_tree::Op;
 use leaf_domain::{Compare, Range, arithmetic, cut};
@@ -168,43 +168,4 @@ pub(crate) fn cut_numbers(op: Compare, b: Strided, r: Range) -> Option<Strided>
     ensures { result ≡ best_part (strided_cut op b r) }
 {
     best_part(strided_in(cut(op, b.range(), r), cut_stride(op, b, r)))
-}
-
-/// The stride that lies in the other, else the one of the greater modulus.
-fn finer(s: Stride, t: Stride) -> Stride
-    ensures { result ≡ finer_stride s t }
-{
-    if s.lies_in(t) {
-        s
-    } else if s.modulus <= t.modulus {
-        t
-    } else {
-        s
-    }
-}
-
-/// Whether two strides have a number in common.
-fn meets(s: Stride, t: Stride) -> bool
-    ensures { result ≡ meets s t }
-{
-    let modulus = greatest_common_divisor(s.modulus as u128, t.modulus as u128);
-    s.lies_in(Stride {
-        modulus: modulus as u64,
-        residue: t.residue,
-    })
-}
-
-/// The numbers that have the stride too, by the finer of both strides. None where the strides have no number in common.
-pub(crate) fn met(part: Strided, stride: Stride) -> Strided
-    ensures { result ≡ strided_met part stride }
-{
-    if meets(part.stride, stride) {
-        Strided {
-            low: part.low,
-            high: part.high,
-            stride: finer(part.stride, stride),
-        }
-    } else {
-        strided_in(Range::EMPTY, stride)
-    }
 }

@@ -17,18 +17,20 @@ use Rattle.strides.specs.declared.stride.Stride.{Stride}
 use Rattle.strides.specs.declared.strided.Strided.{Strided}
 use Rattle.strides.specs.Divisors.{IsMultiple}
 use Rattle.strides.specs.Strides.{HasStride, IsReduced}
-use Rattle.strides.specs.Strided.{least, greatest, Has, IsOwn, is_bare, point_at, strided_at, strided_in, range_of, reduced, best_part}
+use Rattle.strides.specs.Strided.{least, greatest, Has, IsOwn, is_bare, point_at, range_of, reduced, best_part}
 use Rattle.strides.proofs.StridedLaws.{has_not_bare, reduced_keeps, reduced_best, by_reduced}
 use Rattle.strides.proofs.Multiples.{multiple_same, multiple_difference}
 use Rattle.product_leaf.specs.StrideLeaves.{stride_parts, strides, fours_of, part_at, part_in, met_part, AllOwn, AllHave, IsStrideLeaf, leaf_of, best_parts, stride_with}
 use Rattle.product_leaf.specs.Laws.Parts.{IsLimited, limited_best, fours_numbers, read_has, read_own}
 use Rattle.product_leaf.proofs.Meanings.{read_at}
 use Rattle.product_leaf.specs.Laws.StrideLaws.{stride_part_laws, range_limited}
-use Rattle.congruence_leaf.specs.Remainders.{stride_less, stride_modulo, strided_cut, finer_stride, meets, strided_met}
+use Rattle.congruence_leaf.specs.Remainders.{stride_less, stride_modulo, strided_cut}
+use Rattle.congruence_leaf.specs.TwoStrides.{part_by, strided_met}
 use Rattle.congruence_leaf.specs.declared.functions.Function.{Function}
 use Rattle.congruence_leaf.specs.declared.functions.Function.TheVariants.{Square, Quotient, Remainder}
 use Rattle.congruence_leaf.specs.Congruences.{lone_variable, form_numbers, is_in_int, function_of, applied_by, results_by, results_of, leaf_results, results_range, results_in, congruence_set, divided_part, divided_with, value_with, met_by, congruence_meet}
-use Rattle.congruence_leaf.specs.Laws.Remainders.{empty_in_int, less_has, less_reduced, cut_has, finer_is, met_has, dividend_has, rem_told}
+use Rattle.congruence_leaf.specs.Laws.Remainders.{empty_in_int, less_has, less_reduced, cut_has, dividend_has, rem_told}
+use Rattle.congruence_leaf.specs.Laws.TwoStrides.{common_reduced, met_has}
 use Rattle.congruence_leaf.specs.Laws.Results.{IsLone, lone_is, IsValue, function_told, best_has, applied_reduced, results_have}
 
 -- ---- one part for another
@@ -163,11 +165,9 @@ set_holds n c x p r s k v o h w i =
 -- ---- a comparison with a result
 pub met_limited_by : (b : Strided) (t : Stride) → IsOwn b → IsReduced t → IsLimited (strided_met b t)
 unfolding strided_met
-met_limited_by b t h k = by_test (meets b.stride t)
-  where
-    by_test : (q : Bool) → IsLimited (if q then strided_at b.low b.high (finer_stride b.stride t) else strided_in empty_range t)
-    by_test true = record { low = h.low; high = h.high; residue = finer_is IsReduced b.stride t h.residue k }
-    by_test false = record { low = empty_in_int.low.low; high = empty_in_int.high.high; residue = k }
+met_limited_by b t h k =
+    common_reduced b.stride t (λ o. IsLimited (part_by b o)) h.residue k (range_limited empty_range empty_in_int)
+    (λ u i. record { low = h.low; high = h.high; residue = i })
 
 pub lone_below : (n : ℕ) (f : Form) (x : ℕ) → IsForm n f → lone_variable f.terms ≡ Some x → x < n
 lone_below n f x g e = (lone_is n f [] x g e).below

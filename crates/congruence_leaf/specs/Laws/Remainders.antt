@@ -1,7 +1,6 @@
 -- The remainders of numbers of a stride are among those that the definitions have.
-use Rattle.std.proofs.Common.{◌≡◌, ◌≢◌, ℕ, zero, suc, ◌<◌, ◌≤◌, ◌/◌, nat_le, ℤ, pos, negsuc, neg_ℤ, ◌+ℤ◌, ◌-ℤ◌, ◌*ℤ◌, ◌≤ℤ◌, int_div, int_rem, unsigned_abs, Bool, true, false, ◌&&◌, not, if◌then◌else◌, Some, None, refl, ap, sym, subst, ◌∙◌, arith}
+use Rattle.std.proofs.Common.{◌≡◌, ◌≢◌, ℕ, zero, suc, ◌<◌, ◌≤◌, ◌/◌, ℤ, pos, negsuc, neg_ℤ, ◌+ℤ◌, ◌-ℤ◌, ◌*ℤ◌, ◌≤ℤ◌, int_div, int_rem, unsigned_abs, Bool, true, false, ◌&&◌, not, if◌then◌else◌, Some, None, refl, ap, sym, subst, ◌∙◌, arith}
 use Rattle.std.specs.Ordering.{int_eq}
-use Rattle.std.specs.Int.{◌∣◌}
 use Rattle.std.proofs.Math.Nat.{div-mul-le_self}
 use Rattle.std.proofs.lemmas.Nat.{le-div}
 use Rattle.std.proofs.lemmas.Int.{ints, quot-rem}
@@ -16,12 +15,12 @@ use Rattle.leaf_domain.proofs.ArithmeticLemmas.{arithmetic_holds}
 use Rattle.leaf_domain.proofs.CutLemmas.{cut_holds}
 use Rattle.strides.specs.declared.stride.Stride.{Stride}
 use Rattle.strides.specs.declared.strided.Strided.{Strided}
-use Rattle.strides.specs.Divisors.{gcd, divides, IsMultiple}
-use Rattle.strides.specs.Strides.{HasStride, IsReduced, stride_of, distance, lies_in_stride}
+use Rattle.strides.specs.Divisors.{gcd, IsMultiple}
+use Rattle.strides.specs.Strides.{HasStride, IsReduced, stride_of}
 use Rattle.strides.specs.Strided.{Has, strided_in, range_of}
-use Rattle.strides.proofs.Multiples.{multiple_same, multiple_zero, multiple_difference, multiple_scaled, neg_times, multiple_from_dvd, dvd_from_multiple, multiple_finer, gcd_is, divides_from}
+use Rattle.strides.proofs.Multiples.{multiple_same, multiple_zero, multiple_difference, multiple_scaled, neg_times, multiple_from_dvd, multiple_finer, gcd_is}
 use Rattle.strides.proofs.StrideLaws.{stride_has, stride_reduced}
-use Rattle.congruence_leaf.specs.Remainders.{stride_less, stride_modulo, strided_less, strided_remainders, leaves_neighbours, strided_cut, finer_stride, meets, strided_met}
+use Rattle.congruence_leaf.specs.Remainders.{stride_less, stride_modulo, strided_less, strided_remainders, leaves_neighbours, strided_cut}
 
 pub same_number : (p q : ℤ) → int_eq p q ≡ true → p ≡ q
 same_number p q e = grind (arith, ints)
@@ -197,35 +196,3 @@ cut_has op b r n m h v g = record { low = w.low; high = w.high; stride = by_test
     by_test : (t : Bool) → leaves_neighbours op (range_of b) r ≡ t → HasStride (if t then stride_of 2 b.low else b.stride) n
     by_test true e = neighbour_stride op b r n m e u v g
     by_test false e = h.stride
-
--- ---- both strides
-common_distance : (g : ℕ) (s t : Stride) (n : ℤ) → g ∣ s.modulus → g ∣ t.modulus → HasStride s n → HasStride t n → g ∣ distance s t
-common_distance g s t n p q h k =
-    dvd_from_multiple g (s.residue -ℤ t.residue)
-    (multiple_same g ((n -ℤ t.residue) -ℤ (n -ℤ s.residue)) _ (same n s.residue t.residue) (multiple_difference g _ _ (multiple_finer g t.modulus _ q k) (multiple_finer g s.modulus _ p h)))
-  where
-    same : (n c d : ℤ) → c -ℤ d ≡ (n -ℤ d) -ℤ (n -ℤ c)
-    same n c d = omega (arith, ints)
-
-one_of : (P : Stride → Type 0) (t u : Bool) (a b c : Stride) → P a → P b → P c → P (if t then a else (if u then b else c))
-one_of P true u a b c p q r = p
-one_of P false true a b c p q r = q
-one_of P false false a b c p q r = r
-
-pub finer_is : (P : Stride → Type 0) (s t : Stride) → P s → P t → P (finer_stride s t)
-unfolding finer_stride
-finer_is P s t h k = one_of P (lies_in_stride s t) (nat_le s.modulus t.modulus) s t s h k h
-
--- strides with a number in common meet
-meets_at : (s t : Stride) (n : ℤ) → HasStride s n → HasStride t n → meets s t ≡ true
-unfolding meets
-meets_at s t n h k =
-    let g = gcd_is s.modulus t.modulus in
-    let e : divides (gcd s.modulus t.modulus) s.modulus ≡ true = divides_from _ _ g.0 in
-    let f : divides (gcd s.modulus t.modulus) (distance s t) ≡ true = divides_from _ _ (common_distance _ s t n g.0 g.1 h k) in
-    ap (λ x. x && divides (gcd s.modulus t.modulus) (distance s t)) e ∙ f
-
-pub met_has : (b : Strided) (t : Stride) (n : ℤ) → Has b n → HasStride t n → Has (strided_met b t) n
-unfolding strided_met
-met_has b t n h k =
-    rw (meets_at b.stride t n h.stride k) (record { low = h.low; high = h.high; stride = finer_is (λ s. HasStride s n) b.stride t h.stride k })
