@@ -8,3 +8,4 @@ pub mod LeafTexts
 pub mod Pieces
 pub mod Regions
 pub mod Texts
+pub mod Trees

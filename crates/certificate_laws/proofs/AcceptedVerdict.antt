@@ -127,10 +127,10 @@ module _ (M : LeafMeaning) (laws : LeafLaws M) (transfer : (m : Mode) → Transf
   IsAlarmTreeOf t = IsTreeWhere (length atoms) (stop_at M o p conditions h.stops_are.plausible (t.place, t.kind)) (formula h.stops_are.plausible) t.tree
 
   leaf_trees : AllByRecursion IsLeafTree (trees_at (loop_places p.body) h.places)
-  leaf_trees = kept_trees IsLeafTree (loop_places p.body) h.places (recursion_from_All IsLeafTree h.places h.leaves_are.are)
+  leaf_trees = kept_trees IsLeafTree (loop_places p.body) h.places (recursion_from_All IsLeafTree h.places h.leaves_are.trees.are)
 
   stop_trees : AllByRecursion IsAlarmTreeOf h.stops
-  stop_trees = recursion_from_All IsAlarmTreeOf h.stops h.stops_are.are
+  stop_trees = recursion_from_All IsAlarmTreeOf h.stops h.stops_are.trees.are
 
   leaves_below : AllByRecursion (λ (t : LeafTree). TestsBelow (length atoms) t.tree) (trees_at (loop_places p.body) h.places)
   leaves_below = all_mapped IsLeafTree (λ (t : LeafTree). TestsBelow (length atoms) t.tree) (λ t k. k.tests) (trees_at (loop_places p.body) h.places) leaf_trees
@@ -150,7 +150,7 @@ module _ (M : LeafMeaning) (laws : LeafLaws M) (transfer : (m : Mode) → Transf
   tree_there : (x : Place) → IsIn x (loop_places p.body) → (t : LeafTree) × IsIn t (trees_at (loop_places p.body) h.places) × (t.place ≡ x)
   tree_there x i =
       in_mapped place_of x (trees_at (loop_places p.body) h.places)
-      (subst (IsIn x) (sym (trees_placed (loop_places p.body) (program_places p) loops_within h.places h.leaves_are.keys program.rising)) i)
+      (subst (IsIn x) (sym (trees_placed (loop_places p.body) (program_places p) loops_within h.places h.leaves_are.trees.keys program.rising)) i)
 
   -- ---- the heads that the lines give
 
@@ -211,7 +211,7 @@ module _ (M : LeafMeaning) (laws : LeafLaws M) (transfer : (m : Mode) → Transf
 
   stop_listed : (at : Place × Kind) → IsIn at (by_kind (program_places p)) → alarm_of M o q d at.0 at.1 ≡ true → is_listed c.alarms.items at v ≡ true
   stop_listed at i e =
-      let t = in_mapped key_of at h.stops (subst (IsIn at) (sym h.stops_are.keys) i) in
+      let t = in_mapped key_of at h.stops (subst (IsIn at) (sym h.stops_are.trees.keys) i) in
       let tree : IsAlarmTreeOf t.0 = one_of_all IsAlarmTreeOf t.0 h.stops stop_trees t.1 in
       let true_there : leaf_of t.0.tree v ≡ true =
       tree.leads v vector_length (h.stops_are.valid values valid) ∙ (ap (λ x. alarm_of M o q x t.0.place t.0.kind) (begins h.stops_are.plausible (h.stops_are.valid values valid)) ∙ subst (λ (x : Place × Kind). alarm_of M o q d x.0 x.1 ≡ true) (sym t.2) e) in

@@ -76,7 +76,7 @@ module _ (transfer : (m : Mode) → TransferAnswers intervals m) (o : Options) (
   all_trees =
       joined (λ (t : LeafTree). IsPlace t.place) IsLeafTree (IsLoopTree intervals (length atoms) p.names)
       (λ t k l. record { place = k; tests = l.tests; leaves = tree_over intervals interval_laws o (transfer o.mode) p program conditions h.leaves_are.plausible (length atoms) t.place t.tree l }) h.places
-      (mapped_places place_of h.places (program_places p) h.leaves_are.keys places_at) (recursion_from_All IsLeafTree h.places h.leaves_are.are)
+      (mapped_places place_of h.places (program_places p) h.leaves_are.trees.keys places_at) (recursion_from_All IsLeafTree h.places h.leaves_are.trees.are)
 
   abbrev IsAlarmTreeOf : PlainAlarmTree → Type 0
   IsAlarmTreeOf t = IsTreeWhere (length atoms) (λ v. stop_at intervals o p conditions h.stops_are.plausible (t.place, t.kind) v) (formula h.stops_are.plausible) t.tree
@@ -85,9 +85,9 @@ module _ (transfer : (m : Mode) → TransferAnswers intervals m) (o : Options) (
   stop_trees =
       joined (λ (t : PlainAlarmTree). IsPlace t.place) IsAlarmTreeOf (IsAlarmTree (length atoms)) (λ t k l. record { place = k; tests = l.tests }) h.stops
       (mapped_places (λ (t : PlainAlarmTree). t.place) h.stops (map (λ (k : Place × Kind). k.0) (by_kind (program_places p)))
-      (sym (map_map (λ (t : PlainAlarmTree). (t.place, t.kind)) (λ (k : Place × Kind). k.0) h.stops) ∙ ap (map (λ (k : Place × Kind). k.0)) h.stops_are.keys)
+      (sym (map_map (λ (t : PlainAlarmTree). (t.place, t.kind)) (λ (k : Place × Kind). k.0) h.stops) ∙ ap (map (λ (k : Place × Kind). k.0)) h.stops_are.trees.keys)
       (kinds_placed (program_places p) places_at))
-      (recursion_from_All IsAlarmTreeOf h.stops h.stops_are.are)
+      (recursion_from_All IsAlarmTreeOf h.stops h.stops_are.trees.are)
 
   of_trees : AreOfTrees model atoms p.names h.invariants h.alarms
   of_trees = record {

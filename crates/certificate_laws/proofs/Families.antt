@@ -67,10 +67,10 @@ pub families_are_read_back : ((m : Mode) → TransferAnswers intervals m) → Fa
 families_are_read_back A regions dialect model text f o loops mode is alarms bytes result over a text_is short answers =
     let told = family_told dialect model text f over.spelled in
     let placed = recursion_from_All IsPlace (program_places (whole f.code)) told.placed in
-    let leaves = loop_trees A dialect model text f over o a.plausible a.places (subst (AllByRecursion IsPlace) (sym a.places_are) placed) (recursion_from_All (IsLeafTree o f a.plausible) a.places a.leaf_trees) in
+    let leaves = loop_trees A dialect model text f over o a.plausible a.places (subst (AllByRecursion IsPlace) (sym a.leaf_trees.keys) placed) (recursion_from_All (IsLeafTree o f a.plausible) a.places a.leaf_trees.are) in
     let own = IsLoopTree intervals (length f.atoms) (whole f.code).names in
-    let kinds = subst (AllByRecursion (λ (k : Place × Kind). IsPlace k.0)) (sym a.stops_are) (kinds_placed (program_places (whole f.code)) placed) in
-    let stops = alarm_trees A dialect model text f over o a.plausible a.stops kinds (recursion_from_All (IsAlarmTreeOf o f a.plausible) a.stops a.stop_trees) in
+    let kinds = subst (AllByRecursion (λ (k : Place × Kind). IsPlace k.0)) (sym a.stop_trees.keys) (kinds_placed (program_places (whole f.code)) placed) in
+    let stops = alarm_trees A dialect model text f over o a.plausible a.stops kinds (recursion_from_All (IsAlarmTreeOf o f a.plausible) a.stops a.stop_trees.are) in
     intervals_are_read_back regions model f.atoms (whole f.code).names mode is alarms bytes result
     (record { named = over.named; distinct = over.distinct; well = over.atoms; lines = told.lines })
     (record {

@@ -1,7 +1,5 @@
 -- What a check answers of a certificate that says what an analysis found.
-use Rattle.std.specs.Prelude.{◌≡◌, ℕ, ℤ, true, false, List, length, map}
-use Rattle.std.specs.List.{All}
-use Rattle.c_tree.specs.Places.{program_places}
+use Rattle.std.specs.Prelude.{◌≡◌, ℕ, ℤ, true, false, List, length}
 use Rattle.c_tree.specs.Tree.{Whole}
 use Rattle.c_tree.specs.Whole.{IsProgram}
 use Rattle.linear_atoms.specs.declared.atoms.Atom.{Atom}
@@ -13,13 +11,14 @@ use Rattle.cpp_conditions.specs.Validity.{plain, IsValid}
 use Rattle.cpp_conditions.specs.View.{formula}
 use Rattle.leaf_domain.specs.Leaves.{LeafValue, LeafMeaning, Alike, IsLeafLike, is_nothing_of}
 use Rattle.lifted_analysis.specs.Lines.{set_from}
-use Rattle.lifted_analysis.specs.Promises.{leaf_at, stop_at, by_kind}
+use Rattle.lifted_analysis.specs.Promises.{leaf_at, stop_at}
 use Rattle.lifted_analysis.specs.Turns.{loop_places}
 use Rattle.merged_findings.specs.Merged.{IsTreeWhere}
 use Rattle.plain_analysis.specs.declared.options.Options.{Options}
 use Rattle.alarm_report.specs.declared.alarms.FamilyAlarm.{FamilyAlarm}
 use Rattle.alarm_report.specs.Alarms.{PlainAlarmTree, AreAlarms}
 use Rattle.alarm_report.specs.Invariants.{LeafTree, Invariant, AreInvariants}
+use Rattle.alarm_report.specs.Trees.{AreTreesOfPlaces, AreTreesOfKinds}
 use Rattle.certificate_format.specs.declared.certificates.Certificate.{Certificate}
 use Rattle.certificate_format.specs.Loops.{trees_at}
 use Rattle.invariant_certificate.specs.declared.verdicts.Verdict.{Verdict}
@@ -51,15 +50,13 @@ module _ (M : LeafMeaning) (o : Options) (model : Model) (p : Whole) (conditions
   pub record AreLeaves (places : List LeafTree) : Type 0 where
     pub plausible : Formula
     pub valid : (values : List ℤ) → IsValid (plain model) values → true_on (vector_at atoms values) (formula plausible) ≡ true
-    pub keys : map (λ (t : LeafTree). t.place) places ≡ program_places p
-    pub are : All (λ (t : LeafTree). IsTreeWhere (length atoms) (leaf_at M o p conditions plausible t.place) (formula plausible) t.tree) places
+    pub trees : AreTreesOfPlaces p (λ (t : LeafTree). IsTreeWhere (length atoms) (leaf_at M o p conditions plausible t.place) (formula plausible) t.tree) places
 
   -- the same of each place and kind
   pub record AreAlarmTrees (stops : List PlainAlarmTree) : Type 0 where
     pub plausible : Formula
     pub valid : (values : List ℤ) → IsValid (plain model) values → true_on (vector_at atoms values) (formula plausible) ≡ true
-    pub keys : map (λ (t : PlainAlarmTree). (t.place, t.kind)) stops ≡ by_kind (program_places p)
-    pub are : All (λ (t : PlainAlarmTree). IsTreeWhere (length atoms) (stop_at M o p conditions plausible (t.place, t.kind)) (formula plausible) t.tree) stops
+    pub trees : AreTreesOfKinds p (λ (t : PlainAlarmTree). IsTreeWhere (length atoms) (stop_at M o p conditions plausible (t.place, t.kind)) (formula plausible) t.tree) stops
 
   -- the certificate says the invariants of the loops and the alarms of such an analysis
   pub record IsOfAnalysis (c : Certificate) : Type 0 where

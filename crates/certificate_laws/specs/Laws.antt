@@ -1,12 +1,11 @@
 -- What holds of certificates.
-use Rattle.std.specs.Prelude.{◌≡◌, ⊤, ℕ, ◌≤◌, List, length, map, Result, Ok, Err}
+use Rattle.std.specs.Prelude.{◌≡◌, ⊤, ℕ, ◌≤◌, List, length, Result, Ok, Err}
 use Rattle.std.specs.List.{All}
 use Rattle.fam_outer.specs.declared.dialect.Dialect.{Dialect}
 use Rattle.fam_outer.specs.declared.faults.Place.{Place}
 use Rattle.fam_outer.specs.declared.refusal.Refusal.{Refusal}
 use Rattle.fam_outer.specs.declared.refusal.Refusal.TheVariants.{NoMemory, Fault}
 use Rattle.c_tree.specs.declared.tree.Mode.{Mode}
-use Rattle.c_tree.specs.Places.{program_places}
 use Rattle.c_tree.specs.View.{whole}
 use Rattle.c_tree.specs.Whole.{IsProgram}
 use Rattle.c_parser.specs.declared.family.Family.{Family}
@@ -21,11 +20,12 @@ use Rattle.merged_findings.specs.Merged.{IsTreeWhere}
 use Rattle.feature_model.specs.Features.{AreDistinct, AreNamed}
 use Rattle.leaf_domain.specs.Leaves.{LeafMeaning}
 use Rattle.interval_leaf.specs.Intervals.{intervals}
-use Rattle.lifted_analysis.specs.Promises.{leaf_at, stop_at, by_kind}
+use Rattle.lifted_analysis.specs.Promises.{leaf_at, stop_at}
 use Rattle.plain_analysis.specs.declared.options.Options.{Options}
 use Rattle.alarm_report.specs.declared.alarms.FamilyAlarm.{FamilyAlarm}
 use Rattle.alarm_report.specs.Alarms.{PlainAlarmTree, AreAlarms}
 use Rattle.alarm_report.specs.Invariants.{LeafTree, Invariant, AreInvariants}
+use Rattle.alarm_report.specs.Trees.{AreTreesOfPlaces, AreTreesOfKinds}
 use Rattle.certificate_format.specs.declared.certificates.Certificate.{Certificate}
 use Rattle.certificate_format.specs.declared.certificates.CertificateFault.{CertificateFault}
 use Rattle.fam_outer.specs.Limits.{certificate_bytes}
@@ -104,10 +104,8 @@ pub record AreOfAnalysis (model : Model) (o : Options) (f : Family) (loops : Lis
   pub plausible : Formula
   pub places : List LeafTree
   pub stops : List PlainAlarmTree
-  pub places_are : map (λ (t : LeafTree). t.place) places ≡ program_places (whole f.code)
-  pub stops_are : map (λ (t : PlainAlarmTree). (t.place, t.kind)) stops ≡ by_kind (program_places (whole f.code))
-  pub leaf_trees : All (IsLeafTree o f plausible) places
-  pub stop_trees : All (IsAlarmTreeOf o f plausible) stops
+  pub leaf_trees : AreTreesOfPlaces (whole f.code) (IsLeafTree o f plausible) places
+  pub stop_trees : AreTreesOfKinds (whole f.code) (IsAlarmTreeOf o f plausible) stops
   pub invariants_are : AreInvariants model f.atoms (trees_at loops places) is
   pub alarms_are : AreAlarms model f.atoms stops alarms
 

@@ -134,8 +134,8 @@ module _ (M : LeafMeaning) (analysis : Analysis) (l : ProductLine) (given : List
       let f : Place × Kind → Bool = λ k. alarm_of M o (variant values) (M.start (variant values).start) k.0 k.1 in
       false_where f (vector_at l.family.atoms values) n.trees
       (all_mapped (IsAlarmTreeOf M o Paths l n.plausible) (λ (t : PlainAlarmTree). leaf_of t.tree (vector_at l.family.atoms values) ≡ f (key t)) (tree_says values valid) n.trees
-      (recursion_from_All (IsAlarmTreeOf M o Paths l n.plausible) n.trees n.are))
-      ∙ ap (none_of f) n.keys
+      (recursion_from_All (IsAlarmTreeOf M o Paths l n.plausible) n.trees n.told.are))
+      ∙ ap (none_of f) n.told.keys
 
 -- ---- advice
 
@@ -173,9 +173,9 @@ one_done laws once dialect analysis settings told s t x y h k i j =
     ∙ ap (λ (ts : List Bool). has_none M analysis (whole t.line.family.code) ts) (family.truths values)
     ∙ sym (quiet_where M analysis t.line t.config.values j.found j.is values (subst (λ (m : Plain). IsValid m values) same.line.model valid)) in
     let mine : Advises s.line.model s.line.family.atoms (trees_of i.is.trees) t.config.values i.found =
-    subst (λ (g : List ℤ). Advises s.line.model s.line.family.atoms (trees_of i.is.trees) g i.found) same.values i.is.advises in
+    subst (λ (g : List ℤ). Advises s.line.model s.line.family.atoms (trees_of i.is.trees) g i.found) same.values i.is.tells in
     let one : told_of i.found ≡ told_of j.found =
-    once s.line.model t.line.model s.line.family.atoms t.line.family.atoms (trees_of i.is.trees) (trees_of j.is.trees) t.config.values i.found j.found same.line.model quiet mine j.is.advises in
+    once s.line.model t.line.model s.line.family.atoms t.line.family.atoms (trees_of i.is.trees) (trees_of j.is.trees) t.config.values i.found j.found same.line.model quiet mine j.is.tells in
     let text : x.text ≡ y.text =
     i.text ∙ text_told s.line.model.features i.found ∙ ap (λ (m : Plain). told_text m.features (told_of i.found)) same.line.model
     ∙ ap (told_text t.line.model.features) one ∙ sym (text_told t.line.model.features j.found) ∙ sym j.text in

@@ -254,10 +254,10 @@ written_of o r l done bytes (loops, alarms, a, b, e) text = record {
   stops = b.trees;
   invariants = loops;
   alarms = alarms;
-  leaves_are = record { plausible = a.plausible; valid = valid_plausible l.model l.family.atoms (formula a.plausible) a.plausible_is; keys = a.keys; are = leaves_lead o r l a.plausible a.trees a.are };
-  stops_are = record { plausible = b.plausible; valid = valid_plausible l.model l.family.atoms (formula b.plausible) b.plausible_is; keys = b.keys; are = stops_lead o r l b.plausible b.trees b.are };
-  loops_are = a.regions;
-  alarms_are = b.regions;
+  leaves_are = record { plausible = a.plausible; valid = valid_plausible l.model l.family.atoms (formula a.plausible) a.plausible_is; trees = record { keys = a.told.keys; are = leaves_lead o r l a.plausible a.trees a.told.are } };
+  stops_are = record { plausible = b.plausible; valid = valid_plausible l.model l.family.atoms (formula b.plausible) b.plausible_is; trees = record { keys = b.told.keys; are = stops_lead o r l b.plausible b.trees b.told.are } };
+  loops_are = a.tells;
+  alarms_are = b.tells;
   text = text ∙ ap (λ (d : Done). d.text) e;
 }
 

@@ -121,11 +121,11 @@ module _ (M : LeafMeaning) (o : Options) (r : Regions) (k l : ProductLine) (e : 
 
   pub same_alarms : (alarms others : List FamilyAlarm) → AreAlarmsOf M o r k alarms → AreAlarmsOf M o r l others → alarms ≡ others
   same_alarms alarms others h i =
-      let keys : map key h.trees ≡ map key i.trees = h.keys ∙ ap (λ (w : Whole). by_kind (program_places w)) e.code ∙ sym i.keys in
+      let keys : map key h.trees ≡ map key i.trees = h.told.keys ∙ ap (λ (w : Whole). by_kind (program_places w)) e.code ∙ sym i.told.keys in
       let same : h.trees ≡ i.trees =
-      one_list key (IsAlarmTreeOf M o r k h.plausible) (IsAlarmTreeOf M o r l i.plausible) (one_stop_tree h.plausible i.plausible h.plausible_is i.plausible_is) h.trees i.trees keys h.are i.are in
+      one_list key (IsAlarmTreeOf M o r k h.plausible) (IsAlarmTreeOf M o r l i.plausible) (one_stop_tree h.plausible i.plausible h.plausible_is i.plausible_is) h.trees i.trees keys h.told.are i.told.are in
       one_alarms k.model l.model e.model l.family.atoms i.trees alarms others
-      (subst (λ (ts : List PlainAlarmTree). AreAlarms k.model l.family.atoms ts alarms) same (subst (λ (atoms : List Atom). AreAlarms k.model atoms h.trees alarms) e.atoms h.regions)) i.regions
+      (subst (λ (ts : List PlainAlarmTree). AreAlarms k.model l.family.atoms ts alarms) same (subst (λ (atoms : List Atom). AreAlarms k.model atoms h.trees alarms) e.atoms h.tells)) i.tells
 
   of_trees : (ts us : List LeafTree) (invariants others : List Invariant) → ts ≡ us → AreInvariants k.model k.family.atoms ts invariants → AreInvariants l.model l.family.atoms us others → invariants ≡ others
   of_trees ts us invariants others same h i =
@@ -135,13 +135,13 @@ module _ (M : LeafMeaning) (o : Options) (r : Regions) (k l : ProductLine) (e : 
   pub same_invariants : (invariants others : List Invariant) → AreInvariantsOf M o r k invariants → AreInvariantsOf M o r l others → invariants ≡ others
   same_invariants invariants others h i =
       of_trees h.trees i.trees invariants others
-      (one_leaf_trees h.plausible i.plausible h.plausible_is i.plausible_is h.trees i.trees h.keys i.keys h.are i.are) h.regions i.regions
+      (one_leaf_trees h.plausible i.plausible h.plausible_is i.plausible_is h.trees i.trees h.told.keys i.told.keys h.told.are i.told.are) h.tells i.tells
 
   pub same_loops : (loops others : List Invariant) → AreLoopsOf M o r k loops → AreLoopsOf M o r l others → loops ≡ others
   same_loops loops others h i =
-      let same : h.trees ≡ i.trees = one_leaf_trees h.plausible i.plausible h.plausible_is i.plausible_is h.trees i.trees h.keys i.keys h.are i.are in
+      let same : h.trees ≡ i.trees = one_leaf_trees h.plausible i.plausible h.plausible_is i.plausible_is h.trees i.trees h.told.keys i.told.keys h.told.are i.told.are in
       of_trees (trees_at (loop_places (whole k.family.code).body) h.trees) (trees_at (loop_places (whole l.family.code).body) i.trees) loops others
-      (ap₂ (λ (w : Whole) (ts : List LeafTree). trees_at (loop_places w.body) ts) e.code same) h.regions i.regions
+      (ap₂ (λ (w : Whole) (ts : List LeafTree). trees_at (loop_places w.body) ts) e.code same) h.tells i.tells
 
   -- ---- what is done
 

@@ -118,7 +118,7 @@ some_nearest laws M o dialect m f settings s h =
     let plausible = some_plausible l.model.constraints l.family.atoms (have_constraints l dialect f h.line.family) in
     let trees = some_stops M o Paths l plausible.0 (by_kind (program_places (whole l.family.code))) in
     let advised = some_advised laws.configurations l.model l.family.atoms (trees_of trees.0) s.config.values in
-    (advised.0, record { plausible = plausible.0; plausible_is = plausible.1; trees = trees.0; keys = trees.1; are = trees.2; advises = advised.1 })
+    (advised.0, record { plausible = plausible.0; plausible_is = plausible.1; trees = trees.0; told = trees.1; tells = advised.1 })
 
 answer_by : AnswerLaws → (dialect : Dialect) (analysis : Analysis) (settings : List (List ℕ)) (told : Contents) → SelectionAnswer dialect told.model told.file settings
     → (answer : Result Done Fault) × AnswersAdvice dialect analysis settings told answer

@@ -25,6 +25,7 @@ use Rattle.alarm_report.specs.Alarms.{PlainAlarmTree}
 use Rattle.alarm_report.specs.Invariants.{LeafTree, Invariant}
 use Rattle.alarm_report.specs.LeafTexts.{invariant_text}
 use Rattle.alarm_report.specs.Texts.{alarm_text}
+use Rattle.alarm_report.specs.Trees.{AreTrees}
 use Rattle.certificate_format.specs.Loops.{trees_at}
 use Rattle.certificate_format.specs.Texts.{certificate_text}
 use Rattle.reading_laws.specs.Answered.{FirstConfigurationsAreFound}
@@ -61,22 +62,22 @@ have_constraints l dialect bytes h = among_front l.family.atoms (plain l.model).
 
 module _ (M : LeafMeaning) (o : Options) (r : Regions) (l : ProductLine) (plausible : Formula) where
   -- a tree of each place and kind
-  pub some_stops : (keys : List (Place × Kind)) → (trees : List PlainAlarmTree) × (map (λ (t : PlainAlarmTree). (t.place, t.kind)) trees ≡ keys) × All (IsAlarmTreeOf M o r l plausible) trees
-  some_stops [] = ([], refl, All-nil (IsAlarmTreeOf M o r l plausible))
+  pub some_stops : (keys : List (Place × Kind)) → (trees : List PlainAlarmTree) × AreTrees {K = Place × Kind} (λ (t : PlainAlarmTree). (t.place, t.kind)) keys (IsAlarmTreeOf M o r l plausible) trees
+  some_stops [] = ([], record { keys = refl; are = All-nil (IsAlarmTreeOf M o r l plausible) })
   some_stops ((place, kind) ∷ keys) =
       let own = some_stop_tree r (length l.family.atoms) (stop_at M o (whole l.family.code) l.family.conditions plausible (place, kind)) (formula plausible) in
       let t : PlainAlarmTree = record { place = place; kind = kind; tree = own.0 } in
       let behind = some_stops keys in
-      (t ∷ behind.0, ap (λ (ks : List (Place × Kind)). (place, kind) ∷ ks) behind.1, All-cons (IsAlarmTreeOf M o r l plausible) t behind.0 own.1 behind.2)
+      (t ∷ behind.0, record { keys = ap (λ (ks : List (Place × Kind)). (place, kind) ∷ ks) behind.1.keys; are = All-cons (IsAlarmTreeOf M o r l plausible) t behind.0 own.1 behind.1.are })
 
   -- a tree of each place
-  some_places : (places : List Place) → (trees : List LeafTree) × (map (λ (t : LeafTree). t.place) trees ≡ places) × All (IsLeafTree M o r l plausible) trees
-  some_places [] = ([], refl, All-nil (IsLeafTree M o r l plausible))
+  some_places : (places : List Place) → (trees : List LeafTree) × AreTrees (λ (t : LeafTree). t.place) places (IsLeafTree M o r l plausible) trees
+  some_places [] = ([], record { keys = refl; are = All-nil (IsLeafTree M o r l plausible) })
   some_places (place ∷ places) =
       let own = some_place_tree r (length l.family.atoms) (leaf_at M o (whole l.family.code) l.family.conditions plausible place) (formula plausible) in
       let t : LeafTree = record { place = place; tree = own.0 } in
       let behind = some_places places in
-      (t ∷ behind.0, ap (λ (ps : List Place). place ∷ ps) behind.1, All-cons (IsLeafTree M o r l plausible) t behind.0 own.1 behind.2)
+      (t ∷ behind.0, record { keys = ap (λ (ps : List Place). place ∷ ps) behind.1.keys; are = All-cons (IsLeafTree M o r l plausible) t behind.0 own.1 behind.1.are })
 
 -- ---- alarms and invariants
 
@@ -86,21 +87,21 @@ module _ (first : FirstConfigurationsAreFound) (M : LeafMeaning) (o : Options) (
       let plausible = some_plausible l.model.constraints l.family.atoms among in
       let trees = some_stops M o r l plausible.0 (by_kind (program_places (whole l.family.code))) in
       let alarms = some_alarms first l.model l.family.atoms trees.0 in
-      (alarms.0, record { plausible = plausible.0; plausible_is = plausible.1; trees = trees.0; keys = trees.1; are = trees.2; regions = alarms.1 })
+      (alarms.0, record { plausible = plausible.0; plausible_is = plausible.1; trees = trees.0; told = trees.1; tells = alarms.1 })
 
   invariants_of : (invariants : List Invariant) × AreInvariantsOf M o r l invariants
   invariants_of =
       let plausible = some_plausible l.model.constraints l.family.atoms among in
       let trees = some_places M o r l plausible.0 (program_places (whole l.family.code)) in
       let invariants = some_invariants first l.model l.family.atoms trees.0 in
-      (invariants.0, record { plausible = plausible.0; plausible_is = plausible.1; trees = trees.0; keys = trees.1; are = trees.2; regions = invariants.1 })
+      (invariants.0, record { plausible = plausible.0; plausible_is = plausible.1; trees = trees.0; told = trees.1; tells = invariants.1 })
 
   loops_of : (loops : List Invariant) × AreLoopsOf M o r l loops
   loops_of =
       let plausible = some_plausible l.model.constraints l.family.atoms among in
       let trees = some_places M o r l plausible.0 (program_places (whole l.family.code)) in
       let loops = some_invariants first l.model l.family.atoms (trees_at (loop_places (whole l.family.code).body) trees.0) in
-      (loops.0, record { plausible = plausible.0; plausible_is = plausible.1; trees = trees.0; keys = trees.1; are = trees.2; regions = loops.1 })
+      (loops.0, record { plausible = plausible.0; plausible_is = plausible.1; trees = trees.0; told = trees.1; tells = loops.1 })
 
   -- what is asked of the product line
   pub some_family_done : (task : FamilyTask) → (done : Done) × IsFamilyDone M o r task l done

@@ -88,10 +88,14 @@ module _ {L : Type 0} (value : L → LeafValue) (M : LeafMeaning) (o : Options) 
     plausible = p;
     plausible_is = h.plausible;
     valid = h.valid;
-    kinds = map_map plain_alarm_tree (λ (t : PlainAlarmTree). (t.place, t.kind)) f.alarms.items ∙ h.kinds;
-    stops = all_mapped (IsAlarmTreeOf M o Paths l p) plain_alarm_tree f.alarms.items (h.alarms (length l.family.atoms) count_below);
-    places = map_map (leaf_tree value) (λ (t : LeafTree). t.place) f.places.items ∙ h.places;
-    leaves = all_mapped (IsLeafTree M o Paths l p) (leaf_tree value) f.places.items (h.trees (length l.family.atoms) count_below);
+    stops = record {
+      keys = map_map plain_alarm_tree (λ (t : PlainAlarmTree). (t.place, t.kind)) f.alarms.items ∙ h.kinds;
+      are = all_mapped (IsAlarmTreeOf M o Paths l p) plain_alarm_tree f.alarms.items (h.alarms (length l.family.atoms) count_below);
+    };
+    leaves = record {
+      keys = map_map (leaf_tree value) (λ (t : LeafTree). t.place) f.places.items ∙ h.places;
+      are = all_mapped (IsLeafTree M o Paths l p) (leaf_tree value) f.places.items (h.trees (length l.family.atoms) count_below);
+    };
     runs = h.runs;
   }
 
@@ -135,10 +139,14 @@ module _ {L : Type 0} (value : L → LeafValue) (M : LeafMeaning) (o : Options) 
     plausible = p;
     plausible_is = h.plausible;
     valid = h.valid;
-    kinds = map_map plain_alarm_tree (λ (t : PlainAlarmTree). (t.place, t.kind)) made.alarms.items ∙ (k.alarm_keys ∙ h.kinds);
-    stops = all_mapped (IsAlarmTreeOf M o Merged l p) plain_alarm_tree made.alarms.items stops;
-    places = map_map (leaf_tree value) (λ (t : LeafTree). t.place) made.places.items ∙ (k.place_keys ∙ h.places);
-    leaves = all_mapped (IsLeafTree M o Merged l p) (leaf_tree value) made.places.items leaves;
+    stops = record {
+      keys = map_map plain_alarm_tree (λ (t : PlainAlarmTree). (t.place, t.kind)) made.alarms.items ∙ (k.alarm_keys ∙ h.kinds);
+      are = all_mapped (IsAlarmTreeOf M o Merged l p) plain_alarm_tree made.alarms.items stops;
+    };
+    leaves = record {
+      keys = map_map (leaf_tree value) (λ (t : LeafTree). t.place) made.places.items ∙ (k.place_keys ∙ h.places);
+      are = all_mapped (IsLeafTree M o Merged l p) (leaf_tree value) made.places.items leaves;
+    };
     runs = h.runs;
   }
 

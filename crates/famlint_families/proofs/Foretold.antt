@@ -166,7 +166,7 @@ module _ {L : Type 0} (value : L → LeafValue) (M : LeafMeaning) (laws : LeafLa
       → leaf_of t.tree (vector values) ≡ alarm_of M o (program values) (start values) t.place t.kind
   stop_says values valid n t there =
       (told_leads r (length l.family.atoms) (stop_at M o (whole l.family.code) l.family.conditions found.plausible (t.place, t.kind)) (formula found.plausible) t.tree
-      (all_at (IsAlarmTreeOf M o r l found.plausible) stops n t found.stops there)).leads (vector values) (long values) (found.valid values valid)
+      (all_at (IsAlarmTreeOf M o r l found.plausible) stops n t found.stops.are there)).leads (vector values) (long values) (found.valid values valid)
       ∙ ap (λ d. alarm_of M o (program values) d t.place t.kind) (begins values valid)
 
   pub foreseen : (values : List ℤ) → IsValid (plain l.model) values → (inputs : List ℤ) (n : ℕ) → All IsInt inputs
@@ -181,7 +181,7 @@ module _ {L : Type 0} (value : L → LeafValue) (M : LeafMeaning) (laws : LeafLa
     told_once : (values : List ℤ) → IsValid (plain l.model) values → (place : Place) (kind : Kind)
         → alarm_of M o (program values) (start values) place kind ≡ true → TellsOnce alarms place kind values
     told_once values valid place kind h =
-        let there = alarm_tree_there stops (program_places (whole l.family.code)) found.kinds place kind
+        let there = alarm_tree_there stops (program_places (whole l.family.code)) found.stops.keys place kind
         (alarm_there M o (whole l.family.code) (truths_in l.family values) (start values) place kind h) in
         let t = there.one in
         let at_tree : alarm_of M o (program values) (start values) t.place t.kind ≡ true =
@@ -225,13 +225,13 @@ module _ {L : Type 0} (value : L → LeafValue) (M : LeafMeaning) (laws : LeafLa
     told_places i a there =
         let known = cover.known i a there in
         let key_there : slice_get (by_kind (program_places (whole l.family.code))) known.index ≡ Some (known.one.place, known.one.kind) =
-        subst (λ (ks : List (Place × Kind)). slice_get ks known.index ≡ Some (known.one.place, known.one.kind)) found.kinds (keyed_at stops known.index known.one known.there) in
+        subst (λ (ks : List (Place × Kind)). slice_get ks known.index ≡ Some (known.one.place, known.one.kind)) found.stops.keys (keyed_at stops known.index known.one known.there) in
         let place = kind_place (program_places (whole l.family.code)) known.index (known.one.place, known.one.kind) key_there in
         (place.0, place.1 ∙ ap (λ (p : Place). Some p) known.place_is)
 
     pub good_alarms : AreAlarms l.model l.family.atoms stops alarms → AreAlarmsWithLiterals l alarms → AreGoodAlarms M o r l alarms
     good_alarms regions fit = record {
-      are = record { plausible = found.plausible; plausible_is = found.plausible_is; trees = stops; keys = found.kinds; are = found.stops; regions = regions };
+      are = record { plausible = found.plausible; plausible_is = found.plausible_is; trees = stops; told = found.stops; tells = regions };
       all = record {
         variants = λ values valid. (program values, is_program_at law l values (program values) spelled valid refl, its_alarms values valid);
         examples = cover.least;
@@ -258,7 +258,7 @@ module _ {L : Type 0} (value : L → LeafValue) (M : LeafMeaning) (laws : LeafLa
   never_alarms : (values : List ℤ) → IsValid (plain l.model) values → is_quiet l.family.atoms (trees_of stops) values ≡ true → (place : Place) (kind : Kind)
       → alarm_of M o (program values) (start values) place kind ≡ true → ⊥
   never_alarms values valid quiet place kind alarm =
-      let there = alarm_tree_there stops (program_places (whole l.family.code)) found.kinds place kind
+      let there = alarm_tree_there stops (program_places (whole l.family.code)) found.stops.keys place kind
       (alarm_there M o (whole l.family.code) (truths_in l.family values) (start values) place kind alarm) in
       let t = there.one in
       let at_tree : alarm_of M o (program values) (start values) t.place t.kind ≡ true =
@@ -306,7 +306,7 @@ module _ {L : Type 0} (value : L → LeafValue) (M : LeafMeaning) (laws : LeafLa
   }
 
   pub stops_keyed : AreKeyed stops
-  stops_keyed = keyed stops (program_places (whole l.family.code)) found.kinds rising
+  stops_keyed = keyed stops (program_places (whole l.family.code)) found.stops.keys rising
 
 -- ---- what a call has answered, over the atoms of the product line
 
@@ -339,7 +339,7 @@ advised value M laws o l f found u law model atoms trees given advice same_model
     subst (λ m. Advises m l.family.atoms (trees_of (map plain_alarm_tree f.alarms.items)) given advice) same_model
     (subst (λ xs. Advises model xs (trees_of (map plain_alarm_tree f.alarms.items)) given advice) same_atoms (subst (λ ts. Advises model atoms ts given advice) same_trees h)) in
     record {
-      answer = record { plausible = found.plausible; plausible_is = found.plausible_is; trees = map plain_alarm_tree f.alarms.items; keys = found.kinds; are = found.stops; advises = here };
+      answer = record { plausible = found.plausible; plausible_is = found.plausible_is; trees = map plain_alarm_tree f.alarms.items; told = found.stops; tells = here };
       good = good_advice value M laws o Paths l f found u.family.program.rising law u.spelled given advice here;
     }
 

@@ -15,4 +15,4 @@ use Rattle.famlint_families.specs.Findings.{IsFound}
 pub places_counted : {L : Type 0} (value : L → LeafValue) (M : LeafMeaning) (o : Options) (r : Regions) (l : ProductLine) (f : FamilyFindings L) → IsFound value M o r l f
     → length f.places.items ≡ length (program_places (whole l.family.code))
 places_counted value M o r l f found =
-    sym (length-map (map (leaf_tree value) f.places.items) (λ (t : LeafTree). t.place) ∙ length-map f.places.items (leaf_tree value)) ∙ ap length found.places
+    sym (length-map (map (leaf_tree value) f.places.items) (λ (t : LeafTree). t.place) ∙ length-map f.places.items (leaf_tree value)) ∙ ap length found.leaves.keys

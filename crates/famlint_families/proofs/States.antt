@@ -175,21 +175,21 @@ module _ {L : Type 0} (value : L → LeafValue) (M : LeafMeaning) (laws : LeafLa
     its_invariants : (values : List ℤ) → IsValid (plain l.model) values → AreItsInvariants M o (whole l.family.code) invariants values (program values)
     its_invariants values valid = record {
       states = reached (HasState M o invariants values (program values)) values valid
-          (λ place store h. let k = here values place store h in has_state leaves all_places found.places found.leaves invariants cover values valid k.0 place store k.1 h);
+          (λ place store h. let k = here values place store h in has_state leaves all_places found.leaves.keys found.leaves.are invariants cover values valid k.0 place store k.1 h);
       shown = reached (ShowsState M names invariants values) values valid
-          (λ place store h. let k = here values place store h in shows_state leaves all_places found.places found.leaves invariants cover values valid k.0 place store k.1 h);
-      leaves = has_once leaves all_places found.places found.leaves invariants cover values valid;
-      places = only_places leaves all_places found.places found.leaves invariants cover;
+          (λ place store h. let k = here values place store h in shows_state leaves all_places found.leaves.keys found.leaves.are invariants cover values valid k.0 place store k.1 h);
+      leaves = has_once leaves all_places found.leaves.keys found.leaves.are invariants cover values valid;
+      places = only_places leaves all_places found.leaves.keys found.leaves.are invariants cover;
     }
 
     good_invariants : AreInvariants l.model l.family.atoms leaves invariants → AreGoodInvariants M o r l invariants
     good_invariants regions = record {
-      are = record { plausible = found.plausible; plausible_is = found.plausible_is; trees = leaves; keys = found.places; are = found.leaves; regions = regions };
+      are = record { plausible = found.plausible; plausible_is = found.plausible_is; trees = leaves; told = found.leaves; tells = regions };
       all = λ values valid. (program values, is_program_at law l values (program values) u.spelled valid refl, its_invariants values valid);
     }
 
   leaves_placed : ArePlaced leaves
-  leaves_placed = placed leaves all_places found.places u.family.program.rising
+  leaves_placed = placed leaves all_places found.leaves.keys u.family.program.rising
 
   -- ---- the invariants of the loops
 
@@ -203,12 +203,12 @@ module _ {L : Type 0} (value : L → LeafValue) (M : LeafMeaning) (laws : LeafLa
   loops_within = at_left loops (places_of (whole l.family.code).body) ((whole l.family.code).end ∷ []) (loops_placed (whole l.family.code).body)
 
   loop_keys : map place_of loop_leaves ≡ loops
-  loop_keys = trees_placed loops all_places loops_within leaves found.places u.family.program.rising
+  loop_keys = trees_placed loops all_places loops_within leaves found.leaves.keys u.family.program.rising
 
   loop_trees : All (IsLeafTree M o r l found.plausible) loop_leaves
   loop_trees =
       All-from_recursion (IsLeafTree M o r l found.plausible) loop_leaves
-      (kept_trees (IsLeafTree M o r l found.plausible) loops leaves (recursion_from_All (IsLeafTree M o r l found.plausible) leaves found.leaves))
+      (kept_trees (IsLeafTree M o r l found.plausible) loops leaves (recursion_from_All (IsLeafTree M o r l found.plausible) leaves found.leaves.are))
 
   loops_apart : ArePlaced loop_leaves
   loops_apart = placed loop_leaves loops loop_keys (rising_some loops all_places loops_within u.family.program.rising)
@@ -226,7 +226,7 @@ module _ {L : Type 0} (value : L → LeafValue) (M : LeafMeaning) (laws : LeafLa
 
     good_loops : AreInvariants l.model l.family.atoms loop_leaves invariants → AreGoodLoops M o r l invariants
     good_loops regions = record {
-      are = record { plausible = found.plausible; plausible_is = found.plausible_is; trees = leaves; keys = found.places; are = found.leaves; regions = regions };
+      are = record { plausible = found.plausible; plausible_is = found.plausible_is; trees = leaves; told = found.leaves; tells = regions };
       all = λ values valid. (program values, is_program_at law l values (program values) u.spelled valid refl, its_loops values valid);
     }
 

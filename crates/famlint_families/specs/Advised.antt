@@ -1,18 +1,14 @@
 -- What a product line and a given configuration are answered under `advise`, and what is promised of it.
 use Rattle.std.specs.Prelude.{ℕ, ℤ, ◌≡◌, ◌<◌, true, false, Bool, List, map, Option, Some, None}
-use Rattle.std.specs.List.{All}
 use Rattle.fam_outer.specs.declared.faults.Place.{Place}
 use Rattle.c_tree.specs.declared.tree.Kind.{Kind}
-use Rattle.c_tree.specs.Places.{program_places}
 use Rattle.c_tree.specs.Tree.{Whole}
 use Rattle.c_tree.specs.View.{whole}
-use Rattle.cpp_conditions.specs.declared.formulas.Formula.{Formula}
 use Rattle.cpp_conditions.specs.Validity.{plain, IsValid}
 use Rattle.linear_atoms.specs.declared.regions.Regions.TheVariants.{Paths}
 use Rattle.atom_solver.specs.Solutions.{IsBefore}
 use Rattle.decision_tree.specs.Plain.{Plain}
 use Rattle.leaf_domain.specs.Leaves.{LeafMeaning}
-use Rattle.lifted_analysis.specs.Promises.{by_kind}
 use Rattle.plain_analysis.specs.declared.options.Options.{Options}
 use Rattle.plain_analysis.specs.Places.{alarm_of}
 use Rattle.alarm_report.specs.Alarms.{PlainAlarmTree}
@@ -21,7 +17,7 @@ use Rattle.configuration_advice.specs.Nearest.{differing, Advises}
 use Rattle.configuration_advice.specs.Texts.{advice_text}
 use Rattle.famlint_loads.specs.declared.fault.Done.{Done}
 use Rattle.famlint_loads.specs.declared.product_line.ProductLine.{ProductLine}
-use Rattle.famlint_families.specs.FamilyReports.{IsPlausibleFor, IsAlarmTreeOf}
+use Rattle.famlint_families.specs.FamilyReports.{IsToldBy, AreAlarmTrees}
 use Rattle.famlint_loads.specs.ProductLines.{IsProgramAt}
 use Rattle.famlint_programs.specs.Report.{NeverStops}
 
@@ -34,13 +30,9 @@ abbrev pub trees_of : List PlainAlarmTree → List (Plain Bool)
 trees_of stops = map (λ (t : PlainAlarmTree). t.tree) stops
 
 -- the nearest valid configuration to the given one at which the one tree of each place and kind is false
-pub record IsNearestWithoutAlarms (M : LeafMeaning) (o : Options) (l : ProductLine) (given : List ℤ) (found : Option Advice) : Type 0 where
-  pub plausible : Formula
-  pub plausible_is : IsPlausibleFor l plausible
-  pub trees : List PlainAlarmTree
-  pub keys : map (λ (t : PlainAlarmTree). (t.place, t.kind)) trees ≡ by_kind (program_places (whole l.family.code))
-  pub are : All (IsAlarmTreeOf M o Paths l plausible) trees
-  pub advises : Advises l.model l.family.atoms (trees_of trees) given found
+abbrev pub IsNearestWithoutAlarms : LeafMeaning → Options → ProductLine → List ℤ → Option Advice → Type 0
+IsNearestWithoutAlarms M o l given found =
+    IsToldBy l (AreAlarmTrees M o Paths l) (λ (trees : List PlainAlarmTree). Advises l.model l.family.atoms (trees_of trees) given found)
 
 -- the line of such advice, with its status
 pub record IsAdviseDone (M : LeafMeaning) (o : Options) (l : ProductLine) (given : List ℤ) (done : Done) : Type 0 where

@@ -1,6 +1,5 @@
 -- What a product line is answered under `analyse`, `invariants` and `certify`.
-use Rattle.std.specs.Prelude.{ℕ, ◌≡◌, ◌++◌, List, codes, map, length, nat_lt, if◌then◌else◌}
-use Rattle.std.specs.List.{All}
+use Rattle.std.specs.Prelude.{ℕ, ◌≡◌, ◌++◌, List, codes, length, nat_lt, if◌then◌else◌}
 use Rattle.std.specs.Fmt.{decimal}
 use Rattle.c_tree.specs.Places.{program_places}
 use Rattle.c_tree.specs.View.{whole}
@@ -9,7 +8,7 @@ use Rattle.cpp_conditions.specs.View.{formula}
 use Rattle.linear_atoms.specs.declared.regions.Regions.{Regions}
 use Rattle.atom_solver.specs.Plausible.{IsPlausible}
 use Rattle.leaf_domain.specs.Leaves.{LeafMeaning}
-use Rattle.lifted_analysis.specs.Promises.{leaf_at, stop_at, by_kind}
+use Rattle.lifted_analysis.specs.Promises.{leaf_at, stop_at}
 use Rattle.lifted_analysis.specs.Turns.{loop_places}
 use Rattle.plain_analysis.specs.declared.options.Options.{Options}
 use Rattle.alarm_report.specs.declared.alarms.FamilyAlarm.{FamilyAlarm}
@@ -17,6 +16,7 @@ use Rattle.alarm_report.specs.Alarms.{PlainAlarmTree, AreAlarms}
 use Rattle.alarm_report.specs.Invariants.{LeafTree, Invariant, AreInvariants}
 use Rattle.alarm_report.specs.LeafTexts.{invariant_text}
 use Rattle.alarm_report.specs.Texts.{alarm_text}
+use Rattle.alarm_report.specs.Trees.{AreTreesOfPlaces, AreTreesOfKinds}
 use Rattle.certificate_format.specs.Loops.{trees_at}
 use Rattle.certificate_format.specs.Texts.{certificate_text}
 use Rattle.famlint_loads.specs.declared.fault.Done.{Done}
@@ -39,32 +39,34 @@ abbrev pub IsLeafTree : LeafMeaning → Options → Regions → ProductLine → 
 IsLeafTree M o r l plausible t =
     IsToldTree r (length l.family.atoms) (leaf_at M o (whole l.family.code) l.family.conditions plausible t.place) (formula plausible) t.tree
 
--- the alarms of a product line: the regions of the tree of each place and kind, in the order of the text and of the kinds
-pub record AreAlarmsOf (M : LeafMeaning) (o : Options) (r : Regions) (l : ProductLine) (alarms : List FamilyAlarm) : Type 0 where
+-- what is told of a product line by the trees of an analysis, all over one formula of its plausible vectors
+pub record IsToldBy {T : Type 0} (l : ProductLine) (AreTrees : Formula → List T → Type 0) (Tells : List T → Type 0) : Type 0 where
   pub plausible : Formula
   pub plausible_is : IsPlausibleFor l plausible
-  pub trees : List PlainAlarmTree
-  pub keys : map (λ (t : PlainAlarmTree). (t.place, t.kind)) trees ≡ by_kind (program_places (whole l.family.code))
-  pub are : All (IsAlarmTreeOf M o r l plausible) trees
-  pub regions : AreAlarms l.model l.family.atoms trees alarms
+  pub trees : List T
+  pub told : AreTrees plausible trees
+  pub tells : Tells trees
 
--- the invariants of a product line: the regions of the tree of each place, in the order of the text, with their leaves
-pub record AreInvariantsOf (M : LeafMeaning) (o : Options) (r : Regions) (l : ProductLine) (invariants : List Invariant) : Type 0 where
-  pub plausible : Formula
-  pub plausible_is : IsPlausibleFor l plausible
-  pub trees : List LeafTree
-  pub keys : map (λ (t : LeafTree). t.place) trees ≡ program_places (whole l.family.code)
-  pub are : All (IsLeafTree M o r l plausible) trees
-  pub regions : AreInvariants l.model l.family.atoms trees invariants
+-- the tree of each place and kind, in the order of the text and of the kinds
+abbrev pub AreAlarmTrees : LeafMeaning → Options → Regions → ProductLine → Formula → List PlainAlarmTree → Type 0
+AreAlarmTrees M o r l plausible trees = AreTreesOfKinds (whole l.family.code) (IsAlarmTreeOf M o r l plausible) trees
+
+-- the tree of each place, in the order of the text
+abbrev pub AreLeafTrees : LeafMeaning → Options → Regions → ProductLine → Formula → List LeafTree → Type 0
+AreLeafTrees M o r l plausible trees = AreTreesOfPlaces (whole l.family.code) (IsLeafTree M o r l plausible) trees
+
+-- the alarms of a product line: the regions of the tree of each place and kind
+abbrev pub AreAlarmsOf : LeafMeaning → Options → Regions → ProductLine → List FamilyAlarm → Type 0
+AreAlarmsOf M o r l alarms = IsToldBy l (AreAlarmTrees M o r l) (λ (trees : List PlainAlarmTree). AreAlarms l.model l.family.atoms trees alarms)
+
+-- the invariants of a product line: the regions of the tree of each place, with their leaves
+abbrev pub AreInvariantsOf : LeafMeaning → Options → Regions → ProductLine → List Invariant → Type 0
+AreInvariantsOf M o r l invariants = IsToldBy l (AreLeafTrees M o r l) (λ (trees : List LeafTree). AreInvariants l.model l.family.atoms trees invariants)
 
 -- the invariants of the loops of a product line: of the same trees those at the places of loops
-pub record AreLoopsOf (M : LeafMeaning) (o : Options) (r : Regions) (l : ProductLine) (loops : List Invariant) : Type 0 where
-  pub plausible : Formula
-  pub plausible_is : IsPlausibleFor l plausible
-  pub trees : List LeafTree
-  pub keys : map (λ (t : LeafTree). t.place) trees ≡ program_places (whole l.family.code)
-  pub are : All (IsLeafTree M o r l plausible) trees
-  pub regions : AreInvariants l.model l.family.atoms (trees_at (loop_places (whole l.family.code).body) trees) loops
+abbrev pub AreLoopsOf : LeafMeaning → Options → Regions → ProductLine → List Invariant → Type 0
+AreLoopsOf M o r l loops =
+    IsToldBy l (AreLeafTrees M o r l) (λ (trees : List LeafTree). AreInvariants l.model l.family.atoms (trees_at (loop_places (whole l.family.code).body) trees) loops)
 
 -- 1 where there is an alarm
 abbrev pub family_status : List FamilyAlarm → ℕ

@@ -1,7 +1,6 @@
 -- What the analysis of all variants has found, for the report on it.
 use Rattle.std.specs.Prelude.{ℕ, ℤ, ◌≡◌, ◌++◌, true, Bool, List, map, length}
 use Rattle.std.specs.List.{All}
-use Rattle.c_tree.specs.Places.{program_places}
 use Rattle.c_tree.specs.View.{whole}
 use Rattle.cpp_conditions.specs.declared.formulas.Formula.{Formula}
 use Rattle.cpp_conditions.specs.Numbering.{vector_at}
@@ -16,20 +15,20 @@ use Rattle.leaf_domain.specs.Leaves.{LeafValue, LeafMeaning}
 use Rattle.lifted_analysis.specs.declared.findings.AlarmTree.{AlarmTree}
 use Rattle.lifted_analysis.specs.declared.findings.FamilyFindings.{FamilyFindings}
 use Rattle.lifted_analysis.specs.declared.findings.PlaceTree.{PlaceTree}
-use Rattle.lifted_analysis.specs.Promises.{variant_at, begin_at, by_kind}
+use Rattle.lifted_analysis.specs.Promises.{variant_at, begin_at}
 use Rattle.plain_analysis.specs.declared.options.Options.{Options}
 use Rattle.plain_analysis.specs.Promises.{RunsForeseen}
 use Rattle.alarm_report.specs.declared.alarms.FamilyAlarm.{FamilyAlarm}
 use Rattle.alarm_report.specs.declared.invariants.FamilyInvariant.{FamilyInvariant}
-use Rattle.alarm_report.specs.Alarms.{PlainAlarmTree, plain_alarm_tree}
-use Rattle.alarm_report.specs.Invariants.{LeafTree, Invariant, leaf_tree}
+use Rattle.alarm_report.specs.Alarms.{plain_alarm_tree}
+use Rattle.alarm_report.specs.Invariants.{Invariant, leaf_tree}
 use Rattle.alarm_report.specs.LeafTexts.{invariant_text}
 use Rattle.alarm_report.specs.Texts.{alarm_text}
 use Rattle.certificate_format.specs.Texts.{certificate_text}
 use Rattle.famlint_loads.specs.declared.product_line.ProductLine.{ProductLine}
 use Rattle.famlint_requests.specs.declared.request.FamilyTask.{FamilyTask}
 use Rattle.famlint_requests.specs.declared.request.FamilyTask.TheVariants.{Analyse, Invariants, Certify, Generate}
-use Rattle.famlint_families.specs.FamilyReports.{IsPlausibleFor, IsAlarmTreeOf, IsLeafTree, AreAlarmsOf, AreInvariantsOf, AreLoopsOf, sizes_text, family_status}
+use Rattle.famlint_families.specs.FamilyReports.{IsPlausibleFor, AreAlarmTrees, AreLeafTrees, AreAlarmsOf, AreInvariantsOf, AreLoopsOf, sizes_text, family_status}
 use Rattle.famlint_families.specs.Headline.{AreAlarmsOfAll, AreInvariantsOfAll, AreLoopsOfAll}
 
 -- the trees of stops and of leaves that are told of one analysis
@@ -37,10 +36,8 @@ pub record IsFound {L : Type 0} (value : L → LeafValue) (M : LeafMeaning) (o :
   pub plausible : Formula
   pub plausible_is : IsPlausibleFor l plausible
   pub valid : (values : List ℤ) → IsValid (plain l.model) values → true_on (vector_at l.family.atoms values) (formula plausible) ≡ true
-  pub kinds : map (λ (t : PlainAlarmTree). (t.place, t.kind)) (map plain_alarm_tree f.alarms.items) ≡ by_kind (program_places (whole l.family.code))
-  pub stops : All (IsAlarmTreeOf M o r l plausible) (map plain_alarm_tree f.alarms.items)
-  pub places : map (λ (t : LeafTree). t.place) (map (leaf_tree value) f.places.items) ≡ program_places (whole l.family.code)
-  pub leaves : All (IsLeafTree M o r l plausible) (map (leaf_tree value) f.places.items)
+  pub stops : AreAlarmTrees M o r l plausible (map plain_alarm_tree f.alarms.items)
+  pub leaves : AreLeafTrees M o r l plausible (map (leaf_tree value) f.places.items)
   pub runs : (v : List Bool)
       → RunsForeseen M o (variant_at (whole l.family.code) l.family.conditions v) (begin_at M (whole l.family.code) l.family.conditions plausible v)
 
