@@ -1,10 +1,12 @@
 -- A pair of kinds of leaf that is below both is below both linearised too.
-use Rattle.std.proofs.Common.{◌≡◌, ℕ, ◌<◌, ℤ, pos, negsuc, ◌||◌, Option, Some, None, refl, sym}
+use Rattle.std.proofs.Common.{◌≡◌, ℕ, ◌<◌, ℤ, pos, negsuc, ◌||◌, Option, Some, None, refl, sym, subst}
 use Rattle.leaf_domain.specs.declared.form.Form.{Form}
 use Rattle.leaf_domain.specs.declared.range.Range.{Range}
 use Rattle.leaf_domain.specs.declared.compare.Compare.{Compare}
 use Rattle.leaf_domain.specs.declared.compare.Compare.TheVariants.{Lt, Le, Gt, Ge, Eq, Ne}
-use Rattle.leaf_domain.specs.Ranges.{IsInInt}
+use Rattle.leaf_domain.specs.declared.operation.Operation.{Operation}
+use Rattle.leaf_domain.specs.Operations.{IsOperation}
+use Rattle.leaf_domain.specs.Ranges.{IsInInt, is_single}
 use Rattle.leaf_domain.specs.Forms.{IsForm, multiple_form}
 use Rattle.leaf_domain.specs.Sums.{HasForm}
 use Rattle.leaf_domain.specs.Leaves.{LeafValue, LeafMeaning, LeafLaws, Alike, IsLeafLike, is_nothing_of}
@@ -15,11 +17,15 @@ use Rattle.paired_leaf.specs.Below.{JoinIsLeast, IsBelow, IsBelowParts}
 use Rattle.paired_leaf.proofs.PairLemmas.{of_either}
 use Rattle.linearised_leaf.specs.Sides.{side_met}
 use Rattle.linearised_leaf.specs.Differences.{set_met}
-use Rattle.linearised_leaf.specs.Linearised.{side_of, other_side_met, sides_met, is_octagonal, tightened, has_variable, form_less_variable, tightened_where, tightened_set, linearised}
+use Rattle.linearised_leaf.specs.Tightened.{side_of, other_side_met, sides_met, is_octagonal, tightened, has_variable, form_less_variable, tightened_where, tightened_set}
+use Rattle.linearised_leaf.specs.Products.{less_number, met_where, met_between, operation_form, operation_met, operation_set}
+use Rattle.linearised_leaf.specs.Linearised.{linearised}
 use Rattle.linearised_leaf.proofs.SideLaws.{IsKept, side_kept, side_like, like_kept, form_over, below_count}
 use Rattle.linearised_leaf.proofs.FormLaws.{negated_is, less_has}
 use Rattle.linearised_leaf.proofs.DifferenceLaws.{IsSetKept, set_kept, set_over, like_kept as like_set_kept}
-use Rattle.linearised_leaf.proofs.LinearisedLaws.{own_alike, sides_alike, over, counted}
+use Rattle.linearised_leaf.proofs.TightenedLaws.{sides_alike, over, counted}
+use Rattle.linearised_leaf.proofs.ProductLaws.{operation_has, less_number_has, where_met_like}
+use Rattle.linearised_leaf.proofs.LinearisedLaws.{own_alike}
 
 -- the parts of a leaf of the one kind are leaves of the two others
 abbrev pub HasParts : LeafMeaning → LeafMeaning → LeafMeaning → Type 0
@@ -143,6 +149,50 @@ module _ (A B P : LeafMeaning) (L : LeafLaws P) (E : LeafExactness A) (F : LeafE
         (of_either (IsUnder w) (has_variable x f.terms) (set_met P v x f w) (tightened_where P w (form_less_variable x f)) (set_under v p x f l i w j)
         (where_under w (form_less_variable x f) j.valid (less_has w.variables x f (counted P L v w x j l) (over P L v w f j i))))
 
+    -- ---- products
+    where_met_under : (w : LeafValue) (o : Option Form) (op : Compare) → P.valid w → HasForm w.variables o → IsUnder w (met_where P w o op)
+    where_met_under w None op p i = self_under w
+    where_met_under w (Some f) op p i =
+        let j = L.meet_form_answers w f op p i in
+        under_under w (P.meet_form w f op) (tightened P (P.meet_form w f op) f op) (form_under w f op p i) (tightened_under (P.meet_form w f op) f op j.valid (over P L w (P.meet_form w f op) f j i))
+
+    between_under : (w : LeafValue) (f : Form) (op : Compare) (r : Range) → P.valid w → IsForm w.variables f → IsUnder w (met_between P w f op r)
+    between_under w f Lt r p i = where_met_under w (less_number r.high f) Lt p (less_number_has w.variables r.high f i)
+    between_under w f Le r p i = where_met_under w (less_number r.high f) Le p (less_number_has w.variables r.high f i)
+    between_under w f Gt r p i = where_met_under w (less_number r.low f) Gt p (less_number_has w.variables r.low f i)
+    between_under w f Ge r p i = where_met_under w (less_number r.low f) Ge p (less_number_has w.variables r.low f i)
+    between_under w f Eq r p i =
+        let u = met_where P w (less_number r.low f) Ge in
+        let j = where_met_like P L w (less_number r.low f) Ge p (less_number_has w.variables r.low f i) in
+        under_under w u (met_where P u (less_number r.high f) Le) (where_met_under w (less_number r.low f) Ge p (less_number_has w.variables r.low f i))
+        (where_met_under u (less_number r.high f) Le j.valid (subst (λ n. HasForm n (less_number r.high f)) (sym j.same) (less_number_has w.variables r.high f i)))
+    between_under w f Ne r p i =
+        of_either (IsUnder w) (is_single r) (met_where P w (less_number r.low f) Ne) w (where_met_under w (less_number r.low f) Ne p (less_number_has w.variables r.low f i)) (self_under w)
+
+    met_under : (w : LeafValue) (o : Option Form) (op : Compare) (r : Range) → P.valid w → HasForm w.variables o → IsUnder w (operation_met P w o op r)
+    met_under w None op r p i = self_under w
+    met_under w (Some f) op r p i = between_under w f op r p i
+
+    operation_under : (v : LeafValue) (x : ℕ) (o : Option Form) (w : LeafValue) → P.valid v → x < v.variables → HasForm v.variables o → IsLeafLike P v w → IsUnder w (operation_set P v x o w)
+    operation_under v x None w p l i j = self_under w
+    operation_under v x (Some f) w p l i j =
+        of_either (IsUnder w) (has_variable x f.terms) (set_met P v x f w) (met_where P w (form_less_variable x f) Eq) (set_under v p x f l i w j)
+        (where_met_under w (form_less_variable x f) Eq j.valid (less_has w.variables x f (counted P L v w x j l) (over P L v w f j i)))
+
+    meet_operation_below : (v : LeafValue) (d : Operation) (op : Compare) (r : Range) → P.valid v → IsOperation v.variables d → IsInInt r → IsBelow A B ((linearised P).meet_operation v d op r) (A.meet_operation (first_of v) d op r) (B.meet_operation (second_of v) d op r)
+    meet_operation_below v d op r p o i =
+        let w = P.meet_operation v d op r in
+        let j = L.meet_operation_answers v d op r p o i in
+        within w (operation_met P w (operation_form P v d) op r) (A.meet_operation (first_of v) d op r) (B.meet_operation (second_of v) d op r) (K.meet_operation v d op r p o i)
+        (met_under w (operation_form P v d) op r j.valid (subst (λ n. HasForm n (operation_form P v d)) (sym j.same) (operation_has P v v.variables d o)))
+
+    set_operation_below : (v : LeafValue) (x : ℕ) (d : Operation) (r : Range) → P.valid v → x < v.variables → IsOperation v.variables d → IsInInt r → IsBelow A B ((linearised P).set_operation v x d r) (A.set_operation (first_of v) x d r) (B.set_operation (second_of v) x d r)
+    set_operation_below v x d r p l o i =
+        let w = P.set_operation v x d r in
+        let j = L.set_operation_answers v x d r p l o i in
+        within w (operation_set P v x (operation_form P v d) w) (A.set_operation (first_of v) x d r) (B.set_operation (second_of v) x d r) (K.set_operation v x d r p l o i)
+        (operation_under v x (operation_form P v d) w p l (operation_has P v v.variables d o) j)
+
     pub linearised_below : IsBelowParts A B (linearised P)
     linearised_below = record {
       start = K.start;
@@ -158,6 +208,6 @@ module _ (A B P : LeafMeaning) (L : LeafLaws P) (E : LeafExactness A) (F : LeafE
       set_range = K.set_range;
       set_form = set_form_below;
       operation_range = K.operation_range;
-      meet_operation = K.meet_operation;
-      set_operation = K.set_operation;
+      meet_operation = meet_operation_below;
+      set_operation = set_operation_below;
     }

@@ -10,7 +10,7 @@ use Rattle.linear_terms.specs.Terms.{terms_sum, terms_by}
 use Rattle.linear_terms.proofs.Values.{terms_sum_at, terms_by_at}
 use Rattle.linear_terms.proofs.Sums.{terms_sum_rises}
 use Rattle.linear_terms.proofs.Bounds.{terms_sum_below}
-use Rattle.linearised_leaf.specs.Linearised.{form_less_variable}
+use Rattle.linearised_leaf.specs.Tightened.{form_less_variable}
 
 -- ---- values of forms
 kept_by : (t : Bool) (f g : Form) (P : Form → Type 0) → (if t then Some f else None) ≡ Some g → P f → P g
@@ -21,7 +21,7 @@ kept_by true f g P e h = subst P (same f g e) h
 kept_by false f g P e h = cc
 
 -- the form that is kept is the form
-kept_value : (f g : Form) (s : List ℤ) (n : ℤ) → kept_form f ≡ Some g → form_at f s ≡ n → form_at g s ≡ n
+pub kept_value : (f g : Form) (s : List ℤ) (n : ℤ) → kept_form f ≡ Some g → form_at f s ≡ n → form_at g s ≡ n
 kept_value f g s n e h = kept_by (are_form_numbers f.terms && is_form_number f.constant) f g (λ k. form_at k s ≡ n) e h
 
 pub negated_value : (f g : Form) (s : List ℤ) → multiple_form (negsuc 0) (Some f) ≡ Some g → form_at g s ≡ neg_ℤ (form_at f s)

@@ -4,6 +4,8 @@ pub mod FormLaws
 pub mod SideLaws
 pub mod Stores
 pub mod DifferenceLaws
+pub mod TightenedLaws
+pub mod ProductLaws
 pub mod LinearisedLaws
 pub mod BelowLaws
 pub mod Summing

@@ -3,7 +3,7 @@ use Rattle.std.proofs.Common.{◌≡◌, ◌≢◌, ℕ, zero, suc, nat_eq, ◌<
 use Rattle.std.proofs.lemmas.Bool.Decides.{nat_tests}
 use Rattle.leaf_domain.specs.Forms.{terms_at}
 use Rattle.leaf_domain.specs.Leaves.{at_store}
-use Rattle.linearised_leaf.specs.Linearised.{has_variable}
+use Rattle.linearised_leaf.specs.Tightened.{has_variable}
 
 pub set_at : (s : List ℤ) (x : ℕ) (n : ℤ) → x < length s → at_store (slice_set s x n) x ≡ n
 set_at [] x n l = absurd (omega arith)

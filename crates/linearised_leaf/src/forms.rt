@@ -6,7 +6,7 @@ ghost use Rattle.leaf_domain.specs.Forms.{IsForm, multiple_form};
 ghost use Rattle.leaf_domain.specs.Sums.{formed, kept_number};
 ghost use Rattle.linearised_leaf.specs.Sides.{is_unit, two_terms};
 ghost use Rattle.linearised_leaf.specs.Differences.{is_other_unit};
-ghost use Rattle.linearised_leaf.specs.Linearised.{is_octagonal, has_variable, form_less_variable};
+ghost use Rattle.linearised_leaf.specs.Tightened.{is_octagonal, has_variable, form_less_variable};
 
 use fam_outer::NoMemory;
 use leaf_domain::{Form, Terms};
@@ -34,12 +34,19 @@ fn formed(terms: Option<Terms>, constant: Option<i64>) -> Option<Form>
     }
 }
 
+/// A form so many times, where no number of it passes 2^40 in size.
+pub(crate) fn multiple(alloc: Global, by: i64, f: &Form) -> Result<Option<Form>, NoMemory>
+    ensures { IfOk result (λ made. made ≡ multiple_form by (Some f.now)) }
+{
+    let terms = f.terms.scale(alloc, by, LARGEST)?;
+    Ok(formed(terms, kept(product(f.constant, by))))
+}
+
 /// The negated form, where no number of it passes 2^40 in size.
 pub(crate) fn negated(alloc: Global, f: &Form) -> Result<Option<Form>, NoMemory>
     ensures { IfOk result (λ made. made ≡ multiple_form (negsuc 0) (Some f.now)) }
 {
-    let terms = f.terms.scale(alloc, -1, LARGEST)?;
-    Ok(formed(terms, kept(product(f.constant, -1))))
+    multiple(alloc, -1, f)
 }
 
 /// A form minus a variable, where no number of it passes 2^40 in size.

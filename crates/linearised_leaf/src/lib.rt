@@ -7,7 +7,9 @@ pub mod forms;
 pub mod laws;
 pub mod least;
 pub mod linear;
+pub mod products;
 pub mod sides;
 
 pub use laws::linearised_keeps_the_laws;
 pub use linear::{linear_met, linear_set};
+pub use products::{linear_operation_met, linear_operation_set};

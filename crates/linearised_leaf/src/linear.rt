@@ -4,7 +4,8 @@
 ghost use Rattle.std.specs.Prelude.{◌≡◌, ◌<◌, IfOk, IfSome};
 ghost use Rattle.leaf_domain.specs.Forms.{IsForm, IsFormNumber};
 ghost use Rattle.leaf_domain.specs.Ranges.{IsInInt};
-ghost use Rattle.linearised_leaf.specs.Linearised.{other_side_met, sides_met, tightened, tightened_where, tightened_set, linearised};
+ghost use Rattle.linearised_leaf.specs.Tightened.{other_side_met, sides_met, tightened, tightened_where, tightened_set};
+ghost use Rattle.linearised_leaf.specs.Linearised.{linearised};
 
 use crate::differences::set_met;
 use crate::forms::{has_variable, is_octagonal, less_variable, negated};

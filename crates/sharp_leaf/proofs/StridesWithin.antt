@@ -1,5 +1,5 @@
 -- Strides that follow remainders are below intervals.
-use Rattle.std.proofs.Common.{◌≡◌, inl, inr, ℕ, ◌<◌, ℤ, pos, ◌≤ℤ◌, Bool, true, false, if◌then◌else◌, List, Option, Some, None, length, map, slice_index_or, slice_set, refl, sym, subst, ◌∙◌, arith}
+use Rattle.std.proofs.Common.{◌≡◌, inl, inr, ℕ, zero, suc, ◌<◌, ℤ, pos, ◌≤ℤ◌, Bool, true, false, if◌then◌else◌, List, [], ◌∷◌, Option, Some, None, length, map, slice_index_or, slice_set, refl, sym, subst, ◌∙◌, arith}
 use Rattle.std.specs.List.{list_any}
 use Rattle.std.proofs.lemmas.Int.{ints, clamps}
 use Rattle.leaf_domain.specs.declared.form.Form.{Form}
@@ -12,7 +12,7 @@ use Rattle.leaf_domain.specs.Ranges.{Within, IsInInt, empty_range}
 use Rattle.leaf_domain.specs.Leaves.{LeafValue, Alike, IsLeafLike, nothing_of, at_store}
 use Rattle.leaf_domain.specs.Exactness.{IsStorePut}
 use Rattle.leaf_domain.proofs.Variables.{length_replaced, held_length}
-use Rattle.leaf_domain.proofs.OnlyHeld.{replaced_back, put_at, put_other}
+use Rattle.leaf_domain.proofs.OnlyHeld.{replaced_back, put_at, put_back, put_other}
 use Rattle.nonrelational_leaf.specs.Lifted.{all_best, part_at as lifted_at}
 use Rattle.nonrelational_leaf.proofs.PartLists as lists
 use Rattle.nonrelational_leaf.proofs.LiftedLaws.{at, made_back, below_of}
@@ -21,13 +21,16 @@ use Rattle.interval_leaf.specs.Laws.{interval_laws}
 use Rattle.interval_leaf.specs.Laws.RangeLists.{range_laws, pairs_numbers}
 use Rattle.strides.specs.declared.strided.Strided.{Strided}
 use Rattle.strides.specs.declared.stride.Stride.{Stride}
-use Rattle.strides.specs.Strided.{Has, is_bare, point_at, range_of, strided_at, strided_in}
+use Rattle.strides.specs.Strided.{Has, is_bare, point_at, range_of, reduced, strided_in}
+use Rattle.strides.proofs.StridedLaws.{reduced_back}
 use Rattle.product_leaf.specs.StrideLeaves.{stride_parts, strides, fours_of, part_at, part_in, met_part, form_stride, AllHave, IsStrideLeaf, leaf_of, best_parts, all_lie_in, widened_all, narrowed_all, settled, stride_with}
 use Rattle.product_leaf.specs.Laws.{stride_laws}
 use Rattle.product_leaf.specs.Laws.Parts.{fours_numbers}
 use Rattle.product_leaf.specs.Laws.StrideLaws.{stride_part_laws}
 use Rattle.product_leaf.proofs.ExactLaws.{strides_exact, ordered_by_stores}
-use Rattle.congruence_leaf.specs.Remainders.{stride_less, stride_modulo, finer_stride, meets, strided_met}
+use Rattle.congruence_leaf.specs.Remainders.{stride_less, stride_modulo}
+use Rattle.congruence_leaf.specs.TwoStrides.{strided_met}
+use Rattle.congruence_leaf.specs.Laws.TwoStrides.{met_only}
 use Rattle.congruence_leaf.specs.Congruences.{leaf_results, results_in, congruence_set, divided_part, congruence_meet, congruences}
 use Rattle.congruence_leaf.specs.Laws.{congruence_laws}
 use Rattle.congruence_leaf.proofs.MeetCases.{meet_cases}
@@ -192,12 +195,7 @@ set_below v x p r s a l i h =
 
 -- ---- a comparison of a remainder changes no bound but to a lesser range
 met_within : (a : Strided) (t : Stride) (k : ℤ) → Has (strided_met a t) k → Within k (range_of a)
-unfolding strided_met
-met_within a t k = by_test (meets a.stride t)
-  where
-    by_test : (q : Bool) → Has (if q then strided_at a.low a.high (finer_stride a.stride t) else strided_in empty_range t) k → Within k (range_of a)
-    by_test true h = record { low = h.low; high = h.high }
-    by_test false h = let i : pos 1 ≤ℤ k = h.low in let j : k ≤ℤ pos 0 = h.high in absurd (omega (arith, ints))
+met_within a t k h = let u : Has a k = (met_only a t k h).0 in record { low = u.low; high = u.high }
 
 divided_within : (bs : List Strided) (x : ℕ) (c m : ℤ) (b : Strided) (k : ℤ) → Has (divided_part bs x c m b) k → Within k (range_of (part_at bs x))
 divided_within bs x c m b k h = met_within (part_at bs x) (stride_less c (stride_modulo m b.stride)) k h
@@ -220,6 +218,27 @@ met_in : (v w : LeafValue) (p : Operation) (op : Compare) (r : Range) → IsIn v
 met_in v w p op r u o =
     meet_cases (λ a. HasStores a w) v p op r o u.stores (λ s h. absurd h)
     (λ x m b l. divided_in v.variables w.variables v.content w.content x p.left.constant m b u l)
+
+-- nor does it add a store
+divided_below : (n : ℕ) (c : Option (List ℤ)) (x : ℕ) (k q : ℤ) (b : Strided) (s : List ℤ) → IsStrideLeaf (at n c) → x < n → strides.holds (stride_with (at n c) x (divided_part (best_parts (at n c)) x k q b)) s → strides.holds (at n c) s
+divided_below n None x k q b s v l h = absurd h
+divided_below n (Some us) x k q b s v l h =
+    let i : x < length (fours_of us) = below_of x n (length (fours_of us)) l v.1.1 in
+    let p : Strided = divided_part (best_parts (at n (Some us))) x k q b in
+    let w : AllHave (slice_set (fours_of us) x p) s = with_back n us x p s h in
+    let m : Has (part_at (best_parts (at n (Some us))) x) (at_store s x) =
+    (met_only (part_at (best_parts (at n (Some us))) x) (stride_less k (stride_modulo q b.stride)) (at_store s x) (put_at Has (fours_of us) s x p i w)).0 in
+    put_back Has (point_at (pos 0)) (fours_of us) s x p i w (read_best (fours_of us) x (at_store s x) i m)
+  where
+    read_best : (bs : List Strided) (x : ℕ) (n : ℤ) → x < length bs → Has (part_at (map reduced bs) x) n → Has (part_at bs x) n
+    read_best [] x n l h = absurd (omega arith)
+    read_best (b ∷ bs) zero n l h = reduced_back b n h
+    read_best (b ∷ bs) (suc x) n l h = read_best bs x n (omega arith) h
+
+pub met_below : (v : LeafValue) (p : Operation) (op : Compare) (r : Range) (s : List ℤ) → strides.valid v → IsOperation v.variables p → strides.holds (congruence_meet v p op r) s → strides.holds v s
+met_below v p op r s a o =
+    meet_cases (λ u. strides.holds u s → strides.holds v s) v p op r o (λ h. h) (λ h. absurd h)
+    (λ x m b l. divided_below v.variables v.content x p.left.constant m b s a l)
 
 -- ---- all operations
 pub congruences_below : IsBelowIntervals congruences own

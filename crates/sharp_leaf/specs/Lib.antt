@@ -3,4 +3,3 @@ pub mod View
 pub mod Hashing
 pub mod Laws
 pub mod BelowIntervals
-pub mod BelowStrides

@@ -4,11 +4,11 @@
 
 ghost use Rattle.octagon_leaf.specs.Octagons.{octagons};
 ghost use Rattle.congruence_leaf.specs.Congruences.{congruences as strides};
+ghost use Rattle.product_leaf.specs.StrideLeaves.{strides as plain_strides};
 ghost use Rattle.paired_leaf.specs.Pairs.{second_of};
 ghost use Rattle.paired_leaf.specs.Below.{IsBelowParts};
 ghost use Rattle.sharp_leaf.specs.SharpLeaves.{sharp};
 ghost use Rattle.sharp_leaf.specs.BelowIntervals.{IsBelowIntervals};
-ghost use Rattle.sharp_leaf.specs.BelowStrides.{plain_strides};
 
 /// The answer of each operation holds no store that the octagons' or the strides' answer lacks for its part of the leaf, nor
 /// has its range a number that the range of one of both lacks.
@@ -16,9 +16,8 @@ pub fn sharp_is_below_its_parts()
     ensures { IsBelowParts octagons strides sharp }
 {}
 
-/// The same of strides alone ([`product_leaf`]), which follow no remainders: an assignment of a remainder holds no store that theirs lacks, and of
-/// the other operations the strides' answers are theirs. A comparison of a remainder is left out, since it may hold stores that they lack: where
-/// `x` is even and `x % 3 == 0` holds, the stride 3 is kept in place of 2, so that `x` may be 3.
+/// The same of strides alone ([`product_leaf`]), which follow no remainders: neither an assignment nor a comparison of a remainder holds a store
+/// that theirs lacks, and of the other operations the strides' answers are theirs.
 pub fn sharp_is_below_strides()
     ensures { IsBelowParts octagons plain_strides sharp }
 {}

@@ -11,7 +11,7 @@ ghost use Rattle.sharp_leaf.specs.Hashing.{fed_leaf};
 use crate::reduced::ReducedLeaf;
 use fam_outer::NoMemory;
 use leaf_domain::{Compare, Form, Leaf, Operation, Range, Thresholds};
-use linearised_leaf::{linear_met, linear_set};
+use linearised_leaf::{linear_met, linear_operation_met, linear_operation_set, linear_set};
 use std::alloc::Global;
 use std::hash::{Hash, Hasher};
 use std::marker::Model;
@@ -20,7 +20,7 @@ use std::marker::Model;
 ///
 /// Each operation is that of both parts, and then each part has the ranges of the other. A test of a linear form and an assignment of one
 /// are linearised too: where an octagon does not have all of the form, what its terms are is met two by two and one by one, with the others
-/// in their ranges. What was widened or narrowed stays as it is, since the next iterate begins with it; the operations on it give each part
+/// in their ranges. A product of which one factor has one value is such a form too, a multiple of the other. What was widened or narrowed stays as it is, since the next iterate begins with it; the operations on it give each part
 /// the ranges of the other.
 #[derive(Drop)]
 pub struct SharpLeaf {
@@ -186,8 +186,8 @@ impl Leaf for SharpLeaf {
         op: Compare,
         r: Range,
     ) -> Result<SharpLeaf, NoMemory> {
-        let reduced = self.into_reduced().meet_operation(alloc, p, op, r)?;
-        Ok(SharpLeaf::of(reduced))
+        let met = linear_operation_met(alloc, self.into_reduced(), p, op, r)?;
+        Ok(SharpLeaf::of(met))
     }
 
     fn set_operation(
@@ -197,6 +197,7 @@ impl Leaf for SharpLeaf {
         p: &Operation,
         r: Range,
     ) -> Result<SharpLeaf, NoMemory> {
-        Ok(SharpLeaf::of(self.reduced().set_operation(alloc, x, p, r)?))
+        let set = linear_operation_set(alloc, self.reduced(), x, p, r)?;
+        Ok(SharpLeaf::of(set))
     }
 }

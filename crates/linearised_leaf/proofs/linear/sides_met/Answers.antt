@@ -1,7 +1,7 @@
 use Rattle.std.proofs.Common.{◌≡◌, pos, IfOk, sym, subst, ap, ◌∙◌}
 use Rattle.leaf_domain.specs.Leaves.{LeafValue}
 use Rattle.linearised_leaf.specs.Sides.{side_met}
-use Rattle.linearised_leaf.specs.Linearised.{other_side_met, sides_met}
+use Rattle.linearised_leaf.specs.Tightened.{other_side_met, sides_met}
 use Rattle.linearised_leaf.proofs.linear.sides_met.Goals as goal
 
 pub returns-in-Lt : goal.returns-in-Lt
