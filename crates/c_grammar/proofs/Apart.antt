@@ -1,14 +1,12 @@
--- Where group directives stand in a file: outside declarations with `const`, and behind no name.
-use Rattle.std.proofs.Common.{◌≡◌, ℕ, ℤ, Bool, true, false, ◌||◌, List, [], ◌∷◌, ◌++◌, refl, sym, ap, subst, ◌∙◌, append_assoc}
+-- Where group directives stand in a file: outside declarations with `const` or `enum`, and behind no name.
+use Rattle.std.proofs.Common.{◌≡◌, ℕ, ℤ, Bool, true, false, List, [], ◌∷◌, ◌++◌, refl, sym, subst, append_assoc}
 use Rattle.std.proofs.lemmas.List.{append-nil}
 use Rattle.fam_outer.specs.declared.faults.Place.{Place}
-use Rattle.c_tree.specs.declared.tree.Op.{Op}
 use Rattle.c_tree.specs.declared.lists.Declared.{Declared}
 use Rattle.c_tree.specs.Tree.{Term, Code}
 use Rattle.c_grammar.specs.declared.items.Item.{Item}
-use Rattle.c_grammar.specs.declared.items.Sign.{Sign}
 use Rattle.c_grammar.specs.declared.items.Sign.TheVariants as signs
-use Rattle.c_grammar.specs.Grammar.{at, Prefix, Positive, Negative, Inverse, prefix_sign, Expresses, number, name, group, prefix, loose, binary, Update, Sum, Difference, Product, Quotient, Remainder, update_sign, Count, Raise, Lower, count_sign, Shape, Writes, none, more, choice, ends, otherwise, elif, assign, input, update, count, prefix_count, assert, skip, block, while, if_then, if_else, Optional, absent, present, Typed, int, int32, signed, signed_int, int_signed, Qualifier, Unqualified, Constant, Qualified, unqualified, const_before, const_behind, Begins, only_type, then_type, Declarator, bare, positive, negative, Part, Outer, Vars, Later, Declares, nothing, variables, prototype, section, last_var, next_var, end_part, else_part, elif_part, Returns, no_return, return, Gap, Empty, no_more, empty_section, empty_end, empty_else, empty_elif, Body, body, Main, main, File, Forms, file, is_group, has_groups}
+use Rattle.c_grammar.specs.Grammar.{at, Prefix, Positive, Negative, Inverse, prefix_sign, Expresses, number, name, group, prefix, loose, binary, Update, Sum, Difference, Product, Quotient, Remainder, update_sign, Count, Raise, Lower, count_sign, Shape, Writes, none, more, choice, ends, otherwise, elif, assign, input, update, count, prefix_count, assert, skip, block, while, if_then, if_else, Optional, absent, present, Typed, int, int32, signed, signed_int, int_signed, Qualifier, Unqualified, Constant, Counted, behind, Qualified, unqualified, const_before, const_behind, Begins, only_type, then_type, enumeration, Declarator, bare, positive, negative, counted, Ending, variables_end, constants_end, enumeration_end, comma_end, Part, Outer, Vars, Later, Declares, nothing, variables, prototype, section, last_var, next_var, end_part, else_part, elif_part, Returns, no_return, return, Gap, Empty, no_more, empty_section, empty_end, empty_else, empty_elif, Body, body, Main, main, file, is_group}
 use Rattle.c_grammar.specs.Constants.{is_constant_behind, is_joining, IsBetween, AreApart, DirectivesStandApart}
 
 -- text in front of which directives may stand: where what follows it is apart, the whole is
@@ -93,6 +91,12 @@ type_apart constant (int_signed p q) w h = (tt, (tt, h))
 abbrev is_constant : Qualifier → Bool
 is_constant Unqualified = false
 is_constant Constant = true
+is_constant (Counted last) = true
+
+constant_behind : (kind : Qualifier) (n : ℤ) → is_constant (behind kind n) ≡ is_constant kind
+constant_behind Unqualified n = refl
+constant_behind Constant n = refl
+constant_behind (Counted last) n = refl
 
 qualified_apart : {us : List Item} {kind : Qualifier} → Qualified kind us → (w : List Item) → AreApart (is_constant kind) false w → AreApart false false (us ++ w)
 qualified_apart (unqualified y) w h = type_apart false y w h
@@ -102,20 +106,29 @@ qualified_apart (const_behind p {us} y) w h = subst (AreApart false false) (sym 
 static_apart : {us : List Item} {kind : Qualifier} → Begins signs.Static kind us → (w : List Item) → AreApart (is_constant kind) false w → AreApart false false (us ++ w)
 static_apart (only_type s y) w h = qualified_apart y w h
 static_apart (then_type p s y) w h = (tt, qualified_apart y w h)
+static_apart (enumeration p q s) w h = (tt, (tt, h))
 
 extern_apart : {us : List Item} {kind : Qualifier} → Begins signs.Extern kind us → (w : List Item) → AreApart (is_constant kind) false w → AreApart false false (us ++ w)
 extern_apart (only_type s y) w h = qualified_apart y w h
 extern_apart (then_type p s y) w h = (tt, qualified_apart y w h)
+extern_apart (enumeration p q s) w h = (tt, (tt, h))
 
 void_apart : {us : List Item} → Optional signs.Void us → Leaves us
 void_apart (absent s) w h = h
 void_apart (present p s) w h = (tt, h)
 
--- a declarator, before a comma or a semicolon
+-- a declarator, before what follows it
 declarator_apart : {us : List Item} {x : ℕ} {n : ℤ} {kind : Qualifier} (constant : Bool) → Declarator kind us x n → (w : List Item) → ((before : Bool) → AreApart constant before w) → AreApart constant false (us ++ w)
 declarator_apart constant (bare p x) w h = (tt, h true)
 declarator_apart constant (positive p q r x n) w h = (tt, (tt, (tt, h false)))
 declarator_apart constant (negative p q r s x n) w h = (tt, (tt, (tt, (tt, h false))))
+declarator_apart constant (counted p x last lt) w h = (tt, h true)
+
+ending_apart : {us : List Item} {kind : Qualifier} → Ending kind us → (w : List Item) → AreApart false false w → (before : Bool) → AreApart (is_constant kind) before (us ++ w)
+ending_apart (variables_end p) w h before = (tt, h)
+ending_apart (constants_end p) w h before = (tt, h)
+ending_apart (enumeration_end last p q) w h before = (tt, (tt, h))
+ending_apart (comma_end last p q r) w h before = (tt, (tt, (tt, h)))
 
 abbrev PartLeaves : Part → List Item → Type 0
 PartLeaves (Outer gs) ts = Leaves ts
@@ -131,10 +144,10 @@ declared_apart (prototype q r s t gs {us} {vs} {ws} o v d) = λ w h.
     let re : (us ++ at q signs.Input ∷ at r signs.Open ∷ (vs ++ at s signs.Close ∷ at t signs.Semicolon ∷ ws)) ++ w ≡ us ++ at q signs.Input ∷ at r signs.Open ∷ (vs ++ at s signs.Close ∷ at t signs.Semicolon ∷ (ws ++ w)) = simp append_assoc in
     subst (AreApart false false) (sym re) (extern_apart o (at q signs.Input ∷ at r signs.Open ∷ (vs ++ at s signs.Close ∷ at t signs.Semicolon ∷ (ws ++ w))) (tt, (tt, void_apart v (at s signs.Close ∷ at t signs.Semicolon ∷ (ws ++ w)) (tt, (tt, declared_apart d w h)))))
 declared_apart (section p n gs {us} {vs} {ws} a b d) = λ w h. ((refl, refl), both us (vs ++ ws) (declared_apart a) (both vs ws (declared_apart b) (declared_apart d)) w h)
-declared_apart (last_var p gs {us} {x} {n} {kind} d) = λ w h.
-    subst (AreApart (is_constant kind) false) (sym (append_assoc us (at p signs.Semicolon ∷ []) w)) (declarator_apart (is_constant kind) d (at p signs.Semicolon ∷ w) (λ b. (tt, h)))
+declared_apart (last_var gs {us} {vs} {x} {n} {kind} d o) = λ w h.
+    subst (AreApart (is_constant kind) false) (sym (append_assoc us vs w)) (declarator_apart (is_constant kind) d (vs ++ w) (ending_apart o w h))
 declared_apart (next_var p gs {us} {vs} {x} {n} {ds} {kind} d v) = λ w h.
-    subst (AreApart (is_constant kind) false) (sym (append_assoc us (at p signs.Comma ∷ vs) w)) (declarator_apart (is_constant kind) d (at p signs.Comma ∷ (vs ++ w)) (λ b. (tt, declared_apart v w h)))
+    subst (AreApart (is_constant kind) false) (sym (append_assoc us (at p signs.Comma ∷ vs) w)) (declarator_apart (is_constant kind) d (at p signs.Comma ∷ (vs ++ w)) (λ b. (tt, subst (λ (c : Bool). AreApart c false (vs ++ w)) (constant_behind kind n) (declared_apart v w h))))
 declared_apart (end_part p gs) = λ w h. ((refl, refl), h)
 declared_apart (else_part p q gs {us} d) = λ w h. ((refl, refl), both us (at q signs.GroupEnd ∷ []) (declared_apart d) (λ v i. ((refl, refl), i)) w h)
 declared_apart (elif_part p n gs {us} {vs} a b) = λ w h. ((refl, refl), both us vs (declared_apart a) (declared_apart b) w h)

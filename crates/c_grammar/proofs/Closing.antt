@@ -5,9 +5,9 @@ use Rattle.c_tree.specs.declared.lists.Declared.{Declared}
 use Rattle.c_tree.specs.Tree.{Term, Var, Binary, Code, Done, Assign, Input, Assert, If, While, Block, Skip, Cond, followed}
 use Rattle.c_grammar.specs.declared.items.Sign.TheVariants as signs
 use Rattle.c_grammar.specs.declared.items.Item.{Item}
-use Rattle.c_grammar.specs.Grammar.{at, tighter, applied, updated, changed_by_one, Qualifier, Unqualified, Constant, File, file_of}
+use Rattle.c_grammar.specs.Grammar.{at, tighter, applied, updated, changed_by_one, Qualifier, Unqualified, Constant, Counted, uncounted, File, file_of}
 use Rattle.c_grammar.specs.Ahead.{Loose, NoElse}
-use Rattle.c_grammar.specs.Machine.{Tailing, Another, Final, Frame, Paren, Pre, Left, Stack, Top, Braces, Yes, No, ThenOf, ElseOf, LoopOf, Use, ToAssign, ToUpdate, ToAssert, ToChoose, ToLoop, Sections, Outermost, InPart, InLast, Aim, ToPrototype, ToMain, ReadingState, Outside, AfterStatic, AfterExtern, AfterConst, AfterType, NoWord, StaticWord, ExternWord, ConstWord, Declaring, Bare, Starting, Negating, Started, Parameters, InParameters, AfterVoid, AfterParameters, Ready, Ended, Wants, Has, Counting, Named, Opens, InputOpens, InputCloses, Finishing, Returning, Returned, Closing, Over, with_declared, linked, run}
+use Rattle.c_grammar.specs.Machine.{Tailing, Another, Final, Frame, Paren, Pre, Left, Stack, Top, Braces, Yes, No, ThenOf, ElseOf, LoopOf, Use, ToAssign, ToUpdate, ToAssert, ToChoose, ToLoop, Sections, Outermost, InPart, InLast, Aim, ToPrototype, ToMain, ReadingState, Outside, AfterStatic, AfterExtern, AfterConst, AfterEnum, AfterType, NoWord, StaticWord, ExternWord, ConstWord, Declaring, Bare, Starting, Negating, Started, Listing, Enumerated, Parameters, InParameters, AfterVoid, AfterParameters, Ready, Ended, Wants, Has, Counting, Named, Opens, InputOpens, InputCloses, Finishing, Returning, Returned, Closing, Over, with_declared, linked, run}
 use Rattle.c_grammar.proofs.Complete.{pre_absorbs, left_absorbs, loop_absorbs, else_absorbs, then_absorbs}
 
 pub nowhere : Place
@@ -86,7 +86,9 @@ after_groups f (Final k ∷ parts) = let h = after_groups f parts in (at nowhere
 
 after_declarator : (kind : Qualifier) (x : ℕ) (n : ℤ) (secs : Sections) (ds : List Declared) → Rest (Started kind x n secs ds)
 unfolding run
-after_declarator kind x n secs ds = let h = after_declarations secs (with_declared secs ds x n) in (at nowhere signs.Semicolon ∷ h.0, h.1, h.2)
+after_declarator Unqualified x n secs ds = let h = after_declarations secs (with_declared secs ds x n) in (at nowhere signs.Semicolon ∷ h.0, h.1, h.2)
+after_declarator Constant x n secs ds = let h = after_declarations secs (with_declared secs ds x n) in (at nowhere signs.Semicolon ∷ h.0, h.1, h.2)
+after_declarator (Counted last) x n secs ds = let h = after_declarations secs (with_declared secs ds x n) in (at nowhere signs.RightBrace ∷ at nowhere signs.Semicolon ∷ h.0, h.1, h.2)
 
 pub completes : (state : ReadingState) → (tail : List Item) × (made : File) × (run state tail ≡ Ok made)
 unfolding run after_declarator
@@ -94,6 +96,7 @@ completes (Outside secs ds) = after_declarations secs ds
 completes (AfterStatic secs ds) = let h = after_declarator Unqualified 0 (pos 0) secs ds in (at nowhere signs.Int ∷ at nowhere (signs.Name 0) ∷ h.0, h.1, h.2)
 completes (AfterExtern secs ds) = let h = after_parameters (ToPrototype secs ds) in (at nowhere signs.Int ∷ at nowhere signs.Input ∷ at nowhere signs.Open ∷ at nowhere signs.Close ∷ h.0, h.1, h.2)
 completes (AfterConst secs ds) = let h = after_declarator Constant 0 (pos 0) secs ds in (at nowhere signs.Int ∷ at nowhere (signs.Name 0) ∷ at nowhere signs.Equals ∷ at nowhere (signs.Number (pos 0)) ∷ h.0, h.1, h.2)
+completes (AfterEnum secs ds) = let h = after_declarator uncounted 0 (pos 0) secs ds in (at nowhere signs.LeftBrace ∷ at nowhere (signs.Name 0) ∷ at nowhere signs.Equals ∷ at nowhere (signs.Number (pos 0)) ∷ h.0, h.1, h.2)
 completes (AfterType NoWord words secs ds) = let h = after_declarator Unqualified 0 (pos 0) secs ds in (at nowhere (signs.Name 0) ∷ h.0, h.1, h.2)
 completes (AfterType StaticWord words secs ds) = let h = after_declarator Unqualified 0 (pos 0) secs ds in (at nowhere (signs.Name 0) ∷ h.0, h.1, h.2)
 completes (AfterType ExternWord words secs ds) = let h = after_parameters (ToPrototype secs ds) in (at nowhere signs.Input ∷ at nowhere signs.Open ∷ at nowhere signs.Close ∷ h.0, h.1, h.2)
@@ -103,6 +106,8 @@ completes (Bare kind x secs ds) = let h = after_declarator kind x (pos 0) secs d
 completes (Starting kind x secs ds) = let h = after_declarator kind x (pos 0) secs ds in (at nowhere (signs.Number (pos 0)) ∷ h.0, h.1, h.2)
 completes (Negating kind x secs ds) = let h = after_declarator kind x (neg_ℤ (pos 0)) secs ds in (at nowhere (signs.Number (pos 0)) ∷ h.0, h.1, h.2)
 completes (Started kind x n secs ds) = after_declarator kind x n secs ds
+completes (Listing last secs ds) = let h = after_declarations secs ds in (at nowhere signs.RightBrace ∷ at nowhere signs.Semicolon ∷ h.0, h.1, h.2)
+completes (Enumerated secs ds) = let h = after_declarations secs ds in (at nowhere signs.Semicolon ∷ h.0, h.1, h.2)
 completes (Parameters aim) = let h = after_parameters aim in (at nowhere signs.Open ∷ at nowhere signs.Close ∷ h.0, h.1, h.2)
 completes (InParameters aim) = let h = after_parameters aim in (at nowhere signs.Close ∷ h.0, h.1, h.2)
 completes (AfterVoid aim) = let h = after_parameters aim in (at nowhere signs.Close ∷ h.0, h.1, h.2)

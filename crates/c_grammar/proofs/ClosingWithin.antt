@@ -5,9 +5,9 @@ use Rattle.c_tree.specs.declared.lists.Declared.{Declared}
 use Rattle.c_tree.specs.Tree.{Term, Var, Binary, Code, Done, Assign, Input, Assert, If, While, Block, Skip, Cond, followed}
 use Rattle.c_grammar.specs.declared.items.Sign.TheVariants as signs
 use Rattle.c_grammar.specs.declared.items.Item.{Item}
-use Rattle.c_grammar.specs.Grammar.{at, tighter, applied, updated, changed_by_one, Qualifier, Unqualified, Constant, File, file_of}
+use Rattle.c_grammar.specs.Grammar.{at, tighter, applied, updated, changed_by_one, Qualifier, Unqualified, Constant, Counted, uncounted, File, file_of}
 use Rattle.c_grammar.specs.Ahead.{Loose, NoElse}
-use Rattle.c_grammar.specs.Machine.{Tailing, Another, Final, Frame, Paren, Pre, Left, Stack, Top, Braces, Yes, No, ThenOf, ElseOf, LoopOf, Use, ToAssign, ToUpdate, ToAssert, ToChoose, ToLoop, Sections, Outermost, InPart, InLast, Aim, ToPrototype, ToMain, ReadingState, Outside, AfterStatic, AfterExtern, AfterConst, AfterType, NoWord, StaticWord, ExternWord, ConstWord, Declaring, Bare, Starting, Negating, Started, Parameters, InParameters, AfterVoid, AfterParameters, Ready, Ended, Wants, Has, Counting, Named, Opens, InputOpens, InputCloses, Finishing, Returning, Returned, Closing, Over, with_declared, linked}
+use Rattle.c_grammar.specs.Machine.{Tailing, Another, Final, Frame, Paren, Pre, Left, Stack, Top, Braces, Yes, No, ThenOf, ElseOf, LoopOf, Use, ToAssign, ToUpdate, ToAssert, ToChoose, ToLoop, Sections, Outermost, InPart, InLast, Aim, ToPrototype, ToMain, ReadingState, Outside, AfterStatic, AfterExtern, AfterConst, AfterEnum, AfterType, NoWord, StaticWord, ExternWord, ConstWord, Declaring, Bare, Starting, Negating, Started, Listing, Enumerated, Parameters, InParameters, AfterVoid, AfterParameters, Ready, Ended, Wants, Has, Counting, Named, Opens, InputOpens, InputCloses, Finishing, Returning, Returned, Closing, Over, with_declared, linked}
 use Rattle.c_grammar.specs.Deep.{guarded}
 use Rattle.c_grammar.proofs.Complete.{pre_step, left_step, loop_step, else_step, then_step}
 use Rattle.c_grammar.proofs.Closing.{nowhere, closers, closers_no_else}
@@ -91,7 +91,9 @@ after_groups f (Final k ∷ parts) n = let h = after_groups f parts 0 in (at now
 
 after_declarator : (kind : Qualifier) (x : ℕ) (i : ℤ) (secs : Sections) (ds : List Declared) (n : ℕ) → Rest (Started kind x i secs ds) n
 unfolding guarded
-after_declarator kind x i secs ds n = let h = after_declarations secs (with_declared secs ds x i) 0 in (at nowhere signs.Semicolon ∷ h.0, h.1, h.2)
+after_declarator Unqualified x i secs ds n = let h = after_declarations secs (with_declared secs ds x i) 0 in (at nowhere signs.Semicolon ∷ h.0, h.1, h.2)
+after_declarator Constant x i secs ds n = let h = after_declarations secs (with_declared secs ds x i) 0 in (at nowhere signs.Semicolon ∷ h.0, h.1, h.2)
+after_declarator (Counted last) x i secs ds n = let h = after_declarations secs (with_declared secs ds x i) 0 in (at nowhere signs.RightBrace ∷ at nowhere signs.Semicolon ∷ h.0, h.1, h.2)
 
 -- each state that is reached within the limits goes on to a file within them
 pub goes_on_within : (state : ReadingState) (n : ℕ) → n ≤ 64 → Rest state n
@@ -100,6 +102,7 @@ goes_on_within (Outside secs ds) n few = after_declarations secs ds n
 goes_on_within (AfterStatic secs ds) n few = let h = after_declarator Unqualified 0 (pos 0) secs ds 0 in (at nowhere signs.Int ∷ at nowhere (signs.Name 0) ∷ h.0, h.1, h.2)
 goes_on_within (AfterExtern secs ds) n few = let h = after_parameters (ToPrototype secs ds) 0 in (at nowhere signs.Int ∷ at nowhere signs.Input ∷ at nowhere signs.Open ∷ at nowhere signs.Close ∷ h.0, h.1, h.2)
 goes_on_within (AfterConst secs ds) n few = let h = after_declarator Constant 0 (pos 0) secs ds 0 in (at nowhere signs.Int ∷ at nowhere (signs.Name 0) ∷ at nowhere signs.Equals ∷ at nowhere (signs.Number (pos 0)) ∷ h.0, h.1, h.2)
+goes_on_within (AfterEnum secs ds) n few = let h = after_declarator uncounted 0 (pos 0) secs ds 0 in (at nowhere signs.LeftBrace ∷ at nowhere (signs.Name 0) ∷ at nowhere signs.Equals ∷ at nowhere (signs.Number (pos 0)) ∷ h.0, h.1, h.2)
 goes_on_within (AfterType NoWord words secs ds) n few = let h = after_declarator Unqualified 0 (pos 0) secs ds 0 in (at nowhere (signs.Name 0) ∷ h.0, h.1, h.2)
 goes_on_within (AfterType StaticWord words secs ds) n few = let h = after_declarator Unqualified 0 (pos 0) secs ds 0 in (at nowhere (signs.Name 0) ∷ h.0, h.1, h.2)
 goes_on_within (AfterType ExternWord words secs ds) n few = let h = after_parameters (ToPrototype secs ds) 0 in (at nowhere signs.Input ∷ at nowhere signs.Open ∷ at nowhere signs.Close ∷ h.0, h.1, h.2)
@@ -109,6 +112,8 @@ goes_on_within (Bare kind x secs ds) n few = let h = after_declarator kind x (po
 goes_on_within (Starting kind x secs ds) n few = let h = after_declarator kind x (pos 0) secs ds 0 in (at nowhere (signs.Number (pos 0)) ∷ h.0, h.1, h.2)
 goes_on_within (Negating kind x secs ds) n few = let h = after_declarator kind x (neg_ℤ (pos 0)) secs ds 0 in (at nowhere (signs.Number (pos 0)) ∷ h.0, h.1, h.2)
 goes_on_within (Started kind x i secs ds) n few = after_declarator kind x i secs ds n
+goes_on_within (Listing last secs ds) n few = let h = after_declarations secs ds 0 in (at nowhere signs.RightBrace ∷ at nowhere signs.Semicolon ∷ h.0, h.1, h.2)
+goes_on_within (Enumerated secs ds) n few = let h = after_declarations secs ds 0 in (at nowhere signs.Semicolon ∷ h.0, h.1, h.2)
 goes_on_within (Parameters aim) n few = let h = after_parameters aim 0 in (at nowhere signs.Open ∷ at nowhere signs.Close ∷ h.0, h.1, h.2)
 goes_on_within (InParameters aim) n few = let h = after_parameters aim 0 in (at nowhere signs.Close ∷ h.0, h.1, h.2)
 goes_on_within (AfterVoid aim) n few = let h = after_parameters aim 0 in (at nowhere signs.Close ∷ h.0, h.1, h.2)

@@ -72,7 +72,7 @@ declared_numbered n (section p m gs {us} {vs} {ws} {cs} {ds} {es} a b d) g h =
     let k = cut n us (vs ++ ws) h.1 in
     let l = cut n vs ws k.1 in
     All-append (IsGuarded n) cs (ds ++ es) (declared_numbered n a (more_guards n m true gs h.0 g) k.0) (All-append (IsGuarded n) ds es (declared_numbered n b (more_guards n m false gs h.0 g) l.0) (declared_numbered n d g l.1))
-declared_numbered n (last_var p gs {us} {x} {n = v} d) g h = All-cons (IsGuarded n) (declared x v gs) [] g (All-nil (IsGuarded n))
+declared_numbered n (last_var gs {us} {vs} {x} {n = v} d o) g h = All-cons (IsGuarded n) (declared x v gs) [] g (All-nil (IsGuarded n))
 declared_numbered n (next_var p gs {us} {vs} {x} {n = v} {ds} d l) g h = All-cons (IsGuarded n) (declared x v gs) ds g (declared_numbered n l g (cut n us (at p signs.Comma ∷ vs) h).1.1)
 declared_numbered n (end_part p gs) g h = All-nil (IsGuarded n)
 declared_numbered n (else_part p q gs {us} d) g h = declared_numbered n d g (cut n us (at q signs.GroupEnd ∷ []) h.1).0

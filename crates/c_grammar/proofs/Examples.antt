@@ -69,6 +69,51 @@ later_constant_without_a_value : run start (items (signs.Const ∷ signs.Int ∷
 unfolding run
 later_constant_without_a_value = refl
 
+-- enum { x , y = 5 , z , a = - 3 , b , } ;
+abbrev enumerated : List Sign
+enumerated =
+    signs.Enum ∷ signs.LeftBrace ∷ signs.Name 0 ∷ signs.Comma ∷ signs.Name 1 ∷ signs.Equals ∷ signs.Number (pos 5) ∷ signs.Comma ∷ signs.Name 2 ∷ signs.Comma
+    ∷ signs.Name 3 ∷ signs.Equals ∷ signs.Oper Sub ∷ signs.Number (pos 3) ∷ signs.Comma ∷ signs.Name 4 ∷ signs.Comma ∷ signs.RightBrace ∷ signs.Semicolon ∷ []
+
+constants_are_counted : run start (items (enumerated ++ (head ++ signs.RightBrace ∷ []))) ≡ Ok (file_of (declared 0 (pos 0) [] ∷ declared 1 (pos 5) [] ∷ declared 2 (pos 6) [] ∷ declared 3 (negsuc 2) [] ∷ declared 4 (negsuc 1) [] ∷ []) Done (place 24))
+unfolding run
+constants_are_counted = refl
+
+-- enum { x } ; int y ;: without the names of variables
+enumerated_is_constant : of_constants (items (signs.Enum ∷ signs.LeftBrace ∷ signs.Name 0 ∷ signs.RightBrace ∷ signs.Semicolon ∷ signs.Int ∷ signs.Name 1 ∷ signs.Semicolon ∷ []))
+    ≡ at (place 0) signs.Enum ∷ at (place 1) signs.LeftBrace ∷ at (place 2) (signs.Name 0) ∷ at (place 3) signs.RightBrace ∷ at (place 4) signs.Semicolon ∷ at (place 5) signs.Int ∷ at (place 7) signs.Semicolon ∷ []
+enumerated_is_constant = refl
+
+-- enum { x = 2147483646 , y , z , a } ;: the comma behind z is wrong, and so is the brace of enum { x = 2147483647 , y }
+counted_past_int : run start (items (signs.Enum ∷ signs.LeftBrace ∷ signs.Name 0 ∷ signs.Equals ∷ signs.Number (pos 2147483646) ∷ signs.Comma ∷ signs.Name 1 ∷ signs.Comma ∷ signs.Name 2 ∷ signs.Comma ∷ signs.Name 3 ∷ signs.RightBrace ∷ signs.Semicolon ∷ [])) ≡ Err 4
+unfolding run
+counted_past_int = refl
+
+last_counted_past_int : run start (items (signs.Enum ∷ signs.LeftBrace ∷ signs.Name 0 ∷ signs.Equals ∷ signs.Number (pos 2147483647) ∷ signs.Comma ∷ signs.Name 1 ∷ signs.RightBrace ∷ signs.Semicolon ∷ [])) ≡ Err 2
+unfolding run
+last_counted_past_int = refl
+
+-- enum { }, enum { x ;, enum { x , #if 0, enum x, static enum: the last item is wrong
+no_enumerator : run start (items (signs.Enum ∷ signs.LeftBrace ∷ signs.RightBrace ∷ [])) ≡ Err 1
+unfolding run
+no_enumerator = refl
+
+enumerator_and_semicolon : run start (items (signs.Enum ∷ signs.LeftBrace ∷ signs.Name 0 ∷ signs.Semicolon ∷ [])) ≡ Err 1
+unfolding run
+enumerator_and_semicolon = refl
+
+group_between_enumerators : run start (items (signs.Enum ∷ signs.LeftBrace ∷ signs.Name 0 ∷ signs.Comma ∷ signs.GroupIf 0 ∷ [])) ≡ Err 1
+unfolding run
+group_between_enumerators = refl
+
+enum_with_a_tag : run start (items (signs.Enum ∷ signs.Name 0 ∷ [])) ≡ Err 1
+unfolding run
+enum_with_a_tag = refl
+
+static_enum : run start (items (signs.Static ∷ signs.Enum ∷ [])) ≡ Err 1
+unfolding run
+static_enum = refl
+
 -- const int const x, const static int, const int main: the second `const`, `static` and `main` are wrong
 const_twice : run start (items (signs.Const ∷ signs.Int ∷ signs.Const ∷ signs.Name 0 ∷ [])) ≡ Err 2
 unfolding run

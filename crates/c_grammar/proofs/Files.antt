@@ -1,16 +1,18 @@
 -- What is spelled is read: declarations and files.
-use Rattle.std.proofs.Common.{◌≡◌, suc, ℕ, ℤ, List, [], ◌∷◌, ◌++◌, Ok, refl, sym, ap, ◌∙◌, append_assoc}
+use Rattle.std.proofs.Common.{◌≡◌, suc, ℕ, ℤ, pos, ◌+ℤ◌, ◌<ℤ◌, int_lt, Bool, true, cond, length, Option, None, arith, List, [], ◌∷◌, ◌++◌, Ok, refl, sym, ap, ◌∙◌, append_assoc}
+use Rattle.std.proofs.lemmas.Int.{ints}
 use Rattle.std.proofs.lemmas.List.{append-nil}
 use Rattle.fam_outer.specs.declared.faults.Place.{Place}
 use Rattle.c_tree.specs.declared.lists.Guard.{Guard}
 use Rattle.c_tree.specs.declared.lists.Declared.{Declared}
+use Rattle.c_tree.specs.Value.{greatest}
 use Rattle.c_tree.specs.Tree.{Code, Done, followed}
 use Rattle.c_grammar.specs.declared.items.Sign.{Sign}
 use Rattle.c_grammar.specs.declared.items.Sign.TheVariants as signs
 use Rattle.c_grammar.specs.declared.items.Item.{Item}
-use Rattle.c_grammar.specs.Grammar.{at, Optional, absent, present, Typed, int, int32, signed, signed_int, int_signed, Qualifier, Unqualified, Constant, unqualified, const_before, const_behind, Begins, only_type, then_type, Declarator, bare, positive, negative, with_true, with_false, declared, Part, Outer, Vars, Later, Declares, nothing, variables, prototype, section, last_var, next_var, end_part, else_part, elif_part, Returns, no_return, return, Gap, Gaps, GapRest, Empty, no_more, empty_section, empty_end, empty_else, empty_elif, Body, body, Main, main, File, file_of, Forms, file}
+use Rattle.c_grammar.specs.Grammar.{at, Optional, absent, present, Typed, int, int32, signed, signed_int, int_signed, Qualifier, Unqualified, Constant, Counted, behind, unqualified, const_before, const_behind, Begins, only_type, then_type, enumeration, Declarator, bare, positive, negative, counted, Ending, variables_end, constants_end, enumeration_end, comma_end, with_true, with_false, declared, Part, Outer, Vars, Later, Declares, nothing, variables, prototype, section, last_var, next_var, end_part, else_part, elif_part, Returns, no_return, return, Gap, Gaps, GapRest, Empty, no_more, empty_section, empty_end, empty_else, empty_elif, Body, body, Main, main, File, file_of, Forms, file}
 use Rattle.c_grammar.specs.Ahead.{NoElse}
-use Rattle.c_grammar.specs.Machine.{Tailing, Another, Final, Top, Sections, Outermost, InPart, InLast, guards_of, Aim, ToPrototype, ToMain, ReadingState, Outside, AfterStatic, AfterExtern, AfterConst, AfterType, Leading, NoWord, StaticWord, ExternWord, ConstWord, TypeWords, OneInt, OneSigned, WholeType, Declaring, Parameters, AfterParameters, Ready, Over, with_declared, run, start}
+use Rattle.c_grammar.specs.Machine.{Tailing, Another, Final, Top, Sections, Outermost, InPart, InLast, guards_of, Aim, ToPrototype, ToMain, ReadingState, Outside, AfterStatic, AfterExtern, AfterConst, AfterType, Leading, NoWord, StaticWord, ExternWord, ConstWord, TypeWords, OneInt, OneSigned, WholeType, Declaring, Parameters, AfterParameters, Ready, Over, with_declared, run, start, Bare, Started, Listing, listed, started, counts_on, step, moved}
 use Rattle.c_grammar.proofs.Complete.{accepted, followed-none}
 
 -- ---- declarations
@@ -25,12 +27,14 @@ NameFirst [] = ⊥
 NameFirst (x ∷ w) = IsName x.sign
 
 pub vars_first : {gs : List Guard} {ts : List Item} {ds : List Declared} {kind : Qualifier} → Declares (Vars kind gs) ts ds → (w : List Item) → NameFirst (ts ++ w)
-vars_first (last_var p gs (bare q x)) w = tt
-vars_first (last_var p gs (positive q r s x n)) w = tt
-vars_first (last_var p gs (negative q r s t x n)) w = tt
+vars_first (last_var gs (bare q x) o) w = tt
+vars_first (last_var gs (positive q r s x n) o) w = tt
+vars_first (last_var gs (negative q r s t x n) o) w = tt
+vars_first (last_var gs (counted q x last lt) o) w = tt
 vars_first (next_var p gs (bare q x) h) w = tt
 vars_first (next_var p gs (positive q r s x n) h) w = tt
 vars_first (next_var p gs (negative q r s t x n) h) w = tt
+vars_first (next_var p gs (counted q x last lt) h) w = tt
 
 -- where a declaration has this before its type
 abbrev pub before_type : Leading → Sections → List Declared → ReadingState
@@ -104,6 +108,7 @@ begins_then secs es w (only_type s (const_behind p {us} y)) h = ap (run (Outside
 begins_then secs es w (then_type q s (unqualified y)) h = typed_then StaticWord secs es w y ∙ behind_static_then (words_of y) secs es w h
 begins_then secs es w (then_type q s (const_before p y)) h = typed_then ConstWord secs es w y ∙ behind_const_then (words_of y) secs es w h
 begins_then secs es w (then_type q s (const_behind p {us} y)) h = ap (run (AfterStatic secs es)) (append_assoc us (at p signs.Const ∷ []) w) ∙ typed_then StaticWord secs es (at p signs.Const ∷ w) y
+begins_then secs es w (enumeration p q s) h = refl
 
 parameters : {us : List Item} (r s : Place) (aim : Aim) (w : List Item) → Optional signs.Void us → run (Parameters aim) (at r signs.Open ∷ (us ++ at s signs.Close ∷ w)) ≡ run (AfterParameters aim) w
 unfolding run
@@ -115,17 +120,63 @@ unfolding run
 prototyped q secs es w (only_type s (unqualified y)) = typed_then NoWord secs es (at q signs.Input ∷ w) y
 prototyped q secs es w (then_type p s (unqualified y)) = typed_then ExternWord secs es (at q signs.Input ∷ w) y
 
-at_comma : {us : List Item} {x : ℕ} {n : ℤ} {kind : Qualifier} (p : Place) (secs : Sections) (es : List Declared) (w : List Item) → Declarator kind us x n → run (Declaring kind secs es) (us ++ at p signs.Comma ∷ w) ≡ run (Declaring kind secs (with_declared secs es x n)) w
-unfolding run
-at_comma p secs es w (bare q x) = refl
-at_comma p secs es w (positive q r s x n) = refl
-at_comma p secs es w (negative q r s t x n) = refl
+-- what may follow a declarator
+abbrev pub IsStop : Sign → Type 0
+IsStop signs.Comma = Unit {0}
+IsStop signs.Semicolon = Unit {0}
+IsStop signs.RightBrace = Unit {0}
+IsStop _ = ⊥
 
-at_end_of : {us : List Item} {x : ℕ} {n : ℤ} {kind : Qualifier} (p : Place) (secs : Sections) (es : List Declared) (w : List Item) → Declarator kind us x n → run (Declaring kind secs es) (us ++ at p signs.Semicolon ∷ w) ≡ run (Outside secs (with_declared secs es x n)) w
+pub bare_step : (x : ℕ) (secs : Sections) (es : List Declared) (p : Place) (s : Sign) → IsStop s → step (Bare Unqualified x secs es) p s ≡ step (Started Unqualified x (pos 0) secs es) p s
+bare_step x secs es p signs.Comma h = refl
+bare_step x secs es p signs.Semicolon h = refl
+bare_step x secs es p signs.RightBrace h = refl
+bare_step x secs es p _ h = absurd h
+
+less_is : (m n : ℤ) → m <ℤ n → int_lt m n ≡ true
+less_is m n h = grind (arith, ints)
+
+counts : (x : ℕ) (last : ℤ) (secs : Sections) (es : List Declared) (s : Sign) → last <ℤ greatest → counts_on last x secs es s ≡ started (Counted last) x (last +ℤ pos 1) secs es s
+counts x last secs es s lt = ap (λ (b : Bool). cond b (started (Counted last) x (last +ℤ pos 1) secs es s) None) (less_is last greatest lt)
+
+pub counted_step : (x : ℕ) (last : ℤ) (secs : Sections) (es : List Declared) (p : Place) (s : Sign) → last <ℤ greatest → IsStop s → step (Bare (Counted last) x secs es) p s ≡ step (Started (Counted last) x (last +ℤ pos 1) secs es) p s
+counted_step x last secs es p signs.Comma lt h = counts x last secs es signs.Comma lt
+counted_step x last secs es p signs.Semicolon lt h = counts x last secs es signs.Semicolon lt
+counted_step x last secs es p signs.RightBrace lt h = counts x last secs es signs.RightBrace lt
+counted_step x last secs es p _ lt h = absurd h
+
+run_same : (a b : ReadingState) (p : Place) (s : Sign) (w : List Item) → step a p s ≡ step b p s → run a (at p s ∷ w) ≡ run b (at p s ∷ w)
 unfolding run
-at_end_of p secs es w (bare q x) = refl
-at_end_of p secs es w (positive q r s x n) = refl
-at_end_of p secs es w (negative q r s t x n) = refl
+run_same a b p s w h = ap (λ (o : Option ReadingState). moved o (λ next. run next w) (suc (length w))) h
+
+-- a declarator has a value, told or not
+valued : {us : List Item} {x : ℕ} {n : ℤ} {kind : Qualifier} (secs : Sections) (es : List Declared) (p : Place) (s : Sign) (w : List Item) → IsStop s → Declarator kind us x n → run (Declaring kind secs es) (us ++ at p s ∷ w) ≡ run (Started kind x n secs es) (at p s ∷ w)
+unfolding run
+valued secs es p s w h (bare q x) = run_same (Bare Unqualified x secs es) (Started Unqualified x (pos 0) secs es) p s w (bare_step x secs es p s h)
+valued secs es p s w h (positive q r t x n) = refl
+valued secs es p s w h (negative q r t u x n) = refl
+valued secs es p s w h (counted q x last lt) = run_same (Bare (Counted last) x secs es) (Started (Counted last) x (last +ℤ pos 1) secs es) p s w (counted_step x last secs es p s lt h)
+
+pub listed_name : (last : ℤ) (secs : Sections) (es : List Declared) (p : Place) (s : Sign) → IsName s → step (Listing last secs es) p s ≡ step (Declaring (Counted last) secs es) p s
+listed_name last secs es p (signs.Name x) h = refl
+listed_name last secs es p _ h = absurd h
+
+listed_then : (kind : Qualifier) (n : ℤ) (secs : Sections) (es : List Declared) (w : List Item) → NameFirst w → run (listed kind n secs es) w ≡ run (Declaring (behind kind n) secs es) w
+listed_then Unqualified n secs es w h = refl
+listed_then Constant n secs es w h = refl
+listed_then (Counted last) n secs es [] h = absurd h
+listed_then (Counted last) n secs es (x ∷ w) h = run_same (Listing n secs es) (Declaring (Counted n) secs es) x.place x.sign w (listed_name n secs es x.place x.sign h)
+
+at_comma : {us : List Item} {x : ℕ} {n : ℤ} {kind : Qualifier} (p : Place) (secs : Sections) (es : List Declared) (w : List Item) → NameFirst w → Declarator kind us x n → run (Declaring kind secs es) (us ++ at p signs.Comma ∷ w) ≡ run (Declaring (behind kind n) secs (with_declared secs es x n)) w
+unfolding run
+at_comma {x = x} {n = n} {kind = kind} p secs es w h d = valued secs es p signs.Comma w tt d ∙ listed_then kind n secs (with_declared secs es x n) w h
+
+at_end_of : {us vs : List Item} {x : ℕ} {n : ℤ} {kind : Qualifier} (secs : Sections) (es : List Declared) (w : List Item) → Declarator kind us x n → Ending kind vs → run (Declaring kind secs es) (us ++ (vs ++ w)) ≡ run (Outside secs (with_declared secs es x n)) w
+unfolding run
+at_end_of secs es w d (variables_end p) = valued secs es p signs.Semicolon w tt d
+at_end_of secs es w d (constants_end p) = valued secs es p signs.Semicolon w tt d
+at_end_of secs es w d (enumeration_end last p q) = valued secs es p signs.RightBrace (at q signs.Semicolon ∷ w) tt d
+at_end_of secs es w d (comma_end last p q r) = valued secs es p signs.Comma (at q signs.RightBrace ∷ at r signs.Semicolon ∷ w) tt d
 
 abbrev pub Goes : Part → List Item → List Declared → Type 0
 Goes (Outer gs) ts ds = (secs : Sections) → guards_of secs ≡ gs → (es : List Declared) (w : List Item) → run (Outside secs es) (ts ++ w) ≡ run (Outside secs (es ++ ds)) w
@@ -158,13 +209,13 @@ goes (section p n gs {us} {vs} {ws} {cs} {ds} {es = fs} a b d) = λ secs is es w
     ∙ goes b (guards_of secs) n secs (ap (λ (y : List Guard). with_false y n) is) (es ++ cs) (ws ++ w)
     ∙ goes d secs is ((es ++ cs) ++ ds) w
     ∙ ap (λ (y : List Declared). run (Outside secs y) w) (append_assoc (es ++ cs) ds fs ∙ append_assoc es cs (ds ++ fs))
-goes (last_var p gs {us} {x} {n} {kind} v) = λ secs is es w.
-    ap (run (Declaring kind secs es)) (append_assoc us (at p signs.Semicolon ∷ []) w)
-    ∙ at_end_of p secs es w v
+goes (last_var gs {us} {vs} {x} {n} {kind} v o) = λ secs is es w.
+    ap (run (Declaring kind secs es)) (append_assoc us vs w)
+    ∙ at_end_of secs es w v o
     ∙ ap (λ (y : List Guard). run (Outside secs (es ++ declared x n y ∷ [])) w) is
 goes (next_var p gs {us} {vs} {x} {n} {ds} {kind} v d) = λ secs is es w.
     ap (run (Declaring kind secs es)) (append_assoc us (at p signs.Comma ∷ vs) w)
-    ∙ at_comma p secs es (vs ++ w) v
+    ∙ at_comma p secs es (vs ++ w) (vars_first d w) v
     ∙ goes d secs is (with_declared secs es x n) w
     ∙ regroup secs es (declared x n (guards_of secs) ∷ []) ds w
     ∙ ap (λ (y : List Guard). run (Outside secs (es ++ declared x n y ∷ ds)) w) is

@@ -1,5 +1,5 @@
 -- What is spelled within the limits is read within them: declarations and files.
-use Rattle.std.proofs.Common.{◌≡◌, ℕ, ℤ, pos, neg_ℤ, suc, ◌+◌, ◌≤◌, true, false, List, [], ◌∷◌, ◌++◌, length, Some, Ok, refl, sym, ap, subst, ◌∙◌, append_assoc, arith}
+use Rattle.std.proofs.Common.{◌≡◌, ℕ, ℤ, neg_ℤ, suc, ◌+◌, ◌≤◌, true, false, List, [], ◌∷◌, ◌++◌, length, Some, Ok, refl, sym, ap, subst, ◌∙◌, append_assoc, arith}
 use Rattle.std.proofs.lemmas.List.{append-nil, length-append}
 use Rattle.fam_outer.specs.declared.faults.Place.{Place}
 use Rattle.c_tree.specs.declared.tree.Op.TheVariants.{Sub}
@@ -9,12 +9,12 @@ use Rattle.c_tree.specs.Tree.{Code, Done, Skip, followed}
 use Rattle.c_grammar.specs.declared.items.Sign.{Sign}
 use Rattle.c_grammar.specs.declared.items.Sign.TheVariants as signs
 use Rattle.c_grammar.specs.declared.items.Item.{Item}
-use Rattle.c_grammar.specs.Grammar.{at, Optional, absent, present, Typed, int, int32, signed, signed_int, int_signed, Qualifier, Unqualified, Constant, unqualified, const_before, const_behind, Begins, only_type, then_type, Declarator, bare, positive, negative, with_true, with_false, declared, Part, Outer, Vars, Later, Returns, no_return, return, Gap, Gaps, GapRest, File, file_of}
-use Rattle.c_grammar.specs.Machine.{Tailing, Another, Final, Top, Sections, Outermost, InPart, InLast, guards_of, Aim, ToPrototype, ToMain, ReadingState, Outside, AfterStatic, AfterExtern, AfterConst, AfterType, Leading, NoWord, StaticWord, ExternWord, ConstWord, TypeWords, OneInt, OneSigned, WholeType, first_word, Declaring, Bare, Starting, Negating, Started, Parameters, InParameters, AfterVoid, AfterParameters, Ready, Returning, Returned, Closing, Over, with_declared, step, start}
+use Rattle.c_grammar.specs.Grammar.{at, Optional, absent, present, Typed, int, int32, signed, signed_int, int_signed, Qualifier, Unqualified, Constant, Counted, uncounted, behind, unqualified, const_before, const_behind, Begins, only_type, then_type, enumeration, Declarator, bare, positive, negative, counted, Ending, variables_end, constants_end, enumeration_end, comma_end, with_true, with_false, declared, Part, Outer, Vars, Later, Returns, no_return, return, Gap, Gaps, GapRest, File, file_of}
+use Rattle.c_grammar.specs.Machine.{Tailing, Another, Final, Top, Sections, Outermost, InPart, InLast, guards_of, Aim, ToPrototype, ToMain, ReadingState, Outside, AfterStatic, AfterExtern, AfterConst, AfterEnum, AfterType, Leading, NoWord, StaticWord, ExternWord, ConstWord, TypeWords, OneInt, OneSigned, WholeType, first_word, Declaring, Bare, Starting, Negating, Started, Listing, Enumerated, listed, Parameters, InParameters, AfterVoid, AfterParameters, Ready, Returning, Returned, Closing, Over, with_declared, step, start}
 use Rattle.c_grammar.specs.Deep.{opens_more, tail_depth, guarded}
 use Rattle.c_grammar.specs.Within.{DeclaresIn, nothing, variables, prototype, section, last_var, next_var, end_part, else_part, elif_part, EmptyIn, no_more, empty_section, empty_end, empty_else, empty_elif, BodyWithin, body, MainWithin, main, FormsWithin, file}
 use Rattle.c_grammar.proofs.Complete.{followed-none}
-use Rattle.c_grammar.proofs.Files.{NameFirst, IsName, before_type, words_of, vars_first, return_no_else}
+use Rattle.c_grammar.proofs.Files.{NameFirst, IsName, before_type, words_of, vars_first, IsStop, bare_step, counted_step, listed_name, return_no_else}
 use Rattle.c_grammar.proofs.Within.{declares_plain}
 use Rattle.c_grammar.proofs.CompleteWithin.{same_within}
 use Rattle.c_grammar.proofs.StatesWithin.{token, opens_in, accepted_in}
@@ -97,6 +97,8 @@ begins_then secs es w (then_type q s (const_behind p {us} y)) h =
     ∙ ap (guarded (AfterStatic secs es) 0) (append_assoc us (at p signs.Const ∷ []) w)
     ∙ typed_then StaticWord secs es (at p signs.Const ∷ w) y
     ∙ token (AfterType StaticWord (words_of y) secs es) (Declaring Constant secs es) p signs.Const 0 w refl refl refl
+begins_then secs es w (enumeration p q s) h =
+    token (Outside secs es) (AfterEnum secs es) p signs.Enum 0 (at q signs.LeftBrace ∷ w) refl refl refl ∙ opens_in (AfterEnum secs es) (Declaring uncounted secs es) q signs.LeftBrace 0 w refl refl (omega arith)
 
 pub parameters : {us : List Item} (r s : Place) (aim : Aim) (w : List Item) → Optional signs.Void us → guarded (Parameters aim) 0 (at r signs.Open ∷ (us ++ at s signs.Close ∷ w)) ≡ guarded (AfterParameters aim) 0 w
 parameters {us} r s aim w (absent t) = token (Parameters aim) (InParameters aim) r signs.Open 0 (at s signs.Close ∷ w) refl refl refl ∙ token (InParameters aim) (AfterParameters aim) s signs.Close 0 w refl refl refl
@@ -114,9 +116,9 @@ prototyped q secs es w (then_type p s {us} (unqualified y)) =
     ∙ token (AfterType ExternWord (words_of y) secs es) (Parameters (ToPrototype secs es)) q signs.Input 0 w refl refl refl
 
 -- behind a declarator
-pub declarator : {us : List Item} {x : ℕ} {n : ℤ} {kind : Qualifier} (secs : Sections) (es : List Declared) (p : Place) (s : Sign) (next : ReadingState) (w : List Item) → step (Started kind x n secs es) p s ≡ Some next → step (Bare Unqualified x secs es) p s ≡ step (Started Unqualified x (pos 0) secs es) p s → opens_more s ≡ false → Declarator kind us x n
+pub declarator : {us : List Item} {x : ℕ} {n : ℤ} {kind : Qualifier} (secs : Sections) (es : List Declared) (p : Place) (s : Sign) (next : ReadingState) (w : List Item) → step (Started kind x n secs es) p s ≡ Some next → IsStop s → opens_more s ≡ false → Declarator kind us x n
     → guarded (Declaring kind secs es) 0 (us ++ at p s ∷ w) ≡ guarded next 0 w
-declarator secs es p s next w is same plain (bare q x) = token (Declaring Unqualified secs es) (Bare Unqualified x secs es) q (signs.Name x) 0 (at p s ∷ w) refl refl refl ∙ token (Bare Unqualified x secs es) next p s 0 w (same ∙ is) plain refl
+declarator secs es p s next w is same plain (bare q x) = token (Declaring Unqualified secs es) (Bare Unqualified x secs es) q (signs.Name x) 0 (at p s ∷ w) refl refl refl ∙ token (Bare Unqualified x secs es) next p s 0 w (bare_step x secs es p s same ∙ is) plain refl
 declarator {kind = kind} secs es p s next w is same plain (positive q r z x n) =
     token (Declaring kind secs es) (Bare kind x secs es) q (signs.Name x) 0 (at r signs.Equals ∷ at z (signs.Number n) ∷ at p s ∷ w) refl refl refl
     ∙ token (Bare kind x secs es) (Starting kind x secs es) r signs.Equals 0 (at z (signs.Number n) ∷ at p s ∷ w) refl refl refl
@@ -128,12 +130,28 @@ declarator {kind = kind} secs es p s next w is same plain (negative q r z t x n)
     ∙ token (Starting kind x secs es) (Negating kind x secs es) z (signs.Oper Sub) 0 (at t (signs.Number n) ∷ at p s ∷ w) refl refl refl
     ∙ token (Negating kind x secs es) (Started kind x (neg_ℤ n) secs es) t (signs.Number n) 0 (at p s ∷ w) refl refl refl
     ∙ token (Started kind x (neg_ℤ n) secs es) next p s 0 w is plain refl
+declarator secs es p s next w is same plain (counted q x last lt) =
+    token (Declaring (Counted last) secs es) (Bare (Counted last) x secs es) q (signs.Name x) 0 (at p s ∷ w) refl refl refl ∙ token (Bare (Counted last) x secs es) next p s 0 w (counted_step x last secs es p s lt same ∙ is) plain refl
 
-pub at_comma : {us : List Item} {x : ℕ} {n : ℤ} {kind : Qualifier} (p : Place) (secs : Sections) (es : List Declared) (w : List Item) → Declarator kind us x n → guarded (Declaring kind secs es) 0 (us ++ at p signs.Comma ∷ w) ≡ guarded (Declaring kind secs (with_declared secs es x n)) 0 w
-at_comma {x = x} {n = n} {kind = kind} p secs es w d = declarator secs es p signs.Comma (Declaring kind secs (with_declared secs es x n)) w refl refl refl d
+listed_within : (kind : Qualifier) (n : ℤ) (secs : Sections) (es : List Declared) (w : List Item) → NameFirst w → guarded (listed kind n secs es) 0 w ≡ guarded (Declaring (behind kind n) secs es) 0 w
+listed_within Unqualified n secs es w h = refl
+listed_within Constant n secs es w h = refl
+listed_within (Counted last) n secs es w h = same_within (Listing n secs es) (Declaring (Counted n) secs es) 0 refl refl refl w (λ x v is. listed_name n secs es x.place x.sign (name_at w x v is h))
 
-pub at_end_of : {us : List Item} {x : ℕ} {n : ℤ} {kind : Qualifier} (p : Place) (secs : Sections) (es : List Declared) (w : List Item) → Declarator kind us x n → guarded (Declaring kind secs es) 0 (us ++ at p signs.Semicolon ∷ w) ≡ guarded (Outside secs (with_declared secs es x n)) 0 w
-at_end_of {x = x} {n = n} p secs es w d = declarator secs es p signs.Semicolon (Outside secs (with_declared secs es x n)) w refl refl refl d
+pub at_comma : {us : List Item} {x : ℕ} {n : ℤ} {kind : Qualifier} (p : Place) (secs : Sections) (es : List Declared) (w : List Item) → NameFirst w → Declarator kind us x n → guarded (Declaring kind secs es) 0 (us ++ at p signs.Comma ∷ w) ≡ guarded (Declaring (behind kind n) secs (with_declared secs es x n)) 0 w
+at_comma {x = x} {n = n} {kind = kind} p secs es w h d = declarator secs es p signs.Comma (listed kind n secs (with_declared secs es x n)) w refl tt refl d ∙ listed_within kind n secs (with_declared secs es x n) w h
+
+pub at_end_of : {us vs : List Item} {x : ℕ} {n : ℤ} {kind : Qualifier} (secs : Sections) (es : List Declared) (w : List Item) → Declarator kind us x n → Ending kind vs → guarded (Declaring kind secs es) 0 (us ++ (vs ++ w)) ≡ guarded (Outside secs (with_declared secs es x n)) 0 w
+at_end_of {x = x} {n = n} secs es w d (variables_end p) = declarator secs es p signs.Semicolon (Outside secs (with_declared secs es x n)) w refl tt refl d
+at_end_of {x = x} {n = n} secs es w d (constants_end p) = declarator secs es p signs.Semicolon (Outside secs (with_declared secs es x n)) w refl tt refl d
+at_end_of {x = x} {n = n} secs es w d (enumeration_end last p q) =
+    let fs : List Declared = with_declared secs es x n in
+    declarator secs es p signs.RightBrace (Enumerated secs fs) (at q signs.Semicolon ∷ w) refl tt refl d ∙ token (Enumerated secs fs) (Outside secs fs) q signs.Semicolon 0 w refl refl refl
+at_end_of {x = x} {n = n} secs es w d (comma_end last p q r) =
+    let fs : List Declared = with_declared secs es x n in
+    declarator secs es p signs.Comma (Listing n secs fs) (at q signs.RightBrace ∷ at r signs.Semicolon ∷ w) refl tt refl d
+    ∙ token (Listing n secs fs) (Enumerated secs fs) q signs.RightBrace 0 (at r signs.Semicolon ∷ w) refl refl refl
+    ∙ token (Enumerated secs fs) (Outside secs fs) r signs.Semicolon 0 w refl refl refl
 
 -- one more guard
 pub guards_true : (gs : List Guard) (n : ℕ) → length (with_true gs n) ≡ suc (length gs)
@@ -176,13 +194,13 @@ goes_in (section p n gs {us} {vs} {ws} {cs} {ds} {es = fs} {k = j} a b d) = λ s
     ∙ goes_in b (guards_of secs) n secs (ap (λ (y : List Guard). with_false y n) is) (omega (arith, g, guards_false gs n)) (es ++ cs) (ws ++ w)
     ∙ goes_in d secs is h ((es ++ cs) ++ ds) w
     ∙ ap (λ (y : List Declared). guarded (Outside secs y) 0 w) (append_assoc (es ++ cs) ds fs ∙ append_assoc es cs (ds ++ fs))
-goes_in (last_var p gs {us} {x} {n} {kind} v) = λ secs is h es w.
-    ap (guarded (Declaring kind secs es) 0) (append_assoc us (at p signs.Semicolon ∷ []) w)
-    ∙ at_end_of p secs es w v
+goes_in (last_var gs {us} {vs} {x} {n} {kind} v o) = λ secs is h es w.
+    ap (guarded (Declaring kind secs es) 0) (append_assoc us vs w)
+    ∙ at_end_of secs es w v o
     ∙ ap (λ (y : List Guard). guarded (Outside secs (es ++ declared x n y ∷ [])) 0 w) is
 goes_in (next_var p gs {us} {vs} {x} {n} {ds} {kind} v d) = λ secs is h es w.
     ap (guarded (Declaring kind secs es) 0) (append_assoc us (at p signs.Comma ∷ vs) w)
-    ∙ at_comma p secs es (vs ++ w) v
+    ∙ at_comma p secs es (vs ++ w) (vars_first (declares_plain d) w) v
     ∙ goes_in d secs is h (with_declared secs es x n) w
     ∙ regroup secs es (declared x n (guards_of secs) ∷ []) ds w
     ∙ ap (λ (y : List Guard). guarded (Outside secs (es ++ declared x n y ∷ ds)) 0 w) is

@@ -1,5 +1,5 @@
 -- What is spelled is a well-formed program.
-use Rattle.std.proofs.Common.{◌≡◌, ℕ, ℤ, pos, suc, ◌<◌, Bool, true, false, cond, List, [], ◌∷◌, ◌++◌, length, refl, ap, ◌∙◌, arith}
+use Rattle.std.proofs.Common.{◌≡◌, ℕ, ℤ, pos, ◌≤ℤ◌, suc, ◌<◌, Bool, true, false, cond, List, [], ◌∷◌, ◌++◌, length, refl, ap, ◌∙◌, arith}
 use Rattle.std.specs.List.{All}
 use Rattle.std.proofs.lemmas.List.Elements.{All-append, All-cons, All-nil}
 use Rattle.std.proofs.lemmas.Int.{ints}
@@ -7,13 +7,14 @@ use Rattle.fam_outer.specs.declared.faults.Place.{Place}
 use Rattle.c_tree.specs.declared.lists.Guard.{Guard}
 use Rattle.c_tree.specs.declared.lists.Declared.{Declared}
 use Rattle.c_tree.specs.Tree.{Term, Code, Done, Assign, Input, Assert, If, While, Block, Skip, Cond, followed}
-use Rattle.c_tree.specs.Value.{IsInt}
+use Rattle.c_tree.specs.Value.{least, IsInt}
 use Rattle.c_tree.specs.Fit.{IsTermOf, IsCodeOf, IsPlain}
 use Rattle.c_tree.specs.Project.{projected_start}
 use Rattle.c_tree.specs.Whole.{IsDeclaredOf}
 use Rattle.c_grammar.specs.declared.items.Item.{Item}
+use Rattle.c_grammar.specs.declared.items.Sign.{Sign}
 use Rattle.c_grammar.specs.declared.items.Sign.TheVariants as signs
-use Rattle.c_grammar.specs.Grammar.{at, Prefix, Positive, Negative, Inverse, applied, Expresses, number, name, group, prefix, loose, binary, Shape, Writes, none, more, choice, ends, otherwise, elif, assign, input, update, count, prefix_count, assert, skip, block, while, if_then, if_else, Qualifier, Declarator, bare, positive, negative, declared, Part, Declares, nothing, variables, prototype, section, last_var, next_var, end_part, else_part, elif_part, Returns, no_return, return, Body, body, Main, main, File, Forms, file, has_groups, zeros}
+use Rattle.c_grammar.specs.Grammar.{at, Prefix, Positive, Negative, Inverse, applied, Expresses, number, name, group, prefix, loose, binary, Shape, Writes, none, more, choice, ends, otherwise, elif, assign, input, update, count, prefix_count, assert, skip, block, while, if_then, if_else, Qualifier, Unqualified, Constant, Counted, behind, unqualified, const_before, const_behind, Begins, only_type, then_type, enumeration, Declarator, bare, positive, negative, counted, declared, Part, Outer, Vars, Later, Declares, nothing, variables, prototype, section, last_var, next_var, end_part, else_part, elif_part, Returns, no_return, return, Body, body, Main, main, File, Forms, file, has_groups, zeros}
 use Rattle.c_grammar.specs.Facts.{AreFit, WellFormed, PlainWithoutGroups}
 use Rattle.c_tree.proofs.Starts.{length-start, ints-start}
 use Rattle.c_grammar.proofs.Keeping.{no_groups}
@@ -74,36 +75,63 @@ code_fits n (if_else p q r z {b} {ts} {us} {vs} e s t) h =
     let l = fit_split n us (at z signs.Else ∷ vs) k.1.1 in
     (term_fits n e k.0, code_fits n s l.0, code_fits n t l.1.1, tt)
 
-value_fits : {us : List Item} {x : ℕ} {v : ℤ} {kind : Qualifier} (n : ℕ) → Declarator kind us x v → AreFit n us → (x < n) × IsInt v
-value_fits n (bare p x) h = (h.0, record { low = omega (arith, ints); high = omega (arith, ints) })
-value_fits n (positive p q r x v) h = (h.0, record { low = omega (arith, ints, h.1.1.0.0, h.1.1.0.1); high = h.1.1.0.1 })
-value_fits n (negative p q r s x v) h = (h.0, record { low = omega (arith, ints, h.1.1.1.0.0, h.1.1.1.0.1); high = omega (arith, ints, h.1.1.1.0.0, h.1.1.1.0.1) })
+-- a constant that is counted begins from an `int`
+abbrev QualifierFits : Qualifier → Type 0
+QualifierFits Unqualified = Unit {0}
+QualifierFits Constant = Unit {0}
+QualifierFits (Counted last) = least ≤ℤ last
+
+begins_fits : {us : List Item} {kind : Qualifier} {s : Sign} → Begins s kind us → QualifierFits kind
+begins_fits (only_type s (unqualified y)) = tt
+begins_fits (only_type s (const_before p y)) = tt
+begins_fits (only_type s (const_behind p y)) = tt
+begins_fits (then_type q s (unqualified y)) = tt
+begins_fits (then_type q s (const_before p y)) = tt
+begins_fits (then_type q s (const_behind p y)) = tt
+begins_fits (enumeration p q s) = omega (arith, ints)
+
+behind_fits : (kind : Qualifier) (n : ℤ) → IsInt n → QualifierFits (behind kind n)
+behind_fits Unqualified n h = tt
+behind_fits Constant n h = tt
+behind_fits (Counted last) n h = h.low
+
+abbrev PartFits : Part → Type 0
+PartFits (Outer gs) = Unit {0}
+PartFits (Vars kind gs) = QualifierFits kind
+PartFits (Later gs) = Unit {0}
+
+value_fits : {us : List Item} {x : ℕ} {v : ℤ} {kind : Qualifier} (n : ℕ) → QualifierFits kind → Declarator kind us x v → AreFit n us → (x < n) × IsInt v
+value_fits n q (bare p x) h = (h.0, record { low = omega (arith, ints); high = omega (arith, ints) })
+value_fits n k (positive p q r x v) h = (h.0, record { low = omega (arith, ints, h.1.1.0.0, h.1.1.0.1); high = h.1.1.0.1 })
+value_fits n k (negative p q r s x v) h = (h.0, record { low = omega (arith, ints, h.1.1.1.0.0, h.1.1.1.0.1); high = omega (arith, ints, h.1.1.1.0.0, h.1.1.1.0.1) })
+value_fits n k (counted p x last lt) h = (h.0, record { low = omega (arith, ints, k); high = omega (arith, ints, lt) })
 
 one_fits : (n x : ℕ) (v : ℤ) (gs : List Guard) → (x < n) × IsInt v → IsDeclaredOf n (declared x v gs)
 one_fits n x v gs h = record { target = h.0; value = h.1 }
 
-declared_fits : {s : Part} {ts : List Item} {ds : List Declared} (n : ℕ) → Declares s ts ds → AreFit n ts → All (IsDeclaredOf n) ds
-declared_fits n (nothing gs) h = All-nil (IsDeclaredOf n)
-declared_fits n (variables gs {us} {vs} {ws} {ds} {es} o v d) h =
+declared_fits : {s : Part} {ts : List Item} {ds : List Declared} (n : ℕ) → PartFits s → Declares s ts ds → AreFit n ts → All (IsDeclaredOf n) ds
+declared_fits n f (nothing gs) h = All-nil (IsDeclaredOf n)
+declared_fits n f (variables gs {us} {vs} {ws} {ds} {es} o v d) h =
     let k = fit_split n us (vs ++ ws) h in
     let l = fit_split n vs ws k.1 in
-    All-append (IsDeclaredOf n) ds es (declared_fits n v l.0) (declared_fits n d l.1)
-declared_fits n (prototype q r s t gs {us} {vs} {ws} o v d) h =
+    All-append (IsDeclaredOf n) ds es (declared_fits n (begins_fits o) v l.0) (declared_fits n tt d l.1)
+declared_fits n f (prototype q r s t gs {us} {vs} {ws} o v d) h =
     let k = fit_split n us (at q signs.Input ∷ at r signs.Open ∷ (vs ++ at s signs.Close ∷ at t signs.Semicolon ∷ ws)) h in
-    declared_fits n d (fit_split n vs (at s signs.Close ∷ at t signs.Semicolon ∷ ws) k.1.1.1).1.1.1
-declared_fits n (section p m gs {us} {vs} {ws} {cs} {ds} {es} a b d) h =
+    declared_fits n tt d (fit_split n vs (at s signs.Close ∷ at t signs.Semicolon ∷ ws) k.1.1.1).1.1.1
+declared_fits n f (section p m gs {us} {vs} {ws} {cs} {ds} {es} a b d) h =
     let k = fit_split n us (vs ++ ws) h.1 in
     let l = fit_split n vs ws k.1 in
-    All-append (IsDeclaredOf n) cs (ds ++ es) (declared_fits n a k.0) (All-append (IsDeclaredOf n) ds es (declared_fits n b l.0) (declared_fits n d l.1))
-declared_fits n (last_var p gs {us} {x} {n = v} d) h = All-cons (IsDeclaredOf n) (declared x v gs) [] (one_fits n x v gs (value_fits n d (fit_split n us (at p signs.Semicolon ∷ []) h).0)) (All-nil (IsDeclaredOf n))
-declared_fits n (next_var p gs {us} {vs} {x} {n = v} {ds} d l) h =
+    All-append (IsDeclaredOf n) cs (ds ++ es) (declared_fits n tt a k.0) (All-append (IsDeclaredOf n) ds es (declared_fits n tt b l.0) (declared_fits n tt d l.1))
+declared_fits n f (last_var gs {us} {vs} {x} {n = v} d o) h = All-cons (IsDeclaredOf n) (declared x v gs) [] (one_fits n x v gs (value_fits n f d (fit_split n us vs h).0)) (All-nil (IsDeclaredOf n))
+declared_fits n f (next_var p gs {us} {vs} {x} {n = v} {ds} {kind} d l) h =
     let k = fit_split n us (at p signs.Comma ∷ vs) h in
-    All-cons (IsDeclaredOf n) (declared x v gs) ds (one_fits n x v gs (value_fits n d k.0)) (declared_fits n l k.1.1)
-declared_fits n (end_part p gs) h = All-nil (IsDeclaredOf n)
-declared_fits n (else_part p q gs {us} d) h = declared_fits n d (fit_split n us (at q signs.GroupEnd ∷ []) h.1).0
-declared_fits n (elif_part p m gs {us} {vs} {cs} {ds} a b) h =
+    let i = value_fits n f d k.0 in
+    All-cons (IsDeclaredOf n) (declared x v gs) ds (one_fits n x v gs i) (declared_fits n (behind_fits kind v i.1) l k.1.1)
+declared_fits n f (end_part p gs) h = All-nil (IsDeclaredOf n)
+declared_fits n f (else_part p q gs {us} d) h = declared_fits n tt d (fit_split n us (at q signs.GroupEnd ∷ []) h.1).0
+declared_fits n f (elif_part p m gs {us} {vs} {cs} {ds} a b) h =
     let k = fit_split n us vs h.1 in
-    All-append (IsDeclaredOf n) cs ds (declared_fits n a k.0) (declared_fits n b k.1)
+    All-append (IsDeclaredOf n) cs ds (declared_fits n tt a k.0) (declared_fits n tt b k.1)
 
 -- ---- groups
 
@@ -174,7 +202,7 @@ file_code_fits : (n : ℕ) (items : List Item) (f : File) → Forms items f → 
 file_code_fits n _ _ (file {us} {vs} d m) h = main_fits n m (fit_split n us vs h).1
 
 file_declared_fits : (n : ℕ) (items : List Item) (f : File) → Forms items f → AreFit n items → All (IsDeclaredOf n) f.declared
-file_declared_fits n _ _ (file {us} {vs} d m) h = declared_fits n d (fit_split n us vs h).0
+file_declared_fits n _ _ (file {us} {vs} d m) h = declared_fits n tt d (fit_split n us vs h).0
 
 zero_is_int : IsInt (pos 0)
 zero_is_int = record { low = omega (arith, ints); high = omega (arith, ints) }

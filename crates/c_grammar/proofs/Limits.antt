@@ -1,5 +1,5 @@
 -- What is read within the limits: how deep its statements are, and how many operators its expressions have.
-use Rattle.std.proofs.Common.{◌≡◌, ℕ, ℤ, pos, suc, ◌+◌, ◌≤◌, ◌<◌, ltb, leb, Bool, true, false, cond, ◌||◌, ◌&&◌, List, [], ◌∷◌, length, Option, Some, None, Result, Ok, refl, subst, arith, inl, inr}
+use Rattle.std.proofs.Common.{◌≡◌, ℕ, ℤ, pos, ◌+ℤ◌, int_lt, suc, ◌+◌, ◌≤◌, ◌<◌, ltb, leb, Bool, true, false, cond, ◌||◌, ◌&&◌, List, [], ◌∷◌, length, Option, Some, None, Result, Ok, refl, subst, arith, inl, inr}
 use Rattle.std.specs.Prelude.{IfSome, IfOk, max}
 use Rattle.std.proofs.Math.Nat.{le-max_left, le-max_right, max-eq_left, max-eq_right}
 use Rattle.std.proofs.lemmas.Bool.{cases_lt, leb-false}
@@ -7,13 +7,14 @@ use Rattle.fam_outer.specs.declared.faults.Place.{Place}
 use Rattle.c_tree.specs.declared.tree.Op.{Op}
 use Rattle.c_tree.specs.declared.tree.Op.TheVariants.{Add, Sub}
 use Rattle.c_tree.specs.declared.lists.Declared.{Declared}
+use Rattle.c_tree.specs.Value.{greatest}
 use Rattle.c_tree.specs.Tree.{Term, Neg, Not, Binary, Code, Done, Assign, Input, Assert, If, While, Block, Skip, Cond, followed}
 use Rattle.c_tree.specs.Whole.{operators, nesting, IsSmall}
 use Rattle.c_grammar.specs.declared.items.Sign.{Sign}
 use Rattle.c_grammar.specs.declared.items.Sign.TheVariants as signs
 use Rattle.c_grammar.specs.declared.items.Item.{Item}
-use Rattle.c_grammar.specs.Grammar.{Count, tighter, Positive, Negative, Inverse, Qualifier, Unqualified, Constant, File}
-use Rattle.c_grammar.specs.Machine.{Frame, Paren, Pre, Left, Stack, Top, Braces, Yes, No, ThenOf, ElseOf, LoopOf, Use, ToAssign, ToUpdate, ToAssert, ToChoose, ToLoop, Sections, Outermost, InPart, InLast, Aim, ToPrototype, ToMain, Tailing, Another, ReadingState, Outside, AfterStatic, AfterExtern, AfterConst, AfterType, Leading, NoWord, StaticWord, ExternWord, ConstWord, TypeWords, OneInt, OneSigned, Declaring, Bare, Starting, Negating, Started, Parameters, InParameters, AfterVoid, AfterParameters, Ready, Ended, Wants, Has, Counting, Named, Opens, InputOpens, InputCloses, Finishing, Returning, Returned, Closing, Over, settle, input_of, want, tested, closed_by, assigned, ended_by, have, folded, else_of, linked, opened, braced, returned, next_part, last_part, group_end, begin, on, named, counting, at_open, at_close, at_semicolon, at_input, next_condition, last_section, section_end, outside, behind_static, declaring, qualifying, main_of, first_word, naming, behind_type, after_type, started, without_value, is_bare, starting, negating, in_parameters, after_parameters, returning, closing, over, step, finish, start}
+use Rattle.c_grammar.specs.Grammar.{Count, tighter, Positive, Negative, Inverse, Qualifier, Unqualified, Constant, Counted, File}
+use Rattle.c_grammar.specs.Machine.{Frame, Paren, Pre, Left, Stack, Top, Braces, Yes, No, ThenOf, ElseOf, LoopOf, Use, ToAssign, ToUpdate, ToAssert, ToChoose, ToLoop, Sections, Outermost, InPart, InLast, Aim, ToPrototype, ToMain, Tailing, Another, ReadingState, Outside, AfterStatic, AfterExtern, AfterConst, AfterEnum, AfterType, Leading, NoWord, StaticWord, ExternWord, ConstWord, TypeWords, OneInt, OneSigned, Declaring, Bare, Starting, Negating, Started, Listing, Enumerated, Parameters, InParameters, AfterVoid, AfterParameters, Ready, Ended, Wants, Has, Counting, Named, Opens, InputOpens, InputCloses, Finishing, Returning, Returned, Closing, Over, settle, input_of, want, tested, closed_by, assigned, ended_by, have, folded, else_of, linked, opened, braced, returned, next_part, last_part, group_end, begin, on, named, counting, at_open, at_close, at_semicolon, at_input, next_condition, last_section, section_end, outside, behind_static, declaring, qualifying, main_of, first_word, naming, behind_type, after_type, after_enum, listed, declaration_end, enumeration_end, started, listing, counts_on, without_value, is_bare, starting, negating, in_parameters, after_parameters, returning, closing, over, with_declared, step, finish, start}
 use Rattle.c_grammar.specs.Deep.{depth, opens_more, is_nested, counted, is_long, is_deep, Fault, ended, went, guarded}
 
 max_parts : (a b k m : ℕ) → max a b + k ≤ m → (a + k ≤ m) × (b + k ≤ m)
@@ -342,6 +343,7 @@ unfolding StateFits
 outside_fits secs ds signs.Static = tt
 outside_fits secs ds signs.Extern = tt
 outside_fits secs ds signs.Const = tt
+outside_fits secs ds signs.Enum = tt
 outside_fits secs ds (signs.GroupIf n) = tt
 outside_fits secs ds (signs.GroupElif n) = condition_fits n secs ds
 outside_fits secs ds signs.GroupElse = last_section_fits secs ds
@@ -388,16 +390,50 @@ after_type_fits lead secs ds signs.Signed OneInt = tt
 after_type_fits lead secs ds signs.Int OneSigned = tt
 after_type_fits lead secs ds s words = behind_type_fits lead secs ds s
 
+enum_fits : (secs : Sections) (ds : List Declared) (s : Sign) → IfSome (after_enum secs ds s) (λ next. StateFits next 0)
+unfolding StateFits
+enum_fits secs ds signs.LeftBrace = tt
+enum_fits secs ds _ = tt
+
+listed_fits : (kind : Qualifier) (n : ℤ) (secs : Sections) (ds : List Declared) → StateFits (listed kind n secs ds) 0
+unfolding StateFits
+listed_fits Unqualified n secs ds = tt
+listed_fits Constant n secs ds = tt
+listed_fits (Counted last) n secs ds = tt
+
+declaration_end_fits : (kind : Qualifier) (secs : Sections) (ds : List Declared) → IfSome (declaration_end kind secs ds) (λ next. StateFits next 0)
+unfolding StateFits
+declaration_end_fits Unqualified secs ds = tt
+declaration_end_fits Constant secs ds = tt
+declaration_end_fits (Counted last) secs ds = tt
+
+enumeration_end_fits : (kind : Qualifier) (secs : Sections) (ds : List Declared) → IfSome (enumeration_end kind secs ds) (λ next. StateFits next 0)
+unfolding StateFits
+enumeration_end_fits Unqualified secs ds = tt
+enumeration_end_fits Constant secs ds = tt
+enumeration_end_fits (Counted last) secs ds = tt
+
 started_fits : (kind : Qualifier) (x : ℕ) (n : ℤ) (secs : Sections) (ds : List Declared) (s : Sign) → IfSome (started kind x n secs ds s) (λ next. StateFits next 0)
 unfolding StateFits
-started_fits kind x n secs ds signs.Comma = tt
-started_fits kind x n secs ds signs.Semicolon = tt
+started_fits kind x n secs ds signs.Comma = listed_fits kind n secs (with_declared secs ds x n)
+started_fits kind x n secs ds signs.Semicolon = declaration_end_fits kind secs (with_declared secs ds x n)
+started_fits kind x n secs ds signs.RightBrace = enumeration_end_fits kind secs (with_declared secs ds x n)
 started_fits kind x n secs ds _ = tt
+
+counts_fits : (last : ℤ) (x : ℕ) (secs : Sections) (ds : List Declared) (s : Sign) → IfSome (counts_on last x secs ds s) (λ next. StateFits next 0)
+unfolding StateFits
+counts_fits last x secs ds s = elim (int_lt last greatest) as (λ b. IfSome (cond b (started (Counted last) x (last +ℤ pos 1) secs ds s) None) (λ next. StateFits next 0)) [ true ↦ started_fits (Counted last) x (last +ℤ pos 1) secs ds s | false ↦ tt ]
+
+listing_fits : (last : ℤ) (secs : Sections) (ds : List Declared) (s : Sign) → IfSome (listing last secs ds s) (λ next. StateFits next 0)
+unfolding StateFits
+listing_fits last secs ds signs.RightBrace = tt
+listing_fits last secs ds s = declaring_fits (Counted last) secs ds s
 
 unvalued_fits : (kind : Qualifier) (x : ℕ) (secs : Sections) (ds : List Declared) (s : Sign) → IfSome (without_value kind x secs ds s) (λ next. StateFits next 0)
 unfolding StateFits
 unvalued_fits Unqualified x secs ds s = started_fits Unqualified x (pos 0) secs ds s
 unvalued_fits Constant x secs ds s = tt
+unvalued_fits (Counted last) x secs ds s = counts_fits last x secs ds s
 
 bare_fits : (kind : Qualifier) (x : ℕ) (secs : Sections) (ds : List Declared) (s : Sign) → IfSome (is_bare kind x secs ds s) (λ next. StateFits next 0)
 unfolding StateFits
@@ -451,12 +487,15 @@ step_fits (Outside secs ds) p s k d l h = outside_fits secs ds s
 step_fits (AfterStatic secs ds) p s k d l h = static_fits secs ds s
 step_fits (AfterExtern secs ds) p s k d l h = first_fits ExternWord secs ds s
 step_fits (AfterConst secs ds) p s k d l h = first_fits ConstWord secs ds s
+step_fits (AfterEnum secs ds) p s k d l h = enum_fits secs ds s
 step_fits (AfterType lead words secs ds) p s k d l h = after_type_fits lead secs ds s words
 step_fits (Declaring kind secs ds) p s k d l h = declaring_fits kind secs ds s
 step_fits (Bare kind x secs ds) p s k d l h = bare_fits kind x secs ds s
 step_fits (Starting kind x secs ds) p s k d l h = starting_fits kind x secs ds s
 step_fits (Negating kind x secs ds) p s k d l h = negating_fits kind x secs ds s
 step_fits (Started kind x n secs ds) p s k d l h = started_fits kind x n secs ds s
+step_fits (Listing last secs ds) p s k d l h = listing_fits last secs ds s
+step_fits (Enumerated secs ds) p s k d l h = semicolon_fits (Outside secs ds) s tt
 step_fits (Parameters aim) p s k d l h = open_fits (InParameters aim) s tt
 step_fits (InParameters aim) p s k d l h = in_parameters_fits aim s
 step_fits (AfterVoid aim) p s k d l h = close_fits (AfterParameters aim) s tt

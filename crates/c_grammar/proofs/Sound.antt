@@ -6,23 +6,26 @@ use Rattle.fam_outer.specs.declared.faults.Place.{Place}
 use Rattle.c_grammar.specs.declared.items.Sign.{Sign}
 use Rattle.c_grammar.specs.declared.items.Item.{Item}
 use Rattle.c_grammar.specs.Grammar.{at, no_more, File, file_of, Forms, file}
-use Rattle.c_grammar.specs.Machine.{Outermost, ReadingState, Outside, AfterStatic, AfterExtern, AfterConst, AfterType, Declaring, Bare, Starting, Negating, Started, Parameters, InParameters, AfterVoid, AfterParameters, Ready, Ended, Wants, Has, Counting, Named, Opens, InputOpens, InputCloses, Finishing, Returning, Returned, Closing, Over, step, finish, at_end, moved, run, start}
+use Rattle.c_grammar.specs.Machine.{Outermost, ReadingState, Outside, AfterStatic, AfterExtern, AfterConst, AfterEnum, AfterType, Declaring, Bare, Starting, Negating, Started, Listing, Enumerated, Parameters, InParameters, AfterVoid, AfterParameters, Ready, Ended, Wants, Has, Counting, Named, Opens, InputOpens, InputCloses, Finishing, Returning, Returned, Closing, Over, step, finish, at_end, moved, run, start}
 use Rattle.c_grammar.proofs.Standing.{Tail, Stands}
 use Rattle.c_grammar.proofs.SoundExpressions.{want_keeps, have_keeps}
 use Rattle.c_grammar.proofs.SoundStatements.{begin_keeps, on_keeps, counting_keeps, named_keeps, opens_keeps, input_opens_keeps, input_closes_keeps, finishing_keeps}
-use Rattle.c_grammar.proofs.SoundFiles.{outside_keeps, static_keeps, extern_keeps, const_keeps, type_keeps, declaring_keeps, bare_keeps, starting_keeps, negating_keeps, started_keeps, parameters_keeps, in_parameters_keeps, void_keeps, after_parameters_keeps, returning_keeps, return_end_keeps, closing_keeps, over_keeps}
+use Rattle.c_grammar.proofs.SoundFiles.{outside_keeps, static_keeps, extern_keeps, const_keeps, enum_keeps, type_keeps, declaring_keeps, bare_keeps, starting_keeps, negating_keeps, started_keeps, listing_keeps, enumerated_keeps, parameters_keeps, in_parameters_keeps, void_keeps, after_parameters_keeps, returning_keeps, return_end_keeps, closing_keeps, over_keeps}
 
 keeps : (state : ReadingState) (p : Place) (s : Sign) (a : List Item) → Stands state a → IfSome (step state p s) (λ next. Stands next (a ++ at p s ∷ []))
 keeps (Outside secs ds) p s a r = outside_keeps secs ds p s a r
 keeps (AfterStatic secs ds) p s a r = static_keeps secs ds p s a r
 keeps (AfterExtern secs ds) p s a r = extern_keeps secs ds p s a r
 keeps (AfterConst secs ds) p s a r = const_keeps secs ds p s a r
+keeps (AfterEnum secs ds) p s a r = enum_keeps secs ds p s a r
 keeps (AfterType lead words secs ds) p s a r = type_keeps lead secs ds p s words a r
 keeps (Declaring kind secs ds) p s a r = declaring_keeps kind secs ds p s a r
 keeps (Bare kind x secs ds) p s a r = bare_keeps kind x secs ds p s a r
 keeps (Starting kind x secs ds) p s a r = starting_keeps kind x secs ds p s a r
 keeps (Negating kind x secs ds) p s a r = negating_keeps kind x secs ds p s a r
 keeps (Started kind x n secs ds) p s a r = started_keeps kind x n secs ds p s a r
+keeps (Listing last secs ds) p s a r = listing_keeps last secs ds p s a r
+keeps (Enumerated secs ds) p s a r = enumerated_keeps secs ds p s a r
 keeps (Parameters aim) p s a r = parameters_keeps aim p s a r
 keeps (InParameters aim) p s a r = in_parameters_keeps aim p s a r
 keeps (AfterVoid aim) p s a r = void_keeps aim p s a r

@@ -1,17 +1,20 @@
 -- What is read is spelled: declarations and the end of a file.
-use Rattle.std.proofs.Common.{◌≡◌, ℕ, ℤ, pos, List, [], ◌∷◌, ◌++◌, refl, sym, ap, subst, ◌∙◌, append_assoc}
+use Rattle.std.proofs.Common.{◌≡◌, ℕ, ℤ, pos, ◌+ℤ◌, ◌<ℤ◌, int_lt, true, false, cond, None, arith, List, [], ◌∷◌, ◌++◌, refl, sym, ap, subst, ◌∙◌, append_assoc}
 use Rattle.std.specs.Prelude.{IfSome}
+use Rattle.std.proofs.lemmas.Int.{ints}
 use Rattle.std.proofs.lemmas.List.{append-nil}
 use Rattle.fam_outer.specs.declared.faults.Place.{Place}
 use Rattle.c_tree.specs.declared.tree.Op.TheVariants.{Sub}
 use Rattle.c_tree.specs.declared.lists.Declared.{Declared}
+use Rattle.c_tree.specs.Value.{greatest}
 use Rattle.c_tree.specs.Tree.{Code}
 use Rattle.c_grammar.specs.declared.items.Sign.{Sign}
 use Rattle.c_grammar.specs.declared.items.Sign.TheVariants as signs
 use Rattle.c_grammar.specs.declared.items.Item.{Item}
-use Rattle.c_grammar.specs.Grammar.{at, none, Optional, absent, present, Typed, int, int32, signed, signed_int, int_signed, Qualifier, Unqualified, Constant, unqualified, const_before, const_behind, Begins, only_type, then_type, bare, positive, negative, with_true, with_false, declared, Outer, Declares, nothing, variables, prototype, section, last_var, next_var, end_part, else_part, elif_part, Gaps, Empty, no_more, empty_section, empty_end, empty_else, empty_elif, main, File, file_of, Forms}
-use Rattle.c_grammar.specs.Machine.{Tailing, Another, Final, Sections, Outermost, InPart, InLast, guards_of, Aim, ToPrototype, ToMain, Outside, AfterStatic, AfterExtern, AfterConst, AfterType, Leading, NoWord, StaticWord, ExternWord, ConstWord, TypeWords, OneInt, OneSigned, WholeType, Declaring, Bare, Starting, Negating, Started, Parameters, InParameters, AfterVoid, AfterParameters, Returning, Returned, Closing, Over, with_declared, at_open, at_close, at_semicolon, at_input, next_condition, last_section, section_end, outside, behind_static, declaring, qualifying, main_of, first_word, naming, behind_type, after_type, started, without_value, is_bare, starting, negating, in_parameters, after_parameters, returning, closing, over}
-use Rattle.c_grammar.proofs.Standing.{Words, one_int, one_signed, whole_type, Consts, const_alone, static_const, Led, no_word, static_word, extern_word, const_word, Tail, VarsTail, Trailing, Stands}
+use Rattle.c_grammar.specs.Grammar.{at, none, Optional, absent, present, Typed, int, int32, signed, signed_int, int_signed, Qualifier, Unqualified, Constant, Counted, behind, unqualified, const_before, const_behind, Begins, only_type, then_type, enumeration, Declarator, bare, positive, negative, counted, Ending, variables_end, constants_end, enumeration_end, comma_end, with_true, with_false, declared, Outer, Declares, nothing, variables, prototype, section, last_var, next_var, end_part, else_part, elif_part, Gaps, Empty, no_more, empty_section, empty_end, empty_else, empty_elif, main, File, file_of, Forms}
+use Rattle.c_grammar.specs.Machine as machine
+use Rattle.c_grammar.specs.Machine.{Tailing, Another, Final, Sections, Outermost, InPart, InLast, guards_of, Aim, ToPrototype, ToMain, Outside, AfterStatic, AfterExtern, AfterConst, AfterEnum, AfterType, Leading, NoWord, StaticWord, ExternWord, ConstWord, TypeWords, OneInt, OneSigned, WholeType, Declaring, Bare, Starting, Negating, Started, Listing, Enumerated, Parameters, InParameters, AfterVoid, AfterParameters, Returning, Returned, Closing, Over, with_declared, at_open, at_close, at_semicolon, at_input, next_condition, last_section, section_end, outside, behind_static, declaring, qualifying, main_of, first_word, naming, behind_type, after_type, after_enum, listed, declaration_end, started, listing, counts_on, without_value, is_bare, starting, negating, in_parameters, after_parameters, returning, closing, over}
+use Rattle.c_grammar.proofs.Standing.{Words, one_int, one_signed, whole_type, const_alone, static_const, Led, no_word, static_word, extern_word, const_word, Tail, VarsTail, Trailing, Stands}
 
 -- ---- one item in front of what may come next
 
@@ -58,31 +61,65 @@ open_tail p n secs ds w f r =
 
 -- ---- declarators
 
-pub started_keeps : (kind : Qualifier) (x : ℕ) (n : ℤ) (secs : Sections) (ds : List Declared) (p : Place) (s : Sign) (a : List Item) → Stands (Started kind x n secs ds) a → IfSome (started kind x n secs ds s) (λ next. Stands next (a ++ at p s ∷ []))
-started_keeps kind x n secs ds p signs.Comma a r = λ w f v. moves a (at p signs.Comma) w (r (at p signs.Comma ∷ w) f (λ us d. (
+-- behind a declarator: another one, or what ends the declaration
+next_tail : {us : List Item} (kind : Qualifier) (x : ℕ) (n : ℤ) (secs : Sections) (ds : List Declared) (p : Place) (w : List Item) (f : File) → VarsTail (behind kind n) secs (with_declared secs ds x n) w f → Declarator kind us x n → VarsTail kind secs ds (us ++ at p signs.Comma ∷ w) f
+next_tail {us} kind x n secs ds p w f v d = (
   us ++ at p signs.Comma ∷ v.0,
   v.1,
   declared x n (guards_of secs) ∷ v.2,
   next_var p (guards_of secs) d v.3,
   tail_at secs (with_declared secs ds x n ++ v.2) (ds ++ declared x n (guards_of secs) ∷ v.2) v.1 f (append_assoc ds (declared x n (guards_of secs) ∷ []) v.2) v.4,
   ap (λ (y : List Item). us ++ at p signs.Comma ∷ y) v.5 ∙ sym (append_assoc us (at p signs.Comma ∷ v.0) v.1),
-)))
-started_keeps kind x n secs ds p signs.Semicolon a r = λ w f t. moves a (at p signs.Semicolon) w (r (at p signs.Semicolon ∷ w) f (λ us d. (
-  us ++ at p signs.Semicolon ∷ [],
-  w,
-  declared x n (guards_of secs) ∷ [],
-  last_var p (guards_of secs) d,
-  t,
-  sym (append_assoc us (at p signs.Semicolon ∷ []) w),
-)))
+)
+
+last_tail : {us vs : List Item} (kind : Qualifier) (x : ℕ) (n : ℤ) (secs : Sections) (ds : List Declared) (w : List Item) (f : File) → Tail secs (with_declared secs ds x n) w f → Ending kind vs → Declarator kind us x n → VarsTail kind secs ds (us ++ (vs ++ w)) f
+last_tail {us} {vs} kind x n secs ds w f t o d = (us ++ vs, w, declared x n (guards_of secs) ∷ [], last_var (guards_of secs) d o, t, sym (append_assoc us vs w))
+
+comma_keeps : (kind : Qualifier) (x : ℕ) (n : ℤ) (secs : Sections) (ds : List Declared) (p : Place) (a : List Item) → Stands (Started kind x n secs ds) a → Stands (listed kind n secs (with_declared secs ds x n)) (a ++ at p signs.Comma ∷ [])
+comma_keeps Unqualified x n secs ds p a r = λ w f v. moves a (at p signs.Comma) w (r (at p signs.Comma ∷ w) f (λ us d. next_tail Unqualified x n secs ds p w f v d))
+comma_keeps Constant x n secs ds p a r = λ w f v. moves a (at p signs.Comma) w (r (at p signs.Comma ∷ w) f (λ us d. next_tail Constant x n secs ds p w f v d))
+comma_keeps (Counted last) x n secs ds p a r = (
+  λ w f v. moves a (at p signs.Comma) w (r (at p signs.Comma ∷ w) f (λ us d. next_tail (Counted last) x n secs ds p w f v d)),
+  λ q s w f t.
+      let rest : List Item = at q signs.RightBrace ∷ at s signs.Semicolon ∷ w in
+      moves a (at p signs.Comma) rest (r (at p signs.Comma ∷ rest) f (λ us d. last_tail (Counted last) x n secs ds w f t (comma_end last p q s) d)),
+)
+
+semicolon_keeps : (kind : Qualifier) (x : ℕ) (n : ℤ) (secs : Sections) (ds : List Declared) (p : Place) (a : List Item) → Stands (Started kind x n secs ds) a → IfSome (declaration_end kind secs (with_declared secs ds x n)) (λ next. Stands next (a ++ at p signs.Semicolon ∷ []))
+semicolon_keeps Unqualified x n secs ds p a r = λ w f t. moves a (at p signs.Semicolon) w (r (at p signs.Semicolon ∷ w) f (λ us d. last_tail Unqualified x n secs ds w f t (variables_end p) d))
+semicolon_keeps Constant x n secs ds p a r = λ w f t. moves a (at p signs.Semicolon) w (r (at p signs.Semicolon ∷ w) f (λ us d. last_tail Constant x n secs ds w f t (constants_end p) d))
+semicolon_keeps (Counted last) x n secs ds p a r = tt
+
+brace_keeps : (kind : Qualifier) (x : ℕ) (n : ℤ) (secs : Sections) (ds : List Declared) (p : Place) (a : List Item) → Stands (Started kind x n secs ds) a → IfSome (machine.enumeration_end kind secs (with_declared secs ds x n)) (λ next. Stands next (a ++ at p signs.RightBrace ∷ []))
+brace_keeps Unqualified x n secs ds p a r = tt
+brace_keeps Constant x n secs ds p a r = tt
+brace_keeps (Counted last) x n secs ds p a r = λ q w f t.
+    let rest : List Item = at q signs.Semicolon ∷ w in
+    moves a (at p signs.RightBrace) rest (r (at p signs.RightBrace ∷ rest) f (λ us d. last_tail (Counted last) x n secs ds w f t (enumeration_end last p q) d))
+
+pub started_keeps : (kind : Qualifier) (x : ℕ) (n : ℤ) (secs : Sections) (ds : List Declared) (p : Place) (s : Sign) (a : List Item) → Stands (Started kind x n secs ds) a → IfSome (started kind x n secs ds s) (λ next. Stands next (a ++ at p s ∷ []))
+started_keeps kind x n secs ds p signs.Comma a r = comma_keeps kind x n secs ds p a r
+started_keeps kind x n secs ds p signs.Semicolon a r = semicolon_keeps kind x n secs ds p a r
+started_keeps kind x n secs ds p signs.RightBrace a r = brace_keeps kind x n secs ds p a r
 started_keeps kind x n secs ds p _ a r = tt
 
 bare_started : (x : ℕ) (secs : Sections) (ds : List Declared) (a : List Item) → Stands (Bare Unqualified x secs ds) a → Stands (Started Unqualified x (pos 0) secs ds) a
 bare_started x secs ds a r = λ w f k. r w f (λ p. k (at p (signs.Name x) ∷ []) (bare p x))
 
+is_less : (m n : ℤ) → int_lt m n ≡ true → m <ℤ n
+is_less m n e = grind (arith, ints)
+
+counts_keeps : (last : ℤ) (x : ℕ) (secs : Sections) (ds : List Declared) (p : Place) (s : Sign) (a : List Item) → Stands (Bare (Counted last) x secs ds) a → IfSome (counts_on last x secs ds s) (λ next. Stands next (a ++ at p s ∷ []))
+counts_keeps last x secs ds p s a r =
+    elim (int_lt last greatest) as (λ b. int_lt last greatest ≡ b → IfSome (cond b (started (Counted last) x (last +ℤ pos 1) secs ds s) None) (λ next. Stands next (a ++ at p s ∷ []))) [
+      | true ↦ λ e. started_keeps (Counted last) x (last +ℤ pos 1) secs ds p s a (λ w f k. r w f (λ q. k (at q (signs.Name x) ∷ []) (counted q x last (is_less last greatest e))))
+      | false ↦ λ e. tt
+    ] refl
+
 unvalued_keeps : (kind : Qualifier) (x : ℕ) (secs : Sections) (ds : List Declared) (p : Place) (s : Sign) (a : List Item) → Stands (Bare kind x secs ds) a → IfSome (without_value kind x secs ds s) (λ next. Stands next (a ++ at p s ∷ []))
 unvalued_keeps Unqualified x secs ds p s a r = started_keeps Unqualified x (pos 0) secs ds p s a (bare_started x secs ds a r)
 unvalued_keeps Constant x secs ds p s a r = tt
+unvalued_keeps (Counted last) x secs ds p s a r = counts_keeps last x secs ds p s a r
 
 pub bare_keeps : (kind : Qualifier) (x : ℕ) (secs : Sections) (ds : List Declared) (p : Place) (s : Sign) (a : List Item) → Stands (Bare kind x secs ds) a → IfSome (is_bare kind x secs ds s) (λ next. Stands next (a ++ at p s ∷ []))
 bare_keeps kind x secs ds p signs.Equals a r = λ w f k. moves a (at p signs.Equals) w (r (at p signs.Equals ∷ w) f (λ q. k q p))
@@ -101,7 +138,20 @@ pub declaring_keeps : (kind : Qualifier) (secs : Sections) (ds : List Declared) 
 declaring_keeps kind secs ds p (signs.Name x) a r = λ w f k. moves a (at p (signs.Name x)) w (r (at p (signs.Name x) ∷ w) f (k p))
 declaring_keeps kind secs ds p _ a r = tt
 
+pub listing_keeps : (last : ℤ) (secs : Sections) (ds : List Declared) (p : Place) (s : Sign) (a : List Item) → Stands (Listing last secs ds) a → IfSome (listing last secs ds s) (λ next. Stands next (a ++ at p s ∷ []))
+listing_keeps last secs ds p signs.RightBrace a r = λ q w f t. moves a (at p signs.RightBrace) (at q signs.Semicolon ∷ w) (r.1 p q w f t)
+listing_keeps last secs ds p (signs.Name x) a r = declaring_keeps (Counted last) secs ds p (signs.Name x) a r.0
+listing_keeps last secs ds p _ a r = tt
+
+pub enumerated_keeps : (secs : Sections) (ds : List Declared) (p : Place) (s : Sign) (a : List Item) → Stands (Enumerated secs ds) a → IfSome (at_semicolon (Outside secs ds) s) (λ next. Stands next (a ++ at p s ∷ []))
+enumerated_keeps secs ds p signs.Semicolon a r = λ w f t. moves a (at p signs.Semicolon) w (r p w f t)
+enumerated_keeps secs ds p _ a r = tt
+
 -- ---- the first items of declarations
+
+pub enum_keeps : (secs : Sections) (ds : List Declared) (p : Place) (s : Sign) (a : List Item) → Stands (AfterEnum secs ds) a → IfSome (after_enum secs ds s) (λ next. Stands next (a ++ at p s ∷ []))
+enum_keeps secs ds p signs.LeftBrace a r = λ w f v. moves a (at p signs.LeftBrace) w (r (at p signs.LeftBrace ∷ w) f (λ q. vars_tail secs ds w f (enumeration q p signs.Static) v))
+enum_keeps secs ds p _ a r = tt
 
 -- the words of a whole type, and what a declaration begins with
 words_typed : {t : TypeWords} {us : List Item} → Words t us → Typed us
@@ -291,6 +341,7 @@ pub outside_keeps : (secs : Sections) (ds : List Declared) (p : Place) (s : Sign
 outside_keeps secs ds p signs.Static a r = λ w f k. moves a (at p signs.Static) w (r (at p signs.Static ∷ w) f (k p))
 outside_keeps secs ds p signs.Extern a r = λ w f k. moves a (at p signs.Extern) w (r (at p signs.Extern ∷ w) f (k p))
 outside_keeps secs ds p signs.Const a r = λ w f k. moves a (at p signs.Const) w (r (at p signs.Const ∷ w) f (k (at p signs.Const ∷ []) (const_alone p)))
+outside_keeps secs ds p signs.Enum a r = λ w f k. moves a (at p signs.Enum) w (r (at p signs.Enum ∷ w) f (k p))
 outside_keeps secs ds p signs.Int a r = λ w f k. moves a (at p signs.Int) w (r (at p signs.Int ∷ w) f (k (at p signs.Int ∷ []) (no_word (one_int p))))
 outside_keeps secs ds p signs.Int32 a r = λ w f k. moves a (at p signs.Int32) w (r (at p signs.Int32 ∷ w) f (k (at p signs.Int32 ∷ []) (no_word (whole_type (int32 p)))))
 outside_keeps secs ds p signs.Signed a r = λ w f k. moves a (at p signs.Signed) w (r (at p signs.Signed ∷ w) f (k (at p signs.Signed ∷ []) (no_word (one_signed p))))

@@ -57,7 +57,7 @@ declares_back (plain.section p n gs {us} {vs} {ws} {cs} {ds} {es = fs} a b d) = 
     let h3 = sym (goes_in second (guards_of secs) n secs falses (omega (arith, two)) (es ++ cs) (ws ++ w)) ∙ h2 in
     let third = declares_back d k secs is e ((es ++ cs) ++ ds) w f h3 in
     subst (λ (y : ℕ). DeclaresIn y (Outer gs) (at p (signs.GroupIf n) ∷ (us ++ (vs ++ ws))) (cs ++ (ds ++ fs))) (sym j.1) (section p n gs first second (subst (λ (y : ℕ). DeclaresIn y (Outer gs) ws fs) j.1 third))
-declares_back (plain.last_var p gs v) = λ k. last_var p gs v
+declares_back (plain.last_var gs v o) = λ k. last_var gs v o
 declares_back (plain.next_var p gs v d) = λ k. next_var p gs v (declares_back d k)
 declares_back (plain.end_part p gs) = λ k hs n outer is e es w f h. end_part p gs
 declares_back (plain.else_part p q gs {us} {ds} d) = λ k hs n outer is e es w f h.

@@ -7,8 +7,8 @@ use Rattle.c_tree.specs.Tree.{Code, Done, Skip, followed}
 use Rattle.c_grammar.specs.declared.items.Sign.TheVariants as signs
 use Rattle.c_grammar.specs.declared.items.Item.{Item}
 use Rattle.c_grammar.specs.Ahead.{IsList}
-use Rattle.c_grammar.specs.Grammar.{at, tighter, prefix_sign, Expresses, update_sign, count_sign, Listed, Stated, Writes, Optional, Typed, Qualifier, Unqualified, Constant, Begins, Declarator, with_true, with_false, Outer, Vars, Later, Declares, Gaps, GapRest, Empty, Body, Main, File, file_of, Forms}
-use Rattle.c_grammar.specs.Machine.{Tailing, Another, Final, Frame, Paren, Pre, Left, room, Stack, Top, Braces, Yes, No, ThenOf, ElseOf, LoopOf, Use, ToAssign, ToUpdate, ToAssert, ToChoose, ToLoop, Sections, Outermost, InPart, InLast, guards_of, Aim, ToPrototype, ToMain, ReadingState, Outside, AfterStatic, AfterExtern, AfterConst, AfterType, Leading, NoWord, StaticWord, ExternWord, ConstWord, TypeWords, OneInt, OneSigned, WholeType, Declaring, Bare, Starting, Negating, Started, Parameters, InParameters, AfterVoid, AfterParameters, Ready, Ended, Wants, Has, Counting, Named, Opens, InputOpens, InputCloses, Finishing, Returning, Returned, Closing, Over}
+use Rattle.c_grammar.specs.Grammar.{at, tighter, prefix_sign, Expresses, update_sign, count_sign, Listed, Stated, Writes, Optional, Typed, Qualifier, Unqualified, Counted, Begins, Declarator, with_true, with_false, Outer, Vars, Later, Declares, Gaps, GapRest, Empty, Body, Main, File, file_of, Forms}
+use Rattle.c_grammar.specs.Machine.{Tailing, Another, Final, Frame, Paren, Pre, Left, room, Stack, Top, Braces, Yes, No, ThenOf, ElseOf, LoopOf, Use, ToAssign, ToUpdate, ToAssert, ToChoose, ToLoop, Sections, Outermost, InPart, InLast, guards_of, Aim, ToPrototype, ToMain, ReadingState, Outside, AfterStatic, AfterExtern, AfterConst, AfterEnum, AfterType, Leading, NoWord, StaticWord, ExternWord, ConstWord, TypeWords, OneInt, OneSigned, WholeType, Declaring, Bare, Starting, Negating, Started, Listing, Enumerated, Parameters, InParameters, AfterVoid, AfterParameters, Ready, Ended, Wants, Has, Counting, Named, Opens, InputOpens, InputCloses, Finishing, Returning, Returned, Closing, Over}
 
 -- the parts of a group before this one, and its directive
 abbrev pub Begun : List (ℕ × Code) → ℕ → List Item → Type 0
@@ -111,12 +111,15 @@ Stands (Outside secs ds) a = Follows a (Tail secs ds)
 Stands (AfterStatic secs ds) a = Follows a (λ w f. (p : Place) → Tail secs ds (at p signs.Static ∷ w) f)
 Stands (AfterExtern secs ds) a = Follows a (λ w f. (p : Place) → Tail secs ds (at p signs.Extern ∷ w) f)
 Stands (AfterConst secs ds) a = Follows a (λ w f. (us : List Item) → Consts us → Tail secs ds (us ++ w) f)
+Stands (AfterEnum secs ds) a = Follows a (λ w f. (p : Place) → Tail secs ds (at p signs.Enum ∷ w) f)
 Stands (AfterType lead words secs ds) a = Follows a (λ w f. (us : List Item) → Led lead words us → Tail secs ds (us ++ w) f)
 Stands (Declaring kind secs ds) a = Follows a (VarsTail kind secs ds)
 Stands (Bare kind x secs ds) a = Follows a (λ w f. (p : Place) → VarsTail kind secs ds (at p (signs.Name x) ∷ w) f)
 Stands (Starting kind x secs ds) a = Follows a (λ w f. (p q : Place) → VarsTail kind secs ds (at p (signs.Name x) ∷ at q signs.Equals ∷ w) f)
 Stands (Negating kind x secs ds) a = Follows a (λ w f. (p q r : Place) → VarsTail kind secs ds (at p (signs.Name x) ∷ at q signs.Equals ∷ at r (signs.Oper Sub) ∷ w) f)
 Stands (Started kind x n secs ds) a = Follows a (StartedTail kind x n secs ds)
+Stands (Listing last secs ds) a = Follows a (VarsTail (Counted last) secs ds) × ((p q : Place) (w : List Item) (f : File) → Tail secs ds w f → Forms (a ++ at p signs.RightBrace ∷ at q signs.Semicolon ∷ w) f)
+Stands (Enumerated secs ds) a = (q : Place) (w : List Item) (f : File) → Tail secs ds w f → Forms (a ++ at q signs.Semicolon ∷ w) f
 Stands (Parameters aim) a = Follows a (ParametersTail aim)
 Stands (InParameters aim) a = Follows a (λ w f. (r : Place) → ParametersTail aim (at r signs.Open ∷ w) f)
 Stands (AfterVoid aim) a = Follows a (λ w f. (r t : Place) → ParametersTail aim (at r signs.Open ∷ at t signs.Void ∷ w) f)

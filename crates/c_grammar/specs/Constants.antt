@@ -1,4 +1,4 @@
--- Which names a list of items declares as constants (ISO/IEC 9899:2011, 6.7.3), and which names it changes (6.5.2.4, 6.5.3.1 and
+-- Which names a list of items declares as constants (ISO/IEC 9899:2011, 6.7.2.2 and 6.7.3), and which names it changes (6.5.2.4, 6.5.3.1 and
 -- 6.5.16).
 use Rattle.std.specs.Prelude.{◌≡◌, ℕ, Bool, true, false, not, ◌||◌, List, [], ◌∷◌, Option, Some, None, if◌then◌else◌}
 use Rattle.fam_outer.specs.declared.faults.Place.{Place}
@@ -13,13 +13,14 @@ abbrev pub is_name : Sign → Bool
 is_name (signs.Name x) = true
 is_name _ = false
 
--- a declaration with `const` goes on behind a sign, where one does before it
+-- a declaration with `const` or `enum` goes on behind a sign, where one does before it
 abbrev pub is_constant_behind : Bool → Sign → Bool
 is_constant_behind constant signs.Const = true
+is_constant_behind constant signs.Enum = true
 is_constant_behind constant signs.Semicolon = false
 is_constant_behind constant _ = constant
 
--- the items without the names that stand in no declaration with `const`
+-- the items without the names that stand in no declaration with `const` or `enum`
 abbrev pub constants_from : Bool → List Item → List Item
 constants_from constant [] = []
 constants_from constant (x ∷ xs) =
@@ -30,7 +31,7 @@ constants_from constant (x ∷ xs) =
 abbrev pub of_constants : List Item → List Item
 of_constants items = constants_from false items
 
--- a declaration with `const` goes on behind these items
+-- a declaration with `const` or `enum` goes on behind these items
 abbrev pub is_constant_after : Bool → List Item → Bool
 is_constant_after constant [] = constant
 is_constant_after constant (x ∷ xs) = is_constant_after (is_constant_behind constant x.sign) xs
@@ -82,7 +83,7 @@ is_joining signs.PlusPlus = true
 is_joining signs.MinusMinus = true
 is_joining _ = false
 
--- a group directive stands outside declarations with `const`, and behind no name
+-- a group directive stands outside declarations with `const` or `enum`, and behind no name
 abbrev pub IsBetween : Bool → Bool → Bool → Type 0
 IsBetween true constant joined = (constant ≡ false) × (joined ≡ false)
 IsBetween false constant joined = Unit {0}

@@ -1,11 +1,12 @@
 -- Which lists of items spell an expression, a statement, a list of statements, declarations and a file. The grammar is a
 -- part of that of ISO/IEC 9899:2011, 6.5 to 6.9, with the group directives of 6.10.1 as items.
-use Rattle.std.specs.Prelude.{◌≡◌, ℕ, ℤ, pos, neg_ℤ, suc, Bool, true, false, ◌||◌, if◌then◌else◌, List, [], ◌∷◌, ◌++◌, map}
+use Rattle.std.specs.Prelude.{◌≡◌, ℕ, ℤ, pos, negsuc, neg_ℤ, ◌+ℤ◌, ◌<ℤ◌, suc, Bool, true, false, ◌||◌, if◌then◌else◌, List, [], ◌∷◌, ◌++◌, map}
 use Rattle.fam_outer.specs.declared.faults.Place.{Place}
 use Rattle.c_tree.specs.declared.tree.Op.{Op}
 use Rattle.c_tree.specs.declared.tree.Op.TheVariants.{Add, Sub, Mul, Div, Rem, Lt, Le, Gt, Ge, Eq, Ne, And, Or}
 use Rattle.c_tree.specs.declared.lists.Guard.{Guard}
 use Rattle.c_tree.specs.declared.lists.Declared.{Declared}
+use Rattle.c_tree.specs.Value.{greatest}
 use Rattle.c_tree.specs.Tree.{Term, Number, Var, Neg, Not, Binary, Code, Done, Assign, Input, Assert, If, While, Block, Skip, Cond, followed, Whole}
 use Rattle.c_tree.specs.Project.{projected_start}
 use Rattle.c_grammar.specs.declared.items.Sign.{Sign}
@@ -145,10 +146,22 @@ pub data Typed : List Item → Type 0 where
   signed_int : (p q : Place) → Typed (at p signs.Signed ∷ at q signs.Int ∷ [])
   int_signed : (p q : Place) → Typed (at p signs.Int ∷ at q signs.Signed ∷ [])
 
--- what a declaration declares: variables, or constants
+-- what a declaration declares: variables, constants, or constants that are counted (6.7.2.2), of which the last one before has
+-- this value
 pub data Qualifier : Type 0 where
   Unqualified : Qualifier
   Constant : Qualifier
+  Counted : (last : ℤ) → Qualifier
+
+-- the first constant that is counted is 0
+abbrev pub uncounted : Qualifier
+uncounted = Counted (negsuc 0)
+
+-- what comes behind a declarator with this value
+abbrev pub behind : Qualifier → ℤ → Qualifier
+behind Unqualified n = Unqualified
+behind Constant n = Constant
+behind (Counted last) n = Counted n
 
 -- a type, and for constants `const` once, before or behind it (6.7.3)
 pub data Qualified : Qualifier → List Item → Type 0 where
@@ -156,16 +169,26 @@ pub data Qualified : Qualifier → List Item → Type 0 where
   const_before : (p : Place) {us : List Item} → Typed us → Qualified Constant (at p signs.Const ∷ us)
   const_behind : (p : Place) {us : List Item} → Typed us → Qualified Constant (us ++ at p signs.Const ∷ [])
 
--- what a declaration begins with: its type, and before it at most one item with this sign
+-- what a declaration begins with: its type, and before it at most one item with this sign; or `enum {`
 pub data Begins : Sign → Qualifier → List Item → Type 0 where
   only_type : (s : Sign) {us : List Item} {kind : Qualifier} → Qualified kind us → Begins s kind us
   then_type : (p : Place) (s : Sign) {us : List Item} {kind : Qualifier} → Qualified kind us → Begins s kind (at p s ∷ us)
+  enumeration : (p q : Place) (s : Sign) → Begins s uncounted (at p signs.Enum ∷ at q signs.LeftBrace ∷ [])
 
--- a variable with its start value, which is 0 where none stands; a constant has one
+-- a variable with its start value, which is 0 where none stands; a constant has one, or is counted: one more than the last, and
+-- an `int`
 pub data Declarator : Qualifier → List Item → ℕ → ℤ → Type 0 where
   bare : (p : Place) (x : ℕ) → Declarator Unqualified (at p (signs.Name x) ∷ []) x (pos 0)
   positive : (p q r : Place) (x : ℕ) (n : ℤ) {kind : Qualifier} → Declarator kind (at p (signs.Name x) ∷ at q signs.Equals ∷ at r (signs.Number n) ∷ []) x n
   negative : (p q r s : Place) (x : ℕ) (n : ℤ) {kind : Qualifier} → Declarator kind (at p (signs.Name x) ∷ at q signs.Equals ∷ at r (signs.Oper Sub) ∷ at s (signs.Number n) ∷ []) x (neg_ℤ n)
+  counted : (p : Place) (x : ℕ) (last : ℤ) → last <ℤ greatest → Declarator (Counted last) (at p (signs.Name x) ∷ []) x (last +ℤ pos 1)
+
+-- what ends a declaration behind its last declarator: a semicolon, and before it the brace of an `enum`, perhaps behind a comma
+pub data Ending : Qualifier → List Item → Type 0 where
+  variables_end : (p : Place) → Ending Unqualified (at p signs.Semicolon ∷ [])
+  constants_end : (p : Place) → Ending Constant (at p signs.Semicolon ∷ [])
+  enumeration_end : (last : ℤ) (p q : Place) → Ending (Counted last) (at p signs.RightBrace ∷ at q signs.Semicolon ∷ [])
+  comma_end : (last : ℤ) (p q r : Place) → Ending (Counted last) (at p signs.Comma ∷ at q signs.RightBrace ∷ at r signs.Semicolon ∷ [])
 
 -- the guards of what stands where a condition is true, and where it is false, within these guards
 abbrev pub with_true : List Guard → ℕ → List Guard
@@ -177,7 +200,7 @@ with_false gs n = gs ++ record { number = n; positive = false } ∷ []
 abbrev pub declared : ℕ → ℤ → List Guard → Declared
 declared x n gs = record { target = x; value = n; guards = gs }
 
--- declarations within guards; declarators up to a semicolon; what closes a group, where these guards hold in its later parts
+-- declarations within guards; declarators up to what ends them; what closes a group, where these guards hold in its later parts
 pub data Part : Type 0 where
   Outer : (gs : List Guard) → Part
   Vars : (kind : Qualifier) (gs : List Guard) → Part
@@ -189,8 +212,8 @@ pub data Declares : Part → List Item → List Declared → Type 0 where
   variables : (gs : List Guard) {us vs ws : List Item} {ds es : List Declared} {kind : Qualifier} → Begins signs.Static kind us → Declares (Vars kind gs) vs ds → Declares (Outer gs) ws es → Declares (Outer gs) (us ++ (vs ++ ws)) (ds ++ es)
   prototype : (q r s t : Place) (gs : List Guard) {us vs ws : List Item} {es : List Declared} → Begins signs.Extern Unqualified us → Optional signs.Void vs → Declares (Outer gs) ws es → Declares (Outer gs) (us ++ at q signs.Input ∷ at r signs.Open ∷ (vs ++ at s signs.Close ∷ at t signs.Semicolon ∷ ws)) es
   section : (p : Place) (n : ℕ) (gs : List Guard) {us vs ws : List Item} {cs ds es : List Declared} → Declares (Outer (with_true gs n)) us cs → Declares (Later (with_false gs n)) vs ds → Declares (Outer gs) ws es → Declares (Outer gs) (at p (signs.GroupIf n) ∷ (us ++ (vs ++ ws))) (cs ++ (ds ++ es))
-  last_var : (p : Place) (gs : List Guard) {us : List Item} {x : ℕ} {n : ℤ} {kind : Qualifier} → Declarator kind us x n → Declares (Vars kind gs) (us ++ at p signs.Semicolon ∷ []) (declared x n gs ∷ [])
-  next_var : (p : Place) (gs : List Guard) {us vs : List Item} {x : ℕ} {n : ℤ} {ds : List Declared} {kind : Qualifier} → Declarator kind us x n → Declares (Vars kind gs) vs ds → Declares (Vars kind gs) (us ++ at p signs.Comma ∷ vs) (declared x n gs ∷ ds)
+  last_var : (gs : List Guard) {us vs : List Item} {x : ℕ} {n : ℤ} {kind : Qualifier} → Declarator kind us x n → Ending kind vs → Declares (Vars kind gs) (us ++ vs) (declared x n gs ∷ [])
+  next_var : (p : Place) (gs : List Guard) {us vs : List Item} {x : ℕ} {n : ℤ} {ds : List Declared} {kind : Qualifier} → Declarator kind us x n → Declares (Vars (behind kind n) gs) vs ds → Declares (Vars kind gs) (us ++ at p signs.Comma ∷ vs) (declared x n gs ∷ ds)
   end_part : (p : Place) (gs : List Guard) → Declares (Later gs) (at p signs.GroupEnd ∷ []) []
   else_part : (p q : Place) (gs : List Guard) {us : List Item} {ds : List Declared} → Declares (Outer gs) us ds → Declares (Later gs) (at p signs.GroupElse ∷ (us ++ at q signs.GroupEnd ∷ [])) ds
   elif_part : (p : Place) (n : ℕ) (gs : List Guard) {us vs : List Item} {cs ds : List Declared} → Declares (Outer (with_true gs n)) us cs → Declares (Later (with_false gs n)) vs ds → Declares (Later gs) (at p (signs.GroupElif n) ∷ (us ++ vs)) (cs ++ ds)

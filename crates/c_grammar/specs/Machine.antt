@@ -1,15 +1,16 @@
 -- Reading item by item, with what is open.
-use Rattle.std.specs.Prelude.{ℕ, ℤ, pos, neg_ℤ, suc, nat_lt, List, [], ◌∷◌, ◌++◌, length, Option, Some, None, option_map, Result, Ok, Err, if◌then◌else◌}
+use Rattle.std.specs.Prelude.{ℕ, ℤ, pos, neg_ℤ, ◌+ℤ◌, int_lt, suc, nat_lt, List, [], ◌∷◌, ◌++◌, length, Option, Some, None, option_map, Result, Ok, Err, if◌then◌else◌}
 use Rattle.fam_outer.specs.declared.faults.Place.{Place}
 use Rattle.c_tree.specs.declared.tree.Op.{Op}
 use Rattle.c_tree.specs.declared.tree.Op.TheVariants.{Add, Sub}
 use Rattle.c_tree.specs.declared.lists.Guard.{Guard}
 use Rattle.c_tree.specs.declared.lists.Declared.{Declared}
+use Rattle.c_tree.specs.Value.{greatest}
 use Rattle.c_tree.specs.Tree.{Term, Number, Var, Binary, Code, Done, Assign, Input, Assert, If, While, Block, Skip, Cond, followed}
 use Rattle.c_grammar.specs.declared.items.Sign.{Sign}
 use Rattle.c_grammar.specs.declared.items.Sign.TheVariants as signs
 use Rattle.c_grammar.specs.declared.items.Item.{Item}
-use Rattle.c_grammar.specs.Grammar.{tighter, Prefix, Positive, Negative, Inverse, applied, Update, Sum, Difference, Product, Quotient, Remainder, updated, Count, Raise, Lower, changed_by_one, Qualifier, Unqualified, Constant, with_true, with_false, declared, File, file_of}
+use Rattle.c_grammar.specs.Grammar.{tighter, Prefix, Positive, Negative, Inverse, applied, Update, Sum, Difference, Product, Quotient, Remainder, updated, Count, Raise, Lower, changed_by_one, Qualifier, Unqualified, Constant, Counted, uncounted, with_true, with_false, declared, File, file_of}
 
 -- what waits for an operand
 pub data Frame : Type 0 where
@@ -84,6 +85,7 @@ pub data ReadingState : Type 0 where
   AfterStatic : (secs : Sections) (ds : List Declared) → ReadingState
   AfterExtern : (secs : Sections) (ds : List Declared) → ReadingState
   AfterConst : (secs : Sections) (ds : List Declared) → ReadingState
+  AfterEnum : (secs : Sections) (ds : List Declared) → ReadingState
   AfterType : (lead : Leading) (words : TypeWords) (secs : Sections) (ds : List Declared) → ReadingState
   -- a declarator comes, of a variable or of a constant
   Declaring : (kind : Qualifier) (secs : Sections) (ds : List Declared) → ReadingState
@@ -91,6 +93,9 @@ pub data ReadingState : Type 0 where
   Starting : (kind : Qualifier) (x : ℕ) (secs : Sections) (ds : List Declared) → ReadingState
   Negating : (kind : Qualifier) (x : ℕ) (secs : Sections) (ds : List Declared) → ReadingState
   Started : (kind : Qualifier) (x : ℕ) (n : ℤ) (secs : Sections) (ds : List Declared) → ReadingState
+  -- in an `enum`, behind a comma and the value before it; and behind its brace
+  Listing : (last : ℤ) (secs : Sections) (ds : List Declared) → ReadingState
+  Enumerated : (secs : Sections) (ds : List Declared) → ReadingState
   -- parentheses after the name of a function: before them, in them, after `void`, and behind them
   Parameters : (aim : Aim) → ReadingState
   InParameters : (aim : Aim) → ReadingState
@@ -313,6 +318,7 @@ abbrev pub outside : Sections → List Declared → Sign → Option ReadingState
 outside secs ds signs.Static = Some (AfterStatic secs ds)
 outside secs ds signs.Extern = Some (AfterExtern secs ds)
 outside secs ds signs.Const = Some (AfterConst secs ds)
+outside secs ds signs.Enum = Some (AfterEnum secs ds)
 outside secs ds (signs.GroupIf n) = Some (Outside (InPart (guards_of secs) n secs) ds)
 outside secs ds (signs.GroupElif n) = next_condition n secs ds
 outside secs ds signs.GroupElse = last_section secs ds
@@ -323,6 +329,11 @@ outside secs ds s = first_word NoWord secs ds s
 abbrev pub behind_static : Sections → List Declared → Sign → Option ReadingState
 behind_static secs ds signs.Const = Some (AfterConst secs ds)
 behind_static secs ds s = first_word StaticWord secs ds s
+
+-- the brace of an `enum`
+abbrev pub after_enum : Sections → List Declared → Sign → Option ReadingState
+after_enum secs ds signs.LeftBrace = Some (Declaring uncounted secs ds)
+after_enum secs ds _ = None
 
 abbrev pub declaring : Qualifier → Sections → List Declared → Sign → Option ReadingState
 declaring kind secs ds (signs.Name x) = Some (Bare kind x secs ds)
@@ -362,15 +373,44 @@ after_type lead secs ds s words = behind_type lead secs ds s
 abbrev pub with_declared : Sections → List Declared → ℕ → ℤ → List Declared
 with_declared secs ds x n = ds ++ declared x n (guards_of secs) ∷ []
 
+-- behind a comma, where the declarator before it has this value
+abbrev pub listed : Qualifier → ℤ → Sections → List Declared → ReadingState
+listed Unqualified n secs ds = Declaring Unqualified secs ds
+listed Constant n secs ds = Declaring Constant secs ds
+listed (Counted last) n secs ds = Listing n secs ds
+
+-- the semicolon of variables or constants
+abbrev pub declaration_end : Qualifier → Sections → List Declared → Option ReadingState
+declaration_end Unqualified secs ds = Some (Outside secs ds)
+declaration_end Constant secs ds = Some (Outside secs ds)
+declaration_end (Counted last) secs ds = None
+
+-- the brace of an `enum`
+abbrev pub enumeration_end : Qualifier → Sections → List Declared → Option ReadingState
+enumeration_end Unqualified secs ds = None
+enumeration_end Constant secs ds = None
+enumeration_end (Counted last) secs ds = Some (Enumerated secs ds)
+
 abbrev pub started : Qualifier → ℕ → ℤ → Sections → List Declared → Sign → Option ReadingState
-started kind x n secs ds signs.Comma = Some (Declaring kind secs (with_declared secs ds x n))
-started kind x n secs ds signs.Semicolon = Some (Outside secs (with_declared secs ds x n))
+started kind x n secs ds signs.Comma = Some (listed kind n secs (with_declared secs ds x n))
+started kind x n secs ds signs.Semicolon = declaration_end kind secs (with_declared secs ds x n)
+started kind x n secs ds signs.RightBrace = enumeration_end kind secs (with_declared secs ds x n)
 started kind x n secs ds _ = None
 
--- a variable starts at 0; a constant has a value
+-- another name, or the brace behind a comma
+abbrev pub listing : ℤ → Sections → List Declared → Sign → Option ReadingState
+listing last secs ds signs.RightBrace = Some (Enumerated secs ds)
+listing last secs ds s = declaring (Counted last) secs ds s
+
+-- a constant that is counted is an `int`
+abbrev pub counts_on : ℤ → ℕ → Sections → List Declared → Sign → Option ReadingState
+counts_on last x secs ds s = if int_lt last greatest then started (Counted last) x (last +ℤ pos 1) secs ds s else None
+
+-- a variable starts at 0; a constant has a value, or is counted
 abbrev pub without_value : Qualifier → ℕ → Sections → List Declared → Sign → Option ReadingState
 without_value Unqualified x secs ds s = started Unqualified x (pos 0) secs ds s
 without_value Constant x secs ds s = None
+without_value (Counted last) x secs ds s = counts_on last x secs ds s
 
 abbrev pub is_bare : Qualifier → ℕ → Sections → List Declared → Sign → Option ReadingState
 is_bare kind x secs ds signs.Equals = Some (Starting kind x secs ds)
@@ -420,12 +460,15 @@ step (Outside secs ds) p s = outside secs ds s
 step (AfterStatic secs ds) p s = behind_static secs ds s
 step (AfterExtern secs ds) p s = first_word ExternWord secs ds s
 step (AfterConst secs ds) p s = first_word ConstWord secs ds s
+step (AfterEnum secs ds) p s = after_enum secs ds s
 step (AfterType lead words secs ds) p s = after_type lead secs ds s words
 step (Declaring kind secs ds) p s = declaring kind secs ds s
 step (Bare kind x secs ds) p s = is_bare kind x secs ds s
 step (Starting kind x secs ds) p s = starting kind x secs ds s
 step (Negating kind x secs ds) p s = negating kind x secs ds s
 step (Started kind x n secs ds) p s = started kind x n secs ds s
+step (Listing last secs ds) p s = listing last secs ds s
+step (Enumerated secs ds) p s = at_semicolon (Outside secs ds) s
 step (Parameters aim) p s = at_open (InParameters aim) s
 step (InParameters aim) p s = in_parameters aim s
 step (AfterVoid aim) p s = at_close (AfterParameters aim) s

@@ -7,12 +7,12 @@ ghost use Rattle.c_grammar.specs.Constants as specs;
 use crate::items::{Item, Sign};
 use fam_outer::Place;
 
-/// Whether a declaration with `const` goes on behind a sign, where `constant` tells whether one does before it.
+/// Whether a declaration with `const` or `enum` goes on behind a sign, where `constant` tells whether one does before it.
 pub fn is_constant_behind(constant: bool, sign: Sign) -> bool
     ensures { result ≡ specs.is_constant_behind constant sign }
 {
     match sign {
-        Sign::Const => true,
+        Sign::Const | Sign::Enum => true,
         Sign::Semicolon => false,
         _ => constant,
     }

@@ -14,6 +14,7 @@ pub enum Sign {
     Name(u32),
     Static,
     Const,
+    Enum,
     Int,
     Int32,
     Signed,

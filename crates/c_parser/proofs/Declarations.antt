@@ -6,7 +6,7 @@ use Rattle.c_tree.specs.Tree.{Code}
 use Rattle.fam_outer.specs.declared.faults.Place.{Place}
 use Rattle.c_grammar.specs.declared.items.Item.{Item}
 use Rattle.c_grammar.specs.declared.items.Sign.TheVariants as signs
-use Rattle.c_grammar.specs.Grammar.{at, Optional, absent, present, Typed, int, int32, signed, signed_int, int_signed, Qualifier, Qualified, unqualified, const_before, const_behind, Begins, only_type, then_type, Declarator, bare, positive, negative, Part, Declares, nothing, variables, prototype, section, last_var, next_var, end_part, else_part, elif_part, Main, main, File, Forms, file}
+use Rattle.c_grammar.specs.Grammar.{at, Optional, absent, present, Typed, int, int32, signed, signed_int, int_signed, Qualifier, Qualified, unqualified, const_before, const_behind, Begins, only_type, then_type, enumeration, Declarator, bare, positive, negative, counted, Ending, variables_end, constants_end, enumeration_end, comma_end, Part, Declares, nothing, variables, prototype, section, last_var, next_var, end_part, else_part, elif_part, Main, main, File, Forms, file}
 use Rattle.c_parser.specs.Names.{declared_by, targets}
 
 targets-append : (ds es : List Declared) → targets (ds ++ es) ≡ targets ds ++ targets es
@@ -29,10 +29,12 @@ qualified_skipped rest (const_behind p {us} y) = ap declared_by (append_assoc us
 static_skipped : {us : List Item} {kind : Qualifier} (rest : List Item) → Begins signs.Static kind us → declared_by (us ++ rest) ≡ declared_by rest
 static_skipped rest (only_type _ y) = qualified_skipped rest y
 static_skipped rest (then_type p _ y) = qualified_skipped rest y
+static_skipped rest (enumeration p q _) = refl
 
 extern_skipped : {us : List Item} {kind : Qualifier} (rest : List Item) → Begins signs.Extern kind us → declared_by (us ++ rest) ≡ declared_by rest
 extern_skipped rest (only_type _ y) = qualified_skipped rest y
 extern_skipped rest (then_type p _ y) = qualified_skipped rest y
+extern_skipped rest (enumeration p q _) = refl
 
 void_skipped : {us : List Item} (rest : List Item) → Optional signs.Void us → declared_by (us ++ rest) ≡ declared_by rest
 void_skipped rest (absent _) = refl
@@ -42,6 +44,13 @@ one_declared : {us : List Item} {x : ℕ} {n : ℤ} {kind : Qualifier} (rest : L
 one_declared rest (bare p x) = refl
 one_declared rest (positive p q r x n) = refl
 one_declared rest (negative p q r s x n) = refl
+one_declared rest (counted p x last lt) = refl
+
+ending_skipped : {us : List Item} {kind : Qualifier} (rest : List Item) → Ending kind us → declared_by (us ++ rest) ≡ declared_by rest
+ending_skipped rest (variables_end p) = refl
+ending_skipped rest (constants_end p) = refl
+ending_skipped rest (enumeration_end last p q) = refl
+ending_skipped rest (comma_end last p q r) = refl
 
 -- two parts one after another
 two_parts : (us ws rest : List Item) (ds es : List Declared) → declared_by (us ++ (ws ++ rest)) ≡ targets ds ++ declared_by (ws ++ rest) → declared_by (ws ++ rest) ≡ targets es ++ declared_by rest
@@ -62,7 +71,7 @@ declared_in (prototype q r s t gs {us} {vs} {ws} {es} o v d) rest =
     ∙ void_skipped (at s signs.Close ∷ at t signs.Semicolon ∷ (ws ++ rest)) v ∙ declared_in d rest
 declared_in (section p n gs {us} {vs} {ws} {cs} {ds} {es} a b d) rest =
     two_parts us (vs ++ ws) rest cs (ds ++ es) (declared_in a ((vs ++ ws) ++ rest)) (two_parts vs ws rest ds es (declared_in b (ws ++ rest)) (declared_in d rest))
-declared_in (last_var p gs {us} {x} {n} d) rest = ap declared_by (append_assoc us (at p signs.Semicolon ∷ []) rest) ∙ one_declared (at p signs.Semicolon ∷ rest) d
+declared_in (last_var gs {us} {vs} {x} {n} d o) rest = ap declared_by (append_assoc us vs rest) ∙ one_declared (vs ++ rest) d ∙ ap (λ (xs : List ℕ). x ∷ xs) (ending_skipped rest o)
 declared_in (next_var p gs {us} {vs} {x} {n} {ds} d v) rest =
     ap declared_by (append_assoc us (at p signs.Comma ∷ vs) rest) ∙ one_declared (at p signs.Comma ∷ (vs ++ rest)) d ∙ ap (λ (xs : List ℕ). x ∷ xs) (declared_in v rest)
 declared_in (end_part p gs) rest = refl

@@ -40,7 +40,7 @@ name_or_nothing : (s : Sign) → ((n : ℕ) × (s ≡ signs.Name n)) ⊎ NamesNo
 name_or_nothing (signs.Name n) = inl (n, refl)
 name_or_nothing s = inr (record { no_name = refl; other = refl; adds_none = λ ns b. names_none ns b s refl })
 
--- a name, where a declaration with `const` goes on or not
+-- a name, where a declaration with `const` or `enum` goes on or not
 name_more : (before : List Item) (p : Place) (n : ℕ) (constant main : Bool) → has_main before ≡ main
     → with_constant (declared_by before) (constant && not main) (signs.Name n) ≡ declared_by (before ++ constants_from constant (at p (signs.Name n) ∷ []))
 name_more before p n true true m = sym (declared_behind before (at p (signs.Name n) ∷ []) m)

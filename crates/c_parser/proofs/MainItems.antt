@@ -11,7 +11,7 @@ use Rattle.c_tree.specs.Tree.{Code}
 use Rattle.c_grammar.specs.declared.items.Item.{Item}
 use Rattle.c_grammar.specs.declared.items.Sign.{Sign}
 use Rattle.c_grammar.specs.declared.items.Sign.TheVariants as signs
-use Rattle.c_grammar.specs.Grammar.{at, Optional, absent, present, Typed, int, int32, signed, signed_int, int_signed, Qualifier, Qualified, unqualified, const_before, const_behind, Begins, only_type, then_type, Declarator, bare, positive, negative, Part, Outer, Declares, nothing, variables, prototype, section, last_var, next_var, end_part, else_part, elif_part, Main, main, File, Forms, file}
+use Rattle.c_grammar.specs.Grammar.{at, Optional, absent, present, Typed, int, int32, signed, signed_int, int_signed, Qualifier, Qualified, unqualified, const_before, const_behind, Begins, only_type, then_type, enumeration, Declarator, bare, positive, negative, counted, Ending, variables_end, constants_end, enumeration_end, comma_end, Part, Outer, Declares, nothing, variables, prototype, section, last_var, next_var, end_part, else_part, elif_part, Main, main, File, Forms, file}
 use Rattle.c_grammar.specs.Kept.{directive_of, kept_from}
 use Rattle.c_grammar.proofs.Preprocess.{leaves}
 use Rattle.family_names.specs.Names.{is_main, has_main, sections_behind, IsEither}
@@ -36,6 +36,7 @@ qualified_none (const_behind p {us} y) = none_both us (at p signs.Const ∷ []) 
 begins_none : {s : Sign} {kind : Qualifier} {us : List Item} → is_main s ≡ false → Begins s kind us → has_main us ≡ false
 begins_none h (only_type s y) = qualified_none y
 begins_none h (then_type p s {us} y) = ap (λ (b : Bool). b || has_main us) h ∙ qualified_none y
+begins_none h (enumeration p q s) = refl
 
 void_none : {us : List Item} → Optional signs.Void us → has_main us ≡ false
 void_none (absent _) = refl
@@ -45,6 +46,13 @@ declarator_none : {us : List Item} {x : ℕ} {n : ℤ} {kind : Qualifier} → De
 declarator_none (bare p x) = refl
 declarator_none (positive p q r x n) = refl
 declarator_none (negative p q r s x n) = refl
+declarator_none (counted p x last lt) = refl
+
+ending_none : {us : List Item} {kind : Qualifier} → Ending kind us → has_main us ≡ false
+ending_none (variables_end p) = refl
+ending_none (constants_end p) = refl
+ending_none (enumeration_end last p q) = refl
+ending_none (comma_end last p q r) = refl
 
 -- no declaration has it
 no_main : {part : Part} {us : List Item} {ds : List Declared} → Declares part us ds → has_main us ≡ false
@@ -54,7 +62,7 @@ no_main (prototype q r s t gs {us} {vs} {ws} o v d) =
     none_both us (at q signs.Input ∷ at r signs.Open ∷ (vs ++ at s signs.Close ∷ at t signs.Semicolon ∷ ws)) (begins_none refl o)
     (none_both vs (at s signs.Close ∷ at t signs.Semicolon ∷ ws) (void_none v) (no_main d))
 no_main (section p n gs {us} {vs} {ws} a b d) = none_both us (vs ++ ws) (no_main a) (none_both vs ws (no_main b) (no_main d))
-no_main (last_var p gs {us} d) = none_both us (at p signs.Semicolon ∷ []) (declarator_none d) refl
+no_main (last_var gs {us} {vs} d o) = none_both us vs (declarator_none d) (ending_none o)
 no_main (next_var p gs {us} {vs} d v) = none_both us (at p signs.Comma ∷ vs) (declarator_none d) (no_main v)
 no_main (end_part p gs) = refl
 no_main (else_part p q gs {us} d) = none_both us (at q signs.GroupEnd ∷ []) (no_main d) refl

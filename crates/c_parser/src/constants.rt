@@ -11,8 +11,8 @@ use c_grammar::{Item, Sign, changed_behind, is_constant_behind};
 use fam_outer::{FileCode, NoMemory, Place};
 use std::alloc::Global;
 
-/// What is known of constants behind some items: the last item, whether a declaration with `const` goes on, and the names
-/// of constants.
+/// What is known of constants behind some items: the last item, whether a declaration with `const` or `enum` goes on, and
+/// the names of constants.
 #[derive(Drop)]
 pub(crate) struct Constants {
     last: Option<Item>,
@@ -73,7 +73,8 @@ impl Constants {
         }
     }
 
-    /// Goes on behind an item, behind others of which this is known: a name that is declared with `const` is a constant's.
+    /// Goes on behind an item, behind others of which this is known: a name that is declared with `const` or `enum` is a
+    /// constant's.
     pub(crate) fn follow(&mut self, known: &Known, item: Item) -> Result<(), NoMemory>
         ensures { (before : List items.Item) → judging.IsKnown before known.now
             → judging.AreHeld before self.old

@@ -7,7 +7,7 @@ use Rattle.c_tree.specs.declared.tree.Op.TheVariants.{Add, Lt, Gt, Ge}
 use Rattle.c_grammar.specs.declared.items.Item.{Item}
 use Rattle.c_grammar.specs.declared.items.Sign.TheVariants as signs
 use Rattle.c_grammar.specs.Grammar as grammar
-use Rattle.c_grammar.specs.Grammar.{at, Expresses, number, name, loose, binary, Listed, Raise, Outer, File, present, int, unqualified, only_type, bare, no_return}
+use Rattle.c_grammar.specs.Grammar.{at, Expresses, number, name, loose, binary, Listed, Raise, Outer, File, present, int, unqualified, only_type, bare, variables_end, no_return}
 use Rattle.c_grammar.specs.Within.{Full, WritesIn, none, more, choice, ends, otherwise, assign, input, count, assert, while, if_else, DeclaresIn, nothing, variables, last_var, no_more, body, main, FormsWithin, file}
 use Rattle.family_generator.proofs.BlockTexts.{Block, Switched, Bounded, Checked}
 use Rattle.family_generator.proofs.Signs.{laid, laid_joined, laid_again, sign_in, place_in, block_signs, condition_count, blocks_signs, header_signs, file_signs}
@@ -128,8 +128,8 @@ pub record IsFormed (xs : List Item) : Type 0 where
 declares : (p q r s t u : Place) (x y : ℕ) → DeclaresIn 64 (Outer []) (at p signs.Int ∷ at q (signs.Name x) ∷ at r signs.Semicolon ∷ at s signs.Int ∷ at t (signs.Name y) ∷ at u signs.Semicolon ∷ []) (grammar.declared x (pos 0) [] ∷ grammar.declared y (pos 0) [] ∷ [])
 declares p q r s t u x y =
     variables [] {us = at p signs.Int ∷ []} {vs = at q (signs.Name x) ∷ at r signs.Semicolon ∷ []} {ws = at s signs.Int ∷ at t (signs.Name y) ∷ at u signs.Semicolon ∷ []}
-    (only_type signs.Static (unqualified (int p))) (last_var r [] {us = at q (signs.Name x) ∷ []} (bare q x))
-    (variables [] {us = at s signs.Int ∷ []} {vs = at t (signs.Name y) ∷ at u signs.Semicolon ∷ []} {ws = []} (only_type signs.Static (unqualified (int s))) (last_var u [] {us = at t (signs.Name y) ∷ []} (bare t y)) (nothing []))
+    (only_type signs.Static (unqualified (int p))) (last_var [] {us = at q (signs.Name x) ∷ []} {vs = at r signs.Semicolon ∷ []} (bare q x) (variables_end r))
+    (variables [] {us = at s signs.Int ∷ []} {vs = at t (signs.Name y) ∷ at u signs.Semicolon ∷ []} {ws = []} (only_type signs.Static (unqualified (int s))) (last_var [] {us = at t (signs.Name y) ∷ []} {vs = at u signs.Semicolon ∷ []} (bare t y) (variables_end u)) (nothing []))
 
 header_formed : (a b c d e g p q r v s t z : Place) (x y : ℕ) (statements : List Item) → Lists 64 statements
     → IsFormed (at a signs.Int ∷ at b (signs.Name x) ∷ at c signs.Semicolon ∷ at d signs.Int ∷ at e (signs.Name y) ∷ at g signs.Semicolon

@@ -98,7 +98,7 @@ nothing_more before x ds n h truths y = elim (is_main x.sign) as (λ b. is_main 
   | false ↦ λ e. h truths y ∙ ap (is_among y) (sym ((still_other before x e n.no_name).kept truths))
 ] refl
 
--- a name, where a declaration with `const` goes on or not
+-- a name, where a declaration with `const` or `enum` goes on or not
 name_more : (before : List Item) (p : Place) (n : ℕ) (ds : List Declaration) (groups : List Group) (constant main : Bool) → has_main before ≡ main → ((truths : List Bool) → sections truths groups ≡ sections_behind truths [] before) → Tells ds before
     → Tells (with_constant ds (constant && not main) groups (signs.Name n)) (before ++ constants_from constant (at p (signs.Name n) ∷ []))
 name_more before p n ds groups true true m same h truths y = h truths y ∙ ap (is_among y) (sym ((still_behind before (at p (signs.Name n)) m).kept truths))

@@ -23,8 +23,8 @@ use fam_outer::{FileCode, NoMemory, Place};
 use linear_atoms::Config;
 use std::alloc::Global;
 
-/// What is known of constants behind some items: the last item, whether a declaration with `const` goes on, and the
-/// declarations of constants.
+/// What is known of constants behind some items: the last item, whether a declaration with `const` or `enum` goes on, and
+/// the declarations of constants.
 #[derive(Drop)]
 pub(crate) struct Constants {
     pub(crate) last: Option<Item>,
@@ -140,7 +140,8 @@ impl Constants {
         }
     }
 
-    /// Goes on behind an item, behind others of which this is seen: a name that is declared with `const` is a constant's.
+    /// Goes on behind an item, behind others of which this is seen: a name that is declared with `const` or `enum` is a
+    /// constant's.
     pub(crate) fn follow(&mut self, alloc: Global, seen: &Seen, item: Item) -> Result<(), NoMemory>
         ensures { (before : List items.Item) → judging.IsSeen before seen.now
             → judging.AreHeld before self.old

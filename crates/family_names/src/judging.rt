@@ -90,7 +90,7 @@ fn judge(
 /// - F15: a feature's name is declared or used.
 /// - F17: a 17th name is declared.
 /// - F23: a name is assigned, raised, lowered or read from input, and some valid configuration keeps it and a declaration
-///   of it with `const`; no values are told (6.7.3 and 6.5.16).
+///   of it with `const` or `enum`; no values are told (6.7.2.2, 6.7.3 and 6.5.16).
 ///
 /// Before `main` each name is declared, and behind it each is used; F13 is said of no feature's name. A configuration
 /// keeps an item where each group around it is the kept one of its section (6.10.1). The formulas' numbers are below the

@@ -37,7 +37,7 @@ pub const CODES: [(&str, &str); 56] = [
     ),
     (
         "F12",
-        "F12: A file is refused.\nCause: the first token, or the end, at which no file goes on, whichever names it\nhas; at it.\nWhat to do: bring the code into the form of docs/LANGUAGE.md; each reserved word\nbut those of the grammar is such a token.\n",
+        "F12: A file is refused.\nCause: the first token, or the end, at which no file goes on, whichever names it\nhas; at it.\nWhat to do: bring the code into the form of docs/LANGUAGE.md; each reserved word\nbut those of the grammar is such a token, and so is what stands directly behind\na name of an `enum` that would count past 2147483647.\n",
     ),
     (
         "F16",
@@ -57,7 +57,7 @@ pub const CODES: [(&str, &str); 56] = [
     ),
     (
         "F23",
-        "F23: A file is refused.\nCause: a constant that is assigned, raised, lowered or read from input; at its\nname. Or: a name that some valid configuration keeps changed, together with a\ndeclaration of it with `const`; no configuration is told.\nWhat to do: leave out its `const`, or the statement. Or: the statement within a\ngroup in which it is a variable.\n",
+        "F23: A file is refused.\nCause: a constant that is assigned, raised, lowered or read from input; at its\nname. Or: a name that some valid configuration keeps changed, together with a\ndeclaration of it with `const` or `enum`; no configuration is told.\nWhat to do: declare it without `const` or `enum`, or leave out the statement.\nOr: the statement within a group in which it is a variable.\n",
     ),
     (
         "F5",

@@ -97,6 +97,7 @@ as_leading leadings.ConstWord = machine.ConstWord
 abbrev pub as_qualifier : Qualifier → grammar.Qualifier
 as_qualifier qualifiers.Unqualified = grammar.Unqualified
 as_qualifier qualifiers.Constant = grammar.Constant
+as_qualifier (qualifiers.Counted last) = grammar.Counted last
 
 abbrev pub as_words : TypeWords → machine.TypeWords
 as_words type_words.OneInt = machine.OneInt
@@ -122,12 +123,15 @@ as_state (states.Outside secs ds) = machine.Outside (as_sections secs) ds.items
 as_state (states.AfterStatic secs ds) = machine.AfterStatic (as_sections secs) ds.items
 as_state (states.AfterExtern secs ds) = machine.AfterExtern (as_sections secs) ds.items
 as_state (states.AfterConst secs ds) = machine.AfterConst (as_sections secs) ds.items
+as_state (states.AfterEnum secs ds) = machine.AfterEnum (as_sections secs) ds.items
 as_state (states.AfterType leading words secs ds) = machine.AfterType (as_leading leading) (as_words words) (as_sections secs) ds.items
 as_state (states.Declaring kind secs ds) = machine.Declaring (as_qualifier kind) (as_sections secs) ds.items
 as_state (states.Bare kind x secs ds) = machine.Bare (as_qualifier kind) x (as_sections secs) ds.items
 as_state (states.Starting kind x secs ds) = machine.Starting (as_qualifier kind) x (as_sections secs) ds.items
 as_state (states.Negating kind x secs ds) = machine.Negating (as_qualifier kind) x (as_sections secs) ds.items
 as_state (states.Started kind x n secs ds) = machine.Started (as_qualifier kind) x n (as_sections secs) ds.items
+as_state (states.Listing last secs ds) = machine.Listing last (as_sections secs) ds.items
+as_state (states.Enumerated secs ds) = machine.Enumerated (as_sections secs) ds.items
 as_state (states.Parameters aim) = machine.Parameters (as_aim aim)
 as_state (states.InParameters aim) = machine.InParameters (as_aim aim)
 as_state (states.AfterVoid aim) = machine.AfterVoid (as_aim aim)

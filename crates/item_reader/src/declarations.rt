@@ -6,12 +6,16 @@ ghost use Rattle.c_grammar.specs.Machine as machine;
 ghost use Rattle.item_reader.specs.Signs.{IsUnsigned};
 ghost use Rattle.item_reader.specs.Views.{as_qualifier, as_sections, as_state, Moves};
 
+use crate::heads::declaring;
 use crate::sections::guards_of;
 use crate::states::{Qualifier, ReadingState, Sections};
 use c_grammar::Sign;
 use c_tree::{Declared, Guards, Op};
 use fam_outer::NoMemory;
 use std::alloc::Global;
+
+/// The greatest `int`.
+const GREATEST: i64 = 2147483647;
 
 /// The declarators with one more, under the guards of the groups around it.
 fn with_declared(
@@ -34,6 +38,56 @@ fn with_declared(
     Ok(declared)
 }
 
+/// Behind a comma, where the declarator before it has this value.
+fn listed(kind: Qualifier, value: i64, sections: Sections, declared: Vec<Declared>) -> ReadingState
+    ensures { as_state result ≡ machine.listed (as_qualifier kind) value (as_sections sections) declared.items }
+{
+    match kind {
+        Qualifier::Unqualified | Qualifier::Constant => ReadingState::Declaring {
+            kind,
+            sections,
+            declared,
+        },
+        Qualifier::Counted(_last) => ReadingState::Listing {
+            last: value,
+            sections,
+            declared,
+        },
+    }
+}
+
+/// At the semicolon of variables or constants.
+fn declaration_end(
+    kind: Qualifier,
+    sections: Sections,
+    declared: Vec<Declared>,
+) -> Option<ReadingState>
+    ensures { option_map as_state result
+        ≡ machine.declaration_end (as_qualifier kind) (as_sections sections) declared.items }
+{
+    match kind {
+        Qualifier::Unqualified | Qualifier::Constant => {
+            Some(ReadingState::Outside { sections, declared })
+        }
+        Qualifier::Counted(_last) => None,
+    }
+}
+
+/// At the brace of an `enum`.
+fn enumeration_end(
+    kind: Qualifier,
+    sections: Sections,
+    declared: Vec<Declared>,
+) -> Option<ReadingState>
+    ensures { option_map as_state result
+        ≡ machine.enumeration_end (as_qualifier kind) (as_sections sections) declared.items }
+{
+    match kind {
+        Qualifier::Unqualified | Qualifier::Constant => None,
+        Qualifier::Counted(_last) => Some(ReadingState::Enumerated { sections, declared }),
+    }
+}
+
 /// Behind a declarator.
 pub(crate) fn started(
     alloc: Global,
@@ -49,21 +103,55 @@ pub(crate) fn started(
     match sign {
         Sign::Comma => {
             let declared = with_declared(alloc, &sections, declared, name, value)?;
-            Ok(Some(ReadingState::Declaring {
-                kind,
-                sections,
-                declared,
-            }))
+            Ok(Some(listed(kind, value, sections, declared)))
         }
         Sign::Semicolon => {
             let declared = with_declared(alloc, &sections, declared, name, value)?;
-            Ok(Some(ReadingState::Outside { sections, declared }))
+            Ok(declaration_end(kind, sections, declared))
+        }
+        Sign::RightBrace => {
+            let declared = with_declared(alloc, &sections, declared, name, value)?;
+            Ok(enumeration_end(kind, sections, declared))
         }
         _ => Ok(None),
     }
 }
 
-/// Behind a declared name without a value: a variable starts at 0, and a constant has one.
+/// Behind a comma of an `enum`: another name, or its brace.
+pub(crate) fn listing(
+    last: i64,
+    sections: Sections,
+    declared: Vec<Declared>,
+    sign: Sign,
+) -> Option<ReadingState>
+    ensures { option_map as_state result ≡ machine.listing last (as_sections sections) declared.items sign }
+{
+    match sign {
+        Sign::RightBrace => Some(ReadingState::Enumerated { sections, declared }),
+        other => declaring(Qualifier::Counted(last), sections, declared, other),
+    }
+}
+
+/// Behind the name of a constant that is counted: it is one more than the last, and an `int`.
+fn counts_on(
+    alloc: Global,
+    last: i64,
+    name: u32,
+    sections: Sections,
+    declared: Vec<Declared>,
+    sign: Sign,
+) -> Result<Option<ReadingState>, NoMemory>
+    ensures { Moves result (machine.counts_on last name (as_sections sections) declared.items sign) }
+{
+    if last < GREATEST {
+        let kind = Qualifier::Counted(last);
+        started(alloc, kind, name, last + 1, sections, declared, sign)
+    } else {
+        Ok(None)
+    }
+}
+
+/// Behind a declared name without a value: a variable starts at 0, and a constant has one or is counted.
 fn without_value(
     alloc: Global,
     kind: Qualifier,
@@ -77,6 +165,7 @@ fn without_value(
     match kind {
         Qualifier::Unqualified => started(alloc, kind, name, 0, sections, declared, sign),
         Qualifier::Constant => Ok(None),
+        Qualifier::Counted(last) => counts_on(alloc, last, name, sections, declared, sign),
     }
 }
 

@@ -48,6 +48,24 @@ pub(crate) fn behind_static(
     }
 }
 
+/// Behind `enum`: its brace. The first constant is 0.
+pub(crate) fn after_enum(
+    sections: Sections,
+    declared: Vec<Declared>,
+    sign: Sign,
+) -> Option<ReadingState>
+    ensures { option_map as_state result ≡ machine.after_enum (as_sections sections) declared.items sign }
+{
+    match sign {
+        Sign::LeftBrace => Some(ReadingState::Declaring {
+            kind: Qualifier::Counted(-1),
+            sections,
+            declared,
+        }),
+        _ => None,
+    }
+}
+
 /// The state, where the sign is `input`.
 fn at_input(next: ReadingState, sign: Sign) -> Option<ReadingState>
     ensures { option_map as_state result ≡ machine.at_input (as_state next) sign }

@@ -150,6 +150,7 @@ pub(crate) fn outside(
         Sign::Static => Ok(Some(ReadingState::AfterStatic { sections, declared })),
         Sign::Extern => Ok(Some(ReadingState::AfterExtern { sections, declared })),
         Sign::Const => Ok(Some(ReadingState::AfterConst { sections, declared })),
+        Sign::Enum => Ok(Some(ReadingState::AfterEnum { sections, declared })),
         Sign::GroupIf(number) => section_start(alloc, number, sections, declared),
         Sign::GroupElif(number) => next_condition(number, sections, declared),
         Sign::GroupElse => last_section(sections, declared),

@@ -140,11 +140,13 @@ pub(crate) enum Leading {
     ConstWord,
 }
 
-/// What a declaration declares: variables, or constants.
+/// What a declaration declares: variables, constants, or constants that are counted, of which the last one before has this
+/// value.
 #[derive(Clone, Copy, Drop)]
 pub(crate) enum Qualifier {
     Unqualified,
     Constant,
+    Counted(i64),
 }
 
 /// The words of a type so far: `int`, `signed`, or all.
@@ -203,6 +205,11 @@ pub(crate) enum ReadingState {
         sections: Sections,
         declared: Vec<Declared>,
     },
+    /// Behind `enum`.
+    AfterEnum {
+        sections: Sections,
+        declared: Vec<Declared>,
+    },
     /// Behind a word of a type.
     AfterType {
         leading: Leading,
@@ -239,6 +246,16 @@ pub(crate) enum ReadingState {
         kind: Qualifier,
         name: u32,
         value: i64,
+        sections: Sections,
+        declared: Vec<Declared>,
+    },
+    /// In an `enum`, behind a comma and the value before it; and behind its brace.
+    Listing {
+        last: i64,
+        sections: Sections,
+        declared: Vec<Declared>,
+    },
+    Enumerated {
         sections: Sections,
         declared: Vec<Declared>,
     },

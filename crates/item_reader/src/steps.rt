@@ -8,10 +8,10 @@ ghost use Rattle.item_reader.specs.Signs.{IsUnsigned};
 ghost use Rattle.item_reader.specs.Stages.{stage};
 ghost use Rattle.item_reader.specs.Views.{as_stack, as_state, Moves};
 
-use crate::declarations::{is_bare, negating, started, starting};
+use crate::declarations::{is_bare, listing, negating, started, starting};
 use crate::endings::{closing, over, returning};
 use crate::expressions::{expected, have, want};
-use crate::heads::{after_type, behind_static, declaring, first_word};
+use crate::heads::{after_enum, after_type, behind_static, declaring, first_word};
 use crate::marks::{at_close, at_open, at_semicolon};
 use crate::parameters::{after_parameters, in_parameters};
 use crate::sections::outside;
@@ -43,6 +43,7 @@ pub(crate) fn step(
         ReadingState::AfterConst { sections, declared } => {
             Ok(first_word(Leading::ConstWord, sections, declared, sign))
         }
+        ReadingState::AfterEnum { sections, declared } => Ok(after_enum(sections, declared, sign)),
         ReadingState::AfterType {
             leading,
             words,
@@ -95,6 +96,14 @@ fn step_declarator(
             sections,
             declared,
         } => started(alloc, kind, name, value, sections, declared, sign),
+        ReadingState::Listing {
+            last,
+            sections,
+            declared,
+        } => Ok(listing(last, sections, declared, sign)),
+        ReadingState::Enumerated { sections, declared } => {
+            Ok(at_semicolon(ReadingState::Outside { sections, declared }, sign))
+        }
         other => step_statement(alloc, other, place, sign),
     }
 }

@@ -1,7 +1,7 @@
 //! The example files, and the words of commands on them with what is expected, as `examples/to_tests.sh` writes them.
 
 /// Each file under its path.
-pub(crate) const FILES: [(&str, &str); 69] = [
+pub(crate) const FILES: [(&str, &str); 74] = [
     (
         "assertion.c",
         "int level = 900;\nint limit = 1000;\nint main(void)\n{\n    level = level - limit;\n    assert(level > 0 - 200);\n    assert(level >= 0);\n    level = 0;\n}\n",
@@ -29,6 +29,10 @@ pub(crate) const FILES: [(&str, &str); 69] = [
     (
         "messages.c",
         "#include <assert.h>\n/* A ring of 8 messages. One is put in where the line is ready. */\nextern int input(void);\n\nstatic int head;\nstatic int ready;\n\nint main(void)\n{\n    while (1) {\n        ready = input();\n        if (ready) {\n            assert(head >= 0 && head < 8);\n            head = (head + 1) % 8;\n        }\n    }\n}\n",
+    ),
+    (
+        "modes.c",
+        "// A controller's modes are constants: a request within its limits keeps it running, and any other is a fault.\nenum { IDLE, RUN, FAULT };\nenum { LEAST = -10, MOST = 90, };\nint mode;\nint request;\nint main(void)\n{\n    while (mode != FAULT) {\n        request = input();\n        if (request < LEAST || request > MOST)\n            mode = FAULT;\n        else\n            mode = RUN;\n        assert(mode != IDLE);\n        assert(request <= MOST);\n    }\n    assert(mode == FAULT);\n}\n",
     ),
     (
         "overflow.c",
@@ -63,6 +67,10 @@ pub(crate) const FILES: [(&str, &str); 69] = [
         "int level;\nint main(void)\n{\n    for (level = 0; level < 10; level++)\n        ;\n}\n",
     ),
     (
+        "F12_enum.c",
+        "enum { low = 2147483647, high };\nint main(void)\n{\n    assert(low < high);\n}\n",
+    ),
+    (
         "F13.c",
         "int level;\nint main(void)\n{\n    level = limit - 1;\n}\n",
     ),
@@ -91,6 +99,10 @@ pub(crate) const FILES: [(&str, &str); 69] = [
         "const int limit = 100;\nint level;\nint main(void)\n{\n    limit = level + 1;\n}\n",
     ),
     (
+        "F23_enum.c",
+        "enum { idle, run };\nint mode;\nint main(void)\n{\n    mode = idle;\n    run = 2;\n}\n",
+    ),
+    (
         "F2_trigraph.c",
         "int x;\nint main(void)\n{\n    // why??/\n    x = 1;\n}\n",
     ),
@@ -103,6 +115,10 @@ pub(crate) const FILES: [(&str, &str); 69] = [
         "#define LIMIT 100\nint level;\nint main(void)\n{\n    assert(level < LIMIT);\n}\n",
     ),
     (
+        "levels.c",
+        "// The levels of a controller: a constant has another value in each variant.\n#ifdef FAST\nenum { HIGH = 3 };\n#else\nenum { LOW = 4, HIGH };\n#endif\nint main(void)\n{\n    assert(HIGH < 5);\n}\n",
+    ),
+    (
         "queue.c",
         "#include <assert.h>\n/* a small queue, in many versions */\nextern int input(void);\nint count;\nint tries = 3;\nint logged;\nint load;\n\nint main(void)\n{\n    load = input();\n#if defined(SAFE)\n    if (load < 0 || load > 100)\n        load = 0;\n#elif SIZE >= 8\n    if (load > 1000)\n        load = 1000;\n#endif\n    while (count < 10) {\n        count++;\n#ifdef LOG\n        logged++;\n#endif\n    }\n#ifdef BULK\n    load = load * 2;\n#endif\n#if RETRY && LIMIT > 0\n    while (tries > 0)\n        tries--;\n    assert(tries == 0);\n#endif\n#ifdef FAST\n    count = 100 / tries;\n#else\n    count = 100 / (tries + 1);\n#endif\n    assert(count >= 0);\n    return 0;\n}\n",
     ),
@@ -110,6 +126,7 @@ pub(crate) const FILES: [(&str, &str); 69] = [
         "ring.c",
         "/* A sample at each tick, in a ring buffer. */\nint tick;\nint head;\nint size;\n\nint main(void)\n{\n#if SLOTS >= 32\n    size = 32;\n#elif SLOTS >= 8\n    size = 8;\n#endif\n    while (tick < 100000) {\n        tick++;\n        head = tick % size;\n        assert(head >= 0 && head < 32);\n    }\n}\n",
     ),
+    ("levels.json", "{\"features\": [{\"name\": \"FAST\"}]}\n"),
     (
         "queue.json",
         "{\"features\":[{\"name\":\"LOG\"},{\"name\":\"FAST\"},{\"name\":\"RETRY\"},{\"name\":\"SAFE\"},{\"name\":\"BULK\"},\n{\"name\":\"SIZE\",\"min\":1,\"max\":16},{\"name\":\"LIMIT\",\"min\":0,\"max\":5}],\n\"constraints\":[\"!FAST || !SAFE\",\"LIMIT <= SIZE\"]}\n",
@@ -275,7 +292,7 @@ pub(crate) const FILES: [(&str, &str); 69] = [
 ];
 
 /// The words of each command on a program without variants, with its output and then its line on the error stream.
-pub(crate) const PROGRAMS: [(&str, &str); 29] = [
+pub(crate) const PROGRAMS: [(&str, &str); 32] = [
     ("plain assertion.c", "7:5: assertion\nalarms: 1\n"),
     ("plain digits.c", "alarms: 0\n"),
     (
@@ -296,6 +313,7 @@ pub(crate) const PROGRAMS: [(&str, &str); 29] = [
     ("plain logger_mended.c", "alarms: 0\n"),
     ("plain messages.c", "13:13: assertion\nalarms: 1\n"),
     ("plain --widening=thresholds messages.c", "alarms: 0\n"),
+    ("plain modes.c", "15:9: assertion\nalarms: 1\n"),
     ("plain overflow.c", "8:5: overflow\nalarms: 1\n"),
     ("plain quiet.c", "alarms: 0\n"),
     ("plain ramp.c", "alarms: 0\n"),
@@ -304,6 +322,7 @@ pub(crate) const PROGRAMS: [(&str, &str); 29] = [
     ("plain F10.c", "file: F10 at 3:12\n"),
     ("plain F11.c", "file: F11 at 4:12\n"),
     ("plain F12.c", "file: F12 at 4:5\n"),
+    ("plain F12_enum.c", "file: F12 at 1:31\n"),
     ("plain F13.c", "file: F13 at 4:13\n"),
     ("plain F14.c", "file: F14 at 2:12\n"),
     ("plain F16.c", "file: F16 at 9:49\n"),
@@ -311,13 +330,18 @@ pub(crate) const PROGRAMS: [(&str, &str); 29] = [
     ("plain F2.c", "file: F2 at 4:13\n"),
     ("plain F21.c", "file: F21 at 4:1\n"),
     ("plain F23.c", "file: F23 at 5:5\n"),
+    ("plain F23_enum.c", "file: F23 at 6:5\n"),
     ("plain F2_trigraph.c", "file: F2 at 4:11\n"),
     ("plain F3.c", "file: F3 at 1:1\n"),
     ("plain F4.c", "file: F4 at 1:1\n"),
 ];
 
 /// Those on families.
-pub(crate) const FAMILIES: [(&str, &str); 19] = [
+pub(crate) const FAMILIES: [(&str, &str); 20] = [
+    (
+        "invariants levels.json levels.c",
+        "9:5: if !FAST: HIGH in [5,5], LOW in [4,4]\n9:5: if FAST: HIGH in [3,3], LOW in [0,0]\n10:1: if !FAST: unreachable\n10:1: if FAST: HIGH in [3,3], LOW in [0,0]\n9:5: assertion if !FAST; example FAST=0\nalarms: 1\n",
+    ),
     (
         "advise queue.json queue.c FAST RETRY SIZE=4 LIMIT=2",
         "advice: LOG=0 FAST=0 RETRY=1 SAFE=0 BULK=0 SIZE=4 LIMIT=2; changed 1\n",

@@ -16,7 +16,7 @@ use Rattle.c_tree.specs.Project.{guard_holds, guards_hold}
 use Rattle.c_grammar.specs.declared.items.Item.{Item}
 use Rattle.c_grammar.specs.declared.items.Sign.{Sign}
 use Rattle.c_grammar.specs.declared.items.Sign.TheVariants as signs
-use Rattle.c_grammar.specs.Grammar.{at, Optional, absent, present, Typed, int, int32, signed, signed_int, int_signed, Qualifier, Qualified, unqualified, const_before, const_behind, Begins, only_type, then_type, Declarator, bare, positive, negative, with_true, with_false, declared, Part, Outer, Vars, Later, Declares, nothing, variables, prototype, section, last_var, next_var, end_part, else_part, elif_part, Main, main, File, Forms, file, is_group}
+use Rattle.c_grammar.specs.Grammar.{at, Optional, absent, present, Typed, int, int32, signed, signed_int, int_signed, Qualifier, Qualified, unqualified, const_before, const_behind, Begins, only_type, then_type, enumeration, Declarator, bare, positive, negative, counted, Ending, variables_end, constants_end, enumeration_end, comma_end, with_true, with_false, declared, Part, Outer, Vars, Later, Declares, nothing, variables, prototype, section, last_var, next_var, end_part, else_part, elif_part, Main, main, File, Forms, file, is_group}
 use Rattle.c_grammar.specs.Kept.{directive_of, kept_from, kept}
 use Rattle.c_grammar.proofs.Preprocess.{seeks}
 use Rattle.family_names.specs.Names.{is_main, has_main, until_main, name_of, names_of, declared_by}
@@ -91,10 +91,18 @@ qualified_silent (const_behind p {us} y) = silent_both us (at p signs.Const ∷ 
 pub static_silent : {us : List Item} {kind : Qualifier} → Begins signs.Static kind us → IsSilent us
 static_silent (only_type _ y) = qualified_silent y
 static_silent (then_type p _ y) = (refl, refl, refl, refl, qualified_silent y)
+static_silent (enumeration p q _) = (refl, refl, refl, refl, (refl, refl, refl, refl, tt))
 
 pub extern_silent : {us : List Item} {kind : Qualifier} → Begins signs.Extern kind us → IsSilent us
 extern_silent (only_type _ y) = qualified_silent y
 extern_silent (then_type p _ y) = (refl, refl, refl, refl, qualified_silent y)
+extern_silent (enumeration p q _) = (refl, refl, refl, refl, (refl, refl, refl, refl, tt))
+
+ending_silent : {us : List Item} {kind : Qualifier} → Ending kind us → IsSilent us
+ending_silent (variables_end p) = (refl, refl, refl, refl, tt)
+ending_silent (constants_end p) = (refl, refl, refl, refl, tt)
+ending_silent (enumeration_end last p q) = (refl, refl, refl, refl, (refl, refl, refl, refl, tt))
+ending_silent (comma_end last p q r) = (refl, refl, refl, refl, (refl, refl, refl, refl, (refl, refl, refl, refl, tt)))
 
 pub void_silent : {us : List Item} → Optional signs.Void us → IsSilent us
 void_silent (absent _) = tt
@@ -144,6 +152,7 @@ name_first t secs p x w = elim (all_kept secs) as (λ b. names_of (cond b (at p 
 
 declarator_first : {us : List Item} {x : ℕ} {n : ℤ} {kind : Qualifier} (t : List Bool) (secs : List Section) (w : List Item) → Declarator kind us x n → names_of (kept_from t secs (us ++ w)) ≡ cond (all_kept secs) (x ∷ []) [] ++ names_of (kept_from t secs w)
 declarator_first t secs w (bare p x) = name_first t secs p x w
+declarator_first t secs w (counted p x last lt) = name_first t secs p x w
 declarator_first t secs w (positive p q r x n) =
     name_first t secs p x (at q signs.Equals ∷ at r (signs.Number n) ∷ w)
     ∙ ap (λ (ns : List ℕ). cond (all_kept secs) (x ∷ []) [] ++ ns) (silent t secs (at q signs.Equals ∷ at r (signs.Number n) ∷ []) w (refl, refl, refl, refl, (refl, refl, refl, refl, tt)))
@@ -192,10 +201,10 @@ holds t (section p n gs {us} {vs} {ws} {cs} {ds} {es} a b d) = λ secs h w.
     ∙ ap (λ (ns : List ℕ). targets (holding t cs) ++ ns) (holds t b inner secs (in_false t gs n Seeking secs h) (ws ++ w)
     ∙ ap (λ (ns : List ℕ). targets (holding t ds) ++ ns) (holds t d secs h w) ∙ both_held t ds es (names_of (kept_from t secs w)))
     ∙ both_held t cs (ds ++ es) (names_of (kept_from t secs w))
-holds t (last_var p gs {us} {x} {n} d) = λ secs h w.
-    ap (λ (y : List Item). names_of (kept_from t secs y)) (append_assoc us (at p signs.Semicolon ∷ []) w)
-    ∙ declarator_first t secs (at p signs.Semicolon ∷ w) d
-    ∙ ap (λ (ns : List ℕ). cond (all_kept secs) (x ∷ []) [] ++ ns) (silent t secs (at p signs.Semicolon ∷ []) w (refl, refl, refl, refl, tt))
+holds t (last_var gs {us} {vs} {x} {n} d o) = λ secs h w.
+    ap (λ (y : List Item). names_of (kept_from t secs y)) (append_assoc us vs w)
+    ∙ declarator_first t secs (vs ++ w) d
+    ∙ ap (λ (ns : List ℕ). cond (all_kept secs) (x ∷ []) [] ++ ns) (silent t secs vs w (ending_silent o))
     ∙ one_held t x n gs [] secs (names_of (kept_from t secs w)) h
 holds t (next_var p gs {us} {vs} {x} {n} {ds} d v) = λ secs h w.
     ap (λ (y : List Item). names_of (kept_from t secs y)) (append_assoc us (at p signs.Comma ∷ vs) w)
@@ -223,6 +232,7 @@ declarator_until : {us : List Item} {x : ℕ} {n : ℤ} {kind : Qualifier} (w : 
 declarator_until w (bare p x) = refl
 declarator_until w (positive p q r x n) = refl
 declarator_until w (negative p q r s x n) = refl
+declarator_until w (counted p x last lt) = refl
 
 until_both : (us vs w : List Item) → until_main (us ++ (vs ++ w)) ≡ us ++ until_main (vs ++ w) → until_main (vs ++ w) ≡ vs ++ until_main w → until_main ((us ++ vs) ++ w) ≡ (us ++ vs) ++ until_main w
 until_both us vs w h k = ap until_main (append_assoc us vs w) ∙ h ∙ ap (λ (y : List Item). us ++ y) k ∙ sym (append_assoc us vs (until_main w))
@@ -237,7 +247,7 @@ no_main (prototype q r s t gs {us} {vs} {ws} o v d) w =
     (ap (λ (y : List Item). at s signs.Close ∷ at t signs.Semicolon ∷ y) (no_main d w))))
 no_main (section p n gs {us} {vs} {ws} a b d) w =
     ap (λ (y : List Item). at p (signs.GroupIf n) ∷ y) (until_both us (vs ++ ws) w (no_main a ((vs ++ ws) ++ w)) (until_both vs ws w (no_main b (ws ++ w)) (no_main d w)))
-no_main (last_var p gs {us} d) w = until_both us (at p signs.Semicolon ∷ []) w (declarator_until (at p signs.Semicolon ∷ w) d) refl
+no_main (last_var gs {us} {vs} d o) w = until_both us vs w (declarator_until (vs ++ w) d) (silent_until vs w (ending_silent o))
 no_main (next_var p gs {us} {vs} d v) w =
     until_both us (at p signs.Comma ∷ vs) w (declarator_until (at p signs.Comma ∷ (vs ++ w)) d) (ap (λ (y : List Item). at p signs.Comma ∷ y) (no_main v w))
 no_main (end_part p gs) w = refl

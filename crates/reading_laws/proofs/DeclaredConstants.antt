@@ -1,4 +1,4 @@
--- The names that stand in declarations with `const` are the targets of the constants that the grammar finds.
+-- The names that stand in declarations with `const` or `enum` are the targets of the constants that the grammar finds.
 use Rattle.std.proofs.Common.{◌≡◌, ℕ, Bool, true, false, not, ◌||◌, List, [], ◌∷◌, ◌++◌, refl, sym, ap, ◌∙◌, append_assoc, append-nil}
 use Rattle.std.specs.Prelude.{ℤ, if◌then◌else◌}
 use Rattle.fam_outer.specs.declared.faults.Place.{Place}
@@ -13,7 +13,7 @@ use Rattle.c_tree.specs.Project.{guards_hold}
 use Rattle.c_grammar.specs.declared.items.Item.{Item}
 use Rattle.c_grammar.specs.declared.items.Sign.TheVariants as signs
 use Rattle.c_grammar.specs.Constants.{is_name, is_constant_behind, constants_from}
-use Rattle.c_grammar.specs.Grammar.{at, Optional, absent, present, Typed, int, int32, signed, signed_int, int_signed, Qualifier, Unqualified, Constant, Qualified, unqualified, const_before, const_behind, Begins, only_type, then_type, Declarator, bare, positive, negative, Part, Outer, Vars, Later, Declares, nothing, variables, prototype, section, last_var, next_var, end_part, else_part, elif_part, Main, main, file}
+use Rattle.c_grammar.specs.Grammar.{at, Optional, absent, present, Typed, int, int32, signed, signed_int, int_signed, Qualifier, Unqualified, Constant, Counted, Qualified, unqualified, const_before, const_behind, Begins, only_type, then_type, enumeration, Declarator, bare, positive, negative, counted, Ending, variables_end, constants_end, enumeration_end, comma_end, Part, Outer, Vars, Later, Declares, nothing, variables, prototype, section, last_var, next_var, end_part, else_part, elif_part, Main, main, file}
 use Rattle.c_grammar.specs.Kept.{kept_from, kept}
 use Rattle.c_grammar.proofs.Preprocess.{seeks}
 use Rattle.family_names.specs.Names.{is_main, until_main, names_of}
@@ -25,6 +25,7 @@ use Rattle.reading_laws.proofs.Declared.{IsSilent, silent, silent_both, typed_si
 abbrev is_constant : Qualifier → Bool
 is_constant Unqualified = false
 is_constant Constant = true
+is_constant (Counted last) = true
 
 -- ---- items that are no names stay
 
@@ -49,6 +50,7 @@ qualified_all w (const_behind p {us} y) =
 static_all : {us : List Item} {kind : Qualifier} (w : List Item) → Begins signs.Static kind us → constants_from false (us ++ w) ≡ us ++ constants_from (is_constant kind) w
 static_all w (only_type s y) = qualified_all w y
 static_all w (then_type p s y) = ap (λ (y : List Item). at p signs.Static ∷ y) (qualified_all w y)
+static_all w (enumeration p q s) = refl
 
 extern_all : {us : List Item} (w : List Item) → Begins signs.Extern Unqualified us → constants_from false (us ++ w) ≡ us ++ constants_from false w
 extern_all w (only_type s y) = qualified_all w y
@@ -60,13 +62,21 @@ void_all w (present p s) = refl
 
 -- ---- declarators: those of constants stay, and of variables no name does
 
-constant_all : {us : List Item} {x : ℕ} {n : ℤ} (w : List Item) → Declarator Constant us x n → constants_from true (us ++ w) ≡ us ++ constants_from true w
+constant_all : {us : List Item} {x : ℕ} {n : ℤ} {kind : Qualifier} (w : List Item) → Declarator kind us x n → constants_from true (us ++ w) ≡ us ++ constants_from true w
+constant_all w (bare p x) = refl
 constant_all w (positive p q r x n) = refl
 constant_all w (negative p q r s x n) = refl
+constant_all w (counted p x last lt) = refl
 
-constants_all : {gs : List Guard} {us : List Item} {ds : List Declared} (w : List Item) → Declares (Vars Constant gs) us ds → constants_from true (us ++ w) ≡ us ++ constants_from false w
-constants_all w (last_var p gs {us} d) =
-    ap (constants_from true) (append_assoc us (at p signs.Semicolon ∷ []) w) ∙ constant_all (at p signs.Semicolon ∷ w) d ∙ sym (append_assoc us (at p signs.Semicolon ∷ []) (constants_from false w))
+ending_all : {us : List Item} {kind : Qualifier} (w : List Item) → Ending kind us → constants_from true (us ++ w) ≡ us ++ constants_from false w
+ending_all w (variables_end p) = refl
+ending_all w (constants_end p) = refl
+ending_all w (enumeration_end last p q) = refl
+ending_all w (comma_end last p q r) = refl
+
+constants_all : {gs : List Guard} {us : List Item} {ds : List Declared} {kind : Qualifier} (w : List Item) → Declares (Vars kind gs) us ds → constants_from true (us ++ w) ≡ us ++ constants_from false w
+constants_all w (last_var gs {us} {vs} d o) =
+    ap (constants_from true) (append_assoc us vs w) ∙ constant_all (vs ++ w) d ∙ ap (λ (y : List Item). us ++ y) (ending_all w o) ∙ sym (append_assoc us vs (constants_from false w))
 constants_all w (next_var p gs {us} {vs} d v) =
     ap (constants_from true) (append_assoc us (at p signs.Comma ∷ vs) w) ∙ constant_all (at p signs.Comma ∷ (vs ++ w)) d
     ∙ ap (λ (y : List Item). us ++ at p signs.Comma ∷ y) (constants_all w v) ∙ sym (append_assoc us (at p signs.Comma ∷ vs) (constants_from false w))
@@ -87,7 +97,7 @@ variable_left (negative p q r s x n) = record {
 }
 
 variables_left : {gs : List Guard} {us : List Item} {ds : List Declared} → Declares (Vars Unqualified gs) us ds → Leaves us
-variables_left (last_var p gs {us} d) = let l = variable_left d in record {
+variables_left (last_var gs {us} d (variables_end p)) = let l = variable_left d in record {
   rest = l.rest ++ at p signs.Semicolon ∷ [];
   is_silent = silent_both l.rest (at p signs.Semicolon ∷ []) l.is_silent (refl, refl, refl, refl, tt);
   are = λ w. ap (constants_from false) (append_assoc us (at p signs.Semicolon ∷ []) w) ∙ l.are (at p signs.Semicolon ∷ w) ∙ sym (append_assoc l.rest (at p signs.Semicolon ∷ []) (constants_from false w));
@@ -108,6 +118,7 @@ vars_hold : {gs : List Guard} {us : List Item} {ds : List Declared} (t : List Bo
     → names_of (kept_from t secs (constants_from (is_constant kind) (us ++ w))) ≡ targets (holding t (of_kind kind ds)) ++ KeptAfter t secs w
 vars_hold {us = us} t Unqualified secs h w v = let l = variables_left v in ap (λ (y : List Item). names_of (kept_from t secs y)) (l.are w) ∙ silent t secs l.rest (constants_from false w) l.is_silent
 vars_hold {us = us} t Constant secs h w v = ap (λ (y : List Item). names_of (kept_from t secs y)) (constants_all w v) ∙ holds t v secs h (constants_from false w)
+vars_hold {us = us} t (Counted last) secs h w v = ap (λ (y : List Item). names_of (kept_from t secs y)) (constants_all w v) ∙ holds t v secs h (constants_from false w)
 
 abbrev ConstantsHold : List Bool → Part → List Item → List Declared → Type 0
 ConstantsHold t (Outer gs) us cs = (secs : List Section) → guards_hold t gs ≡ all_kept secs → (w : List Item) → KeptAfter t secs (us ++ w) ≡ targets (holding t cs) ++ KeptAfter t secs w
@@ -143,7 +154,7 @@ constants_hold t (section p n gs {us} {vs} {ws} a b d) = λ secs h w.
     ∙ ap (λ (ns : List ℕ). targets (holding t (constants_in a)) ++ ns) (constants_hold t b inner secs (in_false t gs n Seeking secs h) (ws ++ w)
     ∙ ap (λ (ns : List ℕ). targets (holding t (constants_in b)) ++ ns) (constants_hold t d secs h w) ∙ both_held t (constants_in b) (constants_in d) (KeptAfter t secs w))
     ∙ both_held t (constants_in a) (constants_in b ++ constants_in d) (KeptAfter t secs w)
-constants_hold t (last_var p gs d) = tt
+constants_hold t (last_var gs d o) = tt
 constants_hold t (next_var p gs d v) = tt
 constants_hold t (end_part p gs) = λ sec secs h w. refl
 constants_hold t (else_part p q gs {us} d) = λ sec secs h w.

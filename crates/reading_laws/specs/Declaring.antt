@@ -8,7 +8,7 @@ use Rattle.cpp_lines.specs.Sections.{Told}
 use Rattle.c_tree.specs.declared.lists.Declared.{Declared}
 use Rattle.c_tree.specs.Project.{guards_hold}
 use Rattle.c_grammar.specs.declared.items.Item.{Item}
-use Rattle.c_grammar.specs.Grammar.{Qualifier, Unqualified, Constant, Part, Declares, nothing, variables, prototype, section, last_var, next_var, end_part, else_part, elif_part, File, Forms, file}
+use Rattle.c_grammar.specs.Grammar.{Qualifier, Unqualified, Constant, Counted, Part, Declares, nothing, variables, prototype, section, last_var, next_var, end_part, else_part, elif_part, File, Forms, file}
 use Rattle.family_names.specs.Names.{declared_by, declared_at, constants_at}
 use Rattle.c_parser.specs.declared.family.Family.{Family}
 use Rattle.c_parser.specs.FamilyItems.{HasItems}
@@ -33,6 +33,7 @@ KeptDeclarationsHold = (truths : List Bool) (items : List Item) (f : File) → F
 abbrev pub of_kind : Qualifier → List Declared → List Declared
 of_kind Unqualified ds = []
 of_kind Constant ds = ds
+of_kind (Counted last) ds = ds
 
 -- the declarators of constants among those that a list of items declares, in its order
 abbrev pub constants_in : {part : Part} {us : List Item} {ds : List Declared} → Declares part us ds → List Declared
@@ -40,7 +41,7 @@ constants_in (nothing gs) = []
 constants_in (variables gs {us} {vs} {ws} {ds} {es} {kind} o v d) = of_kind kind ds ++ constants_in d
 constants_in (prototype q r s t gs o v d) = constants_in d
 constants_in (section p n gs a b d) = constants_in a ++ (constants_in b ++ constants_in d)
-constants_in (last_var p gs {us} {x} {n} {kind} d) = []
+constants_in (last_var gs d o) = []
 constants_in (next_var p gs d v) = []
 constants_in (end_part p gs) = []
 constants_in (else_part p q gs d) = constants_in d
@@ -49,7 +50,8 @@ constants_in (elif_part p n gs a b) = constants_in a ++ constants_in b
 abbrev pub constants_of : {items : List Item} {f : File} → Forms items f → List Declared
 constants_of (file d m) = constants_in d
 
--- where the conditions have truths, what stands as declared with `const` is what the grammar has as constants and whose guards hold
+-- where the conditions have truths, what stands as declared with `const` or `enum` is what the grammar has as constants and whose
+-- guards hold
 abbrev pub KeptConstantsHold : Type 0
 KeptConstantsHold = (truths : List Bool) (items : List Item) (f : File) (forms : Forms items f) → constants_at truths items ≡ targets (holding truths (constants_of forms))
 

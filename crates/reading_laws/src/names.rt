@@ -12,7 +12,7 @@ use fam_outer::places_rise;
 
 /// What stands as declared by the items of a file with groups, each name before `main`, is what the grammar declares: the
 /// targets of its declarators, in the order of the text; and where the conditions have truths, of those whose guards hold.
-/// What stands as a constant there is what the grammar has in a declaration with `const`.
+/// What stands as a constant there is what the grammar has in a declaration with `const` or `enum`.
 pub fn declarations_of_families_are_those_of_the_grammar()
     ensures all { DeclarationsAreOfTheGrammar }
     ensures kept { KeptDeclarationsHold }

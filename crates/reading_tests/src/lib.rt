@@ -4,6 +4,8 @@
 #[cfg(test)]
 mod constants;
 #[cfg(test)]
+mod enumerations;
+#[cfg(test)]
 mod families;
 #[cfg(test)]
 mod family_limits;
