@@ -89,6 +89,8 @@ PROGRAMS = [
     case("inputs that are left", "int x;", "x = input();", "ended x=1", inputs=(1, 2)),
     case("no statement", "int x = 1;", ";", "ended x=1"),
     case("return", "int x;", "x = 4;\nreturn 3;", "ended x=4"),
+    case("constants", "int x; const int A = 3; int const B = -2;", "x = A - B;", "ended x=5 A=3 B=-2"),
+    case("constants that are counted", "int x; enum { A, B, C = 0x10, D, E = -3, F, };", "x = D + F;", "ended x=15 A=0 B=1 C=16 D=17 E=-3 F=-2"),
     case("words of the type", "int32_t a = 1; signed b = 2; int signed c; static signed int d;", "c = a + b;\nd = c;", "ended a=1 b=2 c=3 d=3"),
 ]
 

@@ -58,18 +58,30 @@ __attribute__((constructor)) static void begin(int count, char **all)
 """
 
 TYPE = r"(?:int32_t|signed\s+int|int\s+signed|signed|int)"
-DECLARATION = re.compile(rf"\s*(?:static\s+)?{TYPE}\s+([^()]+)", re.DOTALL)
+DECLARATION = re.compile(rf"\s*(?:static\s+)?(?:const\s+{TYPE}|{TYPE}\s+const|{TYPE})\s+([^()]+)", re.DOTALL)
+ENUMERATION = re.compile(r"\s*enum\s*\{([^{}]*)\}\s*", re.DOTALL)
 
 
 class NotCompiled(Exception):
     """What clang says of a text that it refuses."""
 
 
-def declared(preprocessed: str) -> list[str]:
-    """The variables of a text behind the preprocessor: what its declarations before `main` make."""
+def named(listed: str) -> list[str]:
+    """The names of a list of declarators or of enumerators."""
+    return [name for it in listed.split(",") if (name := it.split("=")[0].strip())]
+
+
+def declared(preprocessed: str) -> tuple[list[str], list[str]]:
+    """The variables and constants of a text behind the preprocessor: what its declarations before `main` make; and those that `enum` makes,
+    which are no objects."""
     before = re.split(rf"{TYPE}\s+main\s*\(", preprocessed)[0]
-    found = (DECLARATION.fullmatch(piece) for piece in before.split(";"))
-    return [variable.split("=")[0].strip() for it in found if it for variable in it[1].split(",")]
+    names, counted = [], []
+    for piece in before.split(";"):
+        if it := DECLARATION.fullmatch(piece):
+            names += named(it[1])
+        elif it := ENUMERATION.fullmatch(piece):
+            counted += named(it[1])
+    return names, counted
 
 
 @dataclass(frozen=True)
@@ -114,11 +126,12 @@ class Clang:
         given = ["-w", "-std=c11", *(f"-D{macro}={value}" for macro, value in macros.items())]
         for header, word in (("assert.h", "assert"), ("stdint.h", "int32_t")):
             given += ["-include", header] if re.search(rf"\b{word}\b", text) else []
-        names = declared(self.called(*given, "-E", "-P", f"{name}.c"))
-        listed = "".join(f'"{it}", ' for it in names), "".join(f"&{it}, " for it in names)
+        names, counted = declared(self.called(*given, "-E", "-P", f"{name}.c"))
+        objects = "".join(f"static const int check_runs_{it} = {it};\n" for it in counted)
+        listed = "".join(f'"{it}", ' for it in names + counted), "".join(f"&{it}, " for it in [*names, *(f"check_runs_{it}" for it in counted)])
         wrong = "".join(f'#if !({it})\n#error "a constraint is false"\n#endif\n' for it in constraints)
         (self.folder / f"{name}-{mode}.c").write_text(
-            f'{wrong}#include "{name}.c"\n'
+            f'{wrong}#include "{name}.c"\n{objects}'
             f"const char *const check_runs_names[] = {{{listed[0]}0}};\n"
             f"const int *const check_runs_places[] = {{{listed[1]}0}};\n")
         # (hidden, so that a variable with the name of a function of the C library does not take its place)

@@ -11,6 +11,7 @@ from .families import Family
 from .outcomes import code_of
 
 SWITCHES = ("FAST", "SAFE", "LOG")
+CONSTANTS = ("BASE", "STEP", "TOP", "LAST")
 NAMES = ("level", "count", "load", "rate", "head", "limit", "phase", "gain")
 TYPES = ("int", "int", "int", "int", "signed", "signed int", "int signed", "int32_t")
 DEPTH = 3
@@ -26,7 +27,8 @@ def laid_out(lines: Iterable[str]) -> Iterator[str]:
 
 
 class Maker:
-    """A family in the making. `names` are the variables that every configuration declares, `some` those of one switch each."""
+    """A family in the making. `free` are the variables that every configuration declares, `some` those of one switch each, and `constants`
+    what every configuration declares by `const` or `enum`."""
 
     def __init__(self, rng: random.Random):
         self.rng = rng
@@ -36,6 +38,7 @@ class Maker:
         self.counters: list[str] = []
         self.free: list[str] = []
         self.some: dict[str, str] = {}
+        self.constants: list[str] = []
         self.declarations: list[str] = []
         self.declare()
 
@@ -88,6 +91,15 @@ class Maker:
     def declared(self, name: str) -> str:
         return f"{self.rng.choice(('', '', 'static '))}{self.rng.choice(TYPES)} {name}{self.start()};"
 
+    def fixed(self, names: list[str]) -> str:
+        """A declaration of constants."""
+        rng = self.rng
+        if rng.random() < 0.5:
+            word = rng.choice(("const int", "int const", "static const int32_t", "const signed"))
+            return f"{word} {', '.join(f'{name} = {rng.randint(-9, 9)}' for name in names)};"
+        listed = ", ".join(name + rng.choice(("", "", f" = {rng.randint(-9, 9)}", " = 0x10", " = 'a'")) for name in names)
+        return f"enum {{ {listed}{rng.choice(('', ','))} }};"
+
     def declare(self) -> None:
         rng = self.rng
         names = rng.sample(NAMES, rng.randint(3, 6))
@@ -104,6 +116,10 @@ class Maker:
         else:
             self.declarations += [self.declared(name) for name in names]
         self.free += names
+        if rng.random() < 0.6:
+            self.constants = rng.sample(CONSTANTS, rng.randint(1, len(CONSTANTS)))
+            other = [f"#if {self.condition()}", self.fixed(self.constants), "#else", self.fixed(self.constants), "#endif"]
+            self.declarations += rng.choice(([self.fixed(self.constants)], other))
         self.counters = ["i", "j"]
         self.declarations.append("static int i, j;")
         if rng.random() < 0.4:
@@ -114,7 +130,7 @@ class Maker:
     def simple(self, scope: list[str]) -> str:
         """A statement that holds no other."""
         rng = self.rng
-        of = Expressions(rng, scope + self.counters)
+        of = Expressions(rng, scope + self.counters + self.constants)
         kind = rng.choices(("set", "take", "update", "count", "assert", "nothing"), (6, 5, 5, 3, 3, 0.5))[0]
         name = rng.choice(scope)
         if kind == "set":
@@ -134,7 +150,7 @@ class Maker:
         """A loop, mostly one that a counter of its own ends."""
         rng = self.rng
         if rng.random() < 0.25:
-            test = Expressions(rng, scope).test(2)
+            test = Expressions(rng, scope + self.constants).test(2)
             return [f"while ({test})", *self.body(scope, depth)]
         if not self.counters:
             return [self.simple(scope)]
@@ -153,7 +169,7 @@ class Maker:
         return ["{", *self.statements(scope, depth - 1), "}"]
 
     def choice(self, scope: list[str], depth: int) -> list[str]:
-        lines = [f"if ({Expressions(self.rng, scope + self.counters).test(2)})", *self.body(scope, depth)]
+        lines = [f"if ({Expressions(self.rng, scope + self.counters + self.constants).test(2)})", *self.body(scope, depth)]
         return lines + (["else", *self.body(scope, depth)] if self.rng.random() < 0.5 else [])
 
     def group(self, scope: list[str], depth: int) -> list[str]:
