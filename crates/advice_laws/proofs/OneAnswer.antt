@@ -1,6 +1,6 @@
 -- What is answered of a model and of advice is one.
-use Rattle.std.proofs.Common.{◌≡◌, ℕ, zero, suc, ◌+◌, ◌≤◌, ◌<◌, ℤ, pos, ◌≤ℤ◌, Bool, true, false, List, [], ◌∷◌, length, slice_get, Option, Some, None, refl, sym, ap, ap₂, subst, ◌∙◌, inl, inr, arith}
-use Rattle.std.specs.Prelude.{◌<ℤ◌, ◌⊎◌}
+use Rattle.std.proofs.Common.{◌≡◌, ℕ, zero, suc, ◌<◌, ℤ, pos, Bool, true, false, List, [], ◌∷◌, length, slice_get, Some, None, refl, sym, ap, ap₂, subst, ◌∙◌, inl, inr, arith}
+use Rattle.std.specs.Prelude.{◌<ℤ◌}
 use Rattle.std.proofs.lemmas.Int.{ints}
 use Rattle.linear_atoms.specs.declared.atoms.Atom.{Atom}
 use Rattle.linear_atoms.specs.declared.atoms.Feature.{Feature}
@@ -13,8 +13,8 @@ use Rattle.decision_tree.specs.Plain as tree
 use Rattle.configuration_advice.specs.declared.comparing.Advice.{Advice}
 use Rattle.configuration_advice.specs.declared.feature_uses.FeatureUse.{FeatureUse}
 use Rattle.configuration_advice.specs.declared.feature_uses.FeatureUse.TheVariants.{Free, Dead, Always, Span}
-use Rattle.configuration_advice.specs.Nearest.{differing, is_quiet, IsNearest, Advises}
-use Rattle.configuration_advice.specs.Uses.{value_of, Has, AllFrom, AllTo, SomeFrom, SomeTo, IsLeast, IsGreatest, IsUse, AreUses}
+use Rattle.configuration_advice.specs.Nearest.{is_quiet, IsNearest}
+use Rattle.configuration_advice.specs.Uses.{AllFrom, AllTo, SomeFrom, SomeTo, IsLeast, IsGreatest, IsUse}
 use Rattle.advice_laws.specs.Once.{UsesAreOne, told_of, AdviceIsOne}
 
 -- ---- uses

@@ -1,5 +1,5 @@
 -- Advice is given: the nearest configuration without alarms, or none.
-use Rattle.std.proofs.Common.{◌≡◌, ◌⊎◌, inl, inr, ℕ, zero, suc, ◌≤◌, ℤ, nat_eq, Bool, true, false, ◌&&◌, List, Option, Some, None, Result, Ok, Err, refl, sym, ◌∙◌, arith}
+use Rattle.std.proofs.Common.{◌≡◌, ◌⊎◌, inl, inr, ℕ, zero, suc, ◌≤◌, ℤ, nat_eq, Bool, true, false, ◌&&◌, List, Option, Some, None, Result, Ok, Err, refl, sym, arith}
 use Rattle.std.proofs.lemmas.Bool.Decides.{nat_tests}
 use Rattle.fam_outer.specs.declared.dialect.Dialect.{Dialect}
 use Rattle.c_tree.specs.Places.{program_places}
@@ -27,7 +27,7 @@ use Rattle.famlint_loads.specs.Contents.{Contents}
 use Rattle.famlint_loads.specs.Selected.{AreSelected}
 use Rattle.famlint_programs.specs.AnalysisOptions.{options_of}
 use Rattle.famlint_programs.specs.ProgramAnswers.{meaning_of}
-use Rattle.famlint_families.specs.Advised.{trees_of, advice_status, IsNearestWithoutAlarms, IsAdviseDone}
+use Rattle.famlint_families.specs.Advised.{trees_of, advice_status, IsNearestWithoutAlarms}
 use Rattle.famlint_families.specs.FamilyAnswers.{AnswersAdvice}
 use Rattle.famlint_core.proofs.SomeFamily.{have_constraints, some_stops}
 use Rattle.famlint_core.proofs.SomeLine.{AnswerLaws}

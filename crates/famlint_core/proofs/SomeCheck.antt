@@ -1,10 +1,7 @@
 -- A check is answered: a verdict on the certificate that the bytes spell, or a refusal.
-use Rattle.std.proofs.Common.{◌≡◌, ◌⊎◌, inl, inr, ℕ, ℤ, Bool, true, false, not, List, [], ◌∷◌, ◌++◌, length, Option, Some, None, Result, Ok, Err, refl, ap}
-use Rattle.std.specs.List.{All}
+use Rattle.std.proofs.Common.{◌≡◌, ◌⊎◌, inl, inr, ℕ, ℤ, Bool, true, false, not, List, [], ◌∷◌, length, Option, Some, None, Result, Ok, Err, refl, ap}
 use Rattle.std.proofs.lemmas.List.Elements.{All-cons, All-nil}
 use Rattle.fam_outer.specs.declared.dialect.Dialect.{Dialect}
-use Rattle.fam_outer.specs.declared.faults.Place.{Place}
-use Rattle.c_tree.specs.declared.tree.Kind.{Kind}
 use Rattle.c_tree.specs.Places.{program_places}
 use Rattle.c_tree.specs.Tree.{Whole}
 use Rattle.c_tree.specs.View.{whole}
@@ -12,8 +9,7 @@ use Rattle.linear_atoms.specs.declared.atoms.Atom.{Atom}
 use Rattle.linear_atoms.specs.declared.atoms.Config.{Config}
 use Rattle.cpp_conditions.specs.declared.formulas.Formula.{Formula}
 use Rattle.cpp_conditions.specs.declared.models.Model.{Model}
-use Rattle.cpp_conditions.specs.Validity.{plain, IsValid}
-use Rattle.atom_solver.specs.Solutions.{Finds, IsFirst}
+use Rattle.atom_solver.specs.Solutions.{Finds}
 use Rattle.interval_leaf.specs.Intervals.{intervals}
 use Rattle.leaf_domain.specs.Leaves.{LeafMeaning}
 use Rattle.lifted_analysis.specs.Promises.{by_kind}
@@ -33,7 +29,7 @@ use Rattle.famlint_loads.specs.declared.fault.Done.{Done}
 use Rattle.famlint_loads.specs.declared.fault.Fault.{Fault}
 use Rattle.famlint_loads.specs.declared.fault.Fault.TheVariants as fault
 use Rattle.famlint_loads.specs.declared.product_line.ProductLine.{ProductLine}
-use Rattle.famlint_loads.specs.CertificateLoads.{ReadsCertificate, IsCheckRefused}
+use Rattle.famlint_loads.specs.CertificateLoads.{ReadsCertificate}
 use Rattle.famlint_loads.specs.CertificateLoads as loads
 use Rattle.famlint_loads.specs.Contents.{Contents}
 use Rattle.famlint_loads.specs.ProductLines.{IsProductLine}

@@ -1,6 +1,5 @@
 -- What is asked of all variants at once is answered: a report, a certificate or a page.
-use Rattle.std.proofs.Common.{◌≡◌, ℕ, List, [], ◌∷◌, ◌++◌, length, map, Result, Ok, Err, refl, ap}
-use Rattle.std.specs.List.{All}
+use Rattle.std.proofs.Common.{ℕ, List, [], ◌∷◌, ◌++◌, length, Result, Ok, Err, refl, ap}
 use Rattle.std.proofs.lemmas.List.Elements.{All-cons, All-nil}
 use Rattle.fam_outer.specs.declared.dialect.Dialect.{Dialect}
 use Rattle.fam_outer.specs.declared.faults.Place.{Place}
@@ -14,8 +13,7 @@ use Rattle.cpp_conditions.specs.Numbering.{AreAllAmong}
 use Rattle.cpp_conditions.specs.Propositions.{Proposition}
 use Rattle.cpp_conditions.specs.Validity.{plain}
 use Rattle.cpp_conditions.specs.View.{formula}
-use Rattle.decision_tree.specs.Plain.{Plain}
-use Rattle.leaf_domain.specs.Leaves.{LeafValue, LeafMeaning}
+use Rattle.leaf_domain.specs.Leaves.{LeafMeaning}
 use Rattle.lifted_analysis.specs.Promises.{leaf_at, stop_at, by_kind}
 use Rattle.lifted_analysis.specs.Turns.{loop_places}
 use Rattle.plain_analysis.specs.declared.options.Options.{Options}
@@ -41,7 +39,7 @@ use Rattle.famlint_loads.specs.Loads.{IsFamily}
 use Rattle.famlint_programs.specs.AnalysisOptions.{options_of}
 use Rattle.famlint_programs.specs.ProgramAnswers.{meaning_of}
 use Rattle.famlint_families.specs.FamilyAnswers.{AnswersFamily, AnswersPage}
-use Rattle.famlint_families.specs.FamilyReports.{IsPlausibleFor, IsAlarmTreeOf, IsLeafTree, AreAlarmsOf, AreInvariantsOf, AreLoopsOf, IsFamilyDone, family_status, sizes_text}
+use Rattle.famlint_families.specs.FamilyReports.{IsAlarmTreeOf, IsLeafTree, AreAlarmsOf, AreInvariantsOf, AreLoopsOf, IsFamilyDone, family_status, sizes_text}
 use Rattle.famlint_families.specs.Pages.{IsPageDone, page_texts}
 use Rattle.famlint_core.proofs.SomeLine.{AnswerLaws, LineAnswer, line, no_line, some_line}
 use Rattle.famlint_core.proofs.SomeNumbering.{some_plausible}

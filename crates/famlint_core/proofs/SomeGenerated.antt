@@ -1,5 +1,5 @@
 -- What is asked of a generated family is answered.
-use Rattle.std.proofs.Common.{◌≡◌, ℕ, zero, suc, ◌+◌, ◌≤◌, List, [], ◌∷◌, ◌++◌, length, Result, Ok, Err, refl, arith}
+use Rattle.std.proofs.Common.{◌≡◌, ℕ, zero, suc, ◌+◌, ◌≤◌, List, [], ◌∷◌, ◌++◌, length, Result, Ok, refl, arith}
 use Rattle.std.proofs.lemmas.Int.{ints}
 use Rattle.linear_atoms.specs.declared.regions.Regions.{Regions}
 use Rattle.linear_atoms.specs.Atoms.{AreRanges}

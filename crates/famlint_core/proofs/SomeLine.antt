@@ -1,13 +1,8 @@
 -- Whatever two files hold, they are a product line, or have a first refusal.
-use Rattle.std.proofs.Common.{◌≡◌, ◌⊎◌, ℕ, List, length, Ok, Err, refl, inl, inr}
+use Rattle.std.proofs.Common.{◌⊎◌, ℕ, List, length, Ok, Err, refl, inl, inr}
 use Rattle.fam_outer.specs.declared.dialect.Dialect.{Dialect}
 use Rattle.fam_outer.specs.declared.dialect.Unknown.{Unknown}
-use Rattle.fam_outer.specs.declared.faults.FileCode.{FileCode}
-use Rattle.fam_outer.specs.declared.faults.Place.{Place}
 use Rattle.cpp_conditions.specs.declared.models.Model.{Model}
-use Rattle.cpp_conditions.specs.Naming.{AreFeatures}
-use Rattle.cpp_conditions.specs.Validity.{plain, AreFit}
-use Rattle.cpp_conditions.specs.Distinct.{HaveFewAtoms}
 use Rattle.feature_model.specs.declared.faults.ModelFault.{ModelFault}
 use Rattle.c_parser.specs.Variants.{VariantsAreRead}
 use Rattle.c_parser.specs.declared.family.Family.{Family}

@@ -1,5 +1,5 @@
 -- What is asked of a variant is answered.
-use Rattle.std.proofs.Common.{◌≡◌, ℕ, ℤ, Bool, true, false, List, Option, Result, Ok, Err, refl, sym, ap, subst, ◌∙◌}
+use Rattle.std.proofs.Common.{◌≡◌, ℕ, ℤ, Bool, true, false, List, Option, Result, Ok, Err, refl, sym, subst}
 use Rattle.std.specs.Prelude.{if◌then◌else◌}
 use Rattle.fam_outer.specs.declared.dialect.Dialect.{Dialect}
 use Rattle.fam_outer.specs.declared.dialect.Includes.TheVariants.{Assert}
@@ -12,7 +12,6 @@ use Rattle.feature_model.specs.declared.faults.ConfigFault.TheVariants as settin
 use Rattle.feature_model.specs.Settings.{checked, config_of, settled, steps, unset}
 use Rattle.feature_model.specs.Stages.{◌>>=◌}
 use Rattle.variant_projector.specs.Variant.{IsVariant}
-use Rattle.c_parser.specs.declared.family.Family.{Family}
 use Rattle.c_parser.specs.FamilyReading.{IsFamilyOf}
 use Rattle.c_parser.specs.Variants.{projection, truths_in}
 use Rattle.c_tree.specs.Tree.{Whole}
@@ -24,7 +23,7 @@ use Rattle.famlint_loads.specs.Contents.{Contents}
 use Rattle.famlint_loads.specs.Faults.{fault_of_settings}
 use Rattle.famlint_loads.specs.ProductLines.{IsProductLine, IsProgramAt}
 use Rattle.famlint_loads.specs.Selected as selected
-use Rattle.famlint_loads.specs.Selected.{AreSelected, IsProgramOf, IsSelectionRefused}
+use Rattle.famlint_loads.specs.Selected.{AreSelected, IsSelectionRefused}
 use Rattle.famlint_requests.specs.declared.request.VariantTask.{VariantTask}
 use Rattle.famlint_requests.specs.declared.request.VariantTask.TheVariants.{Project, Variant, Run}
 use Rattle.famlint_programs.specs.ProgramAnswers.{AnswersVariant, IsDone, file_of, program_done, run_done}

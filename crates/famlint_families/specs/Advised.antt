@@ -3,7 +3,6 @@ use Rattle.std.specs.Prelude.{ℕ, ℤ, ◌≡◌, ◌<◌, true, false, Bool, L
 use Rattle.fam_outer.specs.declared.faults.Place.{Place}
 use Rattle.c_tree.specs.declared.tree.Kind.{Kind}
 use Rattle.c_tree.specs.Tree.{Whole}
-use Rattle.c_tree.specs.View.{whole}
 use Rattle.cpp_conditions.specs.Validity.{plain, IsValid}
 use Rattle.linear_atoms.specs.declared.regions.Regions.TheVariants.{Paths}
 use Rattle.atom_solver.specs.Solutions.{IsBefore}

@@ -21,7 +21,7 @@ use Rattle.cpp_lines.specs.Faults.{is_open, is_splice, touches_directive, commen
 use Rattle.cpp_lines.specs.Lines.{pieces}
 use Rattle.cpp_lines.specs.Nesting.{named_in, opened_by, later_fault, end_fault, directive_fault, line_fault}
 use Rattle.cpp_lines.specs.Sections as sections
-use Rattle.cpp_lines.specs.Sections.{Told, AreRead, HasFault, TextIsRead, in_front, line_at}
+use Rattle.cpp_lines.specs.Sections.{Told, AreRead, HasFault, in_front, line_at}
 use Rattle.cpp_lines.specs.Whole.{file_place, blanked_file}
 use Rattle.c_tokens.specs.declared.token.Token.{Token}
 use Rattle.c_tokens.specs.Reading as tokens

@@ -16,7 +16,7 @@ use Rattle.cpp_lines.specs.Code.{code_of}
 use Rattle.cpp_lines.specs.Lines.{in_first, pieces}
 use Rattle.cpp_lines.specs.Nesting.{named_in, opened_by}
 use Rattle.cpp_lines.specs.Sections as sections
-use Rattle.cpp_lines.specs.Sections.{Told, AreRead, TextIsRead, in_front, line_at}
+use Rattle.cpp_lines.specs.Sections.{Told, AreRead, in_front}
 use Rattle.cpp_lines.specs.declared.line.Line.{Line}
 use Rattle.cpp_lines.proofs.VariantTexts.{is_blanked}
 use Rattle.c_grammar.specs.declared.items.Item.{Item}

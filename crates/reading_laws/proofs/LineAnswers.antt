@@ -17,7 +17,7 @@ use Rattle.cpp_lines.specs.GroupConditions.{condition_in, IsGroupCondition}
 use Rattle.cpp_lines.specs.Lines.{line_place, pieces}
 use Rattle.cpp_lines.specs.Nesting.{named_in, opened_by, is_unclosed, line_fault}
 use Rattle.cpp_lines.specs.Sections as sections
-use Rattle.cpp_lines.specs.Sections.{HasFault, IsRead, Told, AreRead, TextIsRead, in_front, line_at}
+use Rattle.cpp_lines.specs.Sections.{HasFault, IsRead, Told, AreRead, in_front, line_at}
 use Rattle.reading_laws.proofs.Collecting.{few_or_more}
 use Rattle.reading_laws.specs.Answered.{TextsHaveLines}
 

@@ -34,7 +34,7 @@ use Rattle.c_parser.specs.FamilyItems.{HasItems, group_sign, or_directive, is_na
 use Rattle.c_parser.specs.FamilyReading.{context_of}
 use Rattle.c_parser.specs.Items.{Listed, number_in, with_name, word_sign, sign_of, names_with_word, names_with, lexeme_in, names_from, AreNewBehind, AreDistinct}
 use Rattle.c_parser.specs.Names as alone
-use Rattle.c_parser.specs.Names.{names_at, targets}
+use Rattle.c_parser.specs.Names.{names_at}
 use Rattle.c_parser.specs.Signing.{items_from}
 use Rattle.c_parser.specs.Signs.{keyword_of, mark_of, sign_in, marks}
 use Rattle.c_parser.proofs.CodePieces.{lines_blank, same_length}

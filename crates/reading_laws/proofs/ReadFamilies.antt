@@ -1,12 +1,11 @@
 -- What is read as a family has all that is promised of one.
-use Rattle.std.proofs.Common.{◌≡◌, ◌⊎◌, inl, inr, ℕ, ◌+◌, ◌≤◌, ◌<◌, ◌^◌, Bool, Box, Global, Vec, List, [], ◌∷◌, ◌++◌, length, map, Result, Ok, Err, refl, sym, ap, ap₂, subst, ◌∙◌, append_assoc, append-nil, arith}
+use Rattle.std.proofs.Common.{◌≡◌, inl, inr, ℕ, ◌+◌, ◌≤◌, ◌<◌, ◌^◌, Bool, Box, Global, Vec, List, [], ◌∷◌, ◌++◌, length, map, Result, Ok, Err, refl, sym, ap, ap₂, subst, ◌∙◌, append_assoc, append-nil, arith}
 use Rattle.std.specs.Ptr.{null_ptr}
 use Rattle.std.specs.List.{All}
 use Rattle.std.proofs.lemmas.Bool.{cases_lt}
 use Rattle.std.proofs.lemmas.List.Elements.{All-cons, All-nil}
 use Rattle.fam_outer.specs.declared.dialect.Dialect.{Dialect}
 use Rattle.fam_outer.specs.declared.dialect.Unknown.{Unknown}
-use Rattle.fam_outer.specs.declared.faults.ConditionFault.{ConditionFault}
 use Rattle.fam_outer.specs.declared.faults.FileCode.{FileCode}
 use Rattle.fam_outer.specs.declared.faults.FileRefusal.{FileRefusal}
 use Rattle.fam_outer.specs.declared.faults.FileRefusal.TheVariants as refusals
@@ -14,7 +13,7 @@ use Rattle.fam_outer.specs.declared.faults.Place.{Place}
 use Rattle.fam_outer.specs.Places.{place_at}
 use Rattle.linear_atoms.specs.declared.atoms.Atom.{Atom}
 use Rattle.linear_atoms.specs.declared.atoms.Feature.{Feature}
-use Rattle.linear_atoms.specs.Atoms.{AreAtoms, AreRanges}
+use Rattle.linear_atoms.specs.Atoms.{AreRanges}
 use Rattle.cpp_conditions.specs.declared.conditions.Condition.{Condition}
 use Rattle.cpp_conditions.specs.declared.conditions.Condition.TheVariants as conditions
 use Rattle.cpp_conditions.specs.declared.formulas.Formula.{Formula}
@@ -28,19 +27,17 @@ use Rattle.cpp_conditions.specs.View.{formula, proposition}
 use Rattle.cpp_conditions.proofs.Numbers.{numbered_below}
 use Rattle.cpp_lines.specs.declared.line.Line.{Line}
 use Rattle.cpp_lines.specs.Code.{code_of}
-use Rattle.cpp_lines.specs.GroupConditions.{IsGroupCondition}
 use Rattle.cpp_lines.specs.Lines.{pieces}
 use Rattle.cpp_lines.specs.Nesting.{named_in, opened_by}
 use Rattle.cpp_lines.specs.Sections as sections
-use Rattle.cpp_lines.specs.Sections.{Told, TextIsRead, AreNumbered, AreConditionsOf, IsRead, in_front, line_at}
+use Rattle.cpp_lines.specs.Sections.{Told, AreNumbered, AreConditionsOf, IsRead, in_front, line_at}
 use Rattle.cpp_lines.proofs.Adding.{atoms_fit}
 use Rattle.cpp_lines.proofs.LineNumbers.{counted}
 use Rattle.cpp_lines.proofs.Numbering.{numbers_are, same_count}
 use Rattle.c_grammar.specs.declared.items.Item.{Item}
 use Rattle.c_grammar.specs.Facts as facts
 use Rattle.c_grammar.specs.Facts.{Conditioned, WellFormed}
-use Rattle.c_grammar.specs.Within.{SpellsWithin, WithinIsFile}
-use Rattle.c_tree.specs.Project.{IsConditioned}
+use Rattle.c_grammar.specs.Within.{WithinIsFile}
 use Rattle.c_tree.specs.Tree.{Whole}
 use Rattle.c_tree.specs.View.{whole}
 use Rattle.c_tree.specs.Whole.{IsProgram}
@@ -48,18 +45,16 @@ use Rattle.c_tokens.specs.declared.token.Token.{Token}
 use Rattle.c_tokens.specs.Reading.{tokens_of}
 use Rattle.fam_outer.specs.Results.{and_then}
 use Rattle.c_parser.specs.declared.family.Family.{Family}
-use Rattle.c_parser.specs.FamilyItems.{by_line, HasItems}
 use Rattle.c_parser.specs.FamilyReading.{IsFamilyOf, IsFamilyRead, conditions_of, families_over, IsListedFamily}
 use Rattle.c_parser.specs.FamilyStages.{AreProperConditions}
 use Rattle.c_parser.specs.Items.{Listed, listed}
 use Rattle.c_parser.specs.Phases.{IsAcceptedFile}
-use Rattle.c_parser.specs.Reading.{items_of_code}
 use Rattle.c_parser.specs.Stages.{AreProper}
 use Rattle.c_parser.proofs.FamilyAnswers.{NamesOccur, sixteen_names, conditioned}
 use Rattle.c_parser.proofs.FamilyFacts.{all_fit, all_conditions, all_rise}
 use Rattle.c_parser.proofs.Lexical.{TokenLaws}
 use Rattle.c_parser.proofs.Stepwise.{proper_items}
-use Rattle.reading_laws.specs.Answered.{FilesAreAnswered, IsAnswered, IsTold}
+use Rattle.reading_laws.specs.Answered.{FilesAreAnswered, IsTold}
 use Rattle.reading_laws.specs.Families.{FamiliesArePromised, FamiliesHaveAnswers, HasFamily, IsReadFamily, spells, refused}
 use Rattle.reading_laws.proofs.FewTokens.{BlanksKeepLengths, blanked_short, items_few}
 

@@ -1,12 +1,11 @@
-use Rattle.std.proofs.Common.{◌≡◌, ℕ, not, ◌||◌, List, Bool, IfOk, ap, ◌∙◌}
+use Rattle.std.proofs.Common.{◌≡◌, ℕ, not, ◌||◌, List, Bool, ap, ◌∙◌}
 use Rattle.std.specs.List.{All}
 use Rattle.std.proofs.lemmas.Result.{IfOk-weaker}
 use Rattle.cpp_conditions.specs.Propositions.{IsBelow, true_on}
 use Rattle.cpp_conditions.specs.View.{formula}
 use Rattle.certificate_format.specs.declared.certificates.AlarmLine.{AlarmLine}
-use Rattle.decision_tree.specs.Listed.{IsNumberedTree}
 use Rattle.decision_tree.specs.Plain.{TestsBelow, leaf_of}
-use Rattle.decision_tree.specs.View.{numbered, plain}
+use Rattle.decision_tree.specs.View.{plain}
 use Rattle.invariant_certificate.specs.Passes.{is_listed}
 use Rattle.invariant_certificate.proofs.Covering.{leaf_numbered}
 use Rattle.invariant_certificate.proofs.listing.covered.Goals as goal
