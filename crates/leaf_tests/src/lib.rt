@@ -17,6 +17,8 @@ mod operations;
 #[cfg(test)]
 mod pairs;
 #[cfg(test)]
+mod products;
+#[cfg(test)]
 mod random_chains;
 #[cfg(test)]
 mod ranges;

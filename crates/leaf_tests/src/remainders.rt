@@ -85,7 +85,7 @@ fn remainder(alloc: Global, of: Remainder) -> Result<Operation, NoMemory>
 }
 
 /// The numbers of `x`, a remainder, a comparison of it with a number, and the numbers of `x` where that holds.
-const CUTS: [(Steps, Remainder, Compare, i64, Steps); 15] = [
+const CUTS: [(Steps, Remainder, Compare, i64, Steps); 19] = [
     ((0, 9, 1), (0, 2), Compare::Eq, 0, (0, 8, 2)),
     ((0, 9, 1), (0, 2), Compare::Eq, 1, (1, 9, 2)),
     // the remainders of numbers from 0 on are 0 and 1
@@ -108,6 +108,13 @@ const CUTS: [(Steps, Remainder, Compare, i64, Steps); 15] = [
     ((0, 9, 1), (0, -3), Compare::Eq, 0, (0, 9, 3)),
     // where x + 1 is even, x is odd
     ((0, 9, 1), (1, 2), Compare::Eq, 0, (1, 9, 2)),
+    // even multiples of 3 are multiples of 6
+    ((0, 8, 2), (0, 3), Compare::Eq, 0, (0, 6, 6)),
+    // an odd number that leaves 2 by 3 leaves 5 by 6
+    ((1, 9, 2), (0, 3), Compare::Eq, 2, (5, 5, 1)),
+    // a multiple of 3 that leaves 4 by 5 leaves 9 by 15, so that up to 6 there is none
+    ((0, 9, 3), (0, 5), Compare::Eq, 4, (9, 9, 1)),
+    ((0, 6, 3), (0, 5), Compare::Eq, 4, (1, 0, 1)),
 ];
 
 /// Whether the numbers of `x` where the comparison holds are these.
