@@ -128,6 +128,11 @@ fn invariants_of_all_variants(rt: HostRuntime) -> Result<(), Fail> {
             "4:1: if 1: x in [0,0], y in [0,0]\n5:1: if 1: x in [0,100], y in [0,100], x-y in [0,0]\n5:17: if 1: x in [0,99], y in [0,99], x-y in [0,0]\n6:1: if 1: x in [0,99], y in [0,99], x-y in [0,0]\n7:1: if 1: x in [1,100], y in [0,99], x-y in [1,1]\n9:1: if 1: x in [100,100], y in [100,100]\n10:1: if 1: x in [100,100], y in [100,100]\nalarms: 0\n",
         ),
         (
+            "invariants --domain octagon m0 both_ways",
+            0,
+            "4:1: if 1: x in [0,10], y in [0,10], x+y in [10,10]\n4:16: if 1: x in [0,9], y in [1,10], x+y in [10,10]\n5:1: if 1: x in [0,9], y in [1,10], x+y in [10,10]\n6:1: if 1: x in [1,10], y in [1,10], x+y in [11,11]\n8:1: if 1: x in [10,10], y in [0,0]\n9:1: if 1: x in [10,10], y in [0,0]\nalarms: 0\n",
+        ),
+        (
             "invariants --domain=sharp m0 f42",
             0,
             "4:1: if 1: x in [0,10] step 2, y in [0,10] step 2, x-y in [0,0]\n4:15: if 1: x in [0,8] step 2, y in [0,8] step 2, x-y in [0,0]\n5:1: if 1: x in [0,8] step 2, y in [0,8] step 2, x-y in [0,0]\n6:1: if 1: x in [2,10] step 2, y in [0,8] step 2, x-y in [2,2]\n8:1: if 1: x in [10,10], y in [10,10]\n9:1: if 1: x in [10,10], y in [10,10]\nalarms: 0\n",

@@ -9,7 +9,7 @@ pub const USAGE: &str =
     "usage: famlint plain FILE, project MODEL FILE SETTINGS, variant MODEL FILE SETTINGS, run MODEL FILE SETTINGS, analyse MODEL FILE, invariants MODEL FILE, page MODEL FILE, generate NUMBER, certify MODEL FILE, check MODEL FILE CERTIFICATE, advise MODEL FILE SETTINGS, features MODEL\n";
 
 /// The models and files of the tests, each under its path.
-pub const FILES: [(&str, &str); 39] = [
+pub const FILES: [(&str, &str); 40] = [
     ("m0", "{\"features\":[]}\n"),
     ("ma", "{\"features\":[{\"name\":\"A\"}]}\n"),
     (
@@ -125,6 +125,10 @@ pub const FILES: [(&str, &str); 39] = [
     (
         "f38",
         "int x;\nint main(void) {\nwhile (x < 10) {\n#ifdef A\nx += 2;\n#else\nx += 3;\n#endif\n}\nassert(x == 10);\n}\n",
+    ),
+    (
+        "both_ways",
+        "int x;\nint y = 10;\nint main(void) {\nwhile (x < 10) {\nx++;\ny--;\n}\nassert(y == 0);\n}\n",
     ),
     (
         "f42",
