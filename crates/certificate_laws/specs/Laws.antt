@@ -6,6 +6,7 @@ use Rattle.fam_outer.specs.declared.faults.Place.{Place}
 use Rattle.fam_outer.specs.declared.refusal.Refusal.{Refusal}
 use Rattle.fam_outer.specs.declared.refusal.Refusal.TheVariants.{NoMemory, Fault}
 use Rattle.c_tree.specs.declared.tree.Mode.{Mode}
+use Rattle.c_tree.specs.Places.{program_places}
 use Rattle.c_tree.specs.View.{whole}
 use Rattle.c_tree.specs.Whole.{IsProgram}
 use Rattle.c_parser.specs.declared.family.Family.{Family}
