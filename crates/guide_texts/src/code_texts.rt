@@ -37,7 +37,7 @@ pub const CODES: [(&str, &str); 56] = [
     ),
     (
         "F12",
-        "F12: A file is refused.\nCause: the first token, or the end, at which no file goes on, whichever names it\nhas; at it.\nWhat to do: bring the code into the form of docs/LANGUAGE.md; each reserved word\nbut those of the grammar is such a token, and so is what stands directly behind\na name of an `enum` that would count past 2147483647.\n",
+        "F12: A file is refused.\nCause: the first token, or the end, at which no file goes on, whichever names it\nhas; at it.\nWhat to do: bring the code into the form of docs/LANGUAGE.md; each reserved word\nbut those of the grammar is such a token.\n",
     ),
     (
         "F16",
