@@ -99,7 +99,8 @@ def is_same(text: str, famlint: Outcome, clang: Outcome) -> bool:
     if famlint.how != clang.how or famlint.how == OTHER:
         return False
     if famlint.how != STOPPED:
-        return famlint.values == clang.values
+        # (famlint tells all variables of the family: one that this variant does not declare stays 0)
+        return all(famlint.values.get(name, 0) == clang.values.get(name, 0) for name in {*famlint.values, *clang.values})
     if famlint.kind != clang.kind:
         return False
     return famlint.line == clang.line if famlint.kind == ASSERTION else stands_in(text, famlint, clang)

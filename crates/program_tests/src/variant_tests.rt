@@ -2,7 +2,7 @@
 
 use std::test::Fail;
 use test_runs::cases::{USAGE, content_of};
-use test_runs::comparing::gives;
+use test_runs::comparing::{gives, two_files};
 use test_runs::running::ran_over;
 
 #[test]
@@ -104,7 +104,7 @@ fn results_stop_or_wrap(rt: HostRuntime) -> Result<(), Fail> {
         let text = format!(in alloc;
             "int x;\nint main(void) {{\nx = {first};\nx = {second};\n}}\n"
         )?;
-        let files: [(&str, &[u8]); 2] = [("m", content_of("m0")), ("f", text.as_bytes())];
+        let files = two_files(content_of("m0"), text.as_bytes());
         let ran = ran_over(alloc, words.as_str(), &files)?;
         assert_eq!(rt; ran.out.as_slice(), told.as_bytes(), "{first}; {second}");
         assert_eq!(rt; ran.status, 0);
