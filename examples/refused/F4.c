@@ -1,4 +1,4 @@
-#define LIMIT 100
+#define LIMIT (99 + 1)
 int level;
 int main(void)
 {

@@ -1,7 +1,8 @@
 """Programs whose outcome was worked out by hand from ISO/IEC 9899:2011, and outcomes of which it is known whether they are the same.
 
 The operators are those of 6.5.3.3 and 6.5.5 to 6.5.14, what does not fit `int` is 6.5, paragraph 5, truncation and the sign of a remainder
-6.5.5, paragraph 6, and what `&&` and `||` leave out 6.5.13 and 6.5.14, paragraph 4.
+6.5.5, paragraph 6, and what `&&` and `||` leave out 6.5.13 and 6.5.14, paragraph 4. Macros are 6.10.3: the tokens of `#define` stand in the
+place of its name, and those of `-DNAME=VALUE` in the place of a feature's.
 """
 from __future__ import annotations
 
@@ -71,6 +72,7 @@ PROGRAMS = [
     case("the operands before the division", "int x;", "x = (2147483647 + 1) / x;", "3 overflow", "3 zero-divisor"),
     case("an assertion", "int x;", "assert(x == 0);\nassert(x == 1);\nassert(0);", "4 assertion"),
     case("an assertion in a loop", "int x;", "while (1) {\nx++;\nassert(x < 3);\n}", "5 assertion"),
+    case("an assertion of three lines", "int x;", "assert(x ==\n('(' - 40) && // )\nx);\nx = 1;", "3 assertion"),
     case("any number but 0 is true", "int x = -5;", "assert(x);\nassert(!!x == 1);\nassert(x - x);", "5 assertion"),
     case("the test of a loop", "int x = 2;", "while (10 / x)\nx--;", "3 zero-divisor"),
     case("a statement of two lines", "int x;", "if (x ==\n1 / x)\nx = 1;", "3 zero-divisor"),
@@ -110,11 +112,86 @@ int main(void) {
 """
 MODEL = '{"features": [{"name": "A"}, {"name": "N", "min": -2, "max": 3}, {"name": "B"}], "constraints": ["!B || A"]}\n'
 
+DEFINED = """int x = 7, y;
+#ifdef A
+#define STEP (-3)
+#else
+#define STEP 2
+#endif
+#ifndef LAST
+# define LAST - 0x10 /* a note */
+#endif
+int main(void) {
+    x = x * STEP - LAST;
+    y = x / (STEP - 2);
+}
+"""
+ONE_PART = """int x = 5;
+#ifdef A
+#define STEP ( '\\n' )
+#endif
+int main(void) {
+#ifdef A
+    x = -STEP;
+#endif
+    x = x + N;
+}
+"""
+ENDS = """int x, y = 2147483647;
+int main(void) {
+    x = N * 3 - 1;
+    y = y - N;
+    while (x < N)
+        x++;
+    if (N == 3)
+        x = -N;
+}
+"""
+DIVIDED = """int x = 10;
+int main(void) {
+    x %= 7;
+    x = (x + 1) / N;
+}
+"""
+GUARDED = """int x, y;
+int main(void) {
+    x = N && 6 / N;
+    while (N + x < 0)
+        x = x - N;
+    assert(x <= 6 && (N || !x));
+#if N
+    y = 7 % N;
+#endif
+}
+"""
+LEAST = """int x;
+int main(void) {
+    x = WIDTH * WIDTH;
+    x = WIDTH + x;
+}
+"""
+ONE_VALUE = '{"features": [{"name": "WIDTH", "min": -1048576, "max": -1048576}]}\n'
+
+
+def variants(name: str, text: str, outcomes: dict[str, str | tuple[str, str]], model: str = MODEL) -> list[Case]:
+    """Variants of a family, each by its settings, with the outcome in both modes or in one and the other."""
+    told = {settings: (outcome, outcome) if isinstance(outcome, str) else outcome for settings, outcome in outcomes.items()}
+    return [Case(f"{name}, {settings}", text, (), stop, wrap, model, tuple(settings.split())) for settings, (stop, wrap) in told.items()]
+
+
 FAMILIES = [
-    Case(f"groups, {' '.join(settings)}", GROUPS, (), outcome, outcome, MODEL, settings)
-    for settings, outcome in [
-        (("A=1", "N=-1"), "7 zero-divisor"), (("N=-1",), "ended x=1"), (("A=1", "N=-2", "B=1"), "ended x=6"),
-        (("A=1", "N=1"), "ended x=5"), (("N=1",), "ended x=6"), (("A=1", "N=3"), "ended x=6")]]
+    *variants("groups", GROUPS, {
+        "A=1 N=-1": "7 zero-divisor", "N=-1": "ended x=1", "A=1 N=-2 B=1": "ended x=6",
+        "A=1 N=1": "ended x=5", "N=1": "ended x=6", "A=1 N=3": "ended x=6"}),
+    *variants("a #define in either part", DEFINED, {"A=1 N=0": "ended x=-5 y=1 STEP=-3 LAST=-16", "N=0": "12 zero-divisor"}),
+    *variants("a #define in one part", ONE_PART, {"A=1 N=-2": "ended x=-12 STEP=10 N=-2", "N=3": "ended x=8 STEP=0 N=3"}),
+    *variants("a feature in arithmetic", ENDS, {
+        "N=-2": ("4 overflow", "ended x=-2 y=-2147483647 N=-2"), "N=0": "ended x=0 y=2147483647 N=0", "N=3": "ended x=-3 y=2147483644 N=3"}),
+    *variants("a division by a feature", DIVIDED, {"N=0": "4 zero-divisor", "N=-2": "ended x=-2 N=-2", "N=3": "ended x=1 N=3"}),
+    *variants("a feature in tests", GUARDED, {
+        "N=0": "ended x=0 y=0 N=0", "N=-2": "ended x=3 y=1 N=-2", "N=-1": "ended x=1 y=0 N=-1", "N=3": "ended x=1 y=1 N=3"}),
+    *variants("the least feature", LEAST, {"WIDTH=-1048576": ("3 overflow", "ended x=-1048576 WIDTH=-1048576")}, ONE_VALUE),
+]
 
 CASES = PROGRAMS + FAMILIES
 
@@ -129,6 +206,11 @@ OUTCOMES = [
     ("ended x=1 y=2\n", "ended x=1 y=3\n", "", False),
     ("ended x=1 y=2\n", "ended x=1\n", "", False),
     ("ended x=1 y=2\n", "waiting x=1 y=2\n", "", False),
+    ("ended x=1 y=2 STEP=0\n", "ended x=1 y=2\n", "", True),
+    ("ended x=1 y=2 STEP=3\n", "ended x=1 y=2\n", "", False),
+    ("ended x=1 y=2 STEP=-3 N=0\n", "ended x=1 y=2 STEP=-3 N=0\n", "", True),
+    ("ended x=1 y=2 STEP=-3 N=0\n", "ended x=1 y=2 STEP=-3 N=1\n", "", False),
+    ("ended x=1 y=2\n", "ended x=1 y=2 N=1\n", "", False),
     ("waiting 3:5 x=1 y=2\n", "waiting x=1 y=2\n", "", True),
     ("waiting 3:5 x=1 y=2\n", "waiting x=0 y=2\n", "", False),
     ("waiting 3:5 x=1 y=2\n", "ended x=1 y=2\n", "", False),

@@ -25,7 +25,7 @@ def by_clang(clang: Clang, name: str, case: Case, mode: str) -> Outcome:
     family = Family(case.name, case.model, case.text, is_made=False)
     values = {it.split("=")[0]: int(it.split("=")[1]) for it in case.settings}
     try:
-        return clang.compiled(name, case.text, values, family.constraints(), mode).run(list(case.inputs))
+        return clang.compiled(name, case.text, values, family.valued(), family.constraints(), mode).run(list(case.inputs))
     except NotCompiled as fault:
         return Outcome(OTHER, text=str(fault))
 
@@ -41,7 +41,8 @@ def by_famlint(famlint: Famlint, folder: Path, case: Case, mode: str) -> Outcome
 
 
 def wrong_cases(clang: Clang, famlint: Famlint | None, folder: Path) -> Iterator[str]:
-    """A line for each case whose outcome is another. Of a stop clang tells where the operator stands, so the statement is looked at too."""
+    """A line for each case whose outcome is another. Of a stop clang tells where the operator stands, so the statement is looked at too, and
+    of values only those of names that the variant declares."""
     for number, case in enumerate(CASES):
         for mode in MODES:
             wanted = case.stop if mode == "stop" else case.wrap
@@ -51,15 +52,15 @@ def wrong_cases(clang: Clang, famlint: Famlint | None, folder: Path) -> Iterator
                 if not is_same(case.text, outcomes["famlint"], outcomes["clang"]):
                     yield f"{case.name}, {mode}: famlint: {outcomes['famlint']}; clang: {outcomes['clang']}"
             for who, outcome in outcomes.items():
-                # (of a statement of several lines clang has the line of the operator)
-                if short(outcome) != wanted and not (who == "clang" and is_same(case.text, stop_at(case, wanted), outcome)):
+                # (of a statement of several lines clang has the line of the operator, or the last one)
+                if short(outcome) != wanted and not (who == "clang" and is_same(case.text, by_hand(wanted), outcome)):
                     yield f"{case.name}, {mode}: by hand: {wanted}; {who}: {short(outcome)}"
 
 
-def stop_at(case: Case, wanted: str) -> Outcome:
-    """A stop of a case, at the first column of its line; or what is no outcome."""
+def by_hand(wanted: str) -> Outcome:
+    """The outcome of a case: a stop is at the first column of its line."""
     line, _, kind = wanted.partition(" ")
-    return Outcome(STOPPED, int(line), 1, kind) if line.isdigit() else Outcome(OTHER)
+    return Outcome(STOPPED, int(line), 1, kind) if line.isdigit() else told(f"{wanted}\n")
 
 
 def wrong_outcomes() -> Iterator[str]:

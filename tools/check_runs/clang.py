@@ -7,7 +7,7 @@ import subprocess
 from dataclasses import dataclass
 from pathlib import Path
 
-from .outcomes import RUNNING, Outcome, seen
+from .outcomes import RUNNING, Outcome, code_of, seen
 
 SECONDS = 20
 CHECKS = ["-fsanitize=signed-integer-overflow,integer-divide-by-zero", "-fno-sanitize-recover=all"]
@@ -60,6 +60,7 @@ __attribute__((constructor)) static void begin(int count, char **all)
 TYPE = r"(?:int32_t|signed\s+int|int\s+signed|signed|int)"
 DECLARATION = re.compile(rf"\s*(?:static\s+)?(?:const\s+{TYPE}|{TYPE}\s+const|{TYPE})\s+([^()]+)", re.DOTALL)
 ENUMERATION = re.compile(r"\s*enum\s*\{([^{}]*)\}\s*", re.DOTALL)
+DEFINITION = re.compile(r"^[ \t]*#[ \t]*define[ \t]+(\w+)", re.MULTILINE)
 
 
 class NotCompiled(Exception):
@@ -71,17 +72,18 @@ def named(listed: str) -> list[str]:
     return [name for it in listed.split(",") if (name := it.split("=")[0].strip())]
 
 
-def declared(preprocessed: str) -> tuple[list[str], list[str]]:
-    """The variables and constants of a text behind the preprocessor: what its declarations before `main` make; and those that `enum` makes,
-    which are no objects."""
-    before = re.split(rf"{TYPE}\s+main\s*\(", preprocessed)[0]
-    names, counted = [], []
+def declared(text: str, preprocessed: str) -> tuple[list[str], list[str]]:
+    """The variables and constants of a text, of which the preprocessor keeps its definitions too: what its declarations before `main` make;
+    and those that `enum` and `#define` make, which are no objects. A macro of a header is none of them."""
+    before = re.split(rf"{TYPE}\s+main\s*\(", re.sub(r"^#.*", "", preprocessed, flags=re.MULTILINE))[0]
+    standing = set(DEFINITION.findall(preprocessed))
+    names, no_objects = [], [it for it in dict.fromkeys(DEFINITION.findall(code_of(text))) if it in standing]
     for piece in before.split(";"):
         if it := DECLARATION.fullmatch(piece):
             names += named(it[1])
         elif it := ENUMERATION.fullmatch(piece):
-            counted += named(it[1])
-    return names, counted
+            no_objects += named(it[1])
+    return names, no_objects
 
 
 @dataclass(frozen=True)
@@ -119,16 +121,18 @@ class Clang:
             raise NotCompiled(ran.stderr.decode(errors="replace"))
         return ran.stdout.decode(errors="replace")
 
-    def compiled(self, name: str, text: str, macros: dict[str, int], constraints: list[str], mode: str) -> Program:
-        """A program of a text with these macros, in which each constraint of its model must be true. What a file need not include, and
-        famlint knows, is included before it."""
+    def compiled(self, name: str, text: str, macros: dict[str, int], features: list[str], constraints: list[str], mode: str) -> Program:
+        """A program of a text with these macros, in which each constraint of its model must be true, and which tells the values of these
+        features too. What a file need not include, and famlint knows, is included before it."""
         (self.folder / f"{name}.c").write_text(text)
         given = ["-w", "-std=c11", *(f"-D{macro}={value}" for macro, value in macros.items())]
         for header, word in (("assert.h", "assert"), ("stdint.h", "int32_t")):
             given += ["-include", header] if re.search(rf"\b{word}\b", text) else []
-        names, counted = declared(self.called(*given, "-E", "-P", f"{name}.c"))
-        objects = "".join(f"static const int check_runs_{it} = {it};\n" for it in counted)
-        listed = "".join(f'"{it}", ' for it in names + counted), "".join(f"&{it}, " for it in [*names, *(f"check_runs_{it}" for it in counted)])
+        names, no_objects = declared(text, self.called(*given, "-E", "-P", "-dD", f"{name}.c"))
+        no_objects += features
+        objects = "".join(f"static const int check_runs_{it} = {it};\n" for it in no_objects)
+        places = [*names, *(f"check_runs_{it}" for it in no_objects)]
+        listed = "".join(f'"{it}", ' for it in names + no_objects), "".join(f"&{it}, " for it in places)
         wrong = "".join(f'#if !({it})\n#error "a constraint is false"\n#endif\n' for it in constraints)
         (self.folder / f"{name}-{mode}.c").write_text(
             f'{wrong}#include "{name}.c"\n{objects}'

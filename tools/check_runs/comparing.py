@@ -93,8 +93,11 @@ class Comparison:
                 counts: Counts) -> list[str]:
         """A line for each disagreement about one variant, compiled from the file itself and from what `project` prints of it."""
         settings = family.settings(values)
+        features = family.valued()
+        # (what `project` prints has no conditions, but still the features of the code)
+        defined = {name: values[name] for name in features}
         projected = self.famlint.project(*paths, settings)
-        texts = {"file": (family.file, family.macros(values), family.constraints()), "project": (projected, {}, [])}
+        texts = {"file": (family.file, family.macros(values), family.constraints()), "project": (projected, defined, [])}
         inputs = [[], *(inputs_of(rng, MOST_INPUTS) for _ in range(self.runs - 1))]
         wrong = []
         for mode in MODES:
@@ -105,7 +108,7 @@ class Comparison:
             for role, (text, macros, constraints) in texts.items():
                 of = f"{family.name}, {' '.join(settings) or 'no setting'}, {mode}, {role}"
                 try:
-                    program = self.clang.compiled(f"{name}-{role}", text, macros, constraints, mode)
+                    program = self.clang.compiled(f"{name}-{role}", text, macros, features, constraints, mode)
                 except NotCompiled as fault:
                     wrong.append(f"{of}: clang refuses it: {fault}")
                     continue

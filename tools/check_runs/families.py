@@ -4,13 +4,18 @@ from __future__ import annotations
 import itertools
 import json
 import random
+import re
 from collections.abc import Iterator
 from dataclasses import dataclass
 from pathlib import Path
 
+from .outcomes import code_of
+
 NO_FEATURES = '{"features": []}\n'
 
 Configuration = dict[str, int]
+
+DIRECTIVE = re.compile(r"^[ \t]*#[^\n]*", re.MULTILINE)
 
 
 @dataclass(frozen=True)
@@ -30,6 +35,11 @@ class Family:
 
     def constraints(self) -> list[str]:
         return json.loads(self.model).get("constraints", [])
+
+    def valued(self) -> list[str]:
+        """The number features that stand in the code, in whatever group: each is a constant of every variant."""
+        words = set(re.findall(r"\w+", DIRECTIVE.sub("", code_of(self.file))))
+        return [name for name in self.ranges() if name in words and name not in self.switches()]
 
     def settings(self, values: Configuration) -> list[str]:
         """The words of a configuration. A switch that is off has none."""

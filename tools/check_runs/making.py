@@ -1,5 +1,5 @@
-"""Makes families at random, by a seed, within the C that famlint reads: groups, loops, assertions and the short forms of assignments, in
-which overflows, zero divisors and failed assertions do occur."""
+"""Makes families at random, by a seed, within the C that famlint reads: groups, loops, assertions, the short forms of assignments,
+constants, and number features as values, in which overflows, zero divisors and failed assertions do occur."""
 from __future__ import annotations
 
 import json
@@ -14,6 +14,8 @@ SWITCHES = ("FAST", "SAFE", "LOG")
 CONSTANTS = ("BASE", "STEP", "TOP", "LAST")
 NAMES = ("level", "count", "load", "rate", "head", "limit", "phase", "gain")
 TYPES = ("int", "int", "int", "int", "signed", "signed int", "int signed", "int32_t")
+# The least values of number features: mostly about 0, so that divisors by them may be 0, and the ends of what a model takes.
+LOWS = (-2, -2, 0, 0, 1, 1, -7, 1048560, -1048576)
 DEPTH = 3
 
 
@@ -27,30 +29,37 @@ def laid_out(lines: Iterable[str]) -> Iterator[str]:
 
 
 class Maker:
-    """A family in the making. `free` are the variables that every configuration declares, `some` those of one switch each, and `constants`
-    what every configuration declares by `const` or `enum`."""
+    """A family in the making. `free` are the variables that every configuration declares, `some` those of one switch each, `constants`
+    what every configuration declares by `const`, `enum` or `#define`, with the number features that stand in the code, and `other` the
+    constants of one switch each."""
 
     def __init__(self, rng: random.Random):
         self.rng = rng
         self.switches = list(SWITCHES[:rng.randint(1, len(SWITCHES))])
-        low = rng.choice((-2, 0, 1))
-        self.number = {"name": "SIZE", "min": low, "max": low + rng.randint(1, 12)} if rng.random() < 0.6 else None
+        self.numbers = [self.number(name, most) for name, most, share in (("SIZE", 12, 0.7), ("WIDTH", 3, 0.3)) if rng.random() < share]
         self.counters: list[str] = []
         self.free: list[str] = []
         self.some: dict[str, str] = {}
         self.constants: list[str] = []
+        self.other: dict[str, str] = {}
         self.declarations: list[str] = []
         self.declare()
 
     # ---- the model
 
+    def number(self, name: str, most: int) -> dict[str, str | int]:
+        """A number feature with so many values above its least at most."""
+        low = self.rng.choice(LOWS)
+        return {"name": name, "min": low, "max": low + self.rng.randint(1, most)}
+
     def model(self) -> str:
-        features = [{"name": name} for name in self.switches] + ([self.number] if self.number else [])
+        features = [{"name": name} for name in self.switches] + self.numbers
         constraints = []
         if len(self.switches) > 1 and self.rng.random() < 0.4:
             constraints.append(self.rng.choice(("!FAST || !SAFE", "SAFE || FAST", "!SAFE || defined(FAST)")))
-        if self.number and self.rng.random() < 0.4:
-            constraints.append(f"!FAST || SIZE <= {self.number['max'] - 1}")
+        if self.numbers and self.rng.random() < 0.4:
+            number = self.rng.choice(self.numbers)
+            constraints.append(f"!FAST || {number['name']} <= {number['max'] - 1}")
         return json.dumps({"features": features, "constraints": constraints}) + "\n"
 
     def condition(self) -> str:
@@ -60,10 +69,11 @@ class Maker:
         for _ in range(rng.choice((1, 1, 2, 3))):
             name = rng.choice(self.switches)
             forms = [name, f"!{name}", f"defined({name})", f"!defined {name}", f"{name} == {rng.randint(0, 1)}"]
-            if self.number:
-                size = rng.randint(self.number["min"] - 1, self.number["max"] + 1)
-                forms += [f"SIZE {rng.choice(COMPARING)} {size}", f"2 * SIZE - {name} >= {size}", f"({size} <= SIZE + 3 * {name})", "SIZE",
-                          f"SIZE {rng.choice(COMPARING)} {rng.choice(('0x9', '0XbL', '07ll', '3l', '011'))}"]
+            if self.numbers:
+                number = rng.choice(self.numbers)
+                size, bound = number["name"], rng.randint(number["min"] - 1, number["max"] + 1)
+                forms += [f"{size} {rng.choice(COMPARING)} {bound}", f"2 * {size} - {name} >= {bound}", f"({bound} <= {size} + 3 * {name})",
+                          size, f"{size} {rng.choice(COMPARING)} {rng.choice(('0x9', '0XbL', '07ll', '3l', '011'))}"]
             literals.append(rng.choice(forms))
         text = literals[0]
         for it in literals[1:]:
@@ -91,14 +101,50 @@ class Maker:
     def declared(self, name: str) -> str:
         return f"{self.rng.choice(('', '', 'static '))}{self.rng.choice(TYPES)} {name}{self.start()};"
 
-    def fixed(self, names: list[str]) -> str:
-        """A declaration of constants."""
+    def defined(self, name: str) -> str:
+        """A constant by `#define`."""
         rng = self.rng
-        if rng.random() < 0.5:
+        small = (str(rng.randint(0, 9)), f"-{rng.randint(1, 9)}", f"- {rng.randint(1, 9)}", "0x10", "-017", "'a'")
+        value = rng.choice(small if rng.random() < 0.9 else ("2147483647", "-2147483647", "65536"))
+        form = rng.choice(("{}", "{}", "({})", "( {} )"))
+        word = rng.choice(("#define", "#define", "# define", "#define\t"))
+        return f"{word} {name} {form.format(value)}{rng.choice(('', '', ' ', ' /* a note */', ' // a note; and more'))}"
+
+    def fixed(self, names: list[str]) -> list[str]:
+        """Declarations of constants, or of variables that nothing changes."""
+        rng = self.rng
+        kind = rng.choices(("define", "const", "enum", "variable"), (5, 2, 2, 1))[0]
+        if kind == "define":
+            return [self.defined(name) for name in names]
+        if kind == "variable":
+            return [self.declared(name) for name in names]
+        if kind == "const":
             word = rng.choice(("const int", "int const", "static const int32_t", "const signed"))
-            return f"{word} {', '.join(f'{name} = {rng.randint(-9, 9)}' for name in names)};"
+            return [f"{word} {', '.join(f'{name} = {rng.randint(-9, 9)}' for name in names)};"]
         listed = ", ".join(name + rng.choice(("", "", f" = {rng.randint(-9, 9)}", " = 0x10", " = 'a'")) for name in names)
-        return f"enum {{ {listed}{rng.choice(('', ','))} }};"
+        return [f"enum {{ {listed}{rng.choice(('', ','))} }};"]
+
+    def parts(self, names: list[str]) -> list[str]:
+        """A group whose parts declare constants, each all of them."""
+        lines = [f"#if {self.condition()}", *self.fixed(names)]
+        while self.rng.random() < 0.25:
+            lines += [f"#elif {self.condition()}", *self.fixed(names)]
+        return [*lines, "#else", *(self.parts(names) if self.rng.random() < 0.2 else self.fixed(names)), "#endif"]
+
+    def declare_constants(self) -> None:
+        rng = self.rng
+        names = rng.sample(CONSTANTS, rng.randint(1, len(CONSTANTS)))
+        if len(names) > 1 and rng.random() < 0.3:
+            name, switch = names.pop(), rng.choice(self.switches)
+            self.other[name] = switch
+            self.declarations += [f"#ifdef {switch}", *self.fixed([name]), "#endif"]
+        self.constants += names
+        if rng.random() < 0.3:
+            # (a name without a definition above is unknown, as in C)
+            guarded = names.pop()
+            self.declarations += [f"#ifndef {guarded}", self.defined(guarded), "#endif"]
+        if names:
+            self.declarations += self.parts(names) if rng.random() < 0.6 else self.fixed(names)
 
     def declare(self) -> None:
         rng = self.rng
@@ -116,10 +162,9 @@ class Maker:
         else:
             self.declarations += [self.declared(name) for name in names]
         self.free += names
-        if rng.random() < 0.6:
-            self.constants = rng.sample(CONSTANTS, rng.randint(1, len(CONSTANTS)))
-            other = [f"#if {self.condition()}", self.fixed(self.constants), "#else", self.fixed(self.constants), "#endif"]
-            self.declarations += rng.choice(([self.fixed(self.constants)], other))
+        if rng.random() < 0.7:
+            self.declare_constants()
+        self.constants += [it["name"] for it in self.numbers if rng.random() < 0.8]
         self.counters = ["i", "j"]
         self.declarations.append("static int i, j;")
         if rng.random() < 0.4:
@@ -155,7 +200,10 @@ class Maker:
         if not self.counters:
             return [self.simple(scope)]
         counter = self.counters.pop()
-        lines = [f"{counter} = 0;", f"while ({counter} < {rng.randint(1, 12)}) {{", f"{counter}++;", *self.statements(scope, depth - 1), "}"]
+        # (a feature of great values would leave out most runs for their length)
+        great = [it["name"] for it in self.numbers if it["min"] > 100]
+        bound = rng.choice((*(it for it in self.constants if it not in great), *[str(rng.randint(1, 12))] * 4))
+        lines = [f"{counter} = 0;", f"while ({counter} < {bound}) {{", f"{counter}++;", *self.statements(scope, depth - 1), "}"]
         self.counters.append(counter)
         return lines
 
@@ -176,6 +224,12 @@ class Maker:
         if self.some and self.rng.random() < 0.5:
             (name, switch), = self.some.items()
             return [f"#ifdef {switch}", *self.statements([*scope, name], depth - 1), "#endif"]
+        if self.other and self.rng.random() < 0.5:
+            (name, switch), = self.other.items()
+            self.constants.append(name)
+            lines = [f"#ifdef {switch}", *self.statements(scope, depth - 1), "#endif"]
+            self.constants.pop()
+            return lines
         return self.section(lambda: self.statements(scope, depth - 1))
 
     def statements(self, scope: list[str], depth: int) -> list[str]:

@@ -94,13 +94,24 @@ def stands_in(text: str, statement: Outcome, operator: Outcome) -> bool:
     return not is_headed or between.count("(") > between.count(")")
 
 
+def closing_line(text: str, statement: Outcome) -> int:
+    """The line of the parenthesis that closes the first one behind the place of a statement; 0 where there is none."""
+    code, depth = code_of(text), 0
+    for at in range(offset(code, statement.line, statement.column), len(code)):
+        depth += (code[at] == "(") - (code[at] == ")")
+        if code[at] == ")" and not depth:
+            return code.count("\n", 0, at) + 1
+    return 0
+
+
 def is_same(text: str, famlint: Outcome, clang: Outcome) -> bool:
-    """Whether both tell of one run of this text. Of an assertion clang tells the line alone, and where a run waits no place."""
+    """Whether both tell of one run of this text. Of an assertion clang tells the line alone in which it ends, and where a run waits no
+    place."""
     if famlint.how != clang.how or famlint.how == OTHER:
         return False
     if famlint.how != STOPPED:
-        # (famlint tells all variables of the family: one that this variant does not declare stays 0)
+        # (famlint tells all names of the family: a variable or constant that this variant does not declare stays 0)
         return all(famlint.values.get(name, 0) == clang.values.get(name, 0) for name in {*famlint.values, *clang.values})
     if famlint.kind != clang.kind:
         return False
-    return famlint.line == clang.line if famlint.kind == ASSERTION else stands_in(text, famlint, clang)
+    return closing_line(text, famlint) == clang.line if famlint.kind == ASSERTION else stands_in(text, famlint, clang)

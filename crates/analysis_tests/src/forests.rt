@@ -36,7 +36,7 @@ fn formula_tree_again(alloc: Global) -> Result<Tree<bool>, NoMemory>
 #[tactic(auto, using(decision_tree::proofs::Numbers::keeps_same, decision_tree::proofs::Numbers::keeps_both))]
 fn leaf_again(forest: &mut Forest<u32>, value: u32) -> Result<Tree<u32>, NoMemory>
     ensures same { IfOk result (λ t. plain t ≡ leaf value) }
-    ensures tree { IfOk result (λ t. IsTreeIn 0 64 forest.new (numbered t)) }
+    ensures tree { IfOk result (λ t. IsTreeIn 0 320 forest.new (numbered t)) }
     ensures keeps { Keeps forest.old forest.new }
 {
     match forest.leaf(value) {
@@ -53,10 +53,10 @@ fn node_again(
     no: &Tree<u32>,
     yes: &Tree<u32>,
 ) -> Result<Tree<u32>, NoMemory>
-    requires small { test < 64 }
-    requires no { IsTreeIn (test + 1) 64 forest.old (numbered no.now) }
-    requires yes { IsTreeIn (test + 1) 64 forest.old (numbered yes.now) }
-    ensures tree { IfOk result (λ t. IsTreeIn test 64 forest.new (numbered t)) }
+    requires small { test < 320 }
+    requires no { IsTreeIn (test + 1) 320 forest.old (numbered no.now) }
+    requires yes { IsTreeIn (test + 1) 320 forest.old (numbered yes.now) }
+    ensures tree { IfOk result (λ t. IsTreeIn test 320 forest.new (numbered t)) }
     ensures keeps { Keeps forest.old forest.new }
 {
     match forest.node(test, no, yes) {

@@ -108,8 +108,8 @@ fn atoms(alloc: Global) -> Result<[Atom; 4], Fail>
 fn all_of(forest: &mut Forest<bool>, from: u32, to: u32, turned: bool) -> Result<Tree<bool>, Fail>
     requires { to < 4 }
     ensures below { IfOk result (λ t. TestsBelow 4 (plain t)) }
-    ensures tree { IfOk result (λ t. IsTreeIn from 64 forest.new (numbered t)) }
-    ensures numbers { IfOk result (λ t. IsNumberedTree 0 64 (numbered t)) }
+    ensures tree { IfOk result (λ t. IsTreeIn from 320 forest.new (numbered t)) }
+    ensures numbers { IfOk result (λ t. IsNumberedTree 0 320 (numbered t)) }
     ensures keeps { Keeps forest.old forest.new }
 {
     if from > to {
@@ -123,7 +123,7 @@ fn all_of(forest: &mut Forest<bool>, from: u32, to: u32, turned: bool) -> Result
 /// The advice for `A=0 B=0 C=0 N=5` where one of the trees is an alarm, as a text.
 fn advises(rt: &impl Abort, alloc: Global, trees: &[Tree<bool>], text: &[u8]) -> Result<(), Fail>
     requires tests { All (λ (t : Tree Bool). TestsBelow 4 (plain t)) trees.now }
-    requires numbered { All (λ (t : Tree Bool). IsNumberedTree 0 64 (numbered t)) trees.now }
+    requires numbered { All (λ (t : Tree Bool). IsNumberedTree 0 320 (numbered t)) trees.now }
 {
     let model = model(alloc)?;
     let atoms = atoms(alloc)?;

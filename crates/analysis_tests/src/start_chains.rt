@@ -96,9 +96,9 @@ fn chain_family(alloc: Global, count: u32) -> Result<Program, NoMemory>
 
 /// The tests, each a condition.
 fn conditions(alloc: Global, count: u32) -> Result<Vec<Formula>, NoMemory>
-    requires { count ≤ 64 }
+    requires { count ≤ 320 }
     ensures count { IfOk result (λ made. length made.items ≡ count) }
-    ensures below { IfOk result (λ made. All (λ c. IsBelow 64 (formula c)) made.items) }
+    ensures below { IfOk result (λ made. All (λ c. IsBelow 320 (formula c)) made.items) }
 {
     let mut list = Vec::new(alloc);
     for test in 0..count {
@@ -109,8 +109,8 @@ fn conditions(alloc: Global, count: u32) -> Result<Vec<Formula>, NoMemory>
 
 /// Each test is true only where the one before it is.
 fn falling(alloc: Global, count: u32) -> Result<Formula, NoMemory>
-    requires { count ≤ 64 }
-    ensures { IfOk result (λ made. IsBelow 64 (formula made)) }
+    requires { count ≤ 320 }
+    ensures { IfOk result (λ made. IsBelow 320 (formula made)) }
 {
     let mut made = Formula::Const(true);
     for test in 1..count {

@@ -88,10 +88,10 @@ fn greater_in<L: Ord + Copy + Hash + Drop, K: Ledger>(
     u: &Tree<L>,
     steps: &mut Steps<K>,
 ) -> Result<Tree<L>, NoMemory>
-    requires t { IsNumberedTree 0 64 (numbered t.now) }
-    requires u { IsNumberedTree 0 64 (numbered u.now) }
+    requires t { IsNumberedTree 0 320 (numbered t.now) }
+    requires u { IsNumberedTree 0 320 (numbered u.now) }
     requires exact { IsExact L.eq }
-    ensures tree { IfOk result (λ r. IsTreeIn 0 64 forest.new (numbered r)) }
+    ensures tree { IfOk result (λ r. IsTreeIn 0 320 forest.new (numbered r)) }
 {
     unify_in(alloc, forest, &Greater, t, u, steps)
 }
@@ -123,7 +123,7 @@ fn trees_over_a_type_parameter(rt: HostRuntime) -> Result<(), Fail> {
 
 /// The formula "test 0, or not test 1".
 fn zero_or_not_one(alloc: Global) -> Result<Formula, NoMemory>
-    ensures { IfOk result (λ f. IsBelow 64 (formula f)) }
+    ensures { IfOk result (λ f. IsBelow 320 (formula f)) }
 {
     let one = Box::new(alloc, Formula::Test(1))?;
     let not_one = Box::new(alloc, Formula::Not(one))?;
@@ -161,9 +161,9 @@ fn formulas_have_their_trees(rt: HostRuntime) -> Result<(), Fail> {
 
 /// The formula that one test implies another.
 pub(crate) fn implication(alloc: Global, greater: u32, lesser: u32) -> Result<Formula, NoMemory>
-    requires greater { greater < 64 }
-    requires lesser { lesser < 64 }
-    ensures { IfOk result (λ f. IsBelow 64 (formula f)) }
+    requires greater { greater < 320 }
+    requires lesser { lesser < 320 }
+    ensures { IfOk result (λ f. IsBelow 320 (formula f)) }
 {
     let greater = Box::new(alloc, Formula::Test(greater))?;
     let without = Box::new(alloc, Formula::Not(greater))?;
@@ -174,7 +174,7 @@ pub(crate) fn implication(alloc: Global, greater: u32, lesser: u32) -> Result<Fo
 /// The formula that the tests of eight features are plausible, which have eight bounds each in a row of 64 tests: of two
 /// neighbouring tests of one feature the later, with the greater bound, implies the earlier.
 fn bounds_in_order(alloc: Global) -> Result<Formula, NoMemory>
-    ensures { IfOk result (λ f. IsBelow 64 (formula f)) }
+    ensures { IfOk result (λ f. IsBelow 320 (formula f)) }
 {
     let mut all = Formula::Const(true);
     for test in 1..64 {
@@ -197,13 +197,13 @@ fn is_plausible_tree<K: Ledger>(alloc: Global, blank: Blank) -> Result<bool, NoM
     let mut forest = Forest::new(alloc);
     let f = bounds_in_order(alloc)?;
     let tree = test_tree_in(alloc, &mut forest, &f, &mut steps)?;
-    let mut good = [false; 64];
+    let mut good = [false; 320];
     let none = *tree.leaf_at(&good);
     good[8] = true;
     good[9] = true;
     good[56] = true;
     let some = *tree.leaf_at(&good);
-    let mut bad = [true; 64];
+    let mut bad = [true; 320];
     let all = *tree.leaf_at(&bad);
     bad[63] = false;
     let most = *tree.leaf_at(&bad);
@@ -241,9 +241,9 @@ fn parity_trees(
     odd: u32,
 ) -> Result<Parity, NoMemory>
     requires order { first ≤ end }
-    requires small { end ≤ 64 }
-    ensures even { IfOk result (λ p. IsTreeIn first 64 forest.new (numbered p.even)) }
-    ensures odd { IfOk result (λ p. IsTreeIn first 64 forest.new (numbered p.odd)) }
+    requires small { end ≤ 320 }
+    ensures even { IfOk result (λ p. IsTreeIn first 320 forest.new (numbered p.even)) }
+    ensures odd { IfOk result (λ p. IsTreeIn first 320 forest.new (numbered p.odd)) }
     ensures keeps { Keeps forest.old forest.new }
 {
     if first == end {
@@ -260,8 +260,8 @@ fn parity_trees(
 /// The parity trees, once more after want of memory.
 #[tactic(auto, using(decision_tree::proofs::Numbers::keeps_both))]
 fn parity_trees_again(forest: &mut Forest<u32>, end: u32, odd: u32) -> Result<Parity, NoMemory>
-    requires small { end ≤ 64 }
-    ensures { IfOk result (λ p. IsTreeIn 0 64 forest.new (numbered p.even)) }
+    requires small { end ≤ 320 }
+    ensures { IfOk result (λ p. IsTreeIn 0 320 forest.new (numbered p.even)) }
 {
     match parity_trees(forest, 0, end, odd) {
         Ok(trees) => Ok(trees),
@@ -294,7 +294,7 @@ fn doubles<K: Ledger>(alloc: Global, blank: Blank, tests: u32) -> Result<bool, N
     requires name { blank.name ≡ K.name }
     requires parts { blank.parts ≡ K.parts }
     requires some { 0 < K.parts }
-    requires small { tests ≤ 64 }
+    requires small { tests ≤ 320 }
 {
     let mut steps = Steps::<K>::new(blank);
     let mut ones = Forest::new(alloc);

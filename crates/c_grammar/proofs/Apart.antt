@@ -1,27 +1,32 @@
--- Where group directives stand in a file: outside declarations with `const` or `enum`, and behind no name.
+-- Where group directives stand in a file: outside declarations with `const` or `enum`, not between `#define` and its name, and behind no
+-- name, `=` or `void`.
 use Rattle.std.proofs.Common.{◌≡◌, ℕ, ℤ, Bool, true, false, List, [], ◌∷◌, ◌++◌, refl, sym, subst, append_assoc}
 use Rattle.std.proofs.lemmas.List.{append-nil}
 use Rattle.fam_outer.specs.declared.faults.Place.{Place}
+use Rattle.c_tree.specs.declared.tree.Op.TheVariants.{Sub}
 use Rattle.c_tree.specs.declared.lists.Declared.{Declared}
 use Rattle.c_tree.specs.Tree.{Term, Code}
+use Rattle.c_grammar.specs.declared.constants.NameKind.{NameKind}
+use Rattle.c_grammar.specs.declared.constants.NameKind.TheVariants as kinds
 use Rattle.c_grammar.specs.declared.items.Item.{Item}
+use Rattle.c_grammar.specs.declared.items.Sign.{Sign}
 use Rattle.c_grammar.specs.declared.items.Sign.TheVariants as signs
-use Rattle.c_grammar.specs.Grammar.{at, Prefix, Positive, Negative, Inverse, prefix_sign, Expresses, number, name, group, prefix, loose, binary, Update, Sum, Difference, Product, Quotient, Remainder, update_sign, Count, Raise, Lower, count_sign, Shape, Writes, none, more, choice, ends, otherwise, elif, assign, input, update, count, prefix_count, assert, skip, block, while, if_then, if_else, Optional, absent, present, Typed, int, int32, signed, signed_int, int_signed, Qualifier, Unqualified, Constant, Counted, behind, Qualified, unqualified, const_before, const_behind, Begins, only_type, then_type, enumeration, Declarator, bare, positive, negative, counted, Ending, variables_end, constants_end, enumeration_end, comma_end, Part, Outer, Vars, Later, Declares, nothing, variables, prototype, section, last_var, next_var, end_part, else_part, elif_part, Returns, no_return, return, Gap, Empty, no_more, empty_section, empty_end, empty_else, empty_elif, Body, body, Main, main, file, is_group}
-use Rattle.c_grammar.specs.Constants.{is_constant_behind, is_joining, IsBetween, AreApart, DirectivesStandApart}
+use Rattle.c_grammar.specs.Grammar.{at, Prefix, Positive, Negative, Inverse, prefix_sign, Expresses, number, name, group, prefix, loose, binary, Update, Sum, Difference, Product, Quotient, Remainder, update_sign, Count, Raise, Lower, count_sign, Shape, Writes, none, more, choice, ends, otherwise, elif, assign, Callable, of_input, of_function, input, call, void_call, update, count, prefix_count, assert, skip, block, while, if_then, if_else, Optional, absent, present, Typed, int, int32, signed, signed_int, int_signed, Qualifier, Unqualified, Constant, Counted, behind, Qualified, unqualified, const_before, const_behind, Begins, only_type, then_type, enumeration, Declarator, bare, positive, negative, counted, Ending, variables_end, constants_end, enumeration_end, comma_end, Defines, defined, negative_defined, enclosed, negative_enclosed, Part, Outer, Vars, Later, Declares, nothing, variables, prototype, void_prototype, definition, section, last_var, next_var, end_part, else_part, elif_part, Returns, no_return, return, Gap, Empty, no_more, empty_section, empty_end, empty_else, empty_elif, Body, body, Main, main, file, is_group}
+use Rattle.c_grammar.specs.Constants.{kind_behind_name, kind_behind, is_joining, IsBetween, AreApart, DirectivesStandApart}
 
 -- text in front of which directives may stand: where what follows it is apart, the whole is
 abbrev Leaves : List Item → Type 0
-Leaves ts = (w : List Item) → AreApart false false w → AreApart false false (ts ++ w)
+Leaves ts = (w : List Item) → AreApart kinds.Variable false w → AreApart kinds.Variable false (ts ++ w)
 
 -- an expression, before a token that is no directive
 abbrev Runs : List Item → Type 0
-Runs ts = (joined : Bool) (x : Item) (w : List Item) → is_group x.sign ≡ false → ((before : Bool) → AreApart false before (x ∷ w)) → AreApart false joined (ts ++ x ∷ w)
+Runs ts = (joined : Bool) (x : Item) (w : List Item) → is_group x.sign ≡ false → ((before : Bool) → AreApart kinds.Variable before (x ∷ w)) → AreApart kinds.Variable joined (ts ++ x ∷ w)
 
 -- a token that is no directive is apart whatever stands before it
-free : (x : Item) (w : List Item) (constant joined : Bool) → is_group x.sign ≡ false → AreApart (is_constant_behind constant x.sign) (is_joining x.sign) w → AreApart constant joined (x ∷ w)
-free x w constant joined g h = (subst (λ (b : Bool). IsBetween b constant joined) (sym g) tt, h)
+free : (x : Item) (w : List Item) (kind : NameKind) (joined : Bool) → is_group x.sign ≡ false → AreApart (kind_behind kind x.sign) (is_joining x.sign) w → AreApart kind joined (x ∷ w)
+free x w kind joined g h = (subst (λ (b : Bool). IsBetween b kind joined) (sym g) tt, h)
 
-prefix_apart : (u : Prefix) (p : Place) (joined : Bool) (w : List Item) → AreApart false false w → AreApart false joined (at p (prefix_sign u) ∷ w)
+prefix_apart : (u : Prefix) (p : Place) (joined : Bool) (w : List Item) → AreApart kinds.Variable false w → AreApart kinds.Variable joined (at p (prefix_sign u) ∷ w)
 prefix_apart Positive p joined w h = (tt, h)
 prefix_apart Negative p joined w h = (tt, h)
 prefix_apart Inverse p joined w h = (tt, h)
@@ -29,32 +34,36 @@ prefix_apart Inverse p joined w h = (tt, h)
 expr_runs : {k : ℕ} {ts : List Item} {e : Term} → Expresses k ts e → Runs ts
 expr_runs (number p n) = λ joined x w g h. (tt, h false)
 expr_runs (name p v) = λ joined x w g h. (tt, h true)
-expr_runs (group p q {ts} s) = λ joined x w g h. (tt, subst (AreApart false false) (sym (append_assoc ts (at q signs.Close ∷ []) (x ∷ w))) (expr_runs s false (at q signs.Close) (x ∷ w) refl (λ b. (tt, h false))))
+expr_runs (group p q {ts} s) = λ joined x w g h. (tt, subst (AreApart kinds.Variable false) (sym (append_assoc ts (at q signs.Close ∷ []) (x ∷ w))) (expr_runs s false (at q signs.Close) (x ∷ w) refl (λ b. (tt, h false))))
 expr_runs (prefix p u {ts} s) = λ joined x w g h. prefix_apart u p joined (ts ++ x ∷ w) (expr_runs s false x w g h)
 expr_runs (loose s) = expr_runs s
-expr_runs (binary p op {ts} {us} s t) = λ joined x w g h. subst (AreApart false joined) (sym (append_assoc ts (at p (signs.Oper op) ∷ us) (x ∷ w))) (expr_runs s joined (at p (signs.Oper op)) (us ++ x ∷ w) refl (λ b. (tt, expr_runs t false x w g h)))
+expr_runs (binary p op {ts} {us} s t) = λ joined x w g h. subst (AreApart kinds.Variable joined) (sym (append_assoc ts (at p (signs.Oper op) ∷ us) (x ∷ w))) (expr_runs s joined (at p (signs.Oper op)) (us ++ x ∷ w) refl (λ b. (tt, expr_runs t false x w g h)))
 
 -- an expression and the token behind it
-closed : {ts : List Item} {e : Term} (s : Expresses 6 ts e) (x : Item) (us w : List Item) → is_group x.sign ≡ false → ((before : Bool) → AreApart false before (x ∷ (us ++ w))) → AreApart false false ((ts ++ x ∷ us) ++ w)
-closed {ts} s x us w g h = subst (AreApart false false) (sym (append_assoc ts (x ∷ us) w)) (expr_runs s false x (us ++ w) g h)
+closed : {ts : List Item} {e : Term} (joined : Bool) (s : Expresses 6 ts e) (x : Item) (us w : List Item) → is_group x.sign ≡ false → ((before : Bool) → AreApart kinds.Variable before (x ∷ (us ++ w))) → AreApart kinds.Variable joined ((ts ++ x ∷ us) ++ w)
+closed {ts} joined s x us w g h = subst (AreApart kinds.Variable joined) (sym (append_assoc ts (x ∷ us) w)) (expr_runs s joined x (us ++ w) g h)
 
-update_apart : (u : Update) (q : Place) (w : List Item) → AreApart false false w → AreApart false true (at q (update_sign u) ∷ w)
+update_apart : (u : Update) (q : Place) (w : List Item) → AreApart kinds.Variable false w → AreApart kinds.Variable true (at q (update_sign u) ∷ w)
 update_apart Sum q w h = (tt, h)
 update_apart Difference q w h = (tt, h)
 update_apart Product q w h = (tt, h)
 update_apart Quotient q w h = (tt, h)
 update_apart Remainder q w h = (tt, h)
 
-count_apart : (u : Count) (q r : Place) (joined : Bool) (w : List Item) → AreApart false false w → AreApart false joined (at q (count_sign u) ∷ at r signs.Semicolon ∷ w)
+count_apart : (u : Count) (q r : Place) (joined : Bool) (w : List Item) → AreApart kinds.Variable false w → AreApart kinds.Variable joined (at q (count_sign u) ∷ at r signs.Semicolon ∷ w)
 count_apart Raise q r joined w h = (tt, (tt, h))
 count_apart Lower q r joined w h = (tt, (tt, h))
 
-prefix_count_apart : (u : Count) (p q r : Place) (x : ℕ) (w : List Item) → AreApart false false w → AreApart false false (at p (count_sign u) ∷ at q (signs.Name x) ∷ at r signs.Semicolon ∷ w)
+prefix_count_apart : (u : Count) (p q r : Place) (x : ℕ) (w : List Item) → AreApart kinds.Variable false w → AreApart kinds.Variable false (at p (count_sign u) ∷ at q (signs.Name x) ∷ at r signs.Semicolon ∷ w)
 prefix_count_apart Raise p q r x w h = (tt, (tt, (tt, h)))
 prefix_count_apart Lower p q r x w h = (tt, (tt, (tt, h)))
 
+function_apart : {f : Sign} (p : Place) (joined : Bool) (w : List Item) → Callable f → AreApart kinds.Variable false w → AreApart kinds.Variable joined (at p f ∷ w)
+function_apart p joined w of_input h = (tt, h)
+function_apart p joined w (of_function k) h = (tt, h)
+
 both : (ts us : List Item) → Leaves ts → Leaves us → Leaves (ts ++ us)
-both ts us a b w h = subst (AreApart false false) (sym (append_assoc ts us w)) (a (us ++ w) (b w h))
+both ts us a b w h = subst (AreApart kinds.Variable false) (sym (append_assoc ts us w)) (a (us ++ w) (b w h))
 
 -- ---- statements
 
@@ -65,89 +74,118 @@ code_apart (choice p n {ts} {us} {vs} s t l) = λ w h. ((refl, refl), both ts (u
 code_apart (ends p) = λ w h. ((refl, refl), h)
 code_apart (otherwise p q {ts} s) = λ w h. ((refl, refl), both ts (at q signs.GroupEnd ∷ []) (code_apart s) (λ v i. ((refl, refl), i)) w h)
 code_apart (elif p n {ts} {us} s t) = λ w h. ((refl, refl), both ts us (code_apart s) (code_apart t) w h)
-code_apart (assign p q r x {ts} e) = λ w h. (tt, (tt, closed e (at r signs.Semicolon) [] w refl (λ b. (tt, h))))
-code_apart (input p q r s t u x) = λ w h. (tt, (tt, (tt, (tt, (tt, (tt, h))))))
-code_apart (update p q r x u {ts} e) = λ w h. (tt, update_apart u q ((ts ++ at r signs.Semicolon ∷ []) ++ w) (closed e (at r signs.Semicolon) [] w refl (λ b. (tt, h))))
+code_apart (assign p q r x {ts} e) = λ w h. (tt, (tt, closed true e (at r signs.Semicolon) [] w refl (λ b. (tt, h))))
+code_apart (input p q r s t u x g) = λ w h. (tt, (tt, function_apart r true (at s signs.Open ∷ at t signs.Close ∷ at u signs.Semicolon ∷ w) g (tt, (tt, (tt, h)))))
+code_apart (call p q r s g) = λ w h. function_apart p false (at q signs.Open ∷ at r signs.Close ∷ at s signs.Semicolon ∷ w) g (tt, (tt, (tt, h)))
+code_apart (void_call p q r s t u v g) = λ w h. (tt, (tt, (tt, function_apart s false (at t signs.Open ∷ at u signs.Close ∷ at v signs.Semicolon ∷ w) g (tt, (tt, (tt, h))))))
+code_apart (update p q r x u {ts} e) = λ w h. (tt, update_apart u q ((ts ++ at r signs.Semicolon ∷ []) ++ w) (closed false e (at r signs.Semicolon) [] w refl (λ b. (tt, h))))
 code_apart (count p q r x u) = λ w h. (tt, count_apart u q r true w h)
 code_apart (prefix_count p q r x u) = λ w h. prefix_count_apart u p q r x w h
-code_apart (assert p q r s {ts} e) = λ w h. (tt, (tt, closed e (at r signs.Close) (at s signs.Semicolon ∷ []) w refl (λ b. (tt, (tt, h)))))
+code_apart (assert p q r s {ts} e) = λ w h. (tt, (tt, closed false e (at r signs.Close) (at s signs.Semicolon ∷ []) w refl (λ b. (tt, (tt, h)))))
 code_apart (skip p) = λ w h. (tt, h)
 code_apart (block p q {ts} s) = λ w h. (tt, both ts (at q signs.RightBrace ∷ []) (code_apart s) (λ v i. (tt, i)) w h)
-code_apart (while p q r {b} {ts} {us} e s) = λ w h. (tt, (tt, closed e (at r signs.Close) us w refl (λ b. (tt, code_apart s w h))))
-code_apart (if_then p q r {b} {ts} {us} e s) = λ w h. (tt, (tt, closed e (at r signs.Close) us w refl (λ b. (tt, code_apart s w h))))
+code_apart (while p q r {b} {ts} {us} e s) = λ w h. (tt, (tt, closed false e (at r signs.Close) us w refl (λ b. (tt, code_apart s w h))))
+code_apart (if_then p q r {b} {ts} {us} e s) = λ w h. (tt, (tt, closed false e (at r signs.Close) us w refl (λ b. (tt, code_apart s w h))))
 code_apart (if_else p q r z {b} {ts} {us} {vs} e s t) = λ w h.
-    (tt, (tt, closed e (at r signs.Close) (us ++ at z signs.Else ∷ vs) w refl (λ b. (tt, both us (at z signs.Else ∷ vs) (code_apart s) (λ v i. (tt, code_apart t v i)) w h))))
+    (tt, (tt, closed false e (at r signs.Close) (us ++ at z signs.Else ∷ vs) w refl (λ b. (tt, both us (at z signs.Else ∷ vs) (code_apart s) (λ v i. (tt, code_apart t v i)) w h))))
 
 -- ---- declarations
 
-type_apart : {us : List Item} (constant : Bool) → Typed us → (w : List Item) → AreApart constant false w → AreApart constant false (us ++ w)
-type_apart constant (int p) w h = (tt, h)
-type_apart constant (int32 p) w h = (tt, h)
-type_apart constant (signed p) w h = (tt, h)
-type_apart constant (signed_int p q) w h = (tt, (tt, h))
-type_apart constant (int_signed p q) w h = (tt, (tt, h))
+type_apart : {us : List Item} (kind : NameKind) → Typed us → (w : List Item) → AreApart kind false w → AreApart kind false (us ++ w)
+type_apart kind (int p) w h = (tt, h)
+type_apart kind (int32 p) w h = (tt, h)
+type_apart kind (signed p) w h = (tt, h)
+type_apart kind (signed_int p q) w h = (tt, (tt, h))
+type_apart kind (int_signed p q) w h = (tt, (tt, h))
 
--- constants are declared
-abbrev is_constant : Qualifier → Bool
-is_constant Unqualified = false
-is_constant Constant = true
-is_constant (Counted last) = true
+-- what the names of declarators are
+abbrev names_of : Qualifier → NameKind
+names_of Unqualified = kinds.Variable
+names_of Constant = kinds.Constant
+names_of (Counted last) = kinds.Constant
 
-constant_behind : (kind : Qualifier) (n : ℤ) → is_constant (behind kind n) ≡ is_constant kind
-constant_behind Unqualified n = refl
-constant_behind Constant n = refl
-constant_behind (Counted last) n = refl
+names_behind : (kind : Qualifier) (n : ℤ) → names_of (behind kind n) ≡ names_of kind
+names_behind Unqualified n = refl
+names_behind Constant n = refl
+names_behind (Counted last) n = refl
 
-qualified_apart : {us : List Item} {kind : Qualifier} → Qualified kind us → (w : List Item) → AreApart (is_constant kind) false w → AreApart false false (us ++ w)
-qualified_apart (unqualified y) w h = type_apart false y w h
-qualified_apart (const_before p y) w h = (tt, type_apart true y w h)
-qualified_apart (const_behind p {us} y) w h = subst (AreApart false false) (sym (append_assoc us (at p signs.Const ∷ []) w)) (type_apart false y (at p signs.Const ∷ w) (tt, h))
+names_stay : (kind : Qualifier) → kind_behind_name (names_of kind) ≡ names_of kind
+names_stay Unqualified = refl
+names_stay Constant = refl
+names_stay (Counted last) = refl
 
-static_apart : {us : List Item} {kind : Qualifier} → Begins signs.Static kind us → (w : List Item) → AreApart (is_constant kind) false w → AreApart false false (us ++ w)
+qualified_apart : {us : List Item} {kind : Qualifier} → Qualified kind us → (w : List Item) → AreApart (names_of kind) false w → AreApart kinds.Variable false (us ++ w)
+qualified_apart (unqualified y) w h = type_apart kinds.Variable y w h
+qualified_apart (const_before p y) w h = (tt, type_apart kinds.Constant y w h)
+qualified_apart (const_behind p {us} y) w h = subst (AreApart kinds.Variable false) (sym (append_assoc us (at p signs.Const ∷ []) w)) (type_apart kinds.Variable y (at p signs.Const ∷ w) (tt, h))
+
+static_apart : {us : List Item} {kind : Qualifier} → Begins signs.Static kind us → (w : List Item) → AreApart (names_of kind) false w → AreApart kinds.Variable false (us ++ w)
 static_apart (only_type s y) w h = qualified_apart y w h
 static_apart (then_type p s y) w h = (tt, qualified_apart y w h)
 static_apart (enumeration p q s) w h = (tt, (tt, h))
 
-extern_apart : {us : List Item} {kind : Qualifier} → Begins signs.Extern kind us → (w : List Item) → AreApart (is_constant kind) false w → AreApart false false (us ++ w)
+extern_apart : {us : List Item} {kind : Qualifier} → Begins signs.Extern kind us → (w : List Item) → AreApart (names_of kind) false w → AreApart kinds.Variable false (us ++ w)
 extern_apart (only_type s y) w h = qualified_apart y w h
 extern_apart (then_type p s y) w h = (tt, qualified_apart y w h)
 extern_apart (enumeration p q s) w h = (tt, (tt, h))
 
-void_apart : {us : List Item} → Optional signs.Void us → Leaves us
-void_apart (absent s) w h = h
-void_apart (present p s) w h = (tt, h)
+-- `void` or nothing, before a token that is no directive
+void_apart : {us : List Item} → Optional signs.Void us → (w : List Item) → ((before : Bool) → AreApart kinds.Variable before w) → AreApart kinds.Variable false (us ++ w)
+void_apart (absent s) w h = h false
+void_apart (present p s) w h = (tt, h true)
+
+extern_word_apart : {us : List Item} → Optional signs.Extern us → Leaves us
+extern_word_apart (absent s) w h = h
+extern_word_apart (present p s) w h = (tt, h)
+
+-- the name of a declarator
+name_apart : (kind : Qualifier) (p : Place) (x : ℕ) (w : List Item) → AreApart (names_of kind) true w → AreApart (names_of kind) false (at p (signs.Name x) ∷ w)
+name_apart kind p x w h = (tt, subst (λ (c : NameKind). AreApart c true w) (sym (names_stay kind)) h)
 
 -- a declarator, before what follows it
-declarator_apart : {us : List Item} {x : ℕ} {n : ℤ} {kind : Qualifier} (constant : Bool) → Declarator kind us x n → (w : List Item) → ((before : Bool) → AreApart constant before w) → AreApart constant false (us ++ w)
-declarator_apart constant (bare p x) w h = (tt, h true)
-declarator_apart constant (positive p q r x n) w h = (tt, (tt, (tt, h false)))
-declarator_apart constant (negative p q r s x n) w h = (tt, (tt, (tt, (tt, h false))))
-declarator_apart constant (counted p x last lt) w h = (tt, h true)
+declarator_apart : {us : List Item} {x : ℕ} {n : ℤ} {kind : Qualifier} → Declarator kind us x n → (w : List Item) → ((before : Bool) → AreApart (names_of kind) before w) → AreApart (names_of kind) false (us ++ w)
+declarator_apart (bare p x) w h = name_apart Unqualified p x w (h true)
+declarator_apart (positive p q r x n {kind}) w h = name_apart kind p x (at q signs.Equals ∷ at r (signs.Number n) ∷ w) (tt, (tt, h false))
+declarator_apart (negative p q r s x n {kind}) w h = name_apart kind p x (at q signs.Equals ∷ at r (signs.Oper Sub) ∷ at s (signs.Number n) ∷ w) (tt, (tt, (tt, h false)))
+declarator_apart (counted p x last lt) w h = name_apart (Counted last) p x w (h true)
 
-ending_apart : {us : List Item} {kind : Qualifier} → Ending kind us → (w : List Item) → AreApart false false w → (before : Bool) → AreApart (is_constant kind) before (us ++ w)
+ending_apart : {us : List Item} {kind : Qualifier} → Ending kind us → (w : List Item) → AreApart kinds.Variable false w → (before : Bool) → AreApart (names_of kind) before (us ++ w)
 ending_apart (variables_end p) w h before = (tt, h)
 ending_apart (constants_end p) w h before = (tt, h)
 ending_apart (enumeration_end last p q) w h before = (tt, (tt, h))
 ending_apart (comma_end last p q r) w h before = (tt, (tt, (tt, h)))
 
+definition_apart : {us : List Item} {x : ℕ} {n : ℤ} → Defines us x n → Leaves us
+definition_apart (defined p q r x n) w h = (tt, (tt, (tt, h)))
+definition_apart (negative_defined p q r s x n) w h = (tt, (tt, (tt, (tt, h))))
+definition_apart (enclosed p q r s t x n) w h = (tt, (tt, (tt, (tt, (tt, h)))))
+definition_apart (negative_enclosed p q r s t u x n) w h = (tt, (tt, (tt, (tt, (tt, (tt, h))))))
+
 abbrev PartLeaves : Part → List Item → Type 0
 PartLeaves (Outer gs) ts = Leaves ts
-PartLeaves (Vars kind gs) ts = (w : List Item) → AreApart false false w → AreApart (is_constant kind) false (ts ++ w)
+PartLeaves (Vars kind gs) ts = (w : List Item) → AreApart kinds.Variable false w → AreApart (names_of kind) false (ts ++ w)
 PartLeaves (Later gs) ts = Leaves ts
 
 declared_apart : {part : Part} {ts : List Item} {ds : List Declared} → Declares part ts ds → PartLeaves part ts
 declared_apart (nothing gs) = λ w h. h
 declared_apart (variables gs {us} {vs} {ws} {kind = kind} o v d) = λ w h.
     let re : (us ++ (vs ++ ws)) ++ w ≡ us ++ (vs ++ (ws ++ w)) = simp append_assoc in
-    subst (AreApart false false) (sym re) (static_apart o (vs ++ (ws ++ w)) (declared_apart v (ws ++ w) (declared_apart d w h)))
-declared_apart (prototype q r s t gs {us} {vs} {ws} o v d) = λ w h.
-    let re : (us ++ at q signs.Input ∷ at r signs.Open ∷ (vs ++ at s signs.Close ∷ at t signs.Semicolon ∷ ws)) ++ w ≡ us ++ at q signs.Input ∷ at r signs.Open ∷ (vs ++ at s signs.Close ∷ at t signs.Semicolon ∷ (ws ++ w)) = simp append_assoc in
-    subst (AreApart false false) (sym re) (extern_apart o (at q signs.Input ∷ at r signs.Open ∷ (vs ++ at s signs.Close ∷ at t signs.Semicolon ∷ (ws ++ w))) (tt, (tt, void_apart v (at s signs.Close ∷ at t signs.Semicolon ∷ (ws ++ w)) (tt, (tt, declared_apart d w h)))))
+    subst (AreApart kinds.Variable false) (sym re) (static_apart o (vs ++ (ws ++ w)) (declared_apart v (ws ++ w) (declared_apart d w h)))
+declared_apart (prototype q r s t gs {f} {us} {vs} {ws} o g v d) = λ w h.
+    let rest : List Item = vs ++ at s signs.Close ∷ at t signs.Semicolon ∷ (ws ++ w) in
+    let re : (us ++ at q f ∷ at r signs.Open ∷ (vs ++ at s signs.Close ∷ at t signs.Semicolon ∷ ws)) ++ w ≡ us ++ at q f ∷ at r signs.Open ∷ rest = simp append_assoc in
+    subst (AreApart kinds.Variable false) (sym re) (extern_apart o (at q f ∷ at r signs.Open ∷ rest) (function_apart q false (at r signs.Open ∷ rest) g (tt, void_apart v (at s signs.Close ∷ at t signs.Semicolon ∷ (ws ++ w)) (λ b. (tt, (tt, declared_apart d w h))))))
+declared_apart (void_prototype p q r s t k gs {us} {vs} {ws} o v d) = λ w h.
+    let rest : List Item = vs ++ at s signs.Close ∷ at t signs.Semicolon ∷ (ws ++ w) in
+    let head : List Item = at p signs.Void ∷ at q (signs.Function k) ∷ at r signs.Open ∷ rest in
+    let re : (us ++ at p signs.Void ∷ at q (signs.Function k) ∷ at r signs.Open ∷ (vs ++ at s signs.Close ∷ at t signs.Semicolon ∷ ws)) ++ w ≡ us ++ head = simp append_assoc in
+    subst (AreApart kinds.Variable false) (sym re) (extern_word_apart o head (tt, (tt, (tt, void_apart v (at s signs.Close ∷ at t signs.Semicolon ∷ (ws ++ w)) (λ b. (tt, (tt, declared_apart d w h)))))))
+declared_apart (definition gs {us} {ws} o d) = both us ws (definition_apart o) (declared_apart d)
 declared_apart (section p n gs {us} {vs} {ws} a b d) = λ w h. ((refl, refl), both us (vs ++ ws) (declared_apart a) (both vs ws (declared_apart b) (declared_apart d)) w h)
 declared_apart (last_var gs {us} {vs} {x} {n} {kind} d o) = λ w h.
-    subst (AreApart (is_constant kind) false) (sym (append_assoc us vs w)) (declarator_apart (is_constant kind) d (vs ++ w) (ending_apart o w h))
+    subst (AreApart (names_of kind) false) (sym (append_assoc us vs w)) (declarator_apart d (vs ++ w) (ending_apart o w h))
 declared_apart (next_var p gs {us} {vs} {x} {n} {ds} {kind} d v) = λ w h.
-    subst (AreApart (is_constant kind) false) (sym (append_assoc us (at p signs.Comma ∷ vs) w)) (declarator_apart (is_constant kind) d (at p signs.Comma ∷ (vs ++ w)) (λ b. (tt, subst (λ (c : Bool). AreApart c false (vs ++ w)) (constant_behind kind n) (declared_apart v w h))))
+    subst (AreApart (names_of kind) false) (sym (append_assoc us (at p signs.Comma ∷ vs) w)) (declarator_apart d (at p signs.Comma ∷ (vs ++ w)) (λ b. (tt, subst (λ (c : NameKind). AreApart c false (vs ++ w)) (names_behind kind n) (declared_apart v w h))))
 declared_apart (end_part p gs) = λ w h. ((refl, refl), h)
 declared_apart (else_part p q gs {us} d) = λ w h. ((refl, refl), both us (at q signs.GroupEnd ∷ []) (declared_apart d) (λ v i. ((refl, refl), i)) w h)
 declared_apart (elif_part p n gs {us} {vs} a b) = λ w h. ((refl, refl), both us vs (declared_apart a) (declared_apart b) w h)
@@ -170,8 +208,9 @@ body_apart (body p {us} {vs} {ws} s r e) = both us (vs ++ at p signs.RightBrace 
 
 main_apart : {ts : List Item} {c : Code} {p : Place} → Main ts c p → Leaves ts
 main_apart (main q r s t u {ts} {us} {vs} y o b) =
-    both ts (at q signs.Main ∷ at r signs.Open ∷ (us ++ at s signs.Close ∷ at t signs.LeftBrace ∷ vs)) (type_apart false y)
-    (λ w h. (tt, (tt, both us (at s signs.Close ∷ at t signs.LeftBrace ∷ vs) (void_apart o) (λ v i. (tt, (tt, body_apart b v i))) w h)))
+    let rest : List Item = at s signs.Close ∷ at t signs.LeftBrace ∷ vs in
+    both ts (at q signs.Main ∷ at r signs.Open ∷ (us ++ rest)) (type_apart kinds.Variable y)
+    (λ w h. (tt, (tt, subst (AreApart kinds.Variable false) (sym (append_assoc us rest w)) (void_apart o (rest ++ w) (λ before. (tt, (tt, body_apart b w h)))))))
 
 pub directives_apart : DirectivesStandApart
-directives_apart _ _ (file {us} {vs} d m) = subst (AreApart false false) (append-nil (us ++ vs)) (both us vs (declared_apart d) (main_apart m) [] tt)
+directives_apart _ _ (file {us} {vs} d m) = subst (AreApart kinds.Variable false) (append-nil (us ++ vs)) (both us vs (declared_apart d) (main_apart m) [] tt)

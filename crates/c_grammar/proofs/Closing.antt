@@ -2,12 +2,12 @@
 use Rattle.std.proofs.Common.{◌≡◌, ℕ, ℤ, pos, neg_ℤ, suc, List, [], ◌∷◌, Ok, refl, ◌∙◌}
 use Rattle.fam_outer.specs.declared.faults.Place.{Place}
 use Rattle.c_tree.specs.declared.lists.Declared.{Declared}
-use Rattle.c_tree.specs.Tree.{Term, Var, Binary, Code, Done, Assign, Input, Assert, If, While, Block, Skip, Cond, followed}
+use Rattle.c_tree.specs.Tree.{Term, Var, Binary, Code, Done, Assign, Assert, If, While, Block, Skip, Cond, followed}
 use Rattle.c_grammar.specs.declared.items.Sign.TheVariants as signs
 use Rattle.c_grammar.specs.declared.items.Item.{Item}
 use Rattle.c_grammar.specs.Grammar.{at, tighter, applied, updated, changed_by_one, Qualifier, Unqualified, Constant, Counted, uncounted, File, file_of}
 use Rattle.c_grammar.specs.Ahead.{Loose, NoElse}
-use Rattle.c_grammar.specs.Machine.{Tailing, Another, Final, Frame, Paren, Pre, Left, Stack, Top, Braces, Yes, No, ThenOf, ElseOf, LoopOf, Use, ToAssign, ToUpdate, ToAssert, ToChoose, ToLoop, Sections, Outermost, InPart, InLast, Aim, ToPrototype, ToMain, ReadingState, Outside, AfterStatic, AfterExtern, AfterConst, AfterEnum, AfterType, NoWord, StaticWord, ExternWord, ConstWord, Declaring, Bare, Starting, Negating, Started, Listing, Enumerated, Parameters, InParameters, AfterVoid, AfterParameters, Ready, Ended, Wants, Has, Counting, Named, Opens, InputOpens, InputCloses, Finishing, Returning, Returned, Closing, Over, with_declared, linked, run}
+use Rattle.c_grammar.specs.Machine.{Tailing, Another, Final, Frame, Paren, Pre, Left, Stack, Top, Braces, Yes, No, ThenOf, ElseOf, LoopOf, Use, ToAssign, ToUpdate, ToAssert, ToChoose, ToLoop, Sections, Outermost, InPart, InLast, Aim, ToPrototype, ToMain, ReadingState, Outside, AfterStatic, AfterExtern, AfterConst, AfterEnum, AfterVoidType, AfterType, NoWord, StaticWord, ExternWord, ConstWord, Declaring, Bare, Starting, Negating, Started, Listing, Enumerated, AfterDefine, Defining, NegativeDefining, Enclosing, NegativeEnclosing, Enclosed, Parameters, InParameters, AfterVoid, AfterParameters, Ready, Ended, Wants, Has, Counting, Named, Opens, VoidComes, VoidCloses, CallComes, CallOpens, CallCloses, Finishing, Returning, Returned, Closing, Over, with_declared, linked, run}
 use Rattle.c_grammar.proofs.Complete.{pre_absorbs, left_absorbs, loop_absorbs, else_absorbs, then_absorbs}
 
 pub nowhere : Place
@@ -97,6 +97,7 @@ completes (AfterStatic secs ds) = let h = after_declarator Unqualified 0 (pos 0)
 completes (AfterExtern secs ds) = let h = after_parameters (ToPrototype secs ds) in (at nowhere signs.Int ∷ at nowhere signs.Input ∷ at nowhere signs.Open ∷ at nowhere signs.Close ∷ h.0, h.1, h.2)
 completes (AfterConst secs ds) = let h = after_declarator Constant 0 (pos 0) secs ds in (at nowhere signs.Int ∷ at nowhere (signs.Name 0) ∷ at nowhere signs.Equals ∷ at nowhere (signs.Number (pos 0)) ∷ h.0, h.1, h.2)
 completes (AfterEnum secs ds) = let h = after_declarator uncounted 0 (pos 0) secs ds in (at nowhere signs.LeftBrace ∷ at nowhere (signs.Name 0) ∷ at nowhere signs.Equals ∷ at nowhere (signs.Number (pos 0)) ∷ h.0, h.1, h.2)
+completes (AfterVoidType secs ds) = let h = after_parameters (ToPrototype secs ds) in (at nowhere (signs.Function 0) ∷ at nowhere signs.Open ∷ at nowhere signs.Close ∷ h.0, h.1, h.2)
 completes (AfterType NoWord words secs ds) = let h = after_declarator Unqualified 0 (pos 0) secs ds in (at nowhere (signs.Name 0) ∷ h.0, h.1, h.2)
 completes (AfterType StaticWord words secs ds) = let h = after_declarator Unqualified 0 (pos 0) secs ds in (at nowhere (signs.Name 0) ∷ h.0, h.1, h.2)
 completes (AfterType ExternWord words secs ds) = let h = after_parameters (ToPrototype secs ds) in (at nowhere signs.Input ∷ at nowhere signs.Open ∷ at nowhere signs.Close ∷ h.0, h.1, h.2)
@@ -108,6 +109,12 @@ completes (Negating kind x secs ds) = let h = after_declarator kind x (neg_ℤ (
 completes (Started kind x n secs ds) = after_declarator kind x n secs ds
 completes (Listing last secs ds) = let h = after_declarations secs ds in (at nowhere signs.RightBrace ∷ at nowhere signs.Semicolon ∷ h.0, h.1, h.2)
 completes (Enumerated secs ds) = let h = after_declarations secs ds in (at nowhere signs.Semicolon ∷ h.0, h.1, h.2)
+completes (AfterDefine secs ds) = let h = after_declarations secs (with_declared secs ds 0 (pos 0)) in (at nowhere (signs.Name 0) ∷ at nowhere (signs.Number (pos 0)) ∷ h.0, h.1, h.2)
+completes (Defining x secs ds) = let h = after_declarations secs (with_declared secs ds x (pos 0)) in (at nowhere (signs.Number (pos 0)) ∷ h.0, h.1, h.2)
+completes (NegativeDefining x secs ds) = let h = after_declarations secs (with_declared secs ds x (neg_ℤ (pos 0))) in (at nowhere (signs.Number (pos 0)) ∷ h.0, h.1, h.2)
+completes (Enclosing x secs ds) = let h = after_declarations secs (with_declared secs ds x (pos 0)) in (at nowhere (signs.Number (pos 0)) ∷ at nowhere signs.Close ∷ h.0, h.1, h.2)
+completes (NegativeEnclosing x secs ds) = let h = after_declarations secs (with_declared secs ds x (neg_ℤ (pos 0))) in (at nowhere (signs.Number (pos 0)) ∷ at nowhere signs.Close ∷ h.0, h.1, h.2)
+completes (Enclosed x n secs ds) = let h = after_declarations secs (with_declared secs ds x n) in (at nowhere signs.Close ∷ h.0, h.1, h.2)
 completes (Parameters aim) = let h = after_parameters aim in (at nowhere signs.Open ∷ at nowhere signs.Close ∷ h.0, h.1, h.2)
 completes (InParameters aim) = let h = after_parameters aim in (at nowhere signs.Close ∷ h.0, h.1, h.2)
 completes (AfterVoid aim) = let h = after_parameters aim in (at nowhere signs.Close ∷ h.0, h.1, h.2)
@@ -119,8 +126,11 @@ completes (Has fs u e) = let h = ends_expr fs u e in (h.tail, h.made, h.reads)
 completes (Counting p u outer) = let h = closes outer (changed_by_one p 0 u) in (at nowhere (signs.Name 0) ∷ at nowhere signs.Semicolon ∷ closers outer, h.0, h.1)
 completes (Named p x outer) = let h = closes outer (Assign p x (Var 0) Done) in (at nowhere signs.Equals ∷ at nowhere (signs.Name 0) ∷ at nowhere signs.Semicolon ∷ closers outer, h.0, h.1)
 completes (Opens u) = let h = ends_use u (Var 0) in (at nowhere signs.Open ∷ at nowhere (signs.Name 0) ∷ h.tail, h.made, h.reads)
-completes (InputOpens p x outer) = let h = closes outer (Input p x Done) in (at nowhere signs.Open ∷ at nowhere signs.Close ∷ at nowhere signs.Semicolon ∷ closers outer, h.0, h.1)
-completes (InputCloses p x outer) = let h = closes outer (Input p x Done) in (at nowhere signs.Close ∷ at nowhere signs.Semicolon ∷ closers outer, h.0, h.1)
+completes (VoidComes p outer) = let h = closes outer (Skip p Done) in (at nowhere signs.Void ∷ at nowhere signs.Close ∷ at nowhere signs.Input ∷ at nowhere signs.Open ∷ at nowhere signs.Close ∷ at nowhere signs.Semicolon ∷ closers outer, h.0, h.1)
+completes (VoidCloses p outer) = let h = closes outer (Skip p Done) in (at nowhere signs.Close ∷ at nowhere signs.Input ∷ at nowhere signs.Open ∷ at nowhere signs.Close ∷ at nowhere signs.Semicolon ∷ closers outer, h.0, h.1)
+completes (CallComes p outer) = let h = closes outer (Skip p Done) in (at nowhere signs.Input ∷ at nowhere signs.Open ∷ at nowhere signs.Close ∷ at nowhere signs.Semicolon ∷ closers outer, h.0, h.1)
+completes (CallOpens outer c) = let h = closes outer c in (at nowhere signs.Open ∷ at nowhere signs.Close ∷ at nowhere signs.Semicolon ∷ closers outer, h.0, h.1)
+completes (CallCloses outer c) = let h = closes outer c in (at nowhere signs.Close ∷ at nowhere signs.Semicolon ∷ closers outer, h.0, h.1)
 completes (Finishing outer c) = let h = closes outer c in (at nowhere signs.Semicolon ∷ closers outer, h.0, h.1)
 completes (Returning p ds made) = (at nowhere (signs.Number (pos 0)) ∷ at nowhere signs.Semicolon ∷ at nowhere signs.RightBrace ∷ [], file_of ds (followed made (Skip p Done)) nowhere, refl)
 completes (Returned ds made) = (at nowhere signs.Semicolon ∷ at nowhere signs.RightBrace ∷ [], file_of ds made nowhere, refl)

@@ -2,12 +2,12 @@
 -- operator.
 use Rattle.std.proofs.Common.{◌≡◌, ℕ, ℤ, pos, neg_ℤ, suc, ◌≤◌, List, [], ◌∷◌, Ok, refl, subst, ◌∙◌, arith}
 use Rattle.c_tree.specs.declared.lists.Declared.{Declared}
-use Rattle.c_tree.specs.Tree.{Term, Var, Binary, Code, Done, Assign, Input, Assert, If, While, Block, Skip, Cond, followed}
+use Rattle.c_tree.specs.Tree.{Term, Var, Binary, Code, Done, Assign, Assert, If, While, Block, Skip, Cond, followed}
 use Rattle.c_grammar.specs.declared.items.Sign.TheVariants as signs
 use Rattle.c_grammar.specs.declared.items.Item.{Item}
 use Rattle.c_grammar.specs.Grammar.{at, tighter, applied, updated, changed_by_one, Qualifier, Unqualified, Constant, Counted, uncounted, File, file_of}
 use Rattle.c_grammar.specs.Ahead.{Loose, NoElse}
-use Rattle.c_grammar.specs.Machine.{Tailing, Another, Final, Frame, Paren, Pre, Left, Stack, Top, Braces, Yes, No, ThenOf, ElseOf, LoopOf, Use, ToAssign, ToUpdate, ToAssert, ToChoose, ToLoop, Sections, Outermost, InPart, InLast, Aim, ToPrototype, ToMain, ReadingState, Outside, AfterStatic, AfterExtern, AfterConst, AfterEnum, AfterType, NoWord, StaticWord, ExternWord, ConstWord, Declaring, Bare, Starting, Negating, Started, Listing, Enumerated, Parameters, InParameters, AfterVoid, AfterParameters, Ready, Ended, Wants, Has, Counting, Named, Opens, InputOpens, InputCloses, Finishing, Returning, Returned, Closing, Over, with_declared, linked}
+use Rattle.c_grammar.specs.Machine.{Tailing, Another, Final, Frame, Paren, Pre, Left, Stack, Top, Braces, Yes, No, ThenOf, ElseOf, LoopOf, Use, ToAssign, ToUpdate, ToAssert, ToChoose, ToLoop, Sections, Outermost, InPart, InLast, Aim, ToPrototype, ToMain, ReadingState, Outside, AfterStatic, AfterExtern, AfterConst, AfterEnum, AfterVoidType, AfterType, NoWord, StaticWord, ExternWord, ConstWord, Declaring, Bare, Starting, Negating, Started, Listing, Enumerated, AfterDefine, Defining, NegativeDefining, Enclosing, NegativeEnclosing, Enclosed, Parameters, InParameters, AfterVoid, AfterParameters, Ready, Ended, Wants, Has, Counting, Named, Opens, VoidComes, VoidCloses, CallComes, CallOpens, CallCloses, Finishing, Returning, Returned, Closing, Over, with_declared, linked}
 use Rattle.c_grammar.specs.Deep.{guarded}
 use Rattle.c_grammar.proofs.Complete.{pre_step, left_step, loop_step, else_step, then_step}
 use Rattle.c_grammar.proofs.Closing.{nowhere, closers, closers_no_else}
@@ -103,6 +103,7 @@ goes_on_within (AfterStatic secs ds) n few = let h = after_declarator Unqualifie
 goes_on_within (AfterExtern secs ds) n few = let h = after_parameters (ToPrototype secs ds) 0 in (at nowhere signs.Int ∷ at nowhere signs.Input ∷ at nowhere signs.Open ∷ at nowhere signs.Close ∷ h.0, h.1, h.2)
 goes_on_within (AfterConst secs ds) n few = let h = after_declarator Constant 0 (pos 0) secs ds 0 in (at nowhere signs.Int ∷ at nowhere (signs.Name 0) ∷ at nowhere signs.Equals ∷ at nowhere (signs.Number (pos 0)) ∷ h.0, h.1, h.2)
 goes_on_within (AfterEnum secs ds) n few = let h = after_declarator uncounted 0 (pos 0) secs ds 0 in (at nowhere signs.LeftBrace ∷ at nowhere (signs.Name 0) ∷ at nowhere signs.Equals ∷ at nowhere (signs.Number (pos 0)) ∷ h.0, h.1, h.2)
+goes_on_within (AfterVoidType secs ds) n few = let h = after_parameters (ToPrototype secs ds) 0 in (at nowhere (signs.Function 0) ∷ at nowhere signs.Open ∷ at nowhere signs.Close ∷ h.0, h.1, h.2)
 goes_on_within (AfterType NoWord words secs ds) n few = let h = after_declarator Unqualified 0 (pos 0) secs ds 0 in (at nowhere (signs.Name 0) ∷ h.0, h.1, h.2)
 goes_on_within (AfterType StaticWord words secs ds) n few = let h = after_declarator Unqualified 0 (pos 0) secs ds 0 in (at nowhere (signs.Name 0) ∷ h.0, h.1, h.2)
 goes_on_within (AfterType ExternWord words secs ds) n few = let h = after_parameters (ToPrototype secs ds) 0 in (at nowhere signs.Input ∷ at nowhere signs.Open ∷ at nowhere signs.Close ∷ h.0, h.1, h.2)
@@ -114,6 +115,12 @@ goes_on_within (Negating kind x secs ds) n few = let h = after_declarator kind x
 goes_on_within (Started kind x i secs ds) n few = after_declarator kind x i secs ds n
 goes_on_within (Listing last secs ds) n few = let h = after_declarations secs ds 0 in (at nowhere signs.RightBrace ∷ at nowhere signs.Semicolon ∷ h.0, h.1, h.2)
 goes_on_within (Enumerated secs ds) n few = let h = after_declarations secs ds 0 in (at nowhere signs.Semicolon ∷ h.0, h.1, h.2)
+goes_on_within (AfterDefine secs ds) n few = let h = after_declarations secs (with_declared secs ds 0 (pos 0)) 0 in (at nowhere (signs.Name 0) ∷ at nowhere (signs.Number (pos 0)) ∷ h.0, h.1, h.2)
+goes_on_within (Defining x secs ds) n few = let h = after_declarations secs (with_declared secs ds x (pos 0)) 0 in (at nowhere (signs.Number (pos 0)) ∷ h.0, h.1, h.2)
+goes_on_within (NegativeDefining x secs ds) n few = let h = after_declarations secs (with_declared secs ds x (neg_ℤ (pos 0))) 0 in (at nowhere (signs.Number (pos 0)) ∷ h.0, h.1, h.2)
+goes_on_within (Enclosing x secs ds) n few = let h = after_declarations secs (with_declared secs ds x (pos 0)) 0 in (at nowhere (signs.Number (pos 0)) ∷ at nowhere signs.Close ∷ h.0, h.1, h.2)
+goes_on_within (NegativeEnclosing x secs ds) n few = let h = after_declarations secs (with_declared secs ds x (neg_ℤ (pos 0))) 0 in (at nowhere (signs.Number (pos 0)) ∷ at nowhere signs.Close ∷ h.0, h.1, h.2)
+goes_on_within (Enclosed x i secs ds) n few = let h = after_declarations secs (with_declared secs ds x i) 0 in (at nowhere signs.Close ∷ h.0, h.1, h.2)
 goes_on_within (Parameters aim) n few = let h = after_parameters aim 0 in (at nowhere signs.Open ∷ at nowhere signs.Close ∷ h.0, h.1, h.2)
 goes_on_within (InParameters aim) n few = let h = after_parameters aim 0 in (at nowhere signs.Close ∷ h.0, h.1, h.2)
 goes_on_within (AfterVoid aim) n few = let h = after_parameters aim 0 in (at nowhere signs.Close ∷ h.0, h.1, h.2)
@@ -125,8 +132,11 @@ goes_on_within (Has fs u e) n few = let h = ends_expr fs u e n few in (h.tail, h
 goes_on_within (Counting p u outer) n few = let h = closes outer (changed_by_one p 0 u) 0 in (at nowhere (signs.Name 0) ∷ at nowhere signs.Semicolon ∷ closers outer, h.0, h.1)
 goes_on_within (Named p x outer) n few = let h = closes outer (Assign p x (Var 0) Done) 0 in (at nowhere signs.Equals ∷ at nowhere (signs.Name 0) ∷ at nowhere signs.Semicolon ∷ closers outer, h.0, h.1)
 goes_on_within (Opens u) n few = let h = ends_use u (Var 0) 0 (omega arith) in (at nowhere signs.Open ∷ at nowhere (signs.Name 0) ∷ h.tail, h.made, h.reads)
-goes_on_within (InputOpens p x outer) n few = let h = closes outer (Input p x Done) 0 in (at nowhere signs.Open ∷ at nowhere signs.Close ∷ at nowhere signs.Semicolon ∷ closers outer, h.0, h.1)
-goes_on_within (InputCloses p x outer) n few = let h = closes outer (Input p x Done) 0 in (at nowhere signs.Close ∷ at nowhere signs.Semicolon ∷ closers outer, h.0, h.1)
+goes_on_within (VoidComes p outer) n few = let h = closes outer (Skip p Done) 0 in (at nowhere signs.Void ∷ at nowhere signs.Close ∷ at nowhere signs.Input ∷ at nowhere signs.Open ∷ at nowhere signs.Close ∷ at nowhere signs.Semicolon ∷ closers outer, h.0, h.1)
+goes_on_within (VoidCloses p outer) n few = let h = closes outer (Skip p Done) 0 in (at nowhere signs.Close ∷ at nowhere signs.Input ∷ at nowhere signs.Open ∷ at nowhere signs.Close ∷ at nowhere signs.Semicolon ∷ closers outer, h.0, h.1)
+goes_on_within (CallComes p outer) n few = let h = closes outer (Skip p Done) 0 in (at nowhere signs.Input ∷ at nowhere signs.Open ∷ at nowhere signs.Close ∷ at nowhere signs.Semicolon ∷ closers outer, h.0, h.1)
+goes_on_within (CallOpens outer c) n few = let h = closes outer c 0 in (at nowhere signs.Open ∷ at nowhere signs.Close ∷ at nowhere signs.Semicolon ∷ closers outer, h.0, h.1)
+goes_on_within (CallCloses outer c) n few = let h = closes outer c 0 in (at nowhere signs.Close ∷ at nowhere signs.Semicolon ∷ closers outer, h.0, h.1)
 goes_on_within (Finishing outer c) n few = let h = closes outer c 0 in (at nowhere signs.Semicolon ∷ closers outer, h.0, h.1)
 goes_on_within (Returning p ds made) n few = (at nowhere (signs.Number (pos 0)) ∷ at nowhere signs.Semicolon ∷ at nowhere signs.RightBrace ∷ [], file_of ds (followed made (Skip p Done)) nowhere, refl)
 goes_on_within (Returned ds made) n few = (at nowhere signs.Semicolon ∷ at nowhere signs.RightBrace ∷ [], file_of ds made nowhere, refl)

@@ -9,7 +9,7 @@ use Rattle.c_tree.specs.Tree.{Code, Done, Assign, Input, Assert, If, While, Bloc
 use Rattle.c_tree.specs.Project.{IsNumbered, IsGuarded, IsConditioned}
 use Rattle.c_grammar.specs.declared.items.Item.{Item}
 use Rattle.c_grammar.specs.declared.items.Sign.TheVariants as signs
-use Rattle.c_grammar.specs.Grammar.{at, Shape, Writes, none, more, choice, ends, otherwise, elif, assign, input, update, count, prefix_count, assert, skip, block, while, if_then, if_else, declared, Part, Outer, Vars, Later, Declares, nothing, variables, prototype, section, last_var, next_var, end_part, else_part, elif_part, Returns, no_return, return, Body, body, Main, main, File, Forms, file, has_groups, whole_of}
+use Rattle.c_grammar.specs.Grammar.{at, Shape, Writes, none, more, choice, ends, otherwise, elif, assign, input, call, void_call, update, count, prefix_count, assert, skip, block, while, if_then, if_else, declared, Part, Outer, Vars, Later, Declares, nothing, variables, prototype, void_prototype, definition, section, last_var, next_var, end_part, else_part, elif_part, Returns, no_return, return, Body, body, Main, main, File, Forms, file, has_groups, whole_of}
 use Rattle.c_grammar.specs.Facts.{AreConditionsOf, Conditioned}
 
 cut : (n : ℕ) (xs ys : List Item) → AreConditionsOf n (xs ++ ys) → AreConditionsOf n xs × AreConditionsOf n ys
@@ -35,7 +35,9 @@ code_numbered n (ends p) h = tt
 code_numbered n (otherwise p q {ts} s) h = code_numbered n s (cut n ts (at q signs.GroupEnd ∷ []) h.1).0
 code_numbered n (elif p m {ts} {us} s t) h = let r = cut n ts us h.1 in (h.0, code_numbered n s r.0, code_numbered n t r.1, tt)
 code_numbered n (assign p q r x e) h = tt
-code_numbered n (input p q r s t u x) h = tt
+code_numbered n (input p q r s t u x g) h = tt
+code_numbered n (call p q r s g) h = tt
+code_numbered n (void_call p q r s t u v g) h = tt
 code_numbered n (update p q r x u e) h = tt
 code_numbered n (count p q r x u) h = tt
 code_numbered n (prefix_count p q r x u) h = tt
@@ -65,9 +67,13 @@ declared_numbered n (nothing gs) g h = All-nil (IsGuarded n)
 declared_numbered n (variables gs {us} {vs} {ws} {ds} {es} o v d) g h =
     let k = cut n vs ws (cut n us (vs ++ ws) h).1 in
     All-append (IsGuarded n) ds es (declared_numbered n v g k.0) (declared_numbered n d g k.1)
-declared_numbered n (prototype q r s t gs {us} {vs} {ws} o v d) g h =
-    let k = cut n us (at q signs.Input ∷ at r signs.Open ∷ (vs ++ at s signs.Close ∷ at t signs.Semicolon ∷ ws)) h in
+declared_numbered n (prototype q r s t gs {f} {us} {vs} {ws} o i v d) g h =
+    let k = cut n us (at q f ∷ at r signs.Open ∷ (vs ++ at s signs.Close ∷ at t signs.Semicolon ∷ ws)) h in
     declared_numbered n d g (cut n vs (at s signs.Close ∷ at t signs.Semicolon ∷ ws) k.1.1.1).1.1.1
+declared_numbered n (void_prototype p q r s t m gs {us} {vs} {ws} o v d) g h =
+    let k = cut n us (at p signs.Void ∷ at q (signs.Function m) ∷ at r signs.Open ∷ (vs ++ at s signs.Close ∷ at t signs.Semicolon ∷ ws)) h in
+    declared_numbered n d g (cut n vs (at s signs.Close ∷ at t signs.Semicolon ∷ ws) k.1.1.1.1).1.1.1
+declared_numbered n (definition gs {us} {ws} {es} {x} {n = v} o d) g h = All-cons (IsGuarded n) (declared x v gs) es g (declared_numbered n d g (cut n us ws h).1)
 declared_numbered n (section p m gs {us} {vs} {ws} {cs} {ds} {es} a b d) g h =
     let k = cut n us (vs ++ ws) h.1 in
     let l = cut n vs ws k.1 in

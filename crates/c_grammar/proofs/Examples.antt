@@ -114,6 +114,50 @@ static_enum : run start (items (signs.Static ∷ signs.Enum ∷ [])) ≡ Err 1
 unfolding run
 static_enum = refl
 
+-- # define x 3, # define x - 3, # define x ( 3 ), # define x ( - 3 )
+abbrev definitions : List Sign
+definitions =
+    signs.Define ∷ signs.Name 0 ∷ signs.Number (pos 3) ∷ signs.Define ∷ signs.Name 1 ∷ signs.Oper Sub ∷ signs.Number (pos 3) ∷ signs.Define ∷ signs.Name 2 ∷ signs.Open ∷ signs.Number (pos 3) ∷ signs.Close
+    ∷ signs.Define ∷ signs.Name 3 ∷ signs.Open ∷ signs.Oper Sub ∷ signs.Number (pos 3) ∷ signs.Close ∷ []
+
+constants_are_defined : run start (items (definitions ++ (head ++ signs.RightBrace ∷ []))) ≡ Ok (file_of (declared 0 (pos 3) [] ∷ declared 1 (negsuc 2) [] ∷ declared 2 (pos 3) [] ∷ declared 3 (negsuc 2) [] ∷ []) Done (place 23))
+unfolding run
+constants_are_defined = refl
+
+-- # define x 3, int y ;: without the names of variables
+defined_is_constant : of_constants (items (signs.Define ∷ signs.Name 0 ∷ signs.Number (pos 3) ∷ signs.Int ∷ signs.Name 1 ∷ signs.Semicolon ∷ []))
+    ≡ at (place 0) signs.Define ∷ at (place 1) (signs.Name 0) ∷ at (place 2) (signs.Number (pos 3)) ∷ at (place 3) signs.Int ∷ at (place 5) signs.Semicolon ∷ []
+defined_is_constant = refl
+
+-- # define x ;, # define x ( ( 3, # define x ( 3 int, # define x 3 ;, int # define, and # define in main: the last item is wrong
+defined_without_a_value : run start (items (signs.Define ∷ signs.Name 0 ∷ signs.Semicolon ∷ [])) ≡ Err 1
+unfolding run
+defined_without_a_value = refl
+
+defined_in_two_parentheses : run start (items (signs.Define ∷ signs.Name 0 ∷ signs.Open ∷ signs.Open ∷ [])) ≡ Err 1
+unfolding run
+defined_in_two_parentheses = refl
+
+defined_in_an_open_parenthesis : run start (items (signs.Define ∷ signs.Name 0 ∷ signs.Open ∷ signs.Number (pos 3) ∷ signs.Int ∷ [])) ≡ Err 1
+unfolding run
+defined_in_an_open_parenthesis = refl
+
+defined_with_a_semicolon : run start (items (signs.Define ∷ signs.Name 0 ∷ signs.Number (pos 3) ∷ signs.Semicolon ∷ [])) ≡ Err 1
+unfolding run
+defined_with_a_semicolon = refl
+
+defined_in_a_declaration : run start (items (signs.Int ∷ signs.Define ∷ [])) ≡ Err 1
+unfolding run
+defined_in_a_declaration = refl
+
+defined_in_main : run start (items (head ++ signs.Define ∷ [])) ≡ Err 1
+unfolding run
+defined_in_main = refl
+
+defined_behind_main : run start (items (head ++ signs.RightBrace ∷ signs.Define ∷ [])) ≡ Err 1
+unfolding run
+defined_behind_main = refl
+
 -- const int const x, const static int, const int main: the second `const`, `static` and `main` are wrong
 const_twice : run start (items (signs.Const ∷ signs.Int ∷ signs.Const ∷ signs.Name 0 ∷ [])) ≡ Err 2
 unfolding run
@@ -161,6 +205,60 @@ levels_of_operators : run start (items (head ++ signs.Name 0 ∷ signs.MinusMinu
     ≡ Ok (file_of [] (Assign (place 5) 0 (Binary Sub (Var 0) (Number (pos 1))) (Input (place 8) 1 (Assert (place 14) (Binary Or (Binary And (Binary Eq (Binary Lt (Var 0) (Number (pos 1))) (Var 1)) (Not (Neg (Var 0)))) (Var 1)) Done))) (place 30))
 unfolding run
 levels_of_operators = refl
+
+-- extern int f ( void ) ; void g ( ) ; extern void h ( void ) ; int x ;: the functions leave nothing
+abbrev functions : List Sign
+functions =
+    signs.Extern ∷ signs.Int ∷ signs.Function 0 ∷ signs.Open ∷ signs.Void ∷ signs.Close ∷ signs.Semicolon ∷ signs.Void ∷ signs.Function 1 ∷ signs.Open ∷ signs.Close ∷ signs.Semicolon
+    ∷ signs.Extern ∷ signs.Void ∷ signs.Function 2 ∷ signs.Open ∷ signs.Void ∷ signs.Close ∷ signs.Semicolon ∷ signs.Int ∷ signs.Name 0 ∷ signs.Semicolon ∷ []
+
+functions_leave_nothing : run start (items (functions ++ (head ++ signs.RightBrace ∷ []))) ≡ Ok (file_of (declared 0 (pos 0) [] ∷ []) Done (place 27))
+unfolding run
+functions_leave_nothing = refl
+
+-- int main ( ) { f ( ) ; ( void ) input ( ) ; x = g ( ) ; }
+calls_and_inputs : run start (items (head ++ signs.Function 0 ∷ signs.Open ∷ signs.Close ∷ signs.Semicolon ∷ signs.Open ∷ signs.Void ∷ signs.Close ∷ signs.Input ∷ signs.Open ∷ signs.Close ∷ signs.Semicolon
+    ∷ signs.Name 0 ∷ signs.Equals ∷ signs.Function 1 ∷ signs.Open ∷ signs.Close ∷ signs.Semicolon ∷ signs.RightBrace ∷ []))
+    ≡ Ok (file_of [] (Skip (place 5) (Skip (place 9) (Input (place 16) 0 Done))) (place 22))
+unfolding run
+calls_and_inputs = refl
+
+-- void input, void x, static void, x = 1 + f, x = f ( ) +, f ( 1, ( x, ( void ) x, f #if 0: the last item is wrong
+void_input : run start (items (signs.Void ∷ signs.Input ∷ [])) ≡ Err 1
+unfolding run
+void_input = refl
+
+void_variable : run start (items (signs.Void ∷ signs.Name 0 ∷ [])) ≡ Err 1
+unfolding run
+void_variable = refl
+
+static_void : run start (items (signs.Static ∷ signs.Void ∷ [])) ≡ Err 1
+unfolding run
+static_void = refl
+
+call_in_an_expression : run start (items (head ++ signs.Name 0 ∷ signs.Equals ∷ signs.Number (pos 1) ∷ signs.Oper Add ∷ signs.Function 0 ∷ [])) ≡ Err 1
+unfolding run
+call_in_an_expression = refl
+
+expression_behind_a_call : run start (items (head ++ signs.Name 0 ∷ signs.Equals ∷ signs.Function 0 ∷ signs.Open ∷ signs.Close ∷ signs.Oper Add ∷ [])) ≡ Err 1
+unfolding run
+expression_behind_a_call = refl
+
+call_with_an_argument : run start (items (head ++ signs.Function 0 ∷ signs.Open ∷ signs.Number (pos 1) ∷ [])) ≡ Err 1
+unfolding run
+call_with_an_argument = refl
+
+statement_in_parentheses : run start (items (head ++ signs.Open ∷ signs.Name 0 ∷ [])) ≡ Err 1
+unfolding run
+statement_in_parentheses = refl
+
+void_of_a_variable : run start (items (head ++ signs.Open ∷ signs.Void ∷ signs.Close ∷ signs.Name 0 ∷ [])) ≡ Err 1
+unfolding run
+void_of_a_variable = refl
+
+group_in_a_call : run start (items (head ++ signs.Function 0 ∷ signs.GroupIf 0 ∷ [])) ≡ Err 1
+unfolding run
+group_in_a_call = refl
 
 -- assert ( 0 || 1 && 2 E 3 R 4 S 5 P 6 ) ; with an equality E, a relation R, a sum S and a product P
 abbrev chain : Op → Op → Op → Op → List Sign

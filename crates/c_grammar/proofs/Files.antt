@@ -10,7 +10,7 @@ use Rattle.c_tree.specs.Tree.{Code, Done, followed}
 use Rattle.c_grammar.specs.declared.items.Sign.{Sign}
 use Rattle.c_grammar.specs.declared.items.Sign.TheVariants as signs
 use Rattle.c_grammar.specs.declared.items.Item.{Item}
-use Rattle.c_grammar.specs.Grammar.{at, Optional, absent, present, Typed, int, int32, signed, signed_int, int_signed, Qualifier, Unqualified, Constant, Counted, behind, unqualified, const_before, const_behind, Begins, only_type, then_type, enumeration, Declarator, bare, positive, negative, counted, Ending, variables_end, constants_end, enumeration_end, comma_end, with_true, with_false, declared, Part, Outer, Vars, Later, Declares, nothing, variables, prototype, section, last_var, next_var, end_part, else_part, elif_part, Returns, no_return, return, Gap, Gaps, GapRest, Empty, no_more, empty_section, empty_end, empty_else, empty_elif, Body, body, Main, main, File, file_of, Forms, file}
+use Rattle.c_grammar.specs.Grammar.{at, Optional, absent, present, Typed, int, int32, signed, signed_int, int_signed, Qualifier, Unqualified, Constant, Counted, behind, unqualified, const_before, const_behind, Begins, only_type, then_type, enumeration, Declarator, bare, positive, negative, counted, Ending, variables_end, constants_end, enumeration_end, comma_end, Defines, defined, negative_defined, enclosed, negative_enclosed, with_true, with_false, declared, Part, Outer, Vars, Later, Declares, nothing, variables, Callable, of_input, of_function, prototype, void_prototype, definition, section, last_var, next_var, end_part, else_part, elif_part, Returns, no_return, return, Gap, Gaps, GapRest, Empty, no_more, empty_section, empty_end, empty_else, empty_elif, Body, body, Main, main, File, file_of, Forms, file}
 use Rattle.c_grammar.specs.Ahead.{NoElse}
 use Rattle.c_grammar.specs.Machine.{Tailing, Another, Final, Top, Sections, Outermost, InPart, InLast, guards_of, Aim, ToPrototype, ToMain, ReadingState, Outside, AfterStatic, AfterExtern, AfterConst, AfterType, Leading, NoWord, StaticWord, ExternWord, ConstWord, TypeWords, OneInt, OneSigned, WholeType, Declaring, Parameters, AfterParameters, Ready, Over, with_declared, run, start, Bare, Started, Listing, listed, started, counts_on, step, moved}
 use Rattle.c_grammar.proofs.Complete.{accepted, followed-none}
@@ -115,10 +115,17 @@ unfolding run
 parameters r s aim w (absent t) = refl
 parameters r s aim w (present q t) = refl
 
-prototyped : {us : List Item} (q : Place) (secs : Sections) (es : List Declared) (w : List Item) → Begins signs.Extern Unqualified us → run (Outside secs es) (us ++ at q signs.Input ∷ w) ≡ run (Parameters (ToPrototype secs es)) w
+prototyped : {f : Sign} {us : List Item} (q : Place) (secs : Sections) (es : List Declared) (w : List Item) → Begins signs.Extern Unqualified us → Callable f → run (Outside secs es) (us ++ at q f ∷ w) ≡ run (Parameters (ToPrototype secs es)) w
 unfolding run
-prototyped q secs es w (only_type s (unqualified y)) = typed_then NoWord secs es (at q signs.Input ∷ w) y
-prototyped q secs es w (then_type p s (unqualified y)) = typed_then ExternWord secs es (at q signs.Input ∷ w) y
+prototyped q secs es w (only_type s (unqualified y)) of_input = typed_then NoWord secs es (at q signs.Input ∷ w) y
+prototyped q secs es w (only_type s (unqualified y)) (of_function k) = typed_then NoWord secs es (at q (signs.Function k) ∷ w) y
+prototyped q secs es w (then_type p s (unqualified y)) of_input = typed_then ExternWord secs es (at q signs.Input ∷ w) y
+prototyped q secs es w (then_type p s (unqualified y)) (of_function k) = typed_then ExternWord secs es (at q (signs.Function k) ∷ w) y
+
+void_prototyped : {us : List Item} (p q : Place) (k : ℕ) (secs : Sections) (es : List Declared) (w : List Item) → Optional signs.Extern us → run (Outside secs es) (us ++ at p signs.Void ∷ at q (signs.Function k) ∷ w) ≡ run (Parameters (ToPrototype secs es)) w
+unfolding run
+void_prototyped p q k secs es w (absent s) = refl
+void_prototyped p q k secs es w (present t s) = refl
 
 -- what may follow a declarator
 abbrev pub IsStop : Sign → Type 0
@@ -178,6 +185,13 @@ at_end_of secs es w d (constants_end p) = valued secs es p signs.Semicolon w tt 
 at_end_of secs es w d (enumeration_end last p q) = valued secs es p signs.RightBrace (at q signs.Semicolon ∷ w) tt d
 at_end_of secs es w d (comma_end last p q r) = valued secs es p signs.Comma (at q signs.RightBrace ∷ at r signs.Semicolon ∷ w) tt d
 
+definition_then : {us : List Item} {x : ℕ} {n : ℤ} (secs : Sections) (es : List Declared) (w : List Item) → Defines us x n → run (Outside secs es) (us ++ w) ≡ run (Outside secs (with_declared secs es x n)) w
+unfolding run
+definition_then secs es w (defined p q r x n) = refl
+definition_then secs es w (negative_defined p q r s x n) = refl
+definition_then secs es w (enclosed p q r s t x n) = refl
+definition_then secs es w (negative_enclosed p q r s t u x n) = refl
+
 abbrev pub Goes : Part → List Item → List Declared → Type 0
 Goes (Outer gs) ts ds = (secs : Sections) → guards_of secs ≡ gs → (es : List Declared) (w : List Item) → run (Outside secs es) (ts ++ w) ≡ run (Outside secs (es ++ ds)) w
 Goes (Vars kind gs) ts ds = (secs : Sections) → guards_of secs ≡ gs → (es : List Declared) (w : List Item) → run (Declaring kind secs es) (ts ++ w) ≡ run (Outside secs (es ++ ds)) w
@@ -196,12 +210,26 @@ goes (variables gs {us} {vs} {ws} {ds} {es = fs} o v d) = λ secs is es w.
     ∙ goes v secs is es (ws ++ w)
     ∙ goes d secs is (es ++ ds) w
     ∙ regroup secs es ds fs w
-goes (prototype q r s t gs {us} {vs} {ws} {es = fs} o v d) = λ secs is es w.
-    let re : (us ++ at q signs.Input ∷ at r signs.Open ∷ (vs ++ at s signs.Close ∷ at t signs.Semicolon ∷ ws)) ++ w ≡ us ++ at q signs.Input ∷ at r signs.Open ∷ (vs ++ at s signs.Close ∷ at t signs.Semicolon ∷ (ws ++ w)) = simp append_assoc in
+goes (prototype q r s t gs {f} {us} {vs} {ws} {es = fs} o g v d) = λ secs is es w.
+    let rest : List Item = at r signs.Open ∷ (vs ++ at s signs.Close ∷ at t signs.Semicolon ∷ (ws ++ w)) in
+    let re : (us ++ at q f ∷ at r signs.Open ∷ (vs ++ at s signs.Close ∷ at t signs.Semicolon ∷ ws)) ++ w ≡ us ++ at q f ∷ rest = simp append_assoc in
     ap (run (Outside secs es)) re
-    ∙ prototyped q secs es (at r signs.Open ∷ (vs ++ at s signs.Close ∷ at t signs.Semicolon ∷ (ws ++ w))) o
+    ∙ prototyped q secs es rest o g
     ∙ parameters r s (ToPrototype secs es) (at t signs.Semicolon ∷ (ws ++ w)) v
     ∙ goes d secs is es w
+goes (void_prototype p q r s t k gs {us} {vs} {ws} {es = fs} o v d) = λ secs is es w.
+    let rest : List Item = at r signs.Open ∷ (vs ++ at s signs.Close ∷ at t signs.Semicolon ∷ (ws ++ w)) in
+    let re : (us ++ at p signs.Void ∷ at q (signs.Function k) ∷ at r signs.Open ∷ (vs ++ at s signs.Close ∷ at t signs.Semicolon ∷ ws)) ++ w ≡ us ++ at p signs.Void ∷ at q (signs.Function k) ∷ rest = simp append_assoc in
+    ap (run (Outside secs es)) re
+    ∙ void_prototyped p q k secs es rest o
+    ∙ parameters r s (ToPrototype secs es) (at t signs.Semicolon ∷ (ws ++ w)) v
+    ∙ goes d secs is es w
+goes (definition gs {us} {ws} {es = fs} {x} {n} o d) = λ secs is es w.
+    ap (run (Outside secs es)) (append_assoc us ws w)
+    ∙ definition_then secs es (ws ++ w) o
+    ∙ goes d secs is (with_declared secs es x n) w
+    ∙ regroup secs es (declared x n (guards_of secs) ∷ []) fs w
+    ∙ ap (λ (y : List Guard). run (Outside secs (es ++ declared x n y ∷ fs)) w) is
 goes (section p n gs {us} {vs} {ws} {cs} {ds} {es = fs} a b d) = λ secs is es w.
     let re : (us ++ (vs ++ ws)) ++ w ≡ us ++ (vs ++ (ws ++ w)) = simp append_assoc in
     ap (run (Outside (InPart (guards_of secs) n secs) es)) re

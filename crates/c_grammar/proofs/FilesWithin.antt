@@ -9,10 +9,10 @@ use Rattle.c_tree.specs.Tree.{Code, Done, Skip, followed}
 use Rattle.c_grammar.specs.declared.items.Sign.{Sign}
 use Rattle.c_grammar.specs.declared.items.Sign.TheVariants as signs
 use Rattle.c_grammar.specs.declared.items.Item.{Item}
-use Rattle.c_grammar.specs.Grammar.{at, Optional, absent, present, Typed, int, int32, signed, signed_int, int_signed, Qualifier, Unqualified, Constant, Counted, uncounted, behind, unqualified, const_before, const_behind, Begins, only_type, then_type, enumeration, Declarator, bare, positive, negative, counted, Ending, variables_end, constants_end, enumeration_end, comma_end, with_true, with_false, declared, Part, Outer, Vars, Later, Returns, no_return, return, Gap, Gaps, GapRest, File, file_of}
-use Rattle.c_grammar.specs.Machine.{Tailing, Another, Final, Top, Sections, Outermost, InPart, InLast, guards_of, Aim, ToPrototype, ToMain, ReadingState, Outside, AfterStatic, AfterExtern, AfterConst, AfterEnum, AfterType, Leading, NoWord, StaticWord, ExternWord, ConstWord, TypeWords, OneInt, OneSigned, WholeType, first_word, Declaring, Bare, Starting, Negating, Started, Listing, Enumerated, listed, Parameters, InParameters, AfterVoid, AfterParameters, Ready, Returning, Returned, Closing, Over, with_declared, step, start}
+use Rattle.c_grammar.specs.Grammar.{at, Optional, absent, present, Typed, int, int32, signed, signed_int, int_signed, Qualifier, Unqualified, Constant, Counted, uncounted, behind, unqualified, const_before, const_behind, Begins, only_type, then_type, enumeration, Declarator, bare, positive, negative, counted, Ending, variables_end, constants_end, enumeration_end, comma_end, Defines, defined, negative_defined, enclosed, negative_enclosed, Callable, of_input, of_function, with_true, with_false, declared, Part, Outer, Vars, Later, Returns, no_return, return, Gap, Gaps, GapRest, File, file_of}
+use Rattle.c_grammar.specs.Machine.{Tailing, Another, Final, Top, Sections, Outermost, InPart, InLast, guards_of, Aim, ToPrototype, ToMain, ReadingState, Outside, AfterStatic, AfterExtern, AfterConst, AfterEnum, AfterVoidType, AfterType, Leading, NoWord, StaticWord, ExternWord, ConstWord, TypeWords, OneInt, OneSigned, WholeType, first_word, Declaring, Bare, Starting, Negating, Started, Listing, Enumerated, listed, AfterDefine, Defining, NegativeDefining, Enclosing, NegativeEnclosing, Enclosed, Parameters, InParameters, AfterVoid, AfterParameters, Ready, Returning, Returned, Closing, Over, with_declared, step, start}
 use Rattle.c_grammar.specs.Deep.{opens_more, tail_depth, guarded}
-use Rattle.c_grammar.specs.Within.{DeclaresIn, nothing, variables, prototype, section, last_var, next_var, end_part, else_part, elif_part, EmptyIn, no_more, empty_section, empty_end, empty_else, empty_elif, BodyWithin, body, MainWithin, main, FormsWithin, file}
+use Rattle.c_grammar.specs.Within.{DeclaresIn, nothing, variables, prototype, void_prototype, definition, section, last_var, next_var, end_part, else_part, elif_part, EmptyIn, no_more, empty_section, empty_end, empty_else, empty_elif, BodyWithin, body, MainWithin, main, FormsWithin, file}
 use Rattle.c_grammar.proofs.Complete.{followed-none}
 use Rattle.c_grammar.proofs.Files.{NameFirst, IsName, before_type, words_of, vars_first, IsStop, bare_step, counted_step, listed_name, return_no_else}
 use Rattle.c_grammar.proofs.Within.{declares_plain}
@@ -107,13 +107,33 @@ parameters {us} r s aim w (present q t) =
     ∙ token (InParameters aim) (AfterVoid aim) q signs.Void 0 (at s signs.Close ∷ w) refl refl refl
     ∙ token (AfterVoid aim) (AfterParameters aim) s signs.Close 0 w refl refl refl
 
-pub prototyped : {us : List Item} (q : Place) (secs : Sections) (es : List Declared) (w : List Item) → Begins signs.Extern Unqualified us → guarded (Outside secs es) 0 (us ++ at q signs.Input ∷ w) ≡ guarded (Parameters (ToPrototype secs es)) 0 w
-prototyped q secs es w (only_type s (unqualified y)) =
-    typed_then NoWord secs es (at q signs.Input ∷ w) y ∙ token (AfterType NoWord (words_of y) secs es) (Parameters (ToPrototype secs es)) q signs.Input 0 w refl refl refl
-prototyped q secs es w (then_type p s {us} (unqualified y)) =
-    token (Outside secs es) (AfterExtern secs es) p signs.Extern 0 (us ++ at q signs.Input ∷ w) refl refl refl
-    ∙ typed_then ExternWord secs es (at q signs.Input ∷ w) y
-    ∙ token (AfterType ExternWord (words_of y) secs es) (Parameters (ToPrototype secs es)) q signs.Input 0 w refl refl refl
+function_then : {f : Sign} (words : TypeWords) (q : Place) (secs : Sections) (es : List Declared) (w : List Item) → Callable f → guarded (AfterType NoWord words secs es) 0 (at q f ∷ w) ≡ guarded (Parameters (ToPrototype secs es)) 0 w
+function_then words q secs es w of_input = token (AfterType NoWord words secs es) (Parameters (ToPrototype secs es)) q signs.Input 0 w refl refl refl
+function_then words q secs es w (of_function k) = token (AfterType NoWord words secs es) (Parameters (ToPrototype secs es)) q (signs.Function k) 0 w refl refl refl
+
+extern_function_then : {f : Sign} (words : TypeWords) (q : Place) (secs : Sections) (es : List Declared) (w : List Item) → Callable f → guarded (AfterType ExternWord words secs es) 0 (at q f ∷ w) ≡ guarded (Parameters (ToPrototype secs es)) 0 w
+extern_function_then words q secs es w of_input = token (AfterType ExternWord words secs es) (Parameters (ToPrototype secs es)) q signs.Input 0 w refl refl refl
+extern_function_then words q secs es w (of_function k) = token (AfterType ExternWord words secs es) (Parameters (ToPrototype secs es)) q (signs.Function k) 0 w refl refl refl
+
+pub prototyped : {f : Sign} {us : List Item} (q : Place) (secs : Sections) (es : List Declared) (w : List Item) → Begins signs.Extern Unqualified us → Callable f → guarded (Outside secs es) 0 (us ++ at q f ∷ w) ≡ guarded (Parameters (ToPrototype secs es)) 0 w
+prototyped {f} q secs es w (only_type s (unqualified y)) g = typed_then NoWord secs es (at q f ∷ w) y ∙ function_then (words_of y) q secs es w g
+prototyped {f} q secs es w (then_type p s {us} (unqualified y)) g =
+    token (Outside secs es) (AfterExtern secs es) p signs.Extern 0 (us ++ at q f ∷ w) refl refl refl
+    ∙ typed_then ExternWord secs es (at q f ∷ w) y
+    ∙ extern_function_then (words_of y) q secs es w g
+
+pub void_prototyped : {us : List Item} (p q : Place) (k : ℕ) (secs : Sections) (es : List Declared) (w : List Item) → Optional signs.Extern us → guarded (Outside secs es) 0 (us ++ at p signs.Void ∷ at q (signs.Function k) ∷ w) ≡ guarded (Parameters (ToPrototype secs es)) 0 w
+void_prototyped p q k secs es w (absent s) =
+    token (Outside secs es) (AfterVoidType secs es) p signs.Void 0 (at q (signs.Function k) ∷ w) refl refl refl
+    ∙ token (AfterVoidType secs es) (Parameters (ToPrototype secs es)) q (signs.Function k) 0 w refl refl refl
+void_prototyped p q k secs es w (present t s) =
+    token (Outside secs es) (AfterExtern secs es) t signs.Extern 0 (at p signs.Void ∷ at q (signs.Function k) ∷ w) refl refl refl
+    ∙ token (AfterExtern secs es) (AfterVoidType secs es) p signs.Void 0 (at q (signs.Function k) ∷ w) refl refl refl
+    ∙ token (AfterVoidType secs es) (Parameters (ToPrototype secs es)) q (signs.Function k) 0 w refl refl refl
+
+-- a declaration of a function from its parentheses on
+pub ends_prototype : {us : List Item} (r s t : Place) (secs : Sections) (es : List Declared) (w : List Item) → Optional signs.Void us → guarded (Parameters (ToPrototype secs es)) 0 (at r signs.Open ∷ (us ++ at s signs.Close ∷ at t signs.Semicolon ∷ w)) ≡ guarded (Outside secs es) 0 w
+ends_prototype r s t secs es w v = parameters r s (ToPrototype secs es) (at t signs.Semicolon ∷ w) v ∙ token (AfterParameters (ToPrototype secs es)) (Outside secs es) t signs.Semicolon 0 w refl refl refl
 
 -- behind a declarator
 pub declarator : {us : List Item} {x : ℕ} {n : ℤ} {kind : Qualifier} (secs : Sections) (es : List Declared) (p : Place) (s : Sign) (next : ReadingState) (w : List Item) → step (Started kind x n secs es) p s ≡ Some next → IsStop s → opens_more s ≡ false → Declarator kind us x n
@@ -153,6 +173,30 @@ at_end_of {x = x} {n = n} secs es w d (comma_end last p q r) =
     ∙ token (Listing n secs fs) (Enumerated secs fs) q signs.RightBrace 0 (at r signs.Semicolon ∷ w) refl refl refl
     ∙ token (Enumerated secs fs) (Outside secs fs) r signs.Semicolon 0 w refl refl refl
 
+pub definition_then : {us : List Item} {x : ℕ} {n : ℤ} (secs : Sections) (es : List Declared) (w : List Item) → Defines us x n → guarded (Outside secs es) 0 (us ++ w) ≡ guarded (Outside secs (with_declared secs es x n)) 0 w
+definition_then secs es w (defined p q r x n) =
+    token (Outside secs es) (AfterDefine secs es) p signs.Define 0 (at q (signs.Name x) ∷ at r (signs.Number n) ∷ w) refl refl refl
+    ∙ token (AfterDefine secs es) (Defining x secs es) q (signs.Name x) 0 (at r (signs.Number n) ∷ w) refl refl refl
+    ∙ token (Defining x secs es) (Outside secs (with_declared secs es x n)) r (signs.Number n) 0 w refl refl refl
+definition_then secs es w (negative_defined p q r s x n) =
+    token (Outside secs es) (AfterDefine secs es) p signs.Define 0 (at q (signs.Name x) ∷ at r (signs.Oper Sub) ∷ at s (signs.Number n) ∷ w) refl refl refl
+    ∙ token (AfterDefine secs es) (Defining x secs es) q (signs.Name x) 0 (at r (signs.Oper Sub) ∷ at s (signs.Number n) ∷ w) refl refl refl
+    ∙ token (Defining x secs es) (NegativeDefining x secs es) r (signs.Oper Sub) 0 (at s (signs.Number n) ∷ w) refl refl refl
+    ∙ token (NegativeDefining x secs es) (Outside secs (with_declared secs es x (neg_ℤ n))) s (signs.Number n) 0 w refl refl refl
+definition_then secs es w (enclosed p q r s t x n) =
+    token (Outside secs es) (AfterDefine secs es) p signs.Define 0 (at q (signs.Name x) ∷ at r signs.Open ∷ at s (signs.Number n) ∷ at t signs.Close ∷ w) refl refl refl
+    ∙ token (AfterDefine secs es) (Defining x secs es) q (signs.Name x) 0 (at r signs.Open ∷ at s (signs.Number n) ∷ at t signs.Close ∷ w) refl refl refl
+    ∙ token (Defining x secs es) (Enclosing x secs es) r signs.Open 0 (at s (signs.Number n) ∷ at t signs.Close ∷ w) refl refl refl
+    ∙ token (Enclosing x secs es) (Enclosed x n secs es) s (signs.Number n) 0 (at t signs.Close ∷ w) refl refl refl
+    ∙ token (Enclosed x n secs es) (Outside secs (with_declared secs es x n)) t signs.Close 0 w refl refl refl
+definition_then secs es w (negative_enclosed p q r s t u x n) =
+    token (Outside secs es) (AfterDefine secs es) p signs.Define 0 (at q (signs.Name x) ∷ at r signs.Open ∷ at s (signs.Oper Sub) ∷ at t (signs.Number n) ∷ at u signs.Close ∷ w) refl refl refl
+    ∙ token (AfterDefine secs es) (Defining x secs es) q (signs.Name x) 0 (at r signs.Open ∷ at s (signs.Oper Sub) ∷ at t (signs.Number n) ∷ at u signs.Close ∷ w) refl refl refl
+    ∙ token (Defining x secs es) (Enclosing x secs es) r signs.Open 0 (at s (signs.Oper Sub) ∷ at t (signs.Number n) ∷ at u signs.Close ∷ w) refl refl refl
+    ∙ token (Enclosing x secs es) (NegativeEnclosing x secs es) s (signs.Oper Sub) 0 (at t (signs.Number n) ∷ at u signs.Close ∷ w) refl refl refl
+    ∙ token (NegativeEnclosing x secs es) (Enclosed x (neg_ℤ n) secs es) t (signs.Number n) 0 (at u signs.Close ∷ w) refl refl refl
+    ∙ token (Enclosed x (neg_ℤ n) secs es) (Outside secs (with_declared secs es x (neg_ℤ n))) u signs.Close 0 w refl refl refl
+
 -- one more guard
 pub guards_true : (gs : List Guard) (n : ℕ) → length (with_true gs n) ≡ suc (length gs)
 guards_true gs n = let h = length-append gs (record { number = n; positive = true } ∷ []) in h ∙ omega arith
@@ -177,13 +221,26 @@ goes_in (variables gs {us} {vs} {ws} {ds} {es = fs} o v d) = λ secs is h es w.
     ∙ goes_in v secs is h es (ws ++ w)
     ∙ goes_in d secs is h (es ++ ds) w
     ∙ regroup secs es ds fs w
-goes_in (prototype q r s t gs {us} {vs} {ws} {es = fs} o v d) = λ secs is h es w.
-    let re : (us ++ at q signs.Input ∷ at r signs.Open ∷ (vs ++ at s signs.Close ∷ at t signs.Semicolon ∷ ws)) ++ w ≡ us ++ at q signs.Input ∷ at r signs.Open ∷ (vs ++ at s signs.Close ∷ at t signs.Semicolon ∷ (ws ++ w)) = simp append_assoc in
+goes_in (prototype q r s t gs {f} {us} {vs} {ws} {es = fs} o g v d) = λ secs is h es w.
+    let rest : List Item = at r signs.Open ∷ (vs ++ at s signs.Close ∷ at t signs.Semicolon ∷ (ws ++ w)) in
+    let re : (us ++ at q f ∷ at r signs.Open ∷ (vs ++ at s signs.Close ∷ at t signs.Semicolon ∷ ws)) ++ w ≡ us ++ at q f ∷ rest = simp append_assoc in
     ap (guarded (Outside secs es) 0) re
-    ∙ prototyped q secs es (at r signs.Open ∷ (vs ++ at s signs.Close ∷ at t signs.Semicolon ∷ (ws ++ w))) o
-    ∙ parameters r s (ToPrototype secs es) (at t signs.Semicolon ∷ (ws ++ w)) v
-    ∙ token (AfterParameters (ToPrototype secs es)) (Outside secs es) t signs.Semicolon 0 (ws ++ w) refl refl refl
+    ∙ prototyped q secs es rest o g
+    ∙ ends_prototype r s t secs es (ws ++ w) v
     ∙ goes_in d secs is h es w
+goes_in (void_prototype p q r s t n gs {us} {vs} {ws} {es = fs} o v d) = λ secs is h es w.
+    let rest : List Item = at r signs.Open ∷ (vs ++ at s signs.Close ∷ at t signs.Semicolon ∷ (ws ++ w)) in
+    let re : (us ++ at p signs.Void ∷ at q (signs.Function n) ∷ at r signs.Open ∷ (vs ++ at s signs.Close ∷ at t signs.Semicolon ∷ ws)) ++ w ≡ us ++ at p signs.Void ∷ at q (signs.Function n) ∷ rest = simp append_assoc in
+    ap (guarded (Outside secs es) 0) re
+    ∙ void_prototyped p q n secs es rest o
+    ∙ ends_prototype r s t secs es (ws ++ w) v
+    ∙ goes_in d secs is h es w
+goes_in (definition gs {us} {ws} {es = fs} {x} {n} o d) = λ secs is h es w.
+    ap (guarded (Outside secs es) 0) (append_assoc us ws w)
+    ∙ definition_then secs es (ws ++ w) o
+    ∙ goes_in d secs is h (with_declared secs es x n) w
+    ∙ regroup secs es (declared x n (guards_of secs) ∷ []) fs w
+    ∙ ap (λ (y : List Guard). guarded (Outside secs (es ++ declared x n y ∷ fs)) 0 w) is
 goes_in (section p n gs {us} {vs} {ws} {cs} {ds} {es = fs} {k = j} a b d) = λ secs is h es w.
     let re : (us ++ (vs ++ ws)) ++ w ≡ us ++ (vs ++ (ws ++ w)) = simp append_assoc in
     let g : suc j + length gs ≤ 64 = h in

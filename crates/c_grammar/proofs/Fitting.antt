@@ -14,7 +14,7 @@ use Rattle.c_tree.specs.Whole.{IsDeclaredOf}
 use Rattle.c_grammar.specs.declared.items.Item.{Item}
 use Rattle.c_grammar.specs.declared.items.Sign.{Sign}
 use Rattle.c_grammar.specs.declared.items.Sign.TheVariants as signs
-use Rattle.c_grammar.specs.Grammar.{at, Prefix, Positive, Negative, Inverse, applied, Expresses, number, name, group, prefix, loose, binary, Shape, Writes, none, more, choice, ends, otherwise, elif, assign, input, update, count, prefix_count, assert, skip, block, while, if_then, if_else, Qualifier, Unqualified, Constant, Counted, behind, unqualified, const_before, const_behind, Begins, only_type, then_type, enumeration, Declarator, bare, positive, negative, counted, declared, Part, Outer, Vars, Later, Declares, nothing, variables, prototype, section, last_var, next_var, end_part, else_part, elif_part, Returns, no_return, return, Body, body, Main, main, File, Forms, file, has_groups, zeros}
+use Rattle.c_grammar.specs.Grammar.{at, Prefix, Positive, Negative, Inverse, applied, Expresses, number, name, group, prefix, loose, binary, Shape, Writes, none, more, choice, ends, otherwise, elif, assign, input, call, void_call, update, count, prefix_count, assert, skip, block, while, if_then, if_else, Qualifier, Unqualified, Constant, Counted, behind, unqualified, const_before, const_behind, Begins, only_type, then_type, enumeration, Declarator, bare, positive, negative, counted, Defines, defined, negative_defined, enclosed, negative_enclosed, declared, Part, Outer, Vars, Later, Declares, nothing, variables, prototype, void_prototype, definition, section, last_var, next_var, end_part, else_part, elif_part, Returns, no_return, return, Body, body, Main, main, File, Forms, file, has_groups, zeros}
 use Rattle.c_grammar.specs.Facts.{AreFit, WellFormed, PlainWithoutGroups}
 use Rattle.c_tree.proofs.Starts.{length-start, ints-start}
 use Rattle.c_grammar.proofs.Keeping.{no_groups}
@@ -61,7 +61,9 @@ code_fits n (ends p) h = tt
 code_fits n (otherwise p q {ts} s) h = code_fits n s (fit_split n ts (at q signs.GroupEnd ∷ []) h.1).0
 code_fits n (elif p m {ts} {us} s t) h = let r = fit_split n ts us h.1 in (code_fits n s r.0, code_fits n t r.1, tt)
 code_fits n (assign p q r x {ts} e) h = (h.0, term_fits n e (fit_split n ts (at r signs.Semicolon ∷ []) h.1.1).0, tt)
-code_fits n (input p q r s t u x) h = (h.0, tt)
+code_fits n (input p q r s t u x g) h = (h.0, tt)
+code_fits n (call p q r s g) h = tt
+code_fits n (void_call p q r s t u v g) h = tt
 code_fits n (update p q r x u {ts} e) h = (h.0, (h.0, term_fits n e (fit_split n ts (at r signs.Semicolon ∷ []) h.1.1).0), tt)
 code_fits n (count p q r x u) h = (h.0, (h.0, (omega (arith, ints), omega (arith, ints))), tt)
 code_fits n (prefix_count p q r x u) h = (h.1.0, (h.1.0, (omega (arith, ints), omega (arith, ints))), tt)
@@ -106,6 +108,12 @@ value_fits n k (positive p q r x v) h = (h.0, record { low = omega (arith, ints,
 value_fits n k (negative p q r s x v) h = (h.0, record { low = omega (arith, ints, h.1.1.1.0.0, h.1.1.1.0.1); high = omega (arith, ints, h.1.1.1.0.0, h.1.1.1.0.1) })
 value_fits n k (counted p x last lt) h = (h.0, record { low = omega (arith, ints, k); high = omega (arith, ints, lt) })
 
+definition_fits : {us : List Item} {x : ℕ} {v : ℤ} (n : ℕ) → Defines us x v → AreFit n us → (x < n) × IsInt v
+definition_fits n (defined p q r x v) h = (h.1.0, record { low = omega (arith, ints, h.1.1.0.0, h.1.1.0.1); high = h.1.1.0.1 })
+definition_fits n (negative_defined p q r s x v) h = (h.1.0, record { low = omega (arith, ints, h.1.1.1.0.0, h.1.1.1.0.1); high = omega (arith, ints, h.1.1.1.0.0, h.1.1.1.0.1) })
+definition_fits n (enclosed p q r s t x v) h = (h.1.0, record { low = omega (arith, ints, h.1.1.1.0.0, h.1.1.1.0.1); high = h.1.1.1.0.1 })
+definition_fits n (negative_enclosed p q r s t u x v) h = (h.1.0, record { low = omega (arith, ints, h.1.1.1.1.0.0, h.1.1.1.1.0.1); high = omega (arith, ints, h.1.1.1.1.0.0, h.1.1.1.1.0.1) })
+
 one_fits : (n x : ℕ) (v : ℤ) (gs : List Guard) → (x < n) × IsInt v → IsDeclaredOf n (declared x v gs)
 one_fits n x v gs h = record { target = h.0; value = h.1 }
 
@@ -115,9 +123,15 @@ declared_fits n f (variables gs {us} {vs} {ws} {ds} {es} o v d) h =
     let k = fit_split n us (vs ++ ws) h in
     let l = fit_split n vs ws k.1 in
     All-append (IsDeclaredOf n) ds es (declared_fits n (begins_fits o) v l.0) (declared_fits n tt d l.1)
-declared_fits n f (prototype q r s t gs {us} {vs} {ws} o v d) h =
-    let k = fit_split n us (at q signs.Input ∷ at r signs.Open ∷ (vs ++ at s signs.Close ∷ at t signs.Semicolon ∷ ws)) h in
+declared_fits n f (prototype q r s t gs {f = called} {us} {vs} {ws} o g v d) h =
+    let k = fit_split n us (at q called ∷ at r signs.Open ∷ (vs ++ at s signs.Close ∷ at t signs.Semicolon ∷ ws)) h in
     declared_fits n tt d (fit_split n vs (at s signs.Close ∷ at t signs.Semicolon ∷ ws) k.1.1.1).1.1.1
+declared_fits n f (void_prototype p q r s t m gs {us} {vs} {ws} o v d) h =
+    let k = fit_split n us (at p signs.Void ∷ at q (signs.Function m) ∷ at r signs.Open ∷ (vs ++ at s signs.Close ∷ at t signs.Semicolon ∷ ws)) h in
+    declared_fits n tt d (fit_split n vs (at s signs.Close ∷ at t signs.Semicolon ∷ ws) k.1.1.1.1).1.1.1
+declared_fits n f (definition gs {us} {ws} {es} {x} {n = v} o d) h =
+    let k = fit_split n us ws h in
+    All-cons (IsDeclaredOf n) (declared x v gs) es (one_fits n x v gs (definition_fits n o k.0)) (declared_fits n tt d k.1)
 declared_fits n f (section p m gs {us} {vs} {ws} {cs} {ds} {es} a b d) h =
     let k = fit_split n us (vs ++ ws) h.1 in
     let l = fit_split n vs ws k.1 in
@@ -154,7 +168,9 @@ code_plain (ends p) h = tt
 code_plain (otherwise p q s) h = absurd cc
 code_plain (elif p m s t) h = absurd cc
 code_plain (assign p q r x e) h = tt
-code_plain (input p q r s t u x) h = tt
+code_plain (input p q r s t u x g) h = tt
+code_plain (call p q r s g) h = tt
+code_plain (void_call p q r s t u v g) h = tt
 code_plain (update p q r x u e) h = tt
 code_plain (count p q r x u) h = tt
 code_plain (prefix_count p q r x u) h = tt

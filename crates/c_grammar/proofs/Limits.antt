@@ -14,7 +14,7 @@ use Rattle.c_grammar.specs.declared.items.Sign.{Sign}
 use Rattle.c_grammar.specs.declared.items.Sign.TheVariants as signs
 use Rattle.c_grammar.specs.declared.items.Item.{Item}
 use Rattle.c_grammar.specs.Grammar.{Count, tighter, Positive, Negative, Inverse, Qualifier, Unqualified, Constant, Counted, File}
-use Rattle.c_grammar.specs.Machine.{Frame, Paren, Pre, Left, Stack, Top, Braces, Yes, No, ThenOf, ElseOf, LoopOf, Use, ToAssign, ToUpdate, ToAssert, ToChoose, ToLoop, Sections, Outermost, InPart, InLast, Aim, ToPrototype, ToMain, Tailing, Another, ReadingState, Outside, AfterStatic, AfterExtern, AfterConst, AfterEnum, AfterType, Leading, NoWord, StaticWord, ExternWord, ConstWord, TypeWords, OneInt, OneSigned, Declaring, Bare, Starting, Negating, Started, Listing, Enumerated, Parameters, InParameters, AfterVoid, AfterParameters, Ready, Ended, Wants, Has, Counting, Named, Opens, InputOpens, InputCloses, Finishing, Returning, Returned, Closing, Over, settle, input_of, want, tested, closed_by, assigned, ended_by, have, folded, else_of, linked, opened, braced, returned, next_part, last_part, group_end, begin, on, named, counting, at_open, at_close, at_semicolon, at_input, next_condition, last_section, section_end, outside, behind_static, declaring, qualifying, main_of, first_word, naming, behind_type, after_type, after_enum, listed, declaration_end, enumeration_end, started, listing, counts_on, without_value, is_bare, starting, negating, in_parameters, after_parameters, returning, closing, over, with_declared, step, finish, start}
+use Rattle.c_grammar.specs.Machine.{Frame, Paren, Pre, Left, Stack, Top, Braces, Yes, No, ThenOf, ElseOf, LoopOf, Use, ToAssign, ToUpdate, ToAssert, ToChoose, ToLoop, Sections, Outermost, InPart, InLast, Aim, ToPrototype, ToMain, Tailing, Another, ReadingState, Outside, AfterStatic, AfterExtern, AfterConst, AfterEnum, AfterVoidType, AfterType, Leading, NoWord, StaticWord, ExternWord, ConstWord, TypeWords, OneInt, OneSigned, Declaring, Bare, Starting, Negating, Started, Listing, Enumerated, AfterDefine, Defining, NegativeDefining, Enclosing, NegativeEnclosing, Enclosed, Parameters, InParameters, AfterVoid, AfterParameters, Ready, Ended, Wants, Has, Counting, Named, Opens, VoidComes, VoidCloses, CallComes, CallOpens, CallCloses, Finishing, Returning, Returned, Closing, Over, settle, input_of, want, tested, closed_by, assigned, ended_by, have, folded, else_of, linked, opened, braced, returned, next_part, last_part, group_end, begin, on, named, counting, at_open, at_close, at_semicolon, at_void, at_function, at_void_function, next_condition, last_section, section_end, outside, behind_extern, behind_static, declaring, qualifying, main_of, first_word, naming, behind_type, after_type, after_enum, listed, declaration_end, enumeration_end, started, listing, counts_on, without_value, is_bare, starting, negating, after_define, defined_as, defining, negative_defining, enclosing, negative_enclosing, in_parameters, after_parameters, returning, closing, over, with_declared, step, finish, start}
 use Rattle.c_grammar.specs.Deep.{depth, opens_more, is_nested, counted, is_long, is_deep, Fault, ended, went, guarded}
 
 max_parts : (a b k m : ℕ) → max a b + k ≤ m → (a + k ≤ m) × (b + k ≤ m)
@@ -126,8 +126,11 @@ StateFits (Has fs u e) k = UseFits u × (weight fs + operators e ≤ k) × (k �
 StateFits (Counting p u outer) k = Fits outer
 StateFits (Named p x outer) k = Fits outer
 StateFits (Opens u) k = UseFits u
-StateFits (InputOpens p x outer) k = Fits outer
-StateFits (InputCloses p x outer) k = Fits outer
+StateFits (VoidComes p outer) k = Fits outer
+StateFits (VoidCloses p outer) k = Fits outer
+StateFits (CallComes p outer) k = Fits outer
+StateFits (CallOpens outer c) k = Fits outer × Fine (depth outer) c
+StateFits (CallCloses outer c) k = Fits outer × Fine (depth outer) c
 StateFits (Finishing outer c) k = Fits outer × Fine (depth outer) c
 StateFits (Returning p ds made) k = Fine 0 made
 StateFits (Returned ds made) k = Fine 0 made
@@ -177,6 +180,9 @@ end_fits k _ h = tt
 begin_fits : (outer : Stack) (p : Place) (s : Sign) (k : ℕ) → (opens_more s && leb 64 (depth outer)) ≡ false → Fits outer → IfSome (begin outer p s) (λ next. StateFits next k)
 unfolding StateFits UseFits
 begin_fits outer p (signs.Name x) k l h = h
+begin_fits outer p signs.Input k l h = (h, (depth_fits outer h, tt))
+begin_fits outer p (signs.Function n) k l h = (h, (depth_fits outer h, tt))
+begin_fits outer p signs.Open k l h = h
 begin_fits outer p signs.Semicolon k l h = (h, (depth_fits outer h, tt))
 begin_fits outer p signs.PlusPlus k l h = h
 begin_fits outer p signs.MinusMinus k l h = h
@@ -227,7 +233,7 @@ prefix_fits fs u _ k h w l = tt
 
 input_fits : (fs : List Frame) (u : Use) (k : ℕ) → UseFits u → IfSome (input_of fs u) (λ next. StateFits next k)
 unfolding StateFits UseFits
-input_fits [] (ToAssign p x outer) k h = h
+input_fits [] (ToAssign p x outer) k h = (h, (depth_fits outer h, tt))
 input_fits _ _ k h = tt
 
 want_fits : (fs : List Frame) (u : Use) (p : Place) (s : Sign) (k : ℕ) → is_long (Wants fs u) s k ≡ false → StateFits (Wants fs u) k → IfSome (want fs u s) (λ next. StateFits next (counted (Wants fs u) s k))
@@ -238,6 +244,7 @@ want_fits fs u p signs.Open k l h = let lt = leb-false 65 (suc k) l in (h.0, ome
 want_fits fs u p signs.Bang k l h = let lt = leb-false 65 (suc k) l in (h.0, omega (arith, h.1), omega (arith, lt))
 want_fits fs u p (signs.Oper op) k l h = let lt = leb-false 65 (suc k) l in prefix_fits fs u op k h.0 h.1 (omega (arith, lt))
 want_fits fs u p signs.Input k l h = input_fits fs u k h.0
+want_fits fs u p (signs.Function n) k l h = input_fits fs u k h.0
 want_fits fs u p _ k l h = tt
 
 tested_fits : (u : Use) (e : Term) (k : ℕ) → UseFits u → operators e ≤ 64 → IfSome (tested u e) (λ next. StateFits next k)
@@ -307,6 +314,19 @@ semicolon_fits : (next : ReadingState) (s : Sign) → StateFits next 0 → IfSom
 semicolon_fits next signs.Semicolon h = h
 semicolon_fits next _ h = tt
 
+void_fits : (next : ReadingState) (s : Sign) → StateFits next 0 → IfSome (at_void next s) (λ n. StateFits n 0)
+void_fits next signs.Void h = h
+void_fits next _ h = tt
+
+function_fits : (next : ReadingState) (s : Sign) → StateFits next 0 → IfSome (at_function next s) (λ n. StateFits n 0)
+function_fits next signs.Input h = h
+function_fits next (signs.Function k) h = h
+function_fits next _ h = tt
+
+void_function_fits : (next : ReadingState) (s : Sign) → StateFits next 0 → IfSome (at_void_function next s) (λ n. StateFits n 0)
+void_function_fits next (signs.Function k) h = h
+void_function_fits next _ h = tt
+
 -- declarations leave nothing deep
 condition_fits : (m : ℕ) (secs : Sections) (ds : List Declared) → IfSome (next_condition m secs ds) (λ next. StateFits next 0)
 unfolding StateFits
@@ -338,21 +358,24 @@ unfolding StateFits
 static_fits secs ds signs.Const = tt
 static_fits secs ds s = first_fits StaticWord secs ds s
 
+extern_fits : (secs : Sections) (ds : List Declared) (s : Sign) → IfSome (behind_extern secs ds s) (λ next. StateFits next 0)
+unfolding StateFits
+extern_fits secs ds signs.Void = tt
+extern_fits secs ds s = first_fits ExternWord secs ds s
+
 outside_fits : (secs : Sections) (ds : List Declared) (s : Sign) → IfSome (outside secs ds s) (λ next. StateFits next 0)
 unfolding StateFits
 outside_fits secs ds signs.Static = tt
 outside_fits secs ds signs.Extern = tt
 outside_fits secs ds signs.Const = tt
 outside_fits secs ds signs.Enum = tt
+outside_fits secs ds signs.Define = tt
+outside_fits secs ds signs.Void = tt
 outside_fits secs ds (signs.GroupIf n) = tt
 outside_fits secs ds (signs.GroupElif n) = condition_fits n secs ds
 outside_fits secs ds signs.GroupElse = last_section_fits secs ds
 outside_fits secs ds signs.GroupEnd = section_end_fits secs ds
 outside_fits secs ds s = first_fits NoWord secs ds s
-
-at_input_fits : (next : ReadingState) (s : Sign) → StateFits next 0 → IfSome (at_input next s) (λ n. StateFits n 0)
-at_input_fits next signs.Input h = h
-at_input_fits next _ h = tt
 
 main_fits : (secs : Sections) (ds : List Declared) → IfSome (main_of secs ds) (λ next. StateFits next 0)
 unfolding StateFits
@@ -364,6 +387,7 @@ unfolding StateFits
 naming_fits secs ds signs.Const = tt
 naming_fits secs ds (signs.Name x) = tt
 naming_fits secs ds signs.Input = tt
+naming_fits secs ds (signs.Function k) = tt
 naming_fits secs ds signs.Main = main_fits secs ds
 naming_fits secs ds _ = tt
 
@@ -381,7 +405,7 @@ behind_type_fits : (lead : Leading) (secs : Sections) (ds : List Declared) (s : 
 unfolding StateFits
 behind_type_fits NoWord secs ds s = naming_fits secs ds s
 behind_type_fits StaticWord secs ds s = qualifying_fits secs ds s
-behind_type_fits ExternWord secs ds s = at_input_fits (Parameters (ToPrototype secs ds)) s tt
+behind_type_fits ExternWord secs ds s = function_fits (Parameters (ToPrototype secs ds)) s tt
 behind_type_fits ConstWord secs ds s = declaring_fits Constant secs ds s
 
 after_type_fits : (lead : Leading) (secs : Sections) (ds : List Declared) (s : Sign) (words : TypeWords) → IfSome (after_type lead secs ds s words) (λ next. StateFits next 0)
@@ -451,6 +475,34 @@ unfolding StateFits
 negating_fits kind x secs ds (signs.Number n) = tt
 negating_fits kind x secs ds _ = tt
 
+define_fits : (secs : Sections) (ds : List Declared) (s : Sign) → IfSome (after_define secs ds s) (λ next. StateFits next 0)
+unfolding StateFits
+define_fits secs ds (signs.Name x) = tt
+define_fits secs ds _ = tt
+
+defining_fits : (x : ℕ) (secs : Sections) (ds : List Declared) (s : Sign) → IfSome (defining x secs ds s) (λ next. StateFits next 0)
+unfolding StateFits
+defining_fits x secs ds (signs.Number n) = tt
+defining_fits x secs ds (signs.Oper Sub) = tt
+defining_fits x secs ds signs.Open = tt
+defining_fits x secs ds _ = tt
+
+negative_defining_fits : (x : ℕ) (secs : Sections) (ds : List Declared) (s : Sign) → IfSome (negative_defining x secs ds s) (λ next. StateFits next 0)
+unfolding StateFits
+negative_defining_fits x secs ds (signs.Number n) = tt
+negative_defining_fits x secs ds _ = tt
+
+enclosing_fits : (x : ℕ) (secs : Sections) (ds : List Declared) (s : Sign) → IfSome (enclosing x secs ds s) (λ next. StateFits next 0)
+unfolding StateFits
+enclosing_fits x secs ds (signs.Number n) = tt
+enclosing_fits x secs ds (signs.Oper Sub) = tt
+enclosing_fits x secs ds _ = tt
+
+negative_enclosing_fits : (x : ℕ) (secs : Sections) (ds : List Declared) (s : Sign) → IfSome (negative_enclosing x secs ds s) (λ next. StateFits next 0)
+unfolding StateFits
+negative_enclosing_fits x secs ds (signs.Number n) = tt
+negative_enclosing_fits x secs ds _ = tt
+
 in_parameters_fits : (aim : Aim) (s : Sign) → IfSome (in_parameters aim s) (λ next. StateFits next 0)
 unfolding StateFits
 in_parameters_fits aim signs.Void = tt
@@ -485,9 +537,10 @@ step_fits : (state : ReadingState) (p : Place) (s : Sign) (k : ℕ) → is_neste
 unfolding StateFits UseFits weight
 step_fits (Outside secs ds) p s k d l h = outside_fits secs ds s
 step_fits (AfterStatic secs ds) p s k d l h = static_fits secs ds s
-step_fits (AfterExtern secs ds) p s k d l h = first_fits ExternWord secs ds s
+step_fits (AfterExtern secs ds) p s k d l h = extern_fits secs ds s
 step_fits (AfterConst secs ds) p s k d l h = first_fits ConstWord secs ds s
 step_fits (AfterEnum secs ds) p s k d l h = enum_fits secs ds s
+step_fits (AfterVoidType secs ds) p s k d l h = void_function_fits (Parameters (ToPrototype secs ds)) s tt
 step_fits (AfterType lead words secs ds) p s k d l h = after_type_fits lead secs ds s words
 step_fits (Declaring kind secs ds) p s k d l h = declaring_fits kind secs ds s
 step_fits (Bare kind x secs ds) p s k d l h = bare_fits kind x secs ds s
@@ -496,6 +549,12 @@ step_fits (Negating kind x secs ds) p s k d l h = negating_fits kind x secs ds s
 step_fits (Started kind x n secs ds) p s k d l h = started_fits kind x n secs ds s
 step_fits (Listing last secs ds) p s k d l h = listing_fits last secs ds s
 step_fits (Enumerated secs ds) p s k d l h = semicolon_fits (Outside secs ds) s tt
+step_fits (AfterDefine secs ds) p s k d l h = define_fits secs ds s
+step_fits (Defining x secs ds) p s k d l h = defining_fits x secs ds s
+step_fits (NegativeDefining x secs ds) p s k d l h = negative_defining_fits x secs ds s
+step_fits (Enclosing x secs ds) p s k d l h = enclosing_fits x secs ds s
+step_fits (NegativeEnclosing x secs ds) p s k d l h = negative_enclosing_fits x secs ds s
+step_fits (Enclosed x n secs ds) p s k d l h = close_fits (defined_as x n secs ds) s tt
 step_fits (Parameters aim) p s k d l h = open_fits (InParameters aim) s tt
 step_fits (InParameters aim) p s k d l h = in_parameters_fits aim s
 step_fits (AfterVoid aim) p s k d l h = close_fits (AfterParameters aim) s tt
@@ -507,8 +566,11 @@ step_fits (Has fs u e) p s k d l h = have_fits fs u e p s k l h
 step_fits (Counting q u outer) p s k d l h = counting_fits q u outer s h
 step_fits (Named q x outer) p s k d l h = named_fits q x outer s h
 step_fits (Opens u) p s k d l h = open_fits (Wants [] u) s (h, omega arith, omega arith)
-step_fits (InputOpens q x outer) p s k d l h = open_fits (InputCloses q x outer) s h
-step_fits (InputCloses q x outer) p s k d l h = close_fits (Finishing outer (Input q x Done)) s (h, (depth_fits outer h, tt))
+step_fits (VoidComes q outer) p s k d l h = void_fits (VoidCloses q outer) s h
+step_fits (VoidCloses q outer) p s k d l h = close_fits (CallComes q outer) s h
+step_fits (CallComes q outer) p s k d l h = function_fits (CallOpens outer (Skip q Done)) s (h, (depth_fits outer h, tt))
+step_fits (CallOpens outer c) p s k d l h = open_fits (CallCloses outer c) s h
+step_fits (CallCloses outer c) p s k d l h = close_fits (Finishing outer c) s h
 step_fits (Finishing outer c) p s k d l h = semicolon_fits (Ended outer c) s h
 step_fits (Returning q ds made) p s k d l h = returning_fits q ds made s h
 step_fits (Returned ds made) p s k d l h = semicolon_fits (Closing ds made) s h

@@ -8,7 +8,7 @@ use Rattle.c_tree.specs.Whole.{IsBeforeAll, IsRising}
 use Rattle.c_tree.proofs.Listed.{places_of-followed}
 use Rattle.c_grammar.specs.declared.items.Item.{Item}
 use Rattle.c_grammar.specs.declared.items.Sign.TheVariants as signs
-use Rattle.c_grammar.specs.Grammar.{at, update_sign, count_sign, Shape, Writes, none, more, choice, ends, otherwise, elif, assign, input, update, count, prefix_count, assert, skip, block, while, if_then, if_else, Returns, no_return, return, Body, body, Main, main, File, Forms, file}
+use Rattle.c_grammar.specs.Grammar.{at, update_sign, count_sign, Shape, Writes, none, more, choice, ends, otherwise, elif, assign, input, call, void_call, update, count, prefix_count, assert, skip, block, while, if_then, if_else, Returns, no_return, return, Body, body, Main, main, File, Forms, file}
 use Rattle.c_grammar.specs.Facts.{IsBeforeItems, AreRising}
 
 -- the places are those of some of the items
@@ -54,7 +54,9 @@ code_part (ends p) = pass (at p signs.GroupEnd) end
 code_part (otherwise p q s) = pass (at p signs.GroupElse) (before (at q signs.GroupEnd ∷ []) (code_part s))
 code_part (elif p m s t) = pass (at p (signs.GroupElif m)) (joined (code_part s) (padded (code_part t)))
 code_part (assign p q r x {ts} e) = keep (at p (signs.Name x)) (no_part (at q signs.Equals ∷ (ts ++ at r signs.Semicolon ∷ [])))
-code_part (input p q r s t u x) = keep (at p (signs.Name x)) (no_part (at q signs.Equals ∷ at r signs.Input ∷ at s signs.Open ∷ at t signs.Close ∷ at u signs.Semicolon ∷ []))
+code_part (input p q r s t u x {f} g) = keep (at p (signs.Name x)) (no_part (at q signs.Equals ∷ at r f ∷ at s signs.Open ∷ at t signs.Close ∷ at u signs.Semicolon ∷ []))
+code_part (call p q r s {f} g) = keep (at p f) (no_part (at q signs.Open ∷ at r signs.Close ∷ at s signs.Semicolon ∷ []))
+code_part (void_call p q r s t u v {f} g) = keep (at p signs.Open) (no_part (at q signs.Void ∷ at r signs.Close ∷ at s f ∷ at t signs.Open ∷ at u signs.Close ∷ at v signs.Semicolon ∷ []))
 code_part (update p q r x u {ts} e) = keep (at p (signs.Name x)) (no_part (at q (update_sign u) ∷ (ts ++ at r signs.Semicolon ∷ [])))
 code_part (count p q r x u) = keep (at p (signs.Name x)) (no_part (at q (count_sign u) ∷ at r signs.Semicolon ∷ []))
 code_part (prefix_count p q r x u) = keep (at p (count_sign u)) (no_part (at q (signs.Name x) ∷ at r signs.Semicolon ∷ []))

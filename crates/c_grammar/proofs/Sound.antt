@@ -6,11 +6,13 @@ use Rattle.fam_outer.specs.declared.faults.Place.{Place}
 use Rattle.c_grammar.specs.declared.items.Sign.{Sign}
 use Rattle.c_grammar.specs.declared.items.Item.{Item}
 use Rattle.c_grammar.specs.Grammar.{at, no_more, File, file_of, Forms, file}
-use Rattle.c_grammar.specs.Machine.{Outermost, ReadingState, Outside, AfterStatic, AfterExtern, AfterConst, AfterEnum, AfterType, Declaring, Bare, Starting, Negating, Started, Listing, Enumerated, Parameters, InParameters, AfterVoid, AfterParameters, Ready, Ended, Wants, Has, Counting, Named, Opens, InputOpens, InputCloses, Finishing, Returning, Returned, Closing, Over, step, finish, at_end, moved, run, start}
+use Rattle.c_grammar.specs.Machine.{Outermost, ReadingState, Outside, AfterStatic, AfterExtern, AfterConst, AfterEnum, AfterVoidType, AfterType, Declaring, Bare, Starting, Negating, Started, Listing, Enumerated, AfterDefine, Defining, NegativeDefining, Enclosing, NegativeEnclosing, Enclosed, Parameters, InParameters, AfterVoid, AfterParameters, Ready, Ended, Wants, Has, Counting, Named, Opens, VoidComes, VoidCloses, CallComes, CallOpens, CallCloses, Finishing, Returning, Returned, Closing, Over, step, finish, at_end, moved, run, start}
 use Rattle.c_grammar.proofs.Standing.{Tail, Stands}
 use Rattle.c_grammar.proofs.SoundExpressions.{want_keeps, have_keeps}
-use Rattle.c_grammar.proofs.SoundStatements.{begin_keeps, on_keeps, counting_keeps, named_keeps, opens_keeps, input_opens_keeps, input_closes_keeps, finishing_keeps}
-use Rattle.c_grammar.proofs.SoundFiles.{outside_keeps, static_keeps, extern_keeps, const_keeps, enum_keeps, type_keeps, declaring_keeps, bare_keeps, starting_keeps, negating_keeps, started_keeps, listing_keeps, enumerated_keeps, parameters_keeps, in_parameters_keeps, void_keeps, after_parameters_keeps, returning_keeps, return_end_keeps, closing_keeps, over_keeps}
+use Rattle.c_grammar.proofs.SoundStatements.{begin_keeps, on_keeps, counting_keeps, named_keeps, opens_keeps, void_comes_keeps, void_closes_keeps, call_comes_keeps, call_opens_keeps, call_closes_keeps, finishing_keeps}
+use Rattle.c_grammar.proofs.SoundDefinitions.{define_keeps, defining_keeps, negative_defining_keeps, enclosing_keeps, negative_enclosing_keeps, enclosed_keeps}
+use Rattle.c_grammar.proofs.SoundFiles.{outside_keeps, static_keeps, extern_keeps, const_keeps, enum_keeps, void_type_keeps, type_keeps, declaring_keeps, bare_keeps, starting_keeps, negating_keeps, started_keeps, listing_keeps, enumerated_keeps, parameters_keeps, in_parameters_keeps, void_keeps, after_parameters_keeps}
+use Rattle.c_grammar.proofs.SoundEnds.{returning_keeps, return_end_keeps, closing_keeps, over_keeps}
 
 keeps : (state : ReadingState) (p : Place) (s : Sign) (a : List Item) → Stands state a → IfSome (step state p s) (λ next. Stands next (a ++ at p s ∷ []))
 keeps (Outside secs ds) p s a r = outside_keeps secs ds p s a r
@@ -18,6 +20,7 @@ keeps (AfterStatic secs ds) p s a r = static_keeps secs ds p s a r
 keeps (AfterExtern secs ds) p s a r = extern_keeps secs ds p s a r
 keeps (AfterConst secs ds) p s a r = const_keeps secs ds p s a r
 keeps (AfterEnum secs ds) p s a r = enum_keeps secs ds p s a r
+keeps (AfterVoidType secs ds) p s a r = void_type_keeps secs ds p s a r
 keeps (AfterType lead words secs ds) p s a r = type_keeps lead secs ds p s words a r
 keeps (Declaring kind secs ds) p s a r = declaring_keeps kind secs ds p s a r
 keeps (Bare kind x secs ds) p s a r = bare_keeps kind x secs ds p s a r
@@ -26,6 +29,12 @@ keeps (Negating kind x secs ds) p s a r = negating_keeps kind x secs ds p s a r
 keeps (Started kind x n secs ds) p s a r = started_keeps kind x n secs ds p s a r
 keeps (Listing last secs ds) p s a r = listing_keeps last secs ds p s a r
 keeps (Enumerated secs ds) p s a r = enumerated_keeps secs ds p s a r
+keeps (AfterDefine secs ds) p s a r = define_keeps secs ds p s a r
+keeps (Defining x secs ds) p s a r = defining_keeps x secs ds p s a r
+keeps (NegativeDefining x secs ds) p s a r = negative_defining_keeps x secs ds p s a r
+keeps (Enclosing x secs ds) p s a r = enclosing_keeps x secs ds p s a r
+keeps (NegativeEnclosing x secs ds) p s a r = negative_enclosing_keeps x secs ds p s a r
+keeps (Enclosed x n secs ds) p s a r = enclosed_keeps x n secs ds p s a r
 keeps (Parameters aim) p s a r = parameters_keeps aim p s a r
 keeps (InParameters aim) p s a r = in_parameters_keeps aim p s a r
 keeps (AfterVoid aim) p s a r = void_keeps aim p s a r
@@ -37,8 +46,11 @@ keeps (Has fs u e) p s a r = have_keeps fs u e p s a r
 keeps (Counting q u outer) p s a r = counting_keeps q u outer p s a r
 keeps (Named q x outer) p s a r = named_keeps q x outer p s a r
 keeps (Opens u) p s a r = opens_keeps u p s a r
-keeps (InputOpens q x outer) p s a r = input_opens_keeps q x outer p s a r
-keeps (InputCloses q x outer) p s a r = input_closes_keeps q x outer p s a r
+keeps (VoidComes q outer) p s a r = void_comes_keeps q outer p s a r
+keeps (VoidCloses q outer) p s a r = void_closes_keeps q outer p s a r
+keeps (CallComes q outer) p s a r = call_comes_keeps q outer p s a r
+keeps (CallOpens outer c) p s a r = call_opens_keeps outer c p s a r
+keeps (CallCloses outer c) p s a r = call_closes_keeps outer c p s a r
 keeps (Finishing outer c) p s a r = finishing_keeps outer c p s a r
 keeps (Returning q ds made) p s a r = returning_keeps q ds made p s a r
 keeps (Returned ds made) p s a r = return_end_keeps ds made p s a r

@@ -8,7 +8,7 @@ use Rattle.c_tree.specs.Tree.{Term, Binary, Done, Assign, Assert}
 use Rattle.c_grammar.specs.declared.items.Sign.{Sign}
 use Rattle.c_grammar.specs.declared.items.Sign.TheVariants as signs
 use Rattle.c_grammar.specs.declared.items.Item.{Item}
-use Rattle.c_grammar.specs.Grammar.{at, tighter, prefix_sign, applied, Expresses, number, name, group, prefix, loose, binary, update_sign, updated, Stated, Writes, assign, update, assert}
+use Rattle.c_grammar.specs.Grammar.{at, tighter, prefix_sign, applied, Expresses, number, name, group, prefix, loose, binary, update_sign, updated, Callable, of_input, of_function, Stated, Writes, assign, input, update, assert}
 use Rattle.c_grammar.specs.Machine.{Frame, Paren, Pre, Left, room, Use, ToAssign, ToUpdate, ToAssert, ToChoose, ToLoop, Has, settle, input_of, want, tested, closed_by, assigned, ended_by, have}
 use Rattle.c_grammar.proofs.Standing.{Framed, Stands}
 use Rattle.c_grammar.proofs.Complete.{tighter_small}
@@ -47,9 +47,10 @@ settle_is u k small (Left op x ∷ fs) e j le fits b ts r s =
 of_state : (fs : List Frame) (u : Use) (e : Term) (a : List Item) (k : ℕ) → k ≤ 6 → Stands (Has fs u e) a → Settled u k (settle k fs e) a
 of_state fs u e a k small h = subst (λ (y : List Item). Settled u k (settle k fs e) y) (sym h.4) (settle_is u k small fs e 0 (omega arith) (omega arith) h.0 h.1 h.2 h.3)
 
-input_keeps : (fs : List Frame) (u : Use) (p : Place) (a : List Item) → Framed u fs a → IfSome (input_of fs u) (λ next. Stands next (a ++ at p signs.Input ∷ []))
-input_keeps [] (ToAssign q x outer) p a r = (r.0, p, r.1, r.2, ap (λ (y : List Item). y ++ at p signs.Input ∷ []) r.3 ∙ append_assoc r.1 (at q (signs.Name x) ∷ at r.0 signs.Equals ∷ []) (at p signs.Input ∷ []))
-input_keeps _ _ p a r = tt
+input_keeps : {f : Sign} (fs : List Frame) (u : Use) (p : Place) (a : List Item) → Callable f → Framed u fs a → IfSome (input_of fs u) (λ next. Stands next (a ++ at p f ∷ []))
+input_keeps {f} [] (ToAssign q x outer) p a g r =
+    (r.1, at q (signs.Name x) ∷ at r.0 signs.Equals ∷ at p f ∷ [], r.2, (λ s t v. input q r.0 p s t v x g), ap (λ (y : List Item). y ++ at p f ∷ []) r.3 ∙ append_assoc r.1 (at q (signs.Name x) ∷ at r.0 signs.Equals ∷ []) (at p f ∷ []))
+input_keeps _ _ p a g r = tt
 
 pub want_keeps : (fs : List Frame) (u : Use) (p : Place) (s : Sign) (a : List Item) → Framed u fs a → IfSome (want fs u s) (λ next. Stands next (a ++ at p s ∷ []))
 want_keeps fs u p (signs.Number n) a r = (a, at p (signs.Number n) ∷ [], r, number p n, refl)
@@ -58,7 +59,8 @@ want_keeps fs u p signs.Open a r = (p, a, r, refl)
 want_keeps fs u p signs.Bang a r = (p, a, r, refl)
 want_keeps fs u p (signs.Oper Add) a r = (p, a, r, refl)
 want_keeps fs u p (signs.Oper Sub) a r = (p, a, r, refl)
-want_keeps fs u p signs.Input a r = input_keeps fs u p a r
+want_keeps fs u p signs.Input a r = input_keeps fs u p a of_input r
+want_keeps fs u p (signs.Function k) a r = input_keeps fs u p a (of_function k) r
 want_keeps fs u p _ a r = tt
 
 tested_keeps : (u : Use) (e : Term) (p : Place) (a : List Item) → Settled u 6 ([], e) a → IfSome (tested u e) (λ next. Stands next (a ++ at p signs.Close ∷ []))

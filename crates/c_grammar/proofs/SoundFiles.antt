@@ -1,31 +1,31 @@
--- What is read is spelled: declarations and the end of a file.
+-- What is read is spelled: declarations.
 use Rattle.std.proofs.Common.{◌≡◌, ℕ, ℤ, pos, ◌+ℤ◌, ◌<ℤ◌, int_lt, true, false, cond, None, arith, List, [], ◌∷◌, ◌++◌, refl, sym, ap, subst, ◌∙◌, append_assoc}
 use Rattle.std.specs.Prelude.{IfSome}
 use Rattle.std.proofs.lemmas.Int.{ints}
 use Rattle.std.proofs.lemmas.List.{append-nil}
 use Rattle.fam_outer.specs.declared.faults.Place.{Place}
 use Rattle.c_tree.specs.declared.tree.Op.TheVariants.{Sub}
+use Rattle.c_tree.specs.declared.lists.Guard.{Guard}
 use Rattle.c_tree.specs.declared.lists.Declared.{Declared}
 use Rattle.c_tree.specs.Value.{greatest}
-use Rattle.c_tree.specs.Tree.{Code}
 use Rattle.c_grammar.specs.declared.items.Sign.{Sign}
 use Rattle.c_grammar.specs.declared.items.Sign.TheVariants as signs
 use Rattle.c_grammar.specs.declared.items.Item.{Item}
-use Rattle.c_grammar.specs.Grammar.{at, none, Optional, absent, present, Typed, int, int32, signed, signed_int, int_signed, Qualifier, Unqualified, Constant, Counted, behind, unqualified, const_before, const_behind, Begins, only_type, then_type, enumeration, Declarator, bare, positive, negative, counted, Ending, variables_end, constants_end, enumeration_end, comma_end, with_true, with_false, declared, Outer, Declares, nothing, variables, prototype, section, last_var, next_var, end_part, else_part, elif_part, Gaps, Empty, no_more, empty_section, empty_end, empty_else, empty_elif, main, File, file_of, Forms}
+use Rattle.c_grammar.specs.Grammar.{at, none, Optional, absent, present, Typed, int, int32, signed, signed_int, int_signed, Qualifier, Unqualified, Constant, Counted, behind, Callable, of_input, of_function, unqualified, const_before, const_behind, Begins, only_type, then_type, enumeration, Declarator, bare, positive, negative, counted, Ending, variables_end, constants_end, enumeration_end, comma_end, with_true, with_false, declared, Outer, Declares, nothing, variables, prototype, void_prototype, section, last_var, next_var, end_part, else_part, elif_part, main, File, file_of, Forms}
 use Rattle.c_grammar.specs.Machine as machine
-use Rattle.c_grammar.specs.Machine.{Tailing, Another, Final, Sections, Outermost, InPart, InLast, guards_of, Aim, ToPrototype, ToMain, Outside, AfterStatic, AfterExtern, AfterConst, AfterEnum, AfterType, Leading, NoWord, StaticWord, ExternWord, ConstWord, TypeWords, OneInt, OneSigned, WholeType, Declaring, Bare, Starting, Negating, Started, Listing, Enumerated, Parameters, InParameters, AfterVoid, AfterParameters, Returning, Returned, Closing, Over, with_declared, at_open, at_close, at_semicolon, at_input, next_condition, last_section, section_end, outside, behind_static, declaring, qualifying, main_of, first_word, naming, behind_type, after_type, after_enum, listed, declaration_end, started, listing, counts_on, without_value, is_bare, starting, negating, in_parameters, after_parameters, returning, closing, over}
-use Rattle.c_grammar.proofs.Standing.{Words, one_int, one_signed, whole_type, const_alone, static_const, Led, no_word, static_word, extern_word, const_word, Tail, VarsTail, Trailing, Stands}
+use Rattle.c_grammar.specs.Machine.{Sections, Outermost, InPart, InLast, guards_of, Aim, ToPrototype, ToMain, Outside, AfterStatic, AfterExtern, AfterConst, AfterEnum, AfterDefine, AfterVoidType, AfterType, Leading, NoWord, StaticWord, ExternWord, ConstWord, TypeWords, OneInt, OneSigned, WholeType, Declaring, Bare, Starting, Negating, Started, Listing, Enumerated, Parameters, InParameters, AfterVoid, AfterParameters, with_declared, at_open, at_close, at_semicolon, at_function, at_void_function, next_condition, last_section, section_end, outside, behind_extern, behind_static, declaring, qualifying, main_of, first_word, naming, behind_type, after_type, after_enum, listed, declaration_end, started, listing, counts_on, without_value, is_bare, starting, negating, in_parameters, after_parameters}
+use Rattle.c_grammar.proofs.Standing.{Words, one_int, one_signed, whole_type, const_alone, static_const, Led, no_word, static_word, extern_word, const_word, Heads, value_head, void_head, Tail, VarsTail, Stands}
 
 -- ---- one item in front of what may come next
 
-moves : {f : File} (a : List Item) (x : Item) (w : List Item) → Forms (a ++ x ∷ w) f → Forms ((a ++ x ∷ []) ++ w) f
+pub moves : {f : File} (a : List Item) (x : Item) (w : List Item) → Forms (a ++ x ∷ w) f → Forms ((a ++ x ∷ []) ++ w) f
 moves {f} a x w h = subst (λ (y : List Item). Forms y f) (sym (append_assoc a (x ∷ []) w)) h
 
-tail_at : (secs : Sections) (ds es : List Declared) (w : List Item) (f : File) → ds ≡ es → Tail secs ds w f → Tail secs es w f
+pub tail_at : (secs : Sections) (ds es : List Declared) (w : List Item) (f : File) → ds ≡ es → Tail secs ds w f → Tail secs es w f
 tail_at secs ds es w f is t = subst (λ (y : List Declared). Tail secs y w f) is t
 
 -- declarations in front
-prepends : (secs : Sections) (ds es : List Declared) (t w : List Item) (f : File) → ((us : List Item) (fs : List Declared) → Declares (Outer (guards_of secs)) us fs → Declares (Outer (guards_of secs)) (t ++ us) (es ++ fs)) → Tail secs (ds ++ es) w f → Tail secs ds (t ++ w) f
+pub prepends : (secs : Sections) (ds es : List Declared) (t w : List Item) (f : File) → ((us : List Item) (fs : List Declared) → Declares (Outer (guards_of secs)) us fs → Declares (Outer (guards_of secs)) (t ++ us) (es ++ fs)) → Tail secs (ds ++ es) w f → Tail secs ds (t ++ w) f
 prepends Outermost ds es t w f k r = (t ++ r.0, r.1, es ++ r.2, r.3, r.4, k r.0 r.2 r.5, r.6, ap (λ (y : List Item). t ++ y) r.7 ∙ sym (append_assoc t r.0 r.1), r.8 ∙ ap (λ (y : List Declared). file_of y r.3 r.4) (append_assoc ds es r.2))
 prepends (InPart gs n outer) ds es t w f k r =
     let is : (ds ++ es) ++ (r.3 ++ r.4) ≡ ds ++ ((es ++ r.3) ++ r.4) = simp append_assoc in
@@ -40,13 +40,19 @@ vars_tail {us} secs ds w f o v =
     λ ws fs d. subst (λ (y : List Item). Declares (Outer (guards_of secs)) y (v.2 ++ fs)) (sym (append_assoc us v.0 ws)) (variables (guards_of secs) o v.3 d) in
     subst (λ (y : List Item). Tail secs ds y f) is (prepends secs ds v.2 (us ++ v.0) v.1 f k v.4)
 
-prototype_tail : {us vs : List Item} (q r s t : Place) (secs : Sections) (ds : List Declared) (w : List Item) (f : File) → Begins signs.Extern Unqualified us → Optional signs.Void vs → Tail secs ds w f
-    → Tail secs ds (us ++ at q signs.Input ∷ at r signs.Open ∷ (vs ++ at s signs.Close ∷ at t signs.Semicolon ∷ w)) f
-prototype_tail {us} {vs} q r s t secs ds w f o v h =
-    let text : List Item = us ++ at q signs.Input ∷ at r signs.Open ∷ (vs ++ at s signs.Close ∷ at t signs.Semicolon ∷ []) in
-    let re : (ws : List Item) → us ++ at q signs.Input ∷ at r signs.Open ∷ (vs ++ at s signs.Close ∷ at t signs.Semicolon ∷ ws) ≡ text ++ ws = λ ws. simp append_assoc in
+-- a declaration of a function in front
+head_declares : {us vs ws : List Item} {es : List Declared} (r s t : Place) (gs : List Guard) → Heads us → Optional signs.Void vs → Declares (Outer gs) ws es → Declares (Outer gs) (us ++ at r signs.Open ∷ (vs ++ at s signs.Close ∷ at t signs.Semicolon ∷ ws)) es
+head_declares {vs = vs} {ws = ws} {es = es} r s t gs (value_head q {f} {us} o g) v d =
+    subst (λ (y : List Item). Declares (Outer gs) y es) (sym (append_assoc us (at q f ∷ []) (at r signs.Open ∷ (vs ++ at s signs.Close ∷ at t signs.Semicolon ∷ ws)))) (prototype q r s t gs o g v d)
+head_declares {vs = vs} {ws = ws} {es = es} r s t gs (void_head p q k {us} o) v d =
+    subst (λ (y : List Item). Declares (Outer gs) y es) (sym (append_assoc us (at p signs.Void ∷ at q (signs.Function k) ∷ []) (at r signs.Open ∷ (vs ++ at s signs.Close ∷ at t signs.Semicolon ∷ ws)))) (void_prototype p q r s t k gs o v d)
+
+prototype_tail : {us vs : List Item} (r s t : Place) (secs : Sections) (ds : List Declared) (w : List Item) (f : File) → Heads us → Optional signs.Void vs → Tail secs ds w f → Tail secs ds (us ++ at r signs.Open ∷ (vs ++ at s signs.Close ∷ at t signs.Semicolon ∷ w)) f
+prototype_tail {us} {vs} r s t secs ds w f o v h =
+    let text : List Item = us ++ at r signs.Open ∷ (vs ++ at s signs.Close ∷ at t signs.Semicolon ∷ []) in
+    let re : (ws : List Item) → us ++ at r signs.Open ∷ (vs ++ at s signs.Close ∷ at t signs.Semicolon ∷ ws) ≡ text ++ ws = λ ws. simp append_assoc in
     let k : (ws : List Item) (fs : List Declared) → Declares (Outer (guards_of secs)) ws fs → Declares (Outer (guards_of secs)) (text ++ ws) ([] ++ fs) =
-    λ ws fs d. subst (λ (y : List Item). Declares (Outer (guards_of secs)) y fs) (re ws) (prototype q r s t (guards_of secs) o v d) in
+    λ ws fs d. subst (λ (y : List Item). Declares (Outer (guards_of secs)) y fs) (re ws) (head_declares r s t (guards_of secs) o v d) in
     subst (λ (y : List Item). Tail secs ds y f) (sym (re w)) (prepends secs ds [] text w f k (tail_at secs ds (ds ++ []) w f (sym (append-nil ds)) h))
 
 open_tail : (p : Place) (n : ℕ) (secs : Sections) (ds : List Declared) (w : List Item) (f : File) → Tail (InPart (guards_of secs) n secs) ds w f → Tail secs ds (at p (signs.GroupIf n) ∷ w) f
@@ -207,11 +213,18 @@ static_keeps secs ds p signs.Int32 a r = λ w f k. moves a (at p signs.Int32) w 
 static_keeps secs ds p signs.Signed a r = λ w f k. moves a (at p signs.Signed) w (r (at p signs.Signed ∷ w) f (λ q. k (at q signs.Static ∷ at p signs.Signed ∷ []) (static_word q (one_signed p))))
 static_keeps secs ds p _ a r = tt
 
-pub extern_keeps : (secs : Sections) (ds : List Declared) (p : Place) (s : Sign) (a : List Item) → Stands (AfterExtern secs ds) a → IfSome (first_word ExternWord secs ds s) (λ next. Stands next (a ++ at p s ∷ []))
+pub extern_keeps : (secs : Sections) (ds : List Declared) (p : Place) (s : Sign) (a : List Item) → Stands (AfterExtern secs ds) a → IfSome (behind_extern secs ds s) (λ next. Stands next (a ++ at p s ∷ []))
+extern_keeps secs ds p signs.Void a r = λ w f k. moves a (at p signs.Void) w (r (at p signs.Void ∷ w) f (λ q. k p (at q signs.Extern ∷ []) (present q signs.Extern)))
 extern_keeps secs ds p signs.Int a r = λ w f k. moves a (at p signs.Int) w (r (at p signs.Int ∷ w) f (λ q. k (at q signs.Extern ∷ at p signs.Int ∷ []) (extern_word q (one_int p))))
 extern_keeps secs ds p signs.Int32 a r = λ w f k. moves a (at p signs.Int32) w (r (at p signs.Int32 ∷ w) f (λ q. k (at q signs.Extern ∷ at p signs.Int32 ∷ []) (extern_word q (whole_type (int32 p)))))
 extern_keeps secs ds p signs.Signed a r = λ w f k. moves a (at p signs.Signed) w (r (at p signs.Signed ∷ w) f (λ q. k (at q signs.Extern ∷ at p signs.Signed ∷ []) (extern_word q (one_signed p))))
 extern_keeps secs ds p _ a r = tt
+
+pub void_type_keeps : (secs : Sections) (ds : List Declared) (p : Place) (s : Sign) (a : List Item) → Stands (AfterVoidType secs ds) a → IfSome (at_void_function (Parameters (ToPrototype secs ds)) s) (λ next. Stands next (a ++ at p s ∷ []))
+void_type_keeps secs ds p (signs.Function n) a r = λ w f k.
+    let name : Item = at p (signs.Function n) in
+    moves a name w (r (name ∷ w) f (λ q us o. subst (λ (y : List Item). Tail secs ds y f) (append_assoc us (at q signs.Void ∷ name ∷ []) w) (k (us ++ at q signs.Void ∷ name ∷ []) (void_head q p n o))))
+void_type_keeps secs ds p _ a r = tt
 
 pub const_keeps : (secs : Sections) (ds : List Declared) (p : Place) (s : Sign) (a : List Item) → Stands (AfterConst secs ds) a → IfSome (first_word ConstWord secs ds s) (λ next. Stands next (a ++ at p s ∷ []))
 const_keeps secs ds p signs.Int a r = λ w f k. moves a (at p signs.Int) w (r (at p signs.Int ∷ w) f (λ us c. regrouped secs ds us (at p signs.Int) w f (k (us ++ at p signs.Int ∷ []) (const_word c (one_int p)))))
@@ -223,10 +236,15 @@ main_keeps : (words : TypeWords) (secs : Sections) (ds : List Declared) (p : Pla
 main_keeps words Outermost ds p a r = λ w f k. moves a (at p signs.Main) w (r (at p signs.Main ∷ w) f (λ us h. k p us (led_typed h)))
 main_keeps words _ ds p a r = tt
 
+-- the name of a function
+named_head : {f : Sign} (secs : Sections) (ds : List Declared) (p : Place) (us w : List Item) (made : File) → Begins signs.Extern Unqualified us → Callable f → ((vs : List Item) → Heads vs → Tail secs ds (vs ++ w) made) → Tail secs ds (us ++ at p f ∷ w) made
+named_head {f} secs ds p us w made o g k = regrouped secs ds us (at p f) w made (k (us ++ at p f ∷ []) (value_head p o g))
+
 naming_keeps : (words : TypeWords) (secs : Sections) (ds : List Declared) (p : Place) (s : Sign) (a : List Item) → Stands (AfterType NoWord words secs ds) a → IfSome (naming secs ds s) (λ next. Stands next (a ++ at p s ∷ []))
 naming_keeps words secs ds p signs.Const a r = λ w f k. moves a (at p signs.Const) w (r (at p signs.Const ∷ w) f (λ us h. regrouped secs ds us (at p signs.Const) w f (vars_tail secs ds w f (then_const p h) k)))
 naming_keeps words secs ds p (signs.Name x) a r = λ w f k. moves a (at p (signs.Name x)) w (r (at p (signs.Name x) ∷ w) f (λ us h. vars_tail secs ds (at p (signs.Name x) ∷ w) f (led_alone signs.Static h) (k p)))
-naming_keeps words secs ds p signs.Input a r = λ w f k. moves a (at p signs.Input) w (r (at p signs.Input ∷ w) f (λ us h. k p us (led_alone signs.Extern h)))
+naming_keeps words secs ds p signs.Input a r = λ w f k. moves a (at p signs.Input) w (r (at p signs.Input ∷ w) f (λ us h. named_head secs ds p us w f (led_alone signs.Extern h) of_input k))
+naming_keeps words secs ds p (signs.Function n) a r = λ w f k. moves a (at p (signs.Function n)) w (r (at p (signs.Function n) ∷ w) f (λ us h. named_head secs ds p us w f (led_alone signs.Extern h) (of_function n) k))
 naming_keeps words secs ds p signs.Main a r = main_keeps words secs ds p a r
 naming_keeps words secs ds p _ a r = tt
 
@@ -235,8 +253,9 @@ static_name_keeps words secs ds p signs.Const a r = λ w f k. moves a (at p sign
 static_name_keeps words secs ds p (signs.Name x) a r = λ w f k. moves a (at p (signs.Name x)) w (r (at p (signs.Name x) ∷ w) f (λ us h. vars_tail secs ds (at p (signs.Name x) ∷ w) f (led_static h) (k p)))
 static_name_keeps words secs ds p _ a r = tt
 
-extern_name_keeps : (words : TypeWords) (secs : Sections) (ds : List Declared) (p : Place) (s : Sign) (a : List Item) → Stands (AfterType ExternWord words secs ds) a → IfSome (at_input (Parameters (ToPrototype secs ds)) s) (λ next. Stands next (a ++ at p s ∷ []))
-extern_name_keeps words secs ds p signs.Input a r = λ w f k. moves a (at p signs.Input) w (r (at p signs.Input ∷ w) f (λ us h. k p us (led_extern h)))
+extern_name_keeps : (words : TypeWords) (secs : Sections) (ds : List Declared) (p : Place) (s : Sign) (a : List Item) → Stands (AfterType ExternWord words secs ds) a → IfSome (at_function (Parameters (ToPrototype secs ds)) s) (λ next. Stands next (a ++ at p s ∷ []))
+extern_name_keeps words secs ds p signs.Input a r = λ w f k. moves a (at p signs.Input) w (r (at p signs.Input ∷ w) f (λ us h. named_head secs ds p us w f (led_extern h) of_input k))
+extern_name_keeps words secs ds p (signs.Function n) a r = λ w f k. moves a (at p (signs.Function n)) w (r (at p (signs.Function n) ∷ w) f (λ us h. named_head secs ds p us w f (led_extern h) (of_function n) k))
 extern_name_keeps words secs ds p _ a r = tt
 
 const_name_keeps : (words : TypeWords) (secs : Sections) (ds : List Declared) (p : Place) (s : Sign) (a : List Item) → Stands (AfterType ConstWord words secs ds) a → IfSome (declaring Constant secs ds s) (λ next. Stands next (a ++ at p s ∷ []))
@@ -270,7 +289,7 @@ void_keeps aim p signs.Close a r = λ w f k. moves a (at p signs.Close) w (r (at
 void_keeps aim p _ a r = tt
 
 pub after_parameters_keeps : (aim : Aim) (p : Place) (s : Sign) (a : List Item) → Stands (AfterParameters aim) a → IfSome (after_parameters aim s) (λ next. Stands next (a ++ at p s ∷ []))
-after_parameters_keeps (ToPrototype secs ds) p signs.Semicolon a r = λ w f t. moves a (at p signs.Semicolon) w (r (at p signs.Semicolon ∷ w) f (λ u s vs v z us o. prototype_tail z u s p secs ds w f o v t))
+after_parameters_keeps (ToPrototype secs ds) p signs.Semicolon a r = λ w f t. moves a (at p signs.Semicolon) w (r (at p signs.Semicolon ∷ w) f (λ u s vs v us o. prototype_tail u s p secs ds w f o v t))
 after_parameters_keeps (ToMain ds) p signs.LeftBrace a r = (
   a ++ at p signs.LeftBrace ∷ [],
   [],
@@ -342,6 +361,8 @@ outside_keeps secs ds p signs.Static a r = λ w f k. moves a (at p signs.Static)
 outside_keeps secs ds p signs.Extern a r = λ w f k. moves a (at p signs.Extern) w (r (at p signs.Extern ∷ w) f (k p))
 outside_keeps secs ds p signs.Const a r = λ w f k. moves a (at p signs.Const) w (r (at p signs.Const ∷ w) f (k (at p signs.Const ∷ []) (const_alone p)))
 outside_keeps secs ds p signs.Enum a r = λ w f k. moves a (at p signs.Enum) w (r (at p signs.Enum ∷ w) f (k p))
+outside_keeps secs ds p signs.Define a r = λ w f k. moves a (at p signs.Define) w (r (at p signs.Define ∷ w) f (k p))
+outside_keeps secs ds p signs.Void a r = λ w f k. moves a (at p signs.Void) w (r (at p signs.Void ∷ w) f (k p [] (absent signs.Extern)))
 outside_keeps secs ds p signs.Int a r = λ w f k. moves a (at p signs.Int) w (r (at p signs.Int ∷ w) f (k (at p signs.Int ∷ []) (no_word (one_int p))))
 outside_keeps secs ds p signs.Int32 a r = λ w f k. moves a (at p signs.Int32) w (r (at p signs.Int32 ∷ w) f (k (at p signs.Int32 ∷ []) (no_word (whole_type (int32 p)))))
 outside_keeps secs ds p signs.Signed a r = λ w f k. moves a (at p signs.Signed) w (r (at p signs.Signed ∷ w) f (k (at p signs.Signed ∷ []) (no_word (one_signed p))))
@@ -350,53 +371,3 @@ outside_keeps secs ds p (signs.GroupElif n) a r = condition_keeps n secs ds p a 
 outside_keeps secs ds p signs.GroupElse a r = last_keeps secs ds p a r
 outside_keeps secs ds p signs.GroupEnd a r = end_keeps secs ds p a r
 outside_keeps secs ds p _ a r = tt
-
--- ---- the end of a file
-
-pub returning_keeps : (q : Place) (ds : List Declared) (made : Code) (p : Place) (s : Sign) (a : List Item) → Stands (Returning q ds made) a → IfSome (returning q ds made s) (λ next. Stands next (a ++ at p s ∷ []))
-returning_keeps q ds made p (signs.Number n) a r = λ t u w e. moves a (at p (signs.Number n)) (at t signs.Semicolon ∷ at u signs.RightBrace ∷ w) (r n p t u w e)
-returning_keeps q ds made p _ a r = tt
-
-pub return_end_keeps : (ds : List Declared) (made : Code) (p : Place) (s : Sign) (a : List Item) → Stands (Returned ds made) a → IfSome (at_semicolon (Closing ds made) s) (λ next. Stands next (a ++ at p s ∷ []))
-return_end_keeps ds made p signs.Semicolon a r = λ u w e. moves a (at p signs.Semicolon) (at u signs.RightBrace ∷ w) (r p u w e)
-return_end_keeps ds made p _ a r = tt
-
-pub closing_keeps : (ds : List Declared) (made : Code) (p : Place) (s : Sign) (a : List Item) → Stands (Closing ds made) a → IfSome (closing ds made p s) (λ next. Stands next (a ++ at p s ∷ []))
-closing_keeps ds made p signs.RightBrace a r = λ w e. moves a (at p signs.RightBrace) w (r p w e)
-closing_keeps ds made p _ a r = tt
-
-trails : (parts : List Tailing) (t w : List Item) → ((us : List Item) → Empty Gaps us → Empty Gaps (t ++ us)) → Trailing parts w → Trailing parts (t ++ w)
-trails [] t w k r = k w r
-trails (Another m ∷ parts) t w k r = (t ++ r.0, r.1, r.2, k r.0 r.3, r.4, r.5, ap (λ (y : List Item). t ++ y) r.6 ∙ sym (append_assoc t r.0 (r.1 ++ r.2)))
-trails (Final m ∷ parts) t w k r = (t ++ r.0, r.1, r.2, k r.0 r.3, r.4, ap (λ (y : List Item). t ++ y) r.5 ∙ sym (append_assoc t r.0 (at r.2 signs.GroupEnd ∷ r.1)))
-
-opens_gap : (p : Place) (n : ℕ) (parts : List Tailing) (w : List Item) → Trailing (Another 1 ∷ parts) w → Trailing parts (at p (signs.GroupIf n) ∷ w)
-opens_gap p n parts w r =
-    let text : List Item = at p (signs.GroupIf n) ∷ (r.0 ++ r.1) in
-    let is : text ++ r.2 ≡ at p (signs.GroupIf n) ∷ w = ap (λ (y : List Item). at p (signs.GroupIf n) ∷ y) (append_assoc r.0 r.1 r.2 ∙ sym r.6) in
-    let k : (us : List Item) → Empty Gaps us → Empty Gaps (text ++ us) = λ us e. subst (λ (y : List Item). Empty Gaps (at p (signs.GroupIf n) ∷ y)) (sym (append_assoc r.0 r.1 us)) (empty_section p n r.3 r.4 e) in
-    subst (Trailing parts) is (trails parts text r.2 k r.5)
-
-pub over_keeps : (f : File) (parts : List Tailing) (p : Place) (s : Sign) (a : List Item) → Stands (Over f parts) a → IfSome (over f parts s) (λ next. Stands next (a ++ at p s ∷ []))
-over_keeps f parts p (signs.GroupIf n) a r = λ w t. moves a (at p (signs.GroupIf n)) w (r (at p (signs.GroupIf n) ∷ w) (opens_gap p n parts w t))
-over_keeps f (Another k ∷ parts) p (signs.GroupElif n) a r = λ w t. moves a (at p (signs.GroupElif n)) w (r (at p (signs.GroupElif n) ∷ w) (
-  [],
-  at p (signs.GroupElif n) ∷ (t.0 ++ t.1),
-  t.2,
-  no_more,
-  empty_elif p n t.3 t.4,
-  t.5,
-  ap (λ (y : List Item). at p (signs.GroupElif n) ∷ y) (t.6 ∙ sym (append_assoc t.0 t.1 t.2)),
-))
-over_keeps f (Another k ∷ parts) p signs.GroupElse a r = λ w t. moves a (at p signs.GroupElse) w (r (at p signs.GroupElse ∷ w) (
-  [],
-  at p signs.GroupElse ∷ (t.0 ++ at t.2 signs.GroupEnd ∷ []),
-  t.1,
-  no_more,
-  empty_else p t.2 t.3,
-  t.4,
-  ap (λ (y : List Item). at p signs.GroupElse ∷ y) (t.5 ∙ sym (append_assoc t.0 (at t.2 signs.GroupEnd ∷ []) t.1)),
-))
-over_keeps f (Another k ∷ parts) p signs.GroupEnd a r = λ w t. moves a (at p signs.GroupEnd) w (r (at p signs.GroupEnd ∷ w) ([], at p signs.GroupEnd ∷ [], w, no_more, empty_end p, t, refl))
-over_keeps f (Final k ∷ parts) p signs.GroupEnd a r = λ w t. moves a (at p signs.GroupEnd) w (r (at p signs.GroupEnd ∷ w) ([], w, p, no_more, t, refl))
-over_keeps f _ p _ a r = tt

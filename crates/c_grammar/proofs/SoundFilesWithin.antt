@@ -9,12 +9,12 @@ use Rattle.c_grammar.specs.declared.items.Sign.TheVariants as signs
 use Rattle.c_grammar.specs.declared.items.Item.{Item}
 use Rattle.c_grammar.specs.Grammar.{at, with_true, with_false, Part, Outer, Vars, Later, Declares, Gap, Gaps, GapRest, Empty, Body, Main, File, file_of, Forms}
 use Rattle.c_grammar.specs.Grammar as plain
-use Rattle.c_grammar.specs.Machine.{Tailing, Another, Final, Top, Sections, Outermost, InPart, InLast, guards_of, ToPrototype, Outside, AfterParameters, Ready, Over, start}
+use Rattle.c_grammar.specs.Machine.{Tailing, Another, Final, Top, Sections, Outermost, InPart, InLast, guards_of, Outside, Ready, Over, with_declared, start}
 use Rattle.c_grammar.specs.Deep.{tail_depth, guarded}
-use Rattle.c_grammar.specs.Within.{DeclaresIn, nothing, variables, prototype, section, last_var, next_var, end_part, else_part, elif_part, EmptyIn, no_more, empty_section, empty_end, empty_else, empty_elif, BodyWithin, body, MainWithin, main, FormsWithin, file}
+use Rattle.c_grammar.specs.Within.{DeclaresIn, nothing, variables, prototype, void_prototype, definition, section, last_var, next_var, end_part, else_part, elif_part, EmptyIn, no_more, empty_section, empty_end, empty_else, empty_elif, BodyWithin, body, MainWithin, main, FormsWithin, file}
 use Rattle.c_grammar.proofs.Files.{vars_first, return_no_else}
 use Rattle.c_grammar.proofs.StatesWithin.{token, opens_in, accepted_in}
-use Rattle.c_grammar.proofs.FilesWithin.{begins_then, parameters, prototyped, guards_true, guards_false, goes_in, passes_in, ends_main, enters_main}
+use Rattle.c_grammar.proofs.FilesWithin.{begins_then, prototyped, void_prototyped, ends_prototype, definition_then, guards_true, guards_false, goes_in, passes_in, ends_main, enters_main}
 use Rattle.c_grammar.proofs.SoundWithin.{opens_few, room_for, writes_back}
 
 -- ---- declarations
@@ -32,14 +32,19 @@ declares_back (plain.variables gs {us} {vs} {ws} {ds} {es = fs} o v d) = λ k se
     let vars = declares_back v k in
     let begins = ap (guarded (Outside secs es) 0) re ∙ begins_then secs es (vs ++ (ws ++ w)) o (vars_first v (ws ++ w)) ∙ goes_in vars secs is (omega (arith, e)) es (ws ++ w) in
     variables gs o vars (declares_back d k secs is e (es ++ ds) w f (sym begins ∙ h))
-declares_back (plain.prototype q r s t gs {us} {vs} {ws} {es = fs} o v d) = λ k secs is e es w f h.
-    let re : (us ++ at q signs.Input ∷ at r signs.Open ∷ (vs ++ at s signs.Close ∷ at t signs.Semicolon ∷ ws)) ++ w ≡ us ++ at q signs.Input ∷ at r signs.Open ∷ (vs ++ at s signs.Close ∷ at t signs.Semicolon ∷ (ws ++ w)) = simp append_assoc in
-    let begins =
-    ap (guarded (Outside secs es) 0) re
-    ∙ prototyped q secs es (at r signs.Open ∷ (vs ++ at s signs.Close ∷ at t signs.Semicolon ∷ (ws ++ w))) o
-    ∙ parameters r s (ToPrototype secs es) (at t signs.Semicolon ∷ (ws ++ w)) v
-    ∙ token (AfterParameters (ToPrototype secs es)) (Outside secs es) t signs.Semicolon 0 (ws ++ w) refl refl refl in
-    prototype q r s t gs o v (declares_back d k secs is e es w f (sym begins ∙ h))
+declares_back (plain.prototype q r s t gs {f = called} {us} {vs} {ws} {es = fs} o g v d) = λ k secs is e es w f h.
+    let rest : List Item = at r signs.Open ∷ (vs ++ at s signs.Close ∷ at t signs.Semicolon ∷ (ws ++ w)) in
+    let re : (us ++ at q called ∷ at r signs.Open ∷ (vs ++ at s signs.Close ∷ at t signs.Semicolon ∷ ws)) ++ w ≡ us ++ at q called ∷ rest = simp append_assoc in
+    let begins = ap (guarded (Outside secs es) 0) re ∙ prototyped q secs es rest o g ∙ ends_prototype r s t secs es (ws ++ w) v in
+    prototype q r s t gs o g v (declares_back d k secs is e es w f (sym begins ∙ h))
+declares_back (plain.void_prototype p q r s t n gs {us} {vs} {ws} {es = fs} o v d) = λ k secs is e es w f h.
+    let rest : List Item = at r signs.Open ∷ (vs ++ at s signs.Close ∷ at t signs.Semicolon ∷ (ws ++ w)) in
+    let re : (us ++ at p signs.Void ∷ at q (signs.Function n) ∷ at r signs.Open ∷ (vs ++ at s signs.Close ∷ at t signs.Semicolon ∷ ws)) ++ w ≡ us ++ at p signs.Void ∷ at q (signs.Function n) ∷ rest = simp append_assoc in
+    let begins = ap (guarded (Outside secs es) 0) re ∙ void_prototyped p q n secs es rest o ∙ ends_prototype r s t secs es (ws ++ w) v in
+    void_prototype p q r s t n gs o v (declares_back d k secs is e es w f (sym begins ∙ h))
+declares_back (plain.definition gs {us} {ws} {x = x} {n = n} o d) = λ k secs is e es w f h.
+    let begins = ap (guarded (Outside secs es) 0) (append_assoc us ws w) ∙ definition_then secs es (ws ++ w) o in
+    definition gs o (declares_back d k secs is e (with_declared secs es x n) w f (sym begins ∙ h))
 declares_back (plain.section p n gs {us} {vs} {ws} {cs} {ds} {es = fs} a b d) = λ k secs is e es w f h.
     let re : (us ++ (vs ++ ws)) ++ w ≡ us ++ (vs ++ (ws ++ w)) = simp append_assoc in
     let here : length (guards_of secs) ≡ length gs = ap length is in

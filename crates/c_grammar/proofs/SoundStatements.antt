@@ -3,12 +3,12 @@ use Rattle.std.proofs.Common.{◌≡◌, ℕ, false, List, [], ◌∷◌, ◌++�
 use Rattle.std.specs.Prelude.{IfSome}
 use Rattle.std.proofs.lemmas.List.{append-nil}
 use Rattle.fam_outer.specs.declared.faults.Place.{Place}
-use Rattle.c_tree.specs.Tree.{Code, Done, Input, If, While, Block, Skip, Cond, followed}
+use Rattle.c_tree.specs.Tree.{Code, Done, If, While, Block, Skip, Cond, followed}
 use Rattle.c_grammar.specs.declared.items.Sign.{Sign}
 use Rattle.c_grammar.specs.declared.items.Sign.TheVariants as signs
 use Rattle.c_grammar.specs.declared.items.Item.{Item}
-use Rattle.c_grammar.specs.Grammar.{at, Count, Raise, Lower, count_sign, Listed, Chained, Writes, none, choice, ends, otherwise, elif, input, count, prefix_count, skip, block, while, if_else, no_return, return, body, file_of, Forms}
-use Rattle.c_grammar.specs.Machine.{Stack, Top, Braces, Yes, No, ThenOf, ElseOf, LoopOf, Use, ToAssign, ToUpdate, ToAssert, ToChoose, ToLoop, Ended, Wants, Counting, Named, InputOpens, InputCloses, Finishing, folded, else_of, linked, opened, braced, returned, next_part, last_part, group_end, begin, on, named, counting, at_open, at_close, at_semicolon}
+use Rattle.c_grammar.specs.Grammar.{at, Count, Raise, Lower, count_sign, Callable, of_input, of_function, Listed, Stated, Chained, Writes, none, choice, ends, otherwise, elif, call, void_call, count, prefix_count, skip, block, while, if_else, no_return, return, body, file_of, Forms}
+use Rattle.c_grammar.specs.Machine.{Stack, Top, Braces, Yes, No, ThenOf, ElseOf, LoopOf, Use, ToAssign, ToUpdate, ToAssert, ToChoose, ToLoop, Ended, Wants, Counting, Named, VoidComes, VoidCloses, CallComes, CallOpens, CallCloses, Finishing, folded, else_of, linked, opened, braced, returned, next_part, last_part, group_end, begin, on, named, counting, at_open, at_close, at_semicolon, at_void, at_function}
 use Rattle.c_grammar.proofs.Standing.{Begun, Read, Used, UsedAt, Piece, Stands}
 use Rattle.c_grammar.proofs.Complete.{followed-none}
 use Rattle.c_grammar.proofs.Pieces.{piece, listed, fold_is}
@@ -103,6 +103,9 @@ end_keeps _ p a r = tt
 
 pub begin_keeps : (outer : Stack) (p : Place) (s : Sign) (a : List Item) → Read outer a → IfSome (begin outer p s) (λ next. Stands next (a ++ at p s ∷ []))
 begin_keeps outer p (signs.Name x) a r = (a, r, refl)
+begin_keeps outer p signs.Input a r = (a, at p signs.Input ∷ [], r, (λ s t u. call p s t u of_input), refl)
+begin_keeps outer p (signs.Function k) a r = (a, at p (signs.Function k) ∷ [], r, (λ s t u. call p s t u (of_function k)), refl)
+begin_keeps outer p signs.Open a r = (a, r, refl)
 begin_keeps outer p signs.Semicolon a r = (a, at p signs.Semicolon ∷ [], r, piece false outer (at p signs.Semicolon ∷ []) (Skip p Done) (skip p), refl)
 begin_keeps outer p signs.PlusPlus a r = (a, r, refl)
 begin_keeps outer p signs.MinusMinus a r = (a, r, refl)
@@ -150,20 +153,6 @@ pub opens_keeps : (u : Use) (p : Place) (s : Sign) (a : List Item) → UsedAt u 
 opens_keeps u p signs.Open a r = opens_use u p a r
 opens_keeps u p _ a r = tt
 
-pub input_opens_keeps : (q : Place) (x : ℕ) (outer : Stack) (p : Place) (s : Sign) (a : List Item) → Stands (InputOpens q x outer) a → IfSome (at_open (InputCloses q x outer) s) (λ next. Stands next (a ++ at p s ∷ []))
-input_opens_keeps q x outer p signs.Open a r = (r.0, r.1, p, r.2, r.3, ap (λ (y : List Item). y ++ at p signs.Open ∷ []) r.4 ∙ append_assoc r.2 (at q (signs.Name x) ∷ at r.0 signs.Equals ∷ at r.1 signs.Input ∷ []) (at p signs.Open ∷ []))
-input_opens_keeps q x outer p _ a r = tt
-
-pub input_closes_keeps : (q : Place) (x : ℕ) (outer : Stack) (p : Place) (s : Sign) (a : List Item) → Stands (InputCloses q x outer) a → IfSome (at_close (Finishing outer (Input q x Done)) s) (λ next. Stands next (a ++ at p s ∷ []))
-input_closes_keeps q x outer p signs.Close a r = (
-  r.3,
-  at q (signs.Name x) ∷ at r.0 signs.Equals ∷ at r.1 signs.Input ∷ at r.2 signs.Open ∷ at p signs.Close ∷ [],
-  r.4,
-  λ z. input q r.0 r.1 r.2 p z x,
-  ap (λ (y : List Item). y ++ at p signs.Close ∷ []) r.5 ∙ append_assoc r.3 (at q (signs.Name x) ∷ at r.0 signs.Equals ∷ at r.1 signs.Input ∷ at r.2 signs.Open ∷ []) (at p signs.Close ∷ []),
-)
-input_closes_keeps q x outer p _ a r = tt
-
 pub finishing_keeps : (outer : Stack) (c : Code) (p : Place) (s : Sign) (a : List Item) → Stands (Finishing outer c) a → IfSome (at_semicolon (Ended outer c) s) (λ next. Stands next (a ++ at p s ∷ []))
 finishing_keeps outer c p signs.Semicolon a r = (
   r.0,
@@ -173,3 +162,48 @@ finishing_keeps outer c p signs.Semicolon a r = (
   ap (λ (y : List Item). y ++ at p signs.Semicolon ∷ []) r.4 ∙ append_assoc r.0 r.1 (at p signs.Semicolon ∷ []),
 )
 finishing_keeps outer c p _ a r = tt
+
+-- ---- calls
+
+pub void_comes_keeps : (q : Place) (outer : Stack) (p : Place) (s : Sign) (a : List Item) → Stands (VoidComes q outer) a → IfSome (at_void (VoidCloses q outer) s) (λ next. Stands next (a ++ at p s ∷ []))
+void_comes_keeps q outer p signs.Void a r = (p, r.0, r.1, ap (λ (y : List Item). y ++ at p signs.Void ∷ []) r.2 ∙ append_assoc r.0 (at q signs.Open ∷ []) (at p signs.Void ∷ []))
+void_comes_keeps q outer p _ a r = tt
+
+pub void_closes_keeps : (q : Place) (outer : Stack) (p : Place) (s : Sign) (a : List Item) → Stands (VoidCloses q outer) a → IfSome (at_close (CallComes q outer) s) (λ next. Stands next (a ++ at p s ∷ []))
+void_closes_keeps q outer p signs.Close a r = (r.0, p, r.1, r.2, ap (λ (y : List Item). y ++ at p signs.Close ∷ []) r.3 ∙ append_assoc r.1 (at q signs.Open ∷ at r.0 signs.Void ∷ []) (at p signs.Close ∷ []))
+void_closes_keeps q outer p _ a r = tt
+
+-- the name of the function behind `(void)`
+name_keeps : {f : Sign} (q : Place) (outer : Stack) (p : Place) (a : List Item) → Callable f → Stands (CallComes q outer) a → Stands (CallOpens outer (Skip q Done)) (a ++ at p f ∷ [])
+name_keeps {f} q outer p a g r = (
+  r.2,
+  at q signs.Open ∷ at r.0 signs.Void ∷ at r.1 signs.Close ∷ at p f ∷ [],
+  r.3,
+  (λ s t u. void_call q r.0 r.1 p s t u g),
+  ap (λ (y : List Item). y ++ at p f ∷ []) r.4 ∙ append_assoc r.2 (at q signs.Open ∷ at r.0 signs.Void ∷ at r.1 signs.Close ∷ []) (at p f ∷ []),
+)
+
+pub call_comes_keeps : (q : Place) (outer : Stack) (p : Place) (s : Sign) (a : List Item) → Stands (CallComes q outer) a → IfSome (at_function (CallOpens outer (Skip q Done)) s) (λ next. Stands next (a ++ at p s ∷ []))
+call_comes_keeps q outer p signs.Input a r = name_keeps q outer p a of_input r
+call_comes_keeps q outer p (signs.Function k) a r = name_keeps q outer p a (of_function k) r
+call_comes_keeps q outer p _ a r = tt
+
+pub call_opens_keeps : (outer : Stack) (c : Code) (p : Place) (s : Sign) (a : List Item) → Stands (CallOpens outer c) a → IfSome (at_open (CallCloses outer c) s) (λ next. Stands next (a ++ at p s ∷ []))
+call_opens_keeps outer c p signs.Open a r = (
+  r.0,
+  r.1 ++ at p signs.Open ∷ [],
+  r.2,
+  (λ t u. subst (λ (y : List Item). Writes (Stated false) y c) (sym (append_assoc r.1 (at p signs.Open ∷ []) (at t signs.Close ∷ at u signs.Semicolon ∷ []))) (r.3 p t u)),
+  ap (λ (y : List Item). y ++ at p signs.Open ∷ []) r.4 ∙ append_assoc r.0 r.1 (at p signs.Open ∷ []),
+)
+call_opens_keeps outer c p _ a r = tt
+
+pub call_closes_keeps : (outer : Stack) (c : Code) (p : Place) (s : Sign) (a : List Item) → Stands (CallCloses outer c) a → IfSome (at_close (Finishing outer c) s) (λ next. Stands next (a ++ at p s ∷ []))
+call_closes_keeps outer c p signs.Close a r = (
+  r.0,
+  r.1 ++ at p signs.Close ∷ [],
+  r.2,
+  (λ t. subst (λ (y : List Item). Writes (Stated false) y c) (sym (append_assoc r.1 (at p signs.Close ∷ []) (at t signs.Semicolon ∷ []))) (r.3 p t)),
+  ap (λ (y : List Item). y ++ at p signs.Close ∷ []) r.4 ∙ append_assoc r.0 r.1 (at p signs.Close ∷ []),
+)
+call_closes_keeps outer c p _ a r = tt

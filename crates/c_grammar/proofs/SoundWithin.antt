@@ -11,7 +11,7 @@ use Rattle.c_grammar.specs.Grammar.{at, tighter, Prefix, Positive, Negative, Inv
 use Rattle.c_grammar.specs.Grammar as plain
 use Rattle.c_grammar.specs.Machine.{Frame, Paren, Pre, Left, room, Stack, Braces, Yes, No, ThenOf, ElseOf, LoopOf, Use, ToAssign, ToUpdate, ToAssert, ToChoose, ToLoop, ReadingState, Ready, Ended, Wants, Has, Named, Opens, folded, step}
 use Rattle.c_grammar.specs.Deep.{depth, opens_more, around, counted, is_deep, is_nested, is_long, Fault, went, guarded}
-use Rattle.c_grammar.specs.Within.{operators_in, more_by, Full, WritesIn, none, more, choice, ends, otherwise, elif, assign, input, update, count, prefix_count, assert, skip, block, while, if_then, if_else}
+use Rattle.c_grammar.specs.Within.{operators_in, more_by, Full, WritesIn, none, more, choice, ends, otherwise, elif, assign, input, call, void_call, update, count, prefix_count, assert, skip, block, while, if_then, if_else}
 use Rattle.c_grammar.proofs.Complete.{Free, free_of, no_else, chain_no_else, looser, settled, folded-list}
 use Rattle.c_grammar.proofs.CompleteWithin.{takes, prefix_takes, prefix_more, operators_both, expresses_within}
 use Rattle.c_grammar.proofs.StatesWithin.{token, opens_in, group_in, folds_in, depth_folded, full_in, last_token, updates_in, head_in, accepted_in}
@@ -149,7 +149,9 @@ writes_back (plain.assign p q r x {ts} {e} s) = λ k outer room_is m w f fr h.
     token (Ready outer) (Named p x outer) p (signs.Name x) m (at q signs.Equals ∷ ((ts ++ at r signs.Semicolon ∷ []) ++ w)) refl refl refl
     ∙ token (Named p x outer) (Wants [] (ToAssign p x outer)) q signs.Equals 0 ((ts ++ at r signs.Semicolon ∷ []) ++ w) refl refl refl in
     assign p q r x (full_back s (ToAssign p x outer) (at r signs.Semicolon) [] w f tt (sym begins ∙ h))
-writes_back (plain.input p q r s t u x) = λ k outer e m w f fr h. input p q r s t u x
+writes_back (plain.input p q r s t u x g) = λ k outer e m w f fr h. input p q r s t u x g
+writes_back (plain.call p q r s g) = λ k outer e m w f fr h. call p q r s g
+writes_back (plain.void_call p q r s t u v g) = λ k outer e m w f fr h. void_call p q r s t u v g
 writes_back (plain.update p q r x u {ts} {e} s) = λ k outer room_is m w f fr h.
     let begins =
     token (Ready outer) (Named p x outer) p (signs.Name x) m (at q (update_sign u) ∷ ((ts ++ at r signs.Semicolon ∷ []) ++ w)) refl refl refl

@@ -4,11 +4,12 @@ use Rattle.fam_outer.specs.declared.faults.Place.{Place}
 use Rattle.c_tree.specs.declared.tree.Op.TheVariants.{Sub}
 use Rattle.c_tree.specs.declared.lists.Declared.{Declared}
 use Rattle.c_tree.specs.Tree.{Code, Done, Skip, followed}
+use Rattle.c_grammar.specs.declared.items.Sign.{Sign}
 use Rattle.c_grammar.specs.declared.items.Sign.TheVariants as signs
 use Rattle.c_grammar.specs.declared.items.Item.{Item}
 use Rattle.c_grammar.specs.Ahead.{IsList}
-use Rattle.c_grammar.specs.Grammar.{at, tighter, prefix_sign, Expresses, update_sign, count_sign, Listed, Stated, Writes, Optional, Typed, Qualifier, Unqualified, Counted, Begins, Declarator, with_true, with_false, Outer, Vars, Later, Declares, Gaps, GapRest, Empty, Body, Main, File, file_of, Forms}
-use Rattle.c_grammar.specs.Machine.{Tailing, Another, Final, Frame, Paren, Pre, Left, room, Stack, Top, Braces, Yes, No, ThenOf, ElseOf, LoopOf, Use, ToAssign, ToUpdate, ToAssert, ToChoose, ToLoop, Sections, Outermost, InPart, InLast, guards_of, Aim, ToPrototype, ToMain, ReadingState, Outside, AfterStatic, AfterExtern, AfterConst, AfterEnum, AfterType, Leading, NoWord, StaticWord, ExternWord, ConstWord, TypeWords, OneInt, OneSigned, WholeType, Declaring, Bare, Starting, Negating, Started, Listing, Enumerated, Parameters, InParameters, AfterVoid, AfterParameters, Ready, Ended, Wants, Has, Counting, Named, Opens, InputOpens, InputCloses, Finishing, Returning, Returned, Closing, Over}
+use Rattle.c_grammar.specs.Grammar.{at, tighter, prefix_sign, Expresses, update_sign, count_sign, Callable, Listed, Stated, Writes, Optional, Typed, Qualifier, Unqualified, Counted, Begins, Declarator, Defines, with_true, with_false, Outer, Vars, Later, Declares, Gaps, GapRest, Empty, Body, Main, File, file_of, Forms}
+use Rattle.c_grammar.specs.Machine.{Tailing, Another, Final, Frame, Paren, Pre, Left, room, Stack, Top, Braces, Yes, No, ThenOf, ElseOf, LoopOf, Use, ToAssign, ToUpdate, ToAssert, ToChoose, ToLoop, Sections, Outermost, InPart, InLast, guards_of, Aim, ToPrototype, ToMain, ReadingState, Outside, AfterStatic, AfterExtern, AfterConst, AfterEnum, AfterVoidType, AfterType, Leading, NoWord, StaticWord, ExternWord, ConstWord, TypeWords, OneInt, OneSigned, WholeType, Declaring, Bare, Starting, Negating, Started, Listing, Enumerated, AfterDefine, Defining, NegativeDefining, Enclosing, NegativeEnclosing, Enclosed, Parameters, InParameters, AfterVoid, AfterParameters, Ready, Ended, Wants, Has, Counting, Named, Opens, VoidComes, VoidCloses, CallComes, CallOpens, CallCloses, Finishing, Returning, Returned, Closing, Over}
 
 -- the parts of a group before this one, and its directive
 abbrev pub Begun : List (ℕ × Code) → ℕ → List Item → Type 0
@@ -76,6 +77,10 @@ VarsTail kind secs ds w f = (ts us : List Item) × (es : List Declared) × Decla
 abbrev pub StartedTail : Qualifier → ℕ → ℤ → Sections → List Declared → List Item → File → Type 0
 StartedTail kind x n secs ds w f = (us : List Item) → Declarator kind us x n → VarsTail kind secs ds (us ++ w) f
 
+-- the rest of a file from where the parentheses of a definition are closed
+abbrev pub EnclosedTail : ℕ → ℤ → Sections → List Declared → List Item → File → Type 0
+EnclosedTail x n secs ds w f = (us : List Item) → ((p : Place) → Defines (us ++ at p signs.Close ∷ []) x n) → Tail secs ds (us ++ w) f
+
 -- the words of a type so far
 pub data Words : TypeWords → List Item → Type 0 where
   one_int : (p : Place) → Words OneInt (at p signs.Int ∷ [])
@@ -94,8 +99,13 @@ pub data Led : Leading → TypeWords → List Item → Type 0 where
   extern_word : (p : Place) {t : TypeWords} {us : List Item} → Words t us → Led ExternWord t (at p signs.Extern ∷ us)
   const_word : {t : TypeWords} {us vs : List Item} → Consts us → Words t vs → Led ConstWord t (us ++ vs)
 
+-- what stands before the parentheses in a declaration of a function
+pub data Heads : List Item → Type 0 where
+  value_head : (q : Place) {f : Sign} {us : List Item} → Begins signs.Extern Unqualified us → Callable f → Heads (us ++ at q f ∷ [])
+  void_head : (p q : Place) (k : ℕ) {us : List Item} → Optional signs.Extern us → Heads (us ++ at p signs.Void ∷ at q (signs.Function k) ∷ [])
+
 abbrev pub ParametersTail : Aim → List Item → File → Type 0
-ParametersTail (ToPrototype secs ds) w f = (q : Place) (us : List Item) → Begins signs.Extern Unqualified us → Tail secs ds (us ++ at q signs.Input ∷ w) f
+ParametersTail (ToPrototype secs ds) w f = (us : List Item) → Heads us → Tail secs ds (us ++ w) f
 ParametersTail (ToMain ds) w f = (q : Place) (us : List Item) → Typed us → Tail Outermost ds (us ++ at q signs.Main ∷ w) f
 
 -- the rest of a file behind `main`
@@ -112,6 +122,7 @@ Stands (AfterStatic secs ds) a = Follows a (λ w f. (p : Place) → Tail secs ds
 Stands (AfterExtern secs ds) a = Follows a (λ w f. (p : Place) → Tail secs ds (at p signs.Extern ∷ w) f)
 Stands (AfterConst secs ds) a = Follows a (λ w f. (us : List Item) → Consts us → Tail secs ds (us ++ w) f)
 Stands (AfterEnum secs ds) a = Follows a (λ w f. (p : Place) → Tail secs ds (at p signs.Enum ∷ w) f)
+Stands (AfterVoidType secs ds) a = Follows a (λ w f. (p : Place) (us : List Item) → Optional signs.Extern us → Tail secs ds (us ++ at p signs.Void ∷ w) f)
 Stands (AfterType lead words secs ds) a = Follows a (λ w f. (us : List Item) → Led lead words us → Tail secs ds (us ++ w) f)
 Stands (Declaring kind secs ds) a = Follows a (VarsTail kind secs ds)
 Stands (Bare kind x secs ds) a = Follows a (λ w f. (p : Place) → VarsTail kind secs ds (at p (signs.Name x) ∷ w) f)
@@ -120,6 +131,12 @@ Stands (Negating kind x secs ds) a = Follows a (λ w f. (p q r : Place) → Vars
 Stands (Started kind x n secs ds) a = Follows a (StartedTail kind x n secs ds)
 Stands (Listing last secs ds) a = Follows a (VarsTail (Counted last) secs ds) × ((p q : Place) (w : List Item) (f : File) → Tail secs ds w f → Forms (a ++ at p signs.RightBrace ∷ at q signs.Semicolon ∷ w) f)
 Stands (Enumerated secs ds) a = (q : Place) (w : List Item) (f : File) → Tail secs ds w f → Forms (a ++ at q signs.Semicolon ∷ w) f
+Stands (AfterDefine secs ds) a = Follows a (λ w f. (p : Place) → Tail secs ds (at p signs.Define ∷ w) f)
+Stands (Defining x secs ds) a = Follows a (λ w f. (p q : Place) → Tail secs ds (at p signs.Define ∷ at q (signs.Name x) ∷ w) f)
+Stands (NegativeDefining x secs ds) a = Follows a (λ w f. (p q r : Place) → Tail secs ds (at p signs.Define ∷ at q (signs.Name x) ∷ at r (signs.Oper Sub) ∷ w) f)
+Stands (Enclosing x secs ds) a = Follows a (λ w f. (p q r : Place) → Tail secs ds (at p signs.Define ∷ at q (signs.Name x) ∷ at r signs.Open ∷ w) f)
+Stands (NegativeEnclosing x secs ds) a = Follows a (λ w f. (p q r s : Place) → Tail secs ds (at p signs.Define ∷ at q (signs.Name x) ∷ at r signs.Open ∷ at s (signs.Oper Sub) ∷ w) f)
+Stands (Enclosed x n secs ds) a = Follows a (EnclosedTail x n secs ds)
 Stands (Parameters aim) a = Follows a (ParametersTail aim)
 Stands (InParameters aim) a = Follows a (λ w f. (r : Place) → ParametersTail aim (at r signs.Open ∷ w) f)
 Stands (AfterVoid aim) a = Follows a (λ w f. (r t : Place) → ParametersTail aim (at r signs.Open ∷ at t signs.Void ∷ w) f)
@@ -131,8 +148,11 @@ Stands (Has fs u e) a = (b ts : List Item) × Framed u fs b × Expresses 0 ts e 
 Stands (Counting p u outer) a = (b : List Item) × Read outer b × (a ≡ b ++ at p (count_sign u) ∷ [])
 Stands (Named p x outer) a = (b : List Item) × Read outer b × (a ≡ b ++ at p (signs.Name x) ∷ [])
 Stands (Opens u) a = UsedAt u a
-Stands (InputOpens p x outer) a = (q r : Place) × (b : List Item) × Read outer b × (a ≡ b ++ (at p (signs.Name x) ∷ at q signs.Equals ∷ at r signs.Input ∷ []))
-Stands (InputCloses p x outer) a = (q r s : Place) × (b : List Item) × Read outer b × (a ≡ b ++ (at p (signs.Name x) ∷ at q signs.Equals ∷ at r signs.Input ∷ at s signs.Open ∷ []))
+Stands (VoidComes p outer) a = (b : List Item) × Read outer b × (a ≡ b ++ at p signs.Open ∷ [])
+Stands (VoidCloses p outer) a = (q : Place) × (b : List Item) × Read outer b × (a ≡ b ++ (at p signs.Open ∷ at q signs.Void ∷ []))
+Stands (CallComes p outer) a = (q r : Place) × (b : List Item) × Read outer b × (a ≡ b ++ (at p signs.Open ∷ at q signs.Void ∷ at r signs.Close ∷ []))
+Stands (CallOpens outer c) a = (b ts : List Item) × Read outer b × ((q r s : Place) → Writes (Stated false) (ts ++ at q signs.Open ∷ at r signs.Close ∷ at s signs.Semicolon ∷ []) c) × (a ≡ b ++ ts)
+Stands (CallCloses outer c) a = (b ts : List Item) × Read outer b × ((q r : Place) → Writes (Stated false) (ts ++ at q signs.Close ∷ at r signs.Semicolon ∷ []) c) × (a ≡ b ++ ts)
 Stands (Finishing outer c) a = (b ts : List Item) × Read outer b × ((q : Place) → Writes (Stated false) (ts ++ at q signs.Semicolon ∷ []) c) × (a ≡ b ++ ts)
 Stands (Returning r ds made) a = (n : ℤ) (s q p : Place) (w : List Item) → Empty Gaps w → Forms (a ++ at s (signs.Number n) ∷ at q signs.Semicolon ∷ at p signs.RightBrace ∷ w) (file_of ds (followed made (Skip r Done)) p)
 Stands (Returned ds made) a = (q p : Place) (w : List Item) → Empty Gaps w → Forms (a ++ at q signs.Semicolon ∷ at p signs.RightBrace ∷ w) (file_of ds made p)

@@ -1,5 +1,5 @@
 -- Which lists of items spell an expression, a statement, a list of statements, declarations and a file. The grammar is a
--- part of that of ISO/IEC 9899:2011, 6.5 to 6.9, with the group directives of 6.10.1 as items.
+-- part of that of ISO/IEC 9899:2011, 6.5 to 6.9, with the group directives of 6.10.1 and the definitions of 6.10.3 as items.
 use Rattle.std.specs.Prelude.{◌≡◌, ℕ, ℤ, pos, negsuc, neg_ℤ, ◌+ℤ◌, ◌<ℤ◌, suc, Bool, true, false, ◌||◌, if◌then◌else◌, List, [], ◌∷◌, ◌++◌, map}
 use Rattle.fam_outer.specs.declared.faults.Place.{Place}
 use Rattle.c_tree.specs.declared.tree.Op.{Op}
@@ -105,6 +105,11 @@ by_one Lower = Difference
 abbrev pub changed_by_one : Place → ℕ → Count → Code
 changed_by_one p x u = updated p x (by_one u) (Number (pos 1))
 
+-- the name of a function outside (6.5.2.2), whose value is an input: `input`, or another one
+pub data Callable : Sign → Type 0 where
+  of_input : Callable signs.Input
+  of_function : (k : ℕ) → Callable (signs.Function k)
+
 -- a list; a statement, and whether it ends in an `if` without `else`; what closes a group, with its later parts
 pub data Shape : Type 0 where
   Listed : Shape
@@ -120,7 +125,9 @@ pub data Writes : Shape → List Item → Code → Type 0 where
   otherwise : (p q : Place) {ts : List Item} {c : Code} → Writes Listed ts c → Writes Chained (at p signs.GroupElse ∷ (ts ++ at q signs.GroupEnd ∷ [])) c
   elif : (p : Place) (n : ℕ) {ts us : List Item} {c d : Code} → Writes Listed ts c → Writes Chained us d → Writes Chained (at p (signs.GroupElif n) ∷ (ts ++ us)) (Cond n c d Done)
   assign : (p q r : Place) (x : ℕ) {ts : List Item} {e : Term} → Expresses 6 ts e → Writes (Stated false) (at p (signs.Name x) ∷ at q signs.Equals ∷ (ts ++ at r signs.Semicolon ∷ [])) (Assign p x e Done)
-  input : (p q r s t u : Place) (x : ℕ) → Writes (Stated false) (at p (signs.Name x) ∷ at q signs.Equals ∷ at r signs.Input ∷ at s signs.Open ∷ at t signs.Close ∷ at u signs.Semicolon ∷ []) (Input p x Done)
+  input : (p q r s t u : Place) (x : ℕ) {f : Sign} → Callable f → Writes (Stated false) (at p (signs.Name x) ∷ at q signs.Equals ∷ at r f ∷ at s signs.Open ∷ at t signs.Close ∷ at u signs.Semicolon ∷ []) (Input p x Done)
+  call : (p q r s : Place) {f : Sign} → Callable f → Writes (Stated false) (at p f ∷ at q signs.Open ∷ at r signs.Close ∷ at s signs.Semicolon ∷ []) (Skip p Done)
+  void_call : (p q r s t u v : Place) {f : Sign} → Callable f → Writes (Stated false) (at p signs.Open ∷ at q signs.Void ∷ at r signs.Close ∷ at s f ∷ at t signs.Open ∷ at u signs.Close ∷ at v signs.Semicolon ∷ []) (Skip p Done)
   update : (p q r : Place) (x : ℕ) (u : Update) {ts : List Item} {e : Term} → Expresses 6 ts e → Writes (Stated false) (at p (signs.Name x) ∷ at q (update_sign u) ∷ (ts ++ at r signs.Semicolon ∷ [])) (updated p x u e)
   count : (p q r : Place) (x : ℕ) (u : Count) → Writes (Stated false) (at p (signs.Name x) ∷ at q (count_sign u) ∷ at r signs.Semicolon ∷ []) (changed_by_one p x u)
   prefix_count : (p q r : Place) (x : ℕ) (u : Count) → Writes (Stated false) (at p (count_sign u) ∷ at q (signs.Name x) ∷ at r signs.Semicolon ∷ []) (changed_by_one p x u)
@@ -190,6 +197,14 @@ pub data Ending : Qualifier → List Item → Type 0 where
   enumeration_end : (last : ℤ) (p q : Place) → Ending (Counted last) (at p signs.RightBrace ∷ at q signs.Semicolon ∷ [])
   comma_end : (last : ℤ) (p q r : Place) → Ending (Counted last) (at p signs.Comma ∷ at q signs.RightBrace ∷ at r signs.Semicolon ∷ [])
 
+-- a definition (6.10.3) of a constant: a number, perhaps negative and perhaps in parentheses. It ends with its line, so no item
+-- ends it
+pub data Defines : List Item → ℕ → ℤ → Type 0 where
+  defined : (p q r : Place) (x : ℕ) (n : ℤ) → Defines (at p signs.Define ∷ at q (signs.Name x) ∷ at r (signs.Number n) ∷ []) x n
+  negative_defined : (p q r s : Place) (x : ℕ) (n : ℤ) → Defines (at p signs.Define ∷ at q (signs.Name x) ∷ at r (signs.Oper Sub) ∷ at s (signs.Number n) ∷ []) x (neg_ℤ n)
+  enclosed : (p q r s t : Place) (x : ℕ) (n : ℤ) → Defines (at p signs.Define ∷ at q (signs.Name x) ∷ at r signs.Open ∷ at s (signs.Number n) ∷ at t signs.Close ∷ []) x n
+  negative_enclosed : (p q r s t u : Place) (x : ℕ) (n : ℤ) → Defines (at p signs.Define ∷ at q (signs.Name x) ∷ at r signs.Open ∷ at s (signs.Oper Sub) ∷ at t (signs.Number n) ∷ at u signs.Close ∷ []) x (neg_ℤ n)
+
 -- the guards of what stands where a condition is true, and where it is false, within these guards
 abbrev pub with_true : List Guard → ℕ → List Guard
 with_true gs n = gs ++ record { number = n; positive = true } ∷ []
@@ -206,11 +221,13 @@ pub data Part : Type 0 where
   Vars : (kind : Qualifier) (gs : List Guard) → Part
   Later : (gs : List Guard) → Part
 
--- the declarators that a list of items declares, in its order; a declaration of `input` leaves nothing
+-- the declarators that a list of items declares, in its order; a declaration of a function leaves nothing (6.7.6.3)
 pub data Declares : Part → List Item → List Declared → Type 0 where
   nothing : (gs : List Guard) → Declares (Outer gs) [] []
   variables : (gs : List Guard) {us vs ws : List Item} {ds es : List Declared} {kind : Qualifier} → Begins signs.Static kind us → Declares (Vars kind gs) vs ds → Declares (Outer gs) ws es → Declares (Outer gs) (us ++ (vs ++ ws)) (ds ++ es)
-  prototype : (q r s t : Place) (gs : List Guard) {us vs ws : List Item} {es : List Declared} → Begins signs.Extern Unqualified us → Optional signs.Void vs → Declares (Outer gs) ws es → Declares (Outer gs) (us ++ at q signs.Input ∷ at r signs.Open ∷ (vs ++ at s signs.Close ∷ at t signs.Semicolon ∷ ws)) es
+  prototype : (q r s t : Place) (gs : List Guard) {f : Sign} {us vs ws : List Item} {es : List Declared} → Begins signs.Extern Unqualified us → Callable f → Optional signs.Void vs → Declares (Outer gs) ws es → Declares (Outer gs) (us ++ at q f ∷ at r signs.Open ∷ (vs ++ at s signs.Close ∷ at t signs.Semicolon ∷ ws)) es
+  void_prototype : (p q r s t : Place) (k : ℕ) (gs : List Guard) {us vs ws : List Item} {es : List Declared} → Optional signs.Extern us → Optional signs.Void vs → Declares (Outer gs) ws es → Declares (Outer gs) (us ++ at p signs.Void ∷ at q (signs.Function k) ∷ at r signs.Open ∷ (vs ++ at s signs.Close ∷ at t signs.Semicolon ∷ ws)) es
+  definition : (gs : List Guard) {us ws : List Item} {es : List Declared} {x : ℕ} {n : ℤ} → Defines us x n → Declares (Outer gs) ws es → Declares (Outer gs) (us ++ ws) (declared x n gs ∷ es)
   section : (p : Place) (n : ℕ) (gs : List Guard) {us vs ws : List Item} {cs ds es : List Declared} → Declares (Outer (with_true gs n)) us cs → Declares (Later (with_false gs n)) vs ds → Declares (Outer gs) ws es → Declares (Outer gs) (at p (signs.GroupIf n) ∷ (us ++ (vs ++ ws))) (cs ++ (ds ++ es))
   last_var : (gs : List Guard) {us vs : List Item} {x : ℕ} {n : ℤ} {kind : Qualifier} → Declarator kind us x n → Ending kind vs → Declares (Vars kind gs) (us ++ vs) (declared x n gs ∷ [])
   next_var : (p : Place) (gs : List Guard) {us vs : List Item} {x : ℕ} {n : ℤ} {ds : List Declared} {kind : Qualifier} → Declarator kind us x n → Declares (Vars (behind kind n) gs) vs ds → Declares (Vars kind gs) (us ++ at p signs.Comma ∷ vs) (declared x n gs ∷ ds)

@@ -86,6 +86,7 @@ pub data ReadingState : Type 0 where
   AfterExtern : (secs : Sections) (ds : List Declared) → ReadingState
   AfterConst : (secs : Sections) (ds : List Declared) → ReadingState
   AfterEnum : (secs : Sections) (ds : List Declared) → ReadingState
+  AfterVoidType : (secs : Sections) (ds : List Declared) → ReadingState
   AfterType : (lead : Leading) (words : TypeWords) (secs : Sections) (ds : List Declared) → ReadingState
   -- a declarator comes, of a variable or of a constant
   Declaring : (kind : Qualifier) (secs : Sections) (ds : List Declared) → ReadingState
@@ -96,6 +97,14 @@ pub data ReadingState : Type 0 where
   -- in an `enum`, behind a comma and the value before it; and behind its brace
   Listing : (last : ℤ) (secs : Sections) (ds : List Declared) → ReadingState
   Enumerated : (secs : Sections) (ds : List Declared) → ReadingState
+  -- in a definition: its name comes; its value does; the number behind `-` does; in parentheses the number, perhaps behind `-`,
+  -- and then the closing one comes
+  AfterDefine : (secs : Sections) (ds : List Declared) → ReadingState
+  Defining : (x : ℕ) (secs : Sections) (ds : List Declared) → ReadingState
+  NegativeDefining : (x : ℕ) (secs : Sections) (ds : List Declared) → ReadingState
+  Enclosing : (x : ℕ) (secs : Sections) (ds : List Declared) → ReadingState
+  NegativeEnclosing : (x : ℕ) (secs : Sections) (ds : List Declared) → ReadingState
+  Enclosed : (x : ℕ) (n : ℤ) (secs : Sections) (ds : List Declared) → ReadingState
   -- parentheses after the name of a function: before them, in them, after `void`, and behind them
   Parameters : (aim : Aim) → ReadingState
   InParameters : (aim : Aim) → ReadingState
@@ -111,8 +120,13 @@ pub data ReadingState : Type 0 where
   Counting : (p : Place) (u : Count) (outer : Stack) → ReadingState
   Named : (p : Place) (x : ℕ) (outer : Stack) → ReadingState
   Opens : (u : Use) → ReadingState
-  InputOpens : (p : Place) (x : ℕ) (outer : Stack) → ReadingState
-  InputCloses : (p : Place) (x : ℕ) (outer : Stack) → ReadingState
+  -- a call whose value is dropped, which begins with parentheses: `void` comes, and the closing one, and the name of a function
+  VoidComes : (p : Place) (outer : Stack) → ReadingState
+  VoidCloses : (p : Place) (outer : Stack) → ReadingState
+  CallComes : (p : Place) (outer : Stack) → ReadingState
+  -- the parentheses of a call, which makes this statement
+  CallOpens : (outer : Stack) (c : Code) → ReadingState
+  CallCloses : (outer : Stack) (c : Code) → ReadingState
   -- a semicolon ends the statement
   Finishing : (outer : Stack) (c : Code) → ReadingState
   -- the end of `main`: after `return`, after its number, and before the closing brace
@@ -137,7 +151,7 @@ prefix_of Sub = Some Negative
 prefix_of _ = None
 
 abbrev pub input_of : List Frame → Use → Option ReadingState
-input_of [] (ToAssign p x outer) = Some (InputOpens p x outer)
+input_of [] (ToAssign p x outer) = Some (CallOpens outer (Input p x Done))
 input_of _ _ = None
 
 abbrev pub want : List Frame → Use → Sign → Option ReadingState
@@ -147,6 +161,7 @@ want fs u signs.Open = Some (Wants (Paren ∷ fs) u)
 want fs u signs.Bang = Some (Wants (Pre Inverse ∷ fs) u)
 want fs u (signs.Oper op) = option_map (λ v. Wants (Pre v ∷ fs) u) (prefix_of op)
 want fs u signs.Input = input_of fs u
+want fs u (signs.Function k) = input_of fs u
 want fs u _ = None
 
 abbrev pub tested : Use → Term → Option ReadingState
@@ -239,6 +254,9 @@ group_end _ = None
 
 abbrev pub begin : Stack → Place → Sign → Option ReadingState
 begin outer p (signs.Name x) = Some (Named p x outer)
+begin outer p signs.Input = Some (CallOpens outer (Skip p Done))
+begin outer p (signs.Function k) = Some (CallOpens outer (Skip p Done))
+begin outer p signs.Open = Some (VoidComes p outer)
 begin outer p signs.Semicolon = Some (Ended outer (Skip p Done))
 begin outer p signs.PlusPlus = Some (Counting p Raise outer)
 begin outer p signs.MinusMinus = Some (Counting p Lower outer)
@@ -286,9 +304,20 @@ abbrev pub at_semicolon : ReadingState → Sign → Option ReadingState
 at_semicolon next signs.Semicolon = Some next
 at_semicolon next _ = None
 
-abbrev pub at_input : ReadingState → Sign → Option ReadingState
-at_input next signs.Input = Some next
-at_input next _ = None
+abbrev pub at_void : ReadingState → Sign → Option ReadingState
+at_void next signs.Void = Some next
+at_void next _ = None
+
+-- the name of a function
+abbrev pub at_function : ReadingState → Sign → Option ReadingState
+at_function next signs.Input = Some next
+at_function next (signs.Function k) = Some next
+at_function next _ = None
+
+-- the name of a function other than `input`, whose value is an `int`
+abbrev pub at_void_function : ReadingState → Sign → Option ReadingState
+at_void_function next (signs.Function k) = Some next
+at_void_function next _ = None
 
 -- ---- declarations
 
@@ -319,11 +348,18 @@ outside secs ds signs.Static = Some (AfterStatic secs ds)
 outside secs ds signs.Extern = Some (AfterExtern secs ds)
 outside secs ds signs.Const = Some (AfterConst secs ds)
 outside secs ds signs.Enum = Some (AfterEnum secs ds)
+outside secs ds signs.Define = Some (AfterDefine secs ds)
+outside secs ds signs.Void = Some (AfterVoidType secs ds)
 outside secs ds (signs.GroupIf n) = Some (Outside (InPart (guards_of secs) n secs) ds)
 outside secs ds (signs.GroupElif n) = next_condition n secs ds
 outside secs ds signs.GroupElse = last_section secs ds
 outside secs ds signs.GroupEnd = section_end secs ds
 outside secs ds s = first_word NoWord secs ds s
+
+-- `void`, or the first word of a type
+abbrev pub behind_extern : Sections → List Declared → Sign → Option ReadingState
+behind_extern secs ds signs.Void = Some (AfterVoidType secs ds)
+behind_extern secs ds s = first_word ExternWord secs ds s
 
 -- `const`, or the first word of a type
 abbrev pub behind_static : Sections → List Declared → Sign → Option ReadingState
@@ -354,13 +390,14 @@ abbrev pub naming : Sections → List Declared → Sign → Option ReadingState
 naming secs ds signs.Const = Some (Declaring Constant secs ds)
 naming secs ds (signs.Name x) = Some (Bare Unqualified x secs ds)
 naming secs ds signs.Input = Some (Parameters (ToPrototype secs ds))
+naming secs ds (signs.Function k) = Some (Parameters (ToPrototype secs ds))
 naming secs ds signs.Main = main_of secs ds
 naming secs ds _ = None
 
 abbrev pub behind_type : Leading → Sections → List Declared → Sign → Option ReadingState
 behind_type NoWord secs ds s = naming secs ds s
 behind_type StaticWord secs ds s = qualifying secs ds s
-behind_type ExternWord secs ds s = at_input (Parameters (ToPrototype secs ds)) s
+behind_type ExternWord secs ds s = at_function (Parameters (ToPrototype secs ds)) s
 behind_type ConstWord secs ds s = declaring Constant secs ds s
 
 -- another word of the type, or what follows it
@@ -425,6 +462,35 @@ abbrev pub negating : Qualifier → ℕ → Sections → List Declared → Sign 
 negating kind x secs ds (signs.Number n) = Some (Started kind x (neg_ℤ n) secs ds)
 negating kind x secs ds _ = None
 
+-- the name of a definition
+abbrev pub after_define : Sections → List Declared → Sign → Option ReadingState
+after_define secs ds (signs.Name x) = Some (Defining x secs ds)
+after_define secs ds _ = None
+
+-- behind a definition with this value
+abbrev pub defined_as : ℕ → ℤ → Sections → List Declared → ReadingState
+defined_as x n secs ds = Outside secs (with_declared secs ds x n)
+
+abbrev pub defining : ℕ → Sections → List Declared → Sign → Option ReadingState
+defining x secs ds (signs.Number n) = Some (defined_as x n secs ds)
+defining x secs ds (signs.Oper Sub) = Some (NegativeDefining x secs ds)
+defining x secs ds signs.Open = Some (Enclosing x secs ds)
+defining x secs ds _ = None
+
+abbrev pub negative_defining : ℕ → Sections → List Declared → Sign → Option ReadingState
+negative_defining x secs ds (signs.Number n) = Some (defined_as x (neg_ℤ n) secs ds)
+negative_defining x secs ds _ = None
+
+-- the same in parentheses
+abbrev pub enclosing : ℕ → Sections → List Declared → Sign → Option ReadingState
+enclosing x secs ds (signs.Number n) = Some (Enclosed x n secs ds)
+enclosing x secs ds (signs.Oper Sub) = Some (NegativeEnclosing x secs ds)
+enclosing x secs ds _ = None
+
+abbrev pub negative_enclosing : ℕ → Sections → List Declared → Sign → Option ReadingState
+negative_enclosing x secs ds (signs.Number n) = Some (Enclosed x (neg_ℤ n) secs ds)
+negative_enclosing x secs ds _ = None
+
 abbrev pub in_parameters : Aim → Sign → Option ReadingState
 in_parameters aim signs.Void = Some (AfterVoid aim)
 in_parameters aim signs.Close = Some (AfterParameters aim)
@@ -458,9 +524,10 @@ over f _ _ = None
 abbrev pub step : ReadingState → Place → Sign → Option ReadingState
 step (Outside secs ds) p s = outside secs ds s
 step (AfterStatic secs ds) p s = behind_static secs ds s
-step (AfterExtern secs ds) p s = first_word ExternWord secs ds s
+step (AfterExtern secs ds) p s = behind_extern secs ds s
 step (AfterConst secs ds) p s = first_word ConstWord secs ds s
 step (AfterEnum secs ds) p s = after_enum secs ds s
+step (AfterVoidType secs ds) p s = at_void_function (Parameters (ToPrototype secs ds)) s
 step (AfterType lead words secs ds) p s = after_type lead secs ds s words
 step (Declaring kind secs ds) p s = declaring kind secs ds s
 step (Bare kind x secs ds) p s = is_bare kind x secs ds s
@@ -469,6 +536,12 @@ step (Negating kind x secs ds) p s = negating kind x secs ds s
 step (Started kind x n secs ds) p s = started kind x n secs ds s
 step (Listing last secs ds) p s = listing last secs ds s
 step (Enumerated secs ds) p s = at_semicolon (Outside secs ds) s
+step (AfterDefine secs ds) p s = after_define secs ds s
+step (Defining x secs ds) p s = defining x secs ds s
+step (NegativeDefining x secs ds) p s = negative_defining x secs ds s
+step (Enclosing x secs ds) p s = enclosing x secs ds s
+step (NegativeEnclosing x secs ds) p s = negative_enclosing x secs ds s
+step (Enclosed x n secs ds) p s = at_close (defined_as x n secs ds) s
 step (Parameters aim) p s = at_open (InParameters aim) s
 step (InParameters aim) p s = in_parameters aim s
 step (AfterVoid aim) p s = at_close (AfterParameters aim) s
@@ -480,8 +553,11 @@ step (Has fs u e) p s = have fs u e s
 step (Counting q u outer) p s = counting q u outer s
 step (Named q x outer) p s = named q x outer s
 step (Opens u) p s = at_open (Wants [] u) s
-step (InputOpens q x outer) p s = at_open (InputCloses q x outer) s
-step (InputCloses q x outer) p s = at_close (Finishing outer (Input q x Done)) s
+step (VoidComes q outer) p s = at_void (VoidCloses q outer) s
+step (VoidCloses q outer) p s = at_close (CallComes q outer) s
+step (CallComes q outer) p s = at_function (CallOpens outer (Skip q Done)) s
+step (CallOpens outer c) p s = at_open (CallCloses outer c) s
+step (CallCloses outer c) p s = at_close (Finishing outer c) s
 step (Finishing outer c) p s = at_semicolon (Ended outer c) s
 step (Returning q ds made) p s = returning q ds made s
 step (Returned ds made) p s = at_semicolon (Closing ds made) s

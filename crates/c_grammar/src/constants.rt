@@ -1,20 +1,54 @@
 //! The names that a file declares as constants, and those that it changes, item by item.
 #![tactic(auto)]
 
-ghost use Rattle.std.specs.Prelude.{◌≡◌};
+ghost use Rattle.std.specs.Prelude.{◌≡◌, List, [], ◌∷◌, ◌++◌};
+ghost use Rattle.c_grammar.specs.declared.constants.NameKind.TheVariants as kinds;
+ghost use Rattle.c_grammar.specs.declared.items.Item as items;
 ghost use Rattle.c_grammar.specs.Constants as specs;
+ghost use Rattle.c_grammar.specs.Functions as functions;
 
 use crate::items::{Item, Sign};
 use fam_outer::Place;
 
-/// Whether a declaration with `const` or `enum` goes on behind a sign, where `constant` tells whether one does before it.
-pub fn is_constant_behind(constant: bool, sign: Sign) -> bool
-    ensures { result ≡ specs.is_constant_behind constant sign }
+/// What a name is that comes next: a variable's, a constant's in a declaration with `const` or `enum` that goes on, or that
+/// of a definition, which is a constant's too.
+#[derive(Clone, Copy, Debug, PartialEq, Eq)]
+enum NameKind {
+    Variable,
+    Constant,
+    Defined,
+}
+
+/// Whether such a name is a constant's.
+fn is_constant(kind: NameKind) -> bool
+    ensures { result ≡ specs.is_constant kind }
+{
+    match kind {
+        NameKind::Variable => false,
+        NameKind::Constant | NameKind::Defined => true,
+    }
+}
+
+/// What the next name is behind a name of this kind: a definition has one.
+fn kind_behind_name(kind: NameKind) -> NameKind
+    ensures { result ≡ specs.kind_behind_name kind }
+{
+    match kind {
+        NameKind::Variable | NameKind::Defined => NameKind::Variable,
+        NameKind::Constant => NameKind::Constant,
+    }
+}
+
+/// What the next name is behind a sign, where it would have been of this kind before it.
+fn kind_behind(kind: NameKind, sign: Sign) -> NameKind
+    ensures { result ≡ specs.kind_behind kind sign }
 {
     match sign {
-        Sign::Const | Sign::Enum => true,
-        Sign::Semicolon => false,
-        _ => constant,
+        Sign::Const | Sign::Enum => NameKind::Constant,
+        Sign::Define => NameKind::Defined,
+        Sign::Semicolon => NameKind::Variable,
+        Sign::Name(_name) => kind_behind_name(kind),
+        _ => kind,
     }
 }
 
@@ -47,12 +81,84 @@ fn name_at(is_changed: bool, sign: Sign, place: Place) -> Option<(u32, Place)>
 
 /// The name that an item changes together with the one before it, and its place: a name before `=`, `+=` and the like, `++`
 /// or `--`, or behind `++` or `--` (ISO/IEC 9899:2011, 6.5.2.4, 6.5.3.1 and 6.5.16).
-pub fn changed_behind(last: Option<Item>, item: Item) -> Option<(u32, Place)>
+fn changed_behind(last: Option<Item>, item: Item) -> Option<(u32, Place)>
     ensures { result ≡ specs.changed_behind last item }
 {
     let last = last?;
     match last.sign {
         Sign::PlusPlus | Sign::MinusMinus => name_at(true, item.sign, item.place),
         _ => name_at(is_change(item.sign), last.sign, last.place),
+    }
+}
+
+/// What the items so far tell of the next one: the last of them, and what a name is that comes next.
+#[derive(Clone, Copy, Debug, PartialEq, Eq)]
+pub struct Track {
+    last: Option<Item>,
+    kind: NameKind,
+}
+
+impl Track {
+    /// Before the first item.
+    pub fn new() -> Track
+        ensures { specs.IsTrack [] result }
+    {
+        Track {
+            last: None,
+            kind: NameKind::Variable,
+        }
+    }
+
+    /// Goes on behind an item.
+    pub fn follow(&mut self, item: Item)
+        ensures { (before : List items.Item) → specs.IsTrack before self.old
+            → specs.IsTrack (before ++ item ∷ []) self.new }
+    {
+        self.last = Some(item);
+        self.kind = kind_behind(self.kind, item.sign);
+    }
+
+    /// Whether a name that comes next is a constant's.
+    pub fn is_constant(&self) -> bool
+        ensures { (before : List items.Item) → specs.IsTrack before self.now
+            → result ≡ specs.is_constant (specs.kind_after kinds.Variable before) }
+    {
+        is_constant(self.kind)
+    }
+
+    /// Whether the last item is `void`, so that a function that comes next is declared without a value.
+    pub fn is_behind_void(&self) -> bool
+        ensures { (before : List items.Item) → specs.IsTrack before self.now
+            → result ≡ functions.stands_behind functions.is_void before }
+    {
+        matches!(
+            self.last,
+            Some(Item {
+                sign: Sign::Void,
+                ..
+            })
+        )
+    }
+
+    /// Whether the last item is `=`, so that a value is wanted of a function that comes next.
+    pub fn is_behind_equals(&self) -> bool
+        ensures { (before : List items.Item) → specs.IsTrack before self.now
+            → result ≡ functions.stands_behind functions.is_equals before }
+    {
+        matches!(
+            self.last,
+            Some(Item {
+                sign: Sign::Equals,
+                ..
+            })
+        )
+    }
+
+    /// The name that an item changes together with the one before it, and its place.
+    pub fn change(&self, item: Item) -> Option<(u32, Place)>
+        ensures { (before : List items.Item) → specs.IsTrack before self.now
+            → result ≡ specs.changed_at before item }
+    {
+        changed_behind(self.last, item)
     }
 }

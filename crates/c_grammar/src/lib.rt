@@ -5,5 +5,5 @@ pub mod constants;
 pub mod items;
 pub mod laws;
 
-pub use constants::{changed_behind, is_constant_behind};
+pub use constants::Track;
 pub use items::{Item, Sign};

@@ -31,6 +31,7 @@ fit_some count p (x ∷ xs) h = elim (p x) as (λ t. AreFit count (cond t (x ∷
 fit_line : (count : ℕ) (kind : LineKind) (place : Place) (xs : List Item) → AreFit count xs → AreFit count (or_directive (group_sign kind) place xs)
 fit_line count kinds.Code place xs h = h
 fit_line count kinds.Include place xs h = h
+fit_line count kinds.Define place xs h = h
 fit_line count (kinds.If n) place xs h = (tt, tt)
 fit_line count (kinds.Elif n) place xs h = (tt, tt)
 fit_line count kinds.Else place xs h = (tt, tt)
@@ -65,6 +66,7 @@ conditions_some count p (x ∷ xs) h =
 conditions_line : (count : ℕ) (kind : LineKind) (place : Place) (xs : List Item) → IsNumberedBelow count kind → AreConditionsOf count xs → AreConditionsOf count (or_directive (group_sign kind) place xs)
 conditions_line count kinds.Code place xs n h = h
 conditions_line count kinds.Include place xs n h = h
+conditions_line count kinds.Define place xs n h = h
 conditions_line count (kinds.If k) place xs n h = (n, tt)
 conditions_line count (kinds.Elif k) place xs n h = (n, tt)
 conditions_line count kinds.Else place xs n h = (tt, tt)
@@ -98,6 +100,7 @@ some_on n (x ∷ xs) = elim (nat_eq x.place.line n) as (λ t. nat_eq x.place.lin
 line_on : (kind : LineKind) (place : Place) (xs : List Item) → AreOn place.line xs → AreOn place.line (or_directive (group_sign kind) place xs)
 line_on kinds.Code place xs h = h
 line_on kinds.Include place xs h = h
+line_on kinds.Define place xs h = h
 line_on (kinds.If k) place xs h = (refl, tt)
 line_on (kinds.Elif k) place xs h = (refl, tt)
 line_on kinds.Else place xs h = (refl, tt)
@@ -114,6 +117,7 @@ rising_some p (x ∷ xs) h = elim (p x) as (λ t. AreRising (cond t (x ∷ filte
 rising_line : (kind : LineKind) (place : Place) (xs : List Item) → AreRising xs → AreRising (or_directive (group_sign kind) place xs)
 rising_line kinds.Code place xs h = h
 rising_line kinds.Include place xs h = h
+rising_line kinds.Define place xs h = h
 rising_line (kinds.If k) place xs h = (tt, tt)
 rising_line (kinds.Elif k) place xs h = (tt, tt)
 rising_line kinds.Else place xs h = (tt, tt)

@@ -1,30 +1,36 @@
--- A family without a fault of a name has at most 16 names.
-use Rattle.std.proofs.Common.{◌≡◌, ◌⊎◌, inl, inr, ℕ, zero, suc, ◌+◌, ◌≤◌, ◌<◌, nat_eq, nat_le, Bool, true, false, not, ◌||◌, ◌&&◌, cond, List, [], ◌∷◌, ◌++◌, length, Option, Some, None, refl, sym, ap, subst, ◌∙◌, append_assoc, append-nil, arith}
+-- A family without a fault of a name has at most 16 variables, and at most 16 constants and features that it uses together.
+use Rattle.std.proofs.Common.{◌≡◌, ◌⊎◌, inl, inr, ℕ, ◌+◌, ◌≤◌, ◌<◌, nat_eq, nat_le, nat_lt, Bool, true, false, not, ◌||◌, cond, List, [], ◌∷◌, ◌++◌, length, Option, Some, None, refl, sym, ap, subst, ◌∙◌, append_assoc, append-nil, arith}
 use Rattle.std.specs.Prelude.{ℤ, if◌then◌else◌}
 use Rattle.std.proofs.lemmas.Bool.{or_right}
 use Rattle.std.proofs.lemmas.Bool.Decides.{nat_tests}
+use Rattle.std.specs.List.{filter}
 use Rattle.std.proofs.lemmas.List.{length-append}
+use Rattle.std.proofs.lemmas.List.Elements.{filter-append}
 use Rattle.std.proofs.lemmas.List.Folds.{list_any-append}
 use Rattle.fam_outer.specs.declared.faults.Place.{Place}
 use Rattle.fam_outer.specs.declared.faults.FileCode.{FileCode}
-use Rattle.fam_outer.specs.declared.faults.FileCode.TheVariants.{Undeclared, Twice, FeatureInCode, TooManyVariables}
+use Rattle.fam_outer.specs.declared.faults.FileCode.TheVariants.{Undeclared, Twice, FeatureInCode, TooManyVariables, TooManyConstants, TooManyValueTests}
 use Rattle.linear_atoms.specs.declared.atoms.Config.{Config}
 use Rattle.c_grammar.specs.declared.items.Item.{Item}
 use Rattle.c_grammar.specs.declared.items.Sign.{Sign}
 use Rattle.c_grammar.specs.declared.items.Sign.TheVariants as signs
 use Rattle.family_names.specs.Names as family
-use Rattle.family_names.specs.Names.{is_main, has_main, until_main, name_of, names_of, declared_by, is_among, with_number, each_once, NameContext, IsFaultFrom, IsChangeOr, changed_place, IsNameFault, IsEither, code_with, new_name_fault, IsThisOr}
+use Rattle.c_grammar.specs.declared.constants.NameKind.TheVariants as kinds
+use Rattle.c_grammar.specs.Constants.{is_constant, kind_after}
+use Rattle.c_grammar.specs.Grammar.{at}
+use Rattle.c_grammar.specs.Kinds.{is_declared_constant}
+use Rattle.family_names.specs.Judging.{with_kind}
+use Rattle.family_names.specs.Names.{is_main, has_main, until_main, behind_main, name_of, names_of, declared_by, constants_of, variables_of, values_of, test_count, is_among, with_number, each_once, is_feature, is_value, is_missed, value_fault, full_fault, new_name_fault, NameContext, IsFaultFrom, IsChangeOr, changed_place, IsNameFault, IsUseFault, IsDeclarationFault, IsWithFirst, IsEither, code_with, IsThisOr}
+use Rattle.family_names.proofs.Declared.{AreStill, still_behind, still_main, still_other, among_once, or_left}
+use Rattle.family_names.proofs.KindsBehind.{behind_none, behind_on, more_constants, more_variables, still_constants, still_unused, still_values, still_variables, value_more}
 use Rattle.c_parser.specs.FamilyItems.{is_name, has}
+use Rattle.c_parser.proofs.AmongNumbers.{neither, or_cases, among_front, same_number, with_it, is_same, once_has, at_least, both_kinds, among_both}
 
 -- ---- declared names, one item after another
 
 names_both : (xs ys : List Item) → names_of (xs ++ ys) ≡ names_of xs ++ names_of ys
 names_both [] ys = refl
 names_both (x ∷ xs) ys = ap (λ (ns : List ℕ). name_of x.sign ++ ns) (names_both xs ys) ∙ sym (append_assoc (name_of x.sign) (names_of xs) (names_of ys))
-
-pub neither : (a b : Bool) → (a || b) ≡ false → (a ≡ false) × (b ≡ false)
-neither true b e = absurd cc
-neither false b e = (refl, e)
 
 before_main : (before more : List Item) → has_main before ≡ false → until_main (before ++ more) ≡ before ++ until_main more
 before_main [] more h = refl
@@ -39,18 +45,15 @@ pub declared_more : (before more : List Item) → has_main before ≡ false → 
 declared_more before more h =
     ap names_of (before_main before more h) ∙ names_both before (until_main more) ∙ ap (λ (ys : List Item). names_of ys ++ declared_by more) (sym (none_more before h))
 
-behind_main : (before more : List Item) → has_main before ≡ true → until_main (before ++ more) ≡ until_main before
-behind_main [] more h = absurd cc
-behind_main (x ∷ xs) more h = elim (is_main x.sign) as (λ b. (b || has_main xs) ≡ true → cond b [] (x ∷ until_main (xs ++ more)) ≡ cond b [] (x ∷ until_main xs)) [
+stays_until : (before more : List Item) → has_main before ≡ true → until_main (before ++ more) ≡ until_main before
+stays_until [] more h = absurd cc
+stays_until (x ∷ xs) more h = elim (is_main x.sign) as (λ b. (b || has_main xs) ≡ true → cond b [] (x ∷ until_main (xs ++ more)) ≡ cond b [] (x ∷ until_main xs)) [
   | true ↦ λ e. refl
-  | false ↦ λ e. ap (λ (ys : List Item). x ∷ ys) (behind_main xs more e)
+  | false ↦ λ e. ap (λ (ys : List Item). x ∷ ys) (stays_until xs more e)
 ] h
 
 pub declared_same : (before more : List Item) → has_main before ≡ true → declared_by (before ++ more) ≡ declared_by before
-declared_same before more h = ap names_of (behind_main before more h)
-
-among_front : (x : ℕ) (xs ys : List ℕ) → is_among x xs ≡ true → is_among x (xs ++ ys) ≡ true
-among_front x xs ys h = list_any-append (nat_eq x) xs ys ∙ ap (λ b. b || is_among x ys) h
+declared_same before more h = ap names_of (stays_until before more h)
 
 -- what is declared stays declared
 stays : (x : ℕ) (before more : List Item) → is_among x (declared_by before) ≡ true → is_among x (declared_by (before ++ more)) ≡ true
@@ -59,76 +62,41 @@ stays x before more h = elim (has_main before) as (λ b. has_main before ≡ b �
   | false ↦ λ e. ap (is_among x) (declared_more before more e) ∙ among_front x (declared_by before) (declared_by more) h
 ] refl
 
--- ---- each once
-
-once_more : (seen ds : List ℕ) (x : ℕ) → each_once seen (ds ++ x ∷ []) ≡ with_number (each_once seen ds) x
-once_more seen [] x = refl
-once_more seen (d ∷ ds) x = once_more (with_number seen d) ds x
-
-pub same_number : (x : ℕ) → nat_eq x x ≡ true
-same_number x = grind (arith, nat_tests)
-
-with_keeps : (x y : ℕ) (seen : List ℕ) → is_among x seen ≡ true → is_among x (with_number seen y) ≡ true
-with_keeps x y seen h = elim (is_among y seen) as (λ b. is_among x (cond b seen (seen ++ y ∷ [])) ≡ true) [ true ↦ h | false ↦ among_front x seen (y ∷ []) h ]
-
-with_it : (x : ℕ) (seen : List ℕ) → is_among x (with_number seen x) ≡ true
-with_it x seen = elim (is_among x seen) as (λ b. is_among x seen ≡ b → is_among x (cond b seen (seen ++ x ∷ [])) ≡ true) [
-  | true ↦ λ e. e
-  | false ↦ λ e. list_any-append (nat_eq x) seen (x ∷ []) ∙ or_right (is_among x seen) (nat_eq x x || false) (ap (λ b. b || false) (same_number x))
-] refl
-
-once_keeps : (x : ℕ) (seen ds : List ℕ) → is_among x seen ≡ true → is_among x (each_once seen ds) ≡ true
-once_keeps x seen [] h = h
-once_keeps x seen (d ∷ ds) h = once_keeps x (with_number seen d) ds (with_keeps x d seen h)
-
-pub is_same : (x y : ℕ) → nat_eq x y ≡ true → x ≡ y
-is_same x y e = grind (arith, nat_tests)
-
-pub once_has : (x : ℕ) (seen ds : List ℕ) → is_among x ds ≡ true → is_among x (each_once seen ds) ≡ true
-once_has x seen [] h = absurd cc
-once_has x seen (d ∷ ds) h = elim (nat_eq x d) as (λ b. nat_eq x d ≡ b → (b || is_among x ds) ≡ true → is_among x (each_once (with_number seen d) ds) ≡ true) [
-  | true ↦ λ e k. once_keeps x (with_number seen d) ds (subst (λ (y : ℕ). is_among x (with_number seen y) ≡ true) (is_same x d e) (with_it x seen))
-  | false ↦ λ e k. once_has x (with_number seen d) ds k
-] refl h
-
 -- ---- what no fault says of an item
 
-used : (context : NameContext) (before : List Item) (x : ℕ) → family.IsUseFault context before x None → is_among x (declared_by before) ≡ true
-used context before x h = elim (family.is_feature context x) as (λ a. IsEither a (None ≡ Some FeatureInCode)
-    (IsEither (is_among x (declared_by before)) (family.IsWithFirst context.model (family.is_missed context before x) Undeclared None None) (None ≡ Some (Undeclared None))) → is_among x (declared_by before) ≡ true) [
-      | true ↦ λ e. absurd cc
-      | false ↦ λ k. (elim (is_among x (declared_by before)) as (λ b. IsEither b (family.IsWithFirst context.model (family.is_missed context before x) Undeclared None None) (None ≡ Some (Undeclared None)) → b ≡ true) [
-        | true ↦ λ _. refl
-        | false ↦ λ e. absurd cc
-      ] k)
-    ] h
+-- a name is declared, or used as a value
+abbrev pub is_named : NameContext → List Item → ℕ → Bool
+is_named context items n = is_among n (declared_by items) || is_among n (values_of context items)
+
+-- the names of each kind are few, and so are the tests of the features that are used; no name of a feature is declared
+pub record AreFew (context : NameContext) (items : List Item) : Type 0 where
+  pub variables : length (variables_of items) ≤ 16
+  pub others : length (constants_of items) + length (values_of context items) ≤ 16
+  pub tests : test_count context (values_of context items) ≤ 256
+  pub apart : (n : ℕ) → is_among n (declared_by items) ≡ true → is_feature context n ≡ false
+
+-- they are few behind an item too, and a name that it names is declared or used, and declared only where it is no feature's
+pub record IsFine (context : NameContext) (before : List Item) (x : Item) : Type 0 where
+  pub few : AreFew context (before ++ x ∷ [])
+  pub named : (n : ℕ) → is_name n x.sign ≡ true → is_named context (before ++ x ∷ []) n ≡ true
 
 pub no_other : (code : Option (List ℤ) → FileCode) (other : Option FileCode) (found : Option Config) → None ≡ code_with code other found → other ≡ None
 no_other code other None e = sym e
 no_other code other (Some config) e = absurd cc
 
-room_if : (a b : Bool) → (if a then Some FeatureInCode else (if b then Some TooManyVariables else None)) ≡ None → b ≡ false
-room_if true b e = absurd cc
-room_if false true e = absurd cc
-room_if false false e = refl
-
-room_in : (x n : ℕ) (b : Bool) → (not b && nat_le 16 n) ≡ false → (b ≡ true) ⊎ (n < 16)
-room_in x n true e = inl refl
-room_in x n false e = inr (grind (arith, nat_tests))
-
-with_room : (x : ℕ) (seen : List ℕ) → length seen ≤ 16 → (is_among x seen ≡ true) ⊎ (length seen < 16) → length (with_number seen x) ≤ 16
-with_room x seen le (inl e) = subst (λ (b : Bool). length (cond b seen (seen ++ x ∷ [])) ≤ 16) (sym e) le
-with_room x seen le (inr lt) = elim (is_among x seen) as (λ b. length (cond b seen (seen ++ x ∷ [])) ≤ 16) [ true ↦ le | false ↦ omega (arith, length-append seen (x ∷ [])) ]
+-- the same kinds of names, and the same values
+same_few : (context : NameContext) (before after : List Item) → declared_by after ≡ declared_by before → variables_of after ≡ variables_of before → constants_of after ≡ constants_of before → values_of context after ≡ values_of context before → AreFew context before → AreFew context after
+same_few context before after d v c u f = record {
+  variables = subst (λ (ns : List ℕ). length ns ≤ 16) (sym v) f.variables;
+  others = subst (λ (ns : List ℕ). length ns + length (values_of context after) ≤ 16) (sym c) (subst (λ (ns : List ℕ). length (constants_of before) + length ns ≤ 16) (sym u) f.others);
+  tests = subst (λ (ns : List ℕ). test_count context ns ≤ 256) (sym u) f.tests;
+  apart = λ n h. f.apart n (ap (is_among n) (sym d) ∙ h);
+}
 
 -- the item names nothing, or this
 pub names_this : (s : Sign) → (name_of s ≡ []) ⊎ ((n : ℕ) × (s ≡ signs.Name n))
 names_this (signs.Name n) = inr (n, refl)
 names_this _ = inl refl
-
--- the names that are declared behind an item are few, and so far those that are named are declared
-pub record IsFine (before : List Item) (x : Item) : Type 0 where
-  pub few : length (each_once [] (declared_by (before ++ x ∷ []))) ≤ 16
-  pub named : (n : ℕ) → is_name n x.sign ≡ true → is_among n (declared_by (before ++ x ∷ [])) ≡ true
 
 pub silent_one : (x : Item) → name_of x.sign ≡ [] → declared_by (x ∷ []) ≡ []
 silent_one x e = elim (is_main x.sign) as (λ b. names_of (cond b [] (x ∷ [])) ≡ []) [ true ↦ refl | false ↦ append-nil (name_of x.sign) ∙ e ]
@@ -144,73 +112,221 @@ not_named n (signs.Name m) e k = absurd cc
 not_named n _ e k = absurd cc
 
 -- an item that names nothing
-silent_step : (before : List Item) (x : Item) → name_of x.sign ≡ [] → length (each_once [] (declared_by before)) ≤ 16 → IsFine before x
-silent_step before x e le =
-    let one : declared_by (x ∷ []) ≡ [] = silent_one x e in
-    let same : declared_by (before ++ x ∷ []) ≡ declared_by before = silent_same before x one in
+silent_step : (context : NameContext) (before : List Item) (x : Item) → name_of x.sign ≡ [] → AreFew context before → IsFine context before x
+silent_step context before x e f =
+    let still : AreStill before x = elim (is_main x.sign) as (λ b. is_main x.sign ≡ b → AreStill before x) [
+      | true ↦ λ m. still_main before x m
+      | false ↦ λ m. still_other before x m e
+    ] refl in
     record {
-      few = subst (λ (ns : List ℕ). length (each_once [] ns) ≤ 16) (sym same) le;
+      few = same_few context before (before ++ x ∷ []) still.any (still_variables before x still) (still_constants before x still) (still_values context before x e) f;
       named = λ n k. absurd (not_named n x.sign e k);
     }
 
--- a name that is used
-use_step : (context : NameContext) (before : List Item) (x : Item) (n : ℕ) → x.sign ≡ signs.Name n → has_main before ≡ true → family.IsUseFault context before n None → length (each_once [] (declared_by before)) ≤ 16 → IsFine before x
-use_step context before x n e m h le =
-    let same = declared_same before (x ∷ []) m in
-    record {
-      few = subst (λ (ns : List ℕ). length (each_once [] ns) ≤ 16) (sym same) le;
-      named = λ k i. subst (λ (ns : List ℕ). is_among k ns ≡ true) (sym same)
-          (subst (λ (j : ℕ). is_among j (declared_by before) ≡ true) (sym (is_same k n (ap (is_name k) (sym e) ∙ i))) (used context before n h));
-    }
+-- behind a name, it is named
+this_named : (context : NameContext) (items : List Item) (x : Item) (n k : ℕ) → x.sign ≡ signs.Name n → is_named context items n ≡ true → is_name k x.sign ≡ true → is_named context items k ≡ true
+this_named context items x n k e h i = subst (λ (j : ℕ). is_named context items j ≡ true) (sym (is_same k n (ap (is_name k) (sym e) ∙ i))) h
 
--- a name that is declared
-declaration_step : (context : NameContext) (before : List Item) (x : Item) (n : ℕ) → x.sign ≡ signs.Name n → has_main before ≡ false → family.IsDeclarationFault context before n None → length (each_once [] (declared_by before)) ≤ 16
-    → IsFine before x
-declaration_step context before x n e m h le =
-    let one : declared_by (x ∷ []) ≡ n ∷ [] = ap (λ (s : Sign). declared_by (record { place = x.place; sign = s } ∷ [])) e in
-    let more : declared_by (before ++ x ∷ []) ≡ declared_by before ++ n ∷ [] = declared_more before (x ∷ []) m ∙ ap (λ (ns : List ℕ). declared_by before ++ ns) one in
-    let fine : new_name_fault context (each_once [] (declared_by before)) n ≡ None =
-    no_other Twice (new_name_fault context (each_once [] (declared_by before)) n) h.found h.fault_is in
-    let room = room_in n (length (each_once [] (declared_by before))) (is_among n (each_once [] (declared_by before)))
-    (room_if (family.is_feature context n) (not (is_among n (each_once [] (declared_by before))) && nat_le 16 (length (each_once [] (declared_by before)))) fine) in
-    record {
-      few = subst (λ (ns : List ℕ). length (each_once [] ns) ≤ 16) (sym more)
-          (subst (λ (ns : List ℕ). length ns ≤ 16) (sym (once_more [] (declared_by before) n)) (with_room n (each_once [] (declared_by before)) le room));
-      named = λ k i. subst (λ (ns : List ℕ). is_among k ns ≡ true) (sym more)
-          (subst (λ (j : ℕ). is_among j (declared_by before ++ n ∷ []) ≡ true) (sym (is_same k n (ap (is_name k) (sym e) ∙ i)))
-          (list_any-append (nat_eq n) (declared_by before) (n ∷ []) ∙ or_right (is_among n (declared_by before)) (nat_eq n n || false) (ap (λ b. b || false) (same_number n))));
-    }
+at_name : (x : Item) (n : ℕ) → x.sign ≡ signs.Name n → at x.place (signs.Name n) ≡ x
+at_name x n e = ap (λ (s : Sign). at x.place s) (sym e)
 
-name_step : (context : NameContext) (before : List Item) (x : Item) (n : ℕ) → x.sign ≡ signs.Name n → IsNameFault context before (signs.Name n) None → length (each_once [] (declared_by before)) ≤ 16 → IsFine before x
-name_step context before x n e h le =
-    elim (has_main before) as (λ b. has_main before ≡ b → IsEither b (family.IsUseFault context before n None) (family.IsDeclarationFault context before n None) → IsFine before x) [
-      | true ↦ λ m k. use_step context before x n e m k le
-      | false ↦ λ m k. declaration_step context before x n e m k le
+-- a first use of a feature has room
+record HasRoom (context : NameContext) (used : List ℕ) (constants x : ℕ) : Type 0 where
+  tests : test_count context (used ++ x ∷ []) ≤ 256
+  room : constants + length used < 16
+
+not_more : (n : ℕ) → nat_lt 256 n ≡ false → n ≤ 256
+not_more n e = grind (arith, nat_tests)
+
+not_full : (n : ℕ) → nat_le 16 n ≡ false → n < 16
+not_full n e = grind (arith, nat_tests)
+
+no_value_fault : (a b c : Bool) → None ≡ (if a then None else (if b then Some TooManyValueTests else (if c then Some TooManyConstants else None))) → (a ≡ true) ⊎ ((b ≡ false) × (c ≡ false))
+no_value_fault true b c e = inl refl
+no_value_fault false true c e = absurd cc
+no_value_fault false false true e = absurd cc
+no_value_fault false false false e = inr (refl, refl)
+
+with_new : (used : List ℕ) (n : ℕ) → is_among n used ≡ false → with_number used n ≡ used ++ n ∷ []
+with_new used n e = ap (λ (b : Bool). if b then used else used ++ n ∷ []) e
+
+with_old : (used : List ℕ) (n : ℕ) → is_among n used ≡ true → with_number used n ≡ used
+with_old used n e = ap (λ (b : Bool). if b then used else used ++ n ∷ []) e
+
+more_values : (context : NameContext) (before after : List Item) (n : ℕ) → declared_by after ≡ declared_by before → variables_of after ≡ variables_of before → constants_of after ≡ constants_of before → values_of context after ≡ with_number (values_of context before) n
+    → None ≡ value_fault context (values_of context before) (length (constants_of before)) n → AreFew context before → AreFew context after
+more_values context before after n d v c u none f =
+    elim (no_value_fault (is_among n (values_of context before)) (nat_lt 256 (test_count context (values_of context before ++ n ∷ []))) (nat_le 16 (length (constants_of before) + length (values_of context before))) none) [
+      | inl old ↦ same_few context before after d v c (u ∙ with_old (values_of context before) n old) f
+      | inr room ↦ elim (is_among n (values_of context before)) as (λ b. is_among n (values_of context before) ≡ b → AreFew context after) [
+        | true ↦ λ old. same_few context before after d v c (u ∙ with_old (values_of context before) n old) f
+        | false ↦ λ new. (
+            let is : values_of context after ≡ values_of context before ++ n ∷ [] = u ∙ with_new (values_of context before) n new in
+            record {
+              variables = subst (λ (ns : List ℕ). length ns ≤ 16) (sym v) f.variables;
+              others = omega (arith, not_full (length (constants_of before) + length (values_of context before)) room.1, ap length c, ap length is, length-append (values_of context before) (n ∷ []));
+              tests = subst (λ (ns : List ℕ). test_count context ns ≤ 256) (sym is) (not_more (test_count context (values_of context before ++ n ∷ [])) room.0);
+              apart = λ k h. f.apart k (ap (is_among k) (sym d) ∙ h);
+            })
+      ] refl
+    ]
+
+-- a name that is used, and no value's
+pub used_other : (context : NameContext) (before : List Item) (n : ℕ) → IsEither (is_feature context n) (◌≡◌ {A = Option FileCode} None (Some FeatureInCode))
+    (IsEither (is_among n (declared_by before)) (IsWithFirst context.model (is_missed context before n) Undeclared None None) (◌≡◌ {A = Option FileCode} None (Some (Undeclared None)))) → is_among n (declared_by before) ≡ true
+used_other context before n h = elim (is_feature context n) as (λ a. IsEither a (◌≡◌ {A = Option FileCode} None (Some FeatureInCode))
+    (IsEither (is_among n (declared_by before)) (IsWithFirst context.model (is_missed context before n) Undeclared None None) (◌≡◌ {A = Option FileCode} None (Some (Undeclared None)))) → is_among n (declared_by before) ≡ true) [
+      | true ↦ λ e. absurd cc
+      | false ↦ λ k. (elim (is_among n (declared_by before)) as (λ b. IsEither b (IsWithFirst context.model (is_missed context before n) Undeclared None None) (◌≡◌ {A = Option FileCode} None (Some (Undeclared None))) → b ≡ true) [
+        | true ↦ λ _. refl
+        | false ↦ λ e. absurd cc
+      ] k)
+    ] h
+
+use_step : (context : NameContext) (before : List Item) (x : Item) (n : ℕ) → x.sign ≡ signs.Name n → has_main before ≡ true → IsUseFault context before n None → AreFew context before → IsFine context before x
+use_step context before x n e m h f =
+    let after = before ++ x ∷ [] in
+    let still = still_behind before x m in
+    let more : values_of context (before ++ x ∷ []) ≡ (if is_value context n then with_number (values_of context before) n else values_of context before) =
+    ap (λ (y : Item). values_of context (before ++ y ∷ [])) (sym (at_name x n e)) ∙ value_more context before x.place n m in
+    elim (is_value context n) as (λ b. is_value context n ≡ b → IsEither b (None ≡ value_fault context (values_of context before) (length (constants_of before)) n) (IsEither (is_feature context n) (◌≡◌ {A = Option FileCode} None (Some FeatureInCode))
+    (IsEither (is_among n (declared_by before)) (IsWithFirst context.model (is_missed context before n) Undeclared None None) (◌≡◌ {A = Option FileCode} None (Some (Undeclared None))))) → IsFine context before x) [
+      | true ↦ λ v k. (
+          let is : values_of context (before ++ x ∷ []) ≡ with_number (values_of context before) n = more ∙ ap (λ (b : Bool). if b then with_number (values_of context before) n else values_of context before) v in
+          record {
+            few = more_values context before after n still.any (still_variables before x still) (still_constants before x still) is k f;
+            named = λ j. this_named context after x n j e (or_right (is_among n (declared_by (before ++ x ∷ []))) (is_among n (values_of context (before ++ x ∷ []))) (ap (is_among n) is ∙ with_it n (values_of context before)));
+          })
+      | false ↦ λ v k. (
+          let is : values_of context (before ++ x ∷ []) ≡ values_of context before = more ∙ ap (λ (b : Bool). if b then with_number (values_of context before) n else values_of context before) v in
+          record {
+            few = same_few context before after still.any (still_variables before x still) (still_constants before x still) is f;
+            named = λ j. this_named context after x n j e (or_left (is_among n (declared_by (before ++ x ∷ []))) (is_among n (values_of context (before ++ x ∷ []))) (ap (is_among n) still.any ∙ used_other context before n k));
+          })
     ] refl h
 
-pub step : (context : NameContext) (before : List Item) (x : Item) → IsNameFault context before x.sign None → length (each_once [] (declared_by before)) ≤ 16 → IsFine before x
-step context before x h le = elim (names_this x.sign) [
-  | inl e ↦ silent_step before x e le
-  | inr e ↦ name_step context before x e.0 e.1 (subst (λ (s : Sign). IsNameFault context before s None) e.1 h) le
+-- a name that is declared
+pub no_feature : (a b : Bool) (full : Option FileCode) → (if a then Some FeatureInCode else (if b then None else full)) ≡ None → a ≡ false
+no_feature true b full e = absurd cc
+no_feature false b full e = refl
+
+no_new_fault : (a b : Bool) (full : Option FileCode) → (if a then Some FeatureInCode else (if b then None else full)) ≡ None → (b ≡ true) ⊎ (full ≡ None)
+no_new_fault true b full e = absurd cc
+no_new_fault false true full e = inl refl
+no_new_fault false false full e = inr e
+
+some_if : (code : FileCode) (b : Bool) → (if b then Some code else None) ≡ None → b ≡ false
+some_if code true e = absurd cc
+some_if code false e = refl
+
+-- the names of its kind have room, and the others stay
+with_room : (kind : Bool) (names constants variables : List ℕ) (values n : ℕ) → (is_among n names ≡ true) ⊎ (full_fault kind (length constants) (length variables) ≡ None) → length variables ≤ 16 → length constants + values ≤ 16 → values ≡ 0
+    → (length (with_kind (not kind) names variables n) ≤ 16) × (length (with_kind kind names constants n) + values ≤ 16)
+with_room true names constants variables values n (inl old) le room none = (le, subst (λ (b : Bool). length (if not b then constants ++ n ∷ [] else constants) + values ≤ 16) (sym old) room)
+with_room true names constants variables values n (inr full) le room none = (
+  le,
+  (elim (is_among n names) as (λ b. length (if not b then constants ++ n ∷ [] else constants) + values ≤ 16) [
+    | true ↦ room
+    | false ↦ omega (arith, not_full (length constants) (some_if TooManyConstants (nat_le 16 (length constants)) full), length-append constants (n ∷ []), none)
+  ]),
+)
+with_room false names constants variables values n (inl old) le room none = (subst (λ (b : Bool). length (if not b then variables ++ n ∷ [] else variables) ≤ 16) (sym old) le, room)
+with_room false names constants variables values n (inr full) le room none = (
+  (elim (is_among n names) as (λ b. length (if not b then variables ++ n ∷ [] else variables) ≤ 16) [
+    | true ↦ le
+    | false ↦ omega (arith, not_full (length variables) (some_if TooManyVariables (nat_le 16 (length variables)) full), length-append variables (n ∷ []))
+  ]),
+  room,
+)
+
+unused_yet : (context : NameContext) (before : List Item) → has_main before ≡ false → values_of context before ≡ []
+unused_yet context before m = ap (λ (ys : List Item). each_once [] (filter (is_value context) (names_of ys))) (behind_none before m)
+
+declaration_step : (context : NameContext) (before : List Item) (x : Item) (n : ℕ) → x.sign ≡ signs.Name n → has_main before ≡ false → IsDeclarationFault context before n None → AreFew context before → IsFine context before x
+declaration_step context before x n e m h f =
+    let after = before ++ x ∷ [] in
+    let kind = is_constant (kind_after kinds.Variable before) in
+    let names = each_once [] (declared_by before) in
+    let one : declared_by (x ∷ []) ≡ n ∷ [] = ap (λ (s : Sign). declared_by (record { place = x.place; sign = s } ∷ [])) e in
+    let all : declared_by (before ++ x ∷ []) ≡ declared_by before ++ n ∷ [] = declared_more before (x ∷ []) m ∙ ap (λ (ns : List ℕ). declared_by before ++ ns) one in
+    let old_or_full : (is_among n (each_once [] (declared_by before)) ≡ true) ⊎ (full_fault (is_constant (kind_after kinds.Variable before)) (length (constants_of before)) (length (variables_of before)) ≡ None) =
+    elim (no_new_fault (is_feature context n) (is_among n (declared_by before)) (full_fault (is_constant (kind_after kinds.Variable before)) (length (constants_of before)) (length (variables_of before))) (no_other Twice (new_name_fault context before n) h.found h.fault_is)) [
+      | inl old ↦ inl (once_has n [] (declared_by before) old)
+      | inr full ↦ inr full
+    ] in
+    let other : is_feature context n ≡ false =
+    no_feature (is_feature context n) (is_among n (declared_by before)) (full_fault (is_constant (kind_after kinds.Variable before)) (length (constants_of before)) (length (variables_of before))) (no_other Twice (new_name_fault context before n) h.found h.fault_is) in
+    let none : length (values_of context before) ≡ 0 = ap length (unused_yet context before m) in
+    let room = with_room kind names (constants_of before) (variables_of before) (length (values_of context before)) n old_or_full f.variables f.others none in
+    let constants : constants_of (before ++ x ∷ []) ≡ with_kind (is_constant (kind_after kinds.Variable before)) (each_once [] (declared_by before)) (constants_of before) n =
+    ap (λ (y : Item). constants_of (before ++ y ∷ [])) (sym (at_name x n e)) ∙ more_constants before x.place n m in
+    let variables : variables_of (before ++ x ∷ []) ≡ with_kind (not (is_constant (kind_after kinds.Variable before))) (each_once [] (declared_by before)) (variables_of before) n =
+    ap (λ (y : Item). variables_of (before ++ y ∷ [])) (sym (at_name x n e)) ∙ more_variables before x.place n m in
+    let values : values_of context (before ++ x ∷ []) ≡ values_of context before = still_unused context before x m in
+    record {
+      few = record {
+        variables = subst (λ (ns : List ℕ). length ns ≤ 16) (sym variables) room.0;
+        others = subst (λ (ns : List ℕ). length ns + length (values_of context (before ++ x ∷ [])) ≤ 16) (sym constants)
+            (subst (λ (ns : List ℕ). length (with_kind (is_constant (kind_after kinds.Variable before)) (each_once [] (declared_by before)) (constants_of before) n) + length ns ≤ 16) (sym values) room.1);
+        tests = subst (λ (ns : List ℕ). test_count context ns ≤ 256) (sym values) f.tests;
+        apart = λ k i. (elim (or_cases (is_among k (declared_by before)) (is_among k (n ∷ [])) (sym (list_any-append (nat_eq k) (declared_by before) (n ∷ [])) ∙ ap (is_among k) (sym all) ∙ i)) [
+          | inl old ↦ f.apart k old
+          | inr new ↦ (elim (or_cases (nat_eq k n) false new) [
+            | inl e1 ↦ subst (λ (j : ℕ). is_feature context j ≡ false) (sym (is_same k n e1)) other
+            | inr e1 ↦ absurd cc
+          ])
+        ]);
+      };
+      named = λ j. this_named context after x n j e (or_left (is_among n (declared_by (before ++ x ∷ []))) (is_among n (values_of context (before ++ x ∷ []))) (ap (is_among n) all
+          ∙ list_any-append (nat_eq n) (declared_by before) (n ∷ []) ∙ or_right (is_among n (declared_by before)) (nat_eq n n || false) (ap (λ b. b || false) (same_number n))));
+    }
+
+name_step : (context : NameContext) (before : List Item) (x : Item) (n : ℕ) → x.sign ≡ signs.Name n → IsNameFault context before (signs.Name n) None → AreFew context before → IsFine context before x
+name_step context before x n e h f =
+    elim (has_main before) as (λ b. has_main before ≡ b → IsEither b (IsUseFault context before n None) (IsDeclarationFault context before n None) → IsFine context before x) [
+      | true ↦ λ m k. use_step context before x n e m k f
+      | false ↦ λ m k. declaration_step context before x n e m k f
+    ] refl h
+
+step : (context : NameContext) (before : List Item) (x : Item) → IsNameFault context before x.sign None → AreFew context before → IsFine context before x
+step context before x h f = elim (names_this x.sign) [
+  | inl e ↦ silent_step context before x e f
+  | inr e ↦ name_step context before x e.0 e.1 (subst (λ (s : Sign). IsNameFault context before s None) e.1 h) f
 ]
 
 -- ---- all items
 
-record AreFine (before xs : List Item) : Type 0 where
-  few : length (each_once [] (declared_by (before ++ xs))) ≤ 16
-  named : (n : ℕ) → has n xs ≡ true → is_among n (declared_by (before ++ xs)) ≡ true
+pub record AreFine (context : NameContext) (before xs : List Item) : Type 0 where
+  pub few : AreFew context (before ++ xs)
+  pub named : (n : ℕ) → has n xs ≡ true → is_named context (before ++ xs) n ≡ true
 
-or_cases : (a b : Bool) → (a || b) ≡ true → (a ≡ true) ⊎ (b ≡ true)
-or_cases true b h = inl refl
-or_cases false b h = inr h
+among_values : (context : NameContext) (n : ℕ) (items : List Item) → is_among n (values_of context items) ≡ is_among n (filter (is_value context) (names_of (behind_main items)))
+among_values context n items = among_once n [] (filter (is_value context) (names_of (behind_main items)))
 
-all_steps : (before : List Item) (x : Item) (xs : List Item) → IsFine before x → AreFine (before ++ x ∷ []) xs → AreFine before (x ∷ xs)
-all_steps before x xs f a =
+-- what is used stays used
+values_stay : (context : NameContext) (n : ℕ) (before more : List Item) → is_among n (values_of context before) ≡ true → is_among n (values_of context (before ++ more)) ≡ true
+values_stay context n before more h = elim (has_main before) as (λ b. has_main before ≡ b → is_among n (values_of context (before ++ more)) ≡ true) [
+  | true ↦ λ m. among_values context n (before ++ more)
+      ∙ ap (λ (ys : List Item). is_among n (filter (is_value context) (names_of ys))) (behind_on before more m)
+      ∙ ap (λ (ns : List ℕ). is_among n (filter (is_value context) ns)) (names_both (behind_main before) more)
+      ∙ ap (is_among n) (filter-append (is_value context) (names_of (behind_main before)) (names_of more))
+      ∙ among_front n (filter (is_value context) (names_of (behind_main before))) (filter (is_value context) (names_of more)) (sym (among_values context n before) ∙ h)
+  | false ↦ λ m. absurd (let bad : true ≡ false = sym h ∙ ap (is_among n) (unused_yet context before m) in cc)
+] refl
+
+named_stays : (context : NameContext) (n : ℕ) (before more : List Item) → is_named context before n ≡ true → is_named context (before ++ more) n ≡ true
+named_stays context n before more h = elim (or_cases (is_among n (declared_by before)) (is_among n (values_of context before)) h) [
+  | inl e ↦ or_left (is_among n (declared_by (before ++ more))) (is_among n (values_of context (before ++ more))) (stays n before more e)
+  | inr e ↦ or_right (is_among n (declared_by (before ++ more))) (is_among n (values_of context (before ++ more))) (values_stay context n before more e)
+]
+
+all_steps : (context : NameContext) (before : List Item) (x : Item) (xs : List Item) → IsFine context before x → AreFine context (before ++ x ∷ []) xs → AreFine context before (x ∷ xs)
+all_steps context before x xs f a =
     let same : (before ++ x ∷ []) ++ xs ≡ before ++ x ∷ xs = append_assoc before (x ∷ []) xs in
     record {
-      few = subst (λ (ys : List Item). length (each_once [] (declared_by ys)) ≤ 16) same a.few;
-      named = λ n h. subst (λ (ys : List Item). is_among n (declared_by ys) ≡ true) same (elim (or_cases (is_name n x.sign) (has n xs) h) [
-        | inl e ↦ stays n (before ++ x ∷ []) xs (f.named n e)
+      few = subst (AreFew context) same a.few;
+      named = λ n h. subst (λ (ys : List Item). is_named context ys n ≡ true) same (elim (or_cases (is_name n x.sign) (has n xs) h) [
+        | inl e ↦ named_stays context n (before ++ x ∷ []) xs (f.named n e)
         | inr e ↦ a.named n e
       ]);
     }
@@ -219,57 +335,27 @@ pub later_of : (code : Option FileCode) (place : Place) (later : Type 0) → IsT
 later_of None place later h = (refl, h)
 later_of (Some code) place later h = absurd cc
 
-walk : (context : NameContext) (before xs : List Item) → IsFaultFrom context before xs None → length (each_once [] (declared_by before)) ≤ 16 → AreFine before xs
-walk context before [] h le = record {
-  few = subst (λ (ys : List Item). length (each_once [] (declared_by ys)) ≤ 16) (sym (append-nil before)) le;
+walk : (context : NameContext) (before xs : List Item) → IsFaultFrom context before xs None → AreFew context before → AreFine context before xs
+walk context before [] h f = record {
+  few = subst (AreFew context) (sym (append-nil before)) f;
   named = λ n k. absurd cc;
 }
-walk context before (x ∷ xs) h le =
+walk context before (x ∷ xs) h f =
     let l = later_of h.0 x.place (IsChangeOr context before x None (IsFaultFrom context (before ++ x ∷ []) xs None)) h.2 in
     let m = later_of l.1.0 (changed_place before x) (IsFaultFrom context (before ++ x ∷ []) xs None) l.1.2 in
-    let f = step context before x (subst (λ (c : Option FileCode). IsNameFault context before x.sign c) l.0 h.1) le in
-    all_steps before x xs f (walk context (before ++ x ∷ []) xs m.1 f.few)
+    let g = step context before x (subst (λ (c : Option FileCode). IsNameFault context before x.sign c) l.0 h.1) f in
+    all_steps context before x xs g (walk context (before ++ x ∷ []) xs m.1 g.few)
 
--- ---- so many numbers, each among a list
+-- the names of a family without a fault
+pub all_fine : (context : NameContext) (items : List Item) → family.IsFirstNameFault context items None → AreFine context [] items
+all_fine context items h = walk context [] items h (record { variables = omega arith; others = omega arith; tests = omega arith; apart = λ n e. absurd cc })
 
-pub without : ℕ → List ℕ → List ℕ
-without x [] = []
-without x (y ∷ ys) = if nat_eq x y then ys else y ∷ without x ys
-
-pub one_less : (x : ℕ) (ys : List ℕ) → is_among x ys ≡ true → length (without x ys) + 1 ≡ length ys
-unfolding without
-one_less x [] h = absurd cc
-one_less x (y ∷ ys) h = elim (nat_eq x y) as (λ b. (b || is_among x ys) ≡ true → length (cond b ys (y ∷ without x ys)) + 1 ≡ suc (length ys)) [
-  | true ↦ λ _. omega arith
-  | false ↦ λ k. omega (arith, one_less x ys k)
-] h
-
-not_first : (a b : Bool) → a ≡ false → (a || b) ≡ true → b ≡ true
-not_first true b e h = absurd cc
-not_first false b e h = h
-
-pub others_stay : (x z : ℕ) (ys : List ℕ) → nat_eq z x ≡ false → is_among z ys ≡ true → is_among z (without x ys) ≡ true
-unfolding without
-others_stay x z [] n h = absurd cc
-others_stay x z (y ∷ ys) n h = elim (nat_eq x y) as (λ b. nat_eq x y ≡ b → is_among z (cond b ys (y ∷ without x ys)) ≡ true) [
-  | true ↦ λ e. not_first (nat_eq z y) (is_among z ys) (subst (λ (w : ℕ). nat_eq z w ≡ false) (is_same x y e) n) h
-  | false ↦ λ e. (elim (nat_eq z y) as (λ b. (b || is_among z ys) ≡ true → (b || is_among z (without x ys)) ≡ true) [
-    | true ↦ λ _. refl
-    | false ↦ λ k. others_stay x z ys n k
-  ] h)
-] refl
-
-below_differs : (z x : ℕ) → z < x → nat_eq z x ≡ false
-below_differs z x h = grind (arith, nat_tests)
-
-at_least : (n : ℕ) (ys : List ℕ) → ((x : ℕ) → x < n → is_among x ys ≡ true) → n ≤ length ys
-at_least zero ys h = omega arith
-at_least (suc n) ys h =
-    let there : is_among n ys ≡ true = h n (omega arith) in
-    omega (arith, one_less n ys there, at_least n (without n ys) (λ x lt. others_stay n x ys (below_differs x n lt) (h x (omega (arith, lt)))))
-
--- a family of which each name occurs and none has a fault has at most 16 names
-pub few_names : (context : NameContext) (items : List Item) (count : ℕ) → family.IsFirstNameFault context items None → ((x : ℕ) → x < count → has x items ≡ true) → count ≤ 16
+-- a family of which each name occurs and none has a fault has at most 32 names
+pub few_names : (context : NameContext) (items : List Item) (count : ℕ) → family.IsFirstNameFault context items None → ((x : ℕ) → x < count → has x items ≡ true) → count ≤ 32
 few_names context items count h occur =
-    let f = walk context [] items h (omega arith) in
-    omega (arith, at_least count (each_once [] (declared_by items)) (λ x lt. once_has x [] (declared_by items) (f.named x (occur x lt))), f.few)
+    let f = all_fine context items h in
+    let all = each_once [] (declared_by items) in
+    let values = values_of context items in
+    let most : count ≤ length (each_once [] (declared_by items) ++ values_of context items) =
+    at_least count (all ++ values) (λ x lt. among_both x all values (is_among x (declared_by items)) (sym (among_once x [] (declared_by items))) (f.named x (occur x lt))) in
+    omega (arith, most, length-append (each_once [] (declared_by items)) (values_of context items), both_kinds (is_declared_constant items) (each_once [] (declared_by items)), f.few.variables, f.few.others)

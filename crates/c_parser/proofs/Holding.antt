@@ -4,25 +4,28 @@ use Rattle.std.specs.Prelude.{◌||◌, ◌⊎◌, if◌then◌else◌, option_m
 use Rattle.std.proofs.lemmas.List.{take_more}
 use Rattle.fam_outer.specs.declared.faults.FileCode.{FileCode}
 use Rattle.fam_outer.specs.declared.faults.Place.{Place}
+use Rattle.c_grammar.specs.declared.constants.NameKind.{NameKind}
+use Rattle.c_grammar.specs.declared.constants.NameKind.TheVariants as kinds
 use Rattle.c_grammar.specs.declared.items.Item.{Item}
 use Rattle.c_grammar.specs.declared.items.Sign.{Sign}
 use Rattle.c_grammar.specs.declared.items.Sign.TheVariants as signs
-use Rattle.c_grammar.specs.Constants.{is_name, is_constant_behind, is_constant_after, constants_from, of_constants, changed_at, changed_behind}
+use Rattle.c_grammar.specs.Constants.{is_name, is_constant, kind_behind, kind_after, constants_from, of_constants, changed_at, IsTrack}
 use Rattle.c_grammar.specs.Grammar.{at}
 use Rattle.cpp_lines.specs.Faults.{or_later}
-use Rattle.family_names.proofs.Holding.{last_more, after_more, from_more, left_out, kept_in}
+use Rattle.family_names.proofs.Holding.{from_more, left_out, kept_in}
 use Rattle.c_parser.specs.declared.constants.Constants.{Constants}
 use Rattle.c_parser.specs.declared.names.Known.{Known}
-use Rattle.c_parser.specs.Names.{is_main, has_main, name_of, declared_by, constants_by, constant_fault, change_fault, name_fault_from, first_name_fault}
-use Rattle.c_parser.specs.Judging.{IsKnown, AreHeld, Judges, with_constant}
+use Rattle.c_parser.specs.declared.names.Limits.{Limits}
+use Rattle.c_parser.specs.Names.{Outside, is_main, has_main, name_of, declared_by, constants_by, constant_fault, change_fault, name_fault_from, first_name_fault}
+use Rattle.c_parser.specs.Judging.{IsKnown, AreHeld, Judges, counted, with_constant}
 use Rattle.c_parser.proofs.Judging.{declared_behind, declared_on, declared_still}
 
-from_main : (b : Bool) (before : List Item) → has_main (constants_from b before) ≡ has_main before
-from_main b [] = refl
-from_main b (y ∷ ys) =
-    elim (b || not (is_name y.sign)) as (λ t. (b || not (is_name y.sign)) ≡ t → has_main (if t then y ∷ constants_from (is_constant_behind b y.sign) ys else constants_from (is_constant_behind b y.sign) ys) ≡ (is_main y.sign || has_main ys)) [
-      | true ↦ λ e. ap (λ (h : Bool). is_main y.sign || h) (from_main (is_constant_behind b y.sign) ys)
-      | false ↦ λ e. from_main (is_constant_behind b y.sign) ys ∙ sym (ap (λ (s : Sign). is_main s || has_main ys) (left_out b y.sign e).1)
+from_main : (kind : NameKind) (before : List Item) → has_main (constants_from kind before) ≡ has_main before
+from_main kind [] = refl
+from_main kind (y ∷ ys) =
+    elim (is_constant kind || not (is_name y.sign)) as (λ t. (is_constant kind || not (is_name y.sign)) ≡ t → has_main (if t then y ∷ constants_from (kind_behind kind y.sign) ys else constants_from (kind_behind kind y.sign) ys) ≡ (is_main y.sign || has_main ys)) [
+      | true ↦ λ e. ap (λ (h : Bool). is_main y.sign || h) (from_main (kind_behind kind y.sign) ys)
+      | false ↦ λ e. from_main (kind_behind kind y.sign) ys ∙ sym (ap (λ (s : Sign). is_main s || has_main ys) (left_out (is_constant kind) y.sign e).1)
     ] refl
 
 -- the sign is a name or names nothing
@@ -40,79 +43,82 @@ name_or_nothing : (s : Sign) → ((n : ℕ) × (s ≡ signs.Name n)) ⊎ NamesNo
 name_or_nothing (signs.Name n) = inl (n, refl)
 name_or_nothing s = inr (record { no_name = refl; other = refl; adds_none = λ ns b. names_none ns b s refl })
 
--- a name, where a declaration with `const` or `enum` goes on or not
-name_more : (before : List Item) (p : Place) (n : ℕ) (constant main : Bool) → has_main before ≡ main
-    → with_constant (declared_by before) (constant && not main) (signs.Name n) ≡ declared_by (before ++ constants_from constant (at p (signs.Name n) ∷ []))
-name_more before p n true true m = sym (declared_behind before (at p (signs.Name n) ∷ []) m)
-name_more before p n true false m = sym (declared_on before (at p (signs.Name n) ∷ []) m)
-name_more before p n false main m = ap declared_by (sym (append-nil before))
+-- a name, a constant's or not
+name_more : (before : List Item) (p : Place) (n : ℕ) (kind : NameKind) (main : Bool) → has_main before ≡ main
+    → with_constant (declared_by before) (is_constant kind && not main) (signs.Name n) ≡ declared_by (before ++ constants_from kind (at p (signs.Name n) ∷ []))
+name_more before p n kinds.Constant true m = sym (declared_behind before (at p (signs.Name n) ∷ []) m)
+name_more before p n kinds.Constant false m = sym (declared_on before (at p (signs.Name n) ∷ []) m)
+name_more before p n kinds.Defined true m = sym (declared_behind before (at p (signs.Name n) ∷ []) m)
+name_more before p n kinds.Defined false m = sym (declared_on before (at p (signs.Name n) ∷ []) m)
+name_more before p n kinds.Variable main m = ap declared_by (sym (append-nil before))
 
-item_more : (before : List Item) (x : Item) (constant main : Bool) → has_main before ≡ main
-    → with_constant (declared_by before) (constant && not main) x.sign ≡ declared_by (before ++ constants_from constant (x ∷ []))
-item_more before x constant main m = elim (name_or_nothing x.sign) [
-  | inl e ↦ subst (λ (y : Item). with_constant (declared_by before) (constant && not main) y.sign ≡ declared_by (before ++ constants_from constant (y ∷ [])))
-      (ap (λ (s : Sign). at x.place s) (sym e.1)) (name_more before x.place e.0 constant main m)
-  | inr n ↦ n.adds_none (declared_by before) (constant && not main) ∙ sym (declared_still before x n.no_name) ∙ ap (λ (ys : List Item). declared_by (before ++ ys)) (sym (kept_in constant x n.other))
+item_more : (before : List Item) (x : Item) (kind : NameKind) (main : Bool) → has_main before ≡ main
+    → with_constant (declared_by before) (is_constant kind && not main) x.sign ≡ declared_by (before ++ constants_from kind (x ∷ []))
+item_more before x kind main m = elim (name_or_nothing x.sign) [
+  | inl e ↦ subst (λ (y : Item). with_constant (declared_by before) (is_constant kind && not main) y.sign ≡ declared_by (before ++ constants_from kind (y ∷ [])))
+      (ap (λ (s : Sign). at x.place s) (sym e.1)) (name_more before x.place e.0 kind main m)
+  | inr n ↦ n.adds_none (declared_by before) (is_constant kind && not main) ∙ sym (declared_still before x n.no_name) ∙ ap (λ (ys : List Item). declared_by (before ++ ys)) (sym (kept_in kind x [] n.other))
 ]
 
-pub held_more : (before : List Item) (x : Item) (old new : Constants) (known : Known) → IsKnown before known → AreHeld before old → new.last ≡ Some x → new.goes_on ≡ is_constant_behind old.goes_on x.sign
-    → new.names.items ≡ with_constant old.names.items (old.goes_on && not known.in_main) x.sign → AreHeld (before ++ x ∷ []) new
-held_more before x old new known k h last goes_on names = record {
-  last = last ∙ sym (last_more None before x);
-  goes_on = goes_on ∙ ap (λ (b : Bool). is_constant_behind b x.sign) h.goes_on ∙ sym (after_more false before x);
-  names =
-      names
-      ∙ ap (λ (b : Bool). with_constant old.names.items (b && not known.in_main) x.sign) h.goes_on
-      ∙ ap (λ (b : Bool). with_constant old.names.items (is_constant_after false before && not b) x.sign) k.main
-      ∙ ap (λ (ns : List ℕ). with_constant ns (is_constant_after false before && not (has_main before)) x.sign) h.names
-      ∙ item_more (of_constants before) x (is_constant_after false before) (has_main before) (from_main false before)
-      ∙ ap declared_by (sym (from_more false before x));
-}
+pub held_more : (before : List Item) (x : Item) (old new : Constants) (known : Known) (constant : Bool) → IsKnown before known → AreHeld before old → IsTrack (before ++ x ∷ []) new.track → constant ≡ is_constant (kind_after kinds.Variable before)
+    → new.names.items ≡ with_constant old.names.items (constant && not known.in_main) x.sign → AreHeld (before ++ x ∷ []) new
+held_more before x old new known constant k h track is names =
+    let kind : NameKind = kind_after kinds.Variable before in
+    record {
+      track = track;
+      names =
+          names
+          ∙ ap (λ (b : Bool). with_constant old.names.items (b && not known.in_main) x.sign) is
+          ∙ ap (λ (b : Bool). with_constant old.names.items (is_constant kind && not b) x.sign) k.main
+          ∙ ap (λ (ns : List ℕ). with_constant ns (is_constant kind && not (has_main before)) x.sign) h.names
+          ∙ item_more (of_constants before) x kind (has_main before) (from_main kinds.Variable before)
+          ∙ ap declared_by (sym (from_more kinds.Variable before x));
+    }
 
-pub unchanged : (before : List Item) (known : Known) (x : Item) → IsKnown before known → known.in_main ≡ false → None ≡ change_fault before x
-unchanged before known x k e = ap (λ (b : Bool). if b then constant_fault (constants_by before) (changed_at before x) else None) (sym e ∙ k.main)
+pub unchanged : (o : Outside) (before : List Item) (known : Known) (x : Item) → IsKnown before known → known.in_main ≡ false → None ≡ change_fault o before x
+unchanged o before known x k e = ap (λ (b : Bool). if b then constant_fault (o.values ++ constants_by before) (changed_at before x) else None) (sym e ∙ k.main)
 
-pub changed : (before : List Item) (known : Known) (constants : Constants) (x : Item) → IsKnown before known → AreHeld before constants → known.in_main ≡ true
-    → constant_fault constants.names.items (changed_behind constants.last x) ≡ change_fault before x
-changed before known constants x k h e =
-    ap (λ (ns : List ℕ). constant_fault ns (changed_behind constants.last x)) h.names
-    ∙ ap (λ (last : Option Item). constant_fault (constants_by before) (changed_behind last x)) h.last
+-- no name has a value from outside
+pub changed : (limits : Limits) (before : List Item) (known : Known) (constants : Constants) (x : Item) → IsKnown before known → AreHeld before constants → known.in_main ≡ true
+    → constant_fault constants.names.items (changed_at before x) ≡ change_fault (counted limits) before x
+changed limits before known constants x k h e =
+    ap (λ (ns : List ℕ). constant_fault ns (changed_at before x)) h.names
     ∙ ap (λ (b : Bool). if b then constant_fault (constants_by before) (changed_at before x) else None) (sym e ∙ k.main)
 
 -- ---- the items of a file
 
 -- behind an item without a fault
-pub record Walks (items : List Item) (n : ℕ) (known : Known) (constants : Constants) : Type 0 where
+pub record Walks (o : Outside) (items : List Item) (n : ℕ) (known : Known) (constants : Constants) : Type 0 where
   pub known_is : IsKnown (take n items) known
   pub held : AreHeld (take n items) constants
-  pub fault_is : first_name_fault items ≡ name_fault_from (take n items) (drop n items)
+  pub fault_is : first_name_fault o items ≡ name_fault_from o (take n items) (drop n items)
 
-pub walk_on : (items : List Item) (i : ℕ) (d : Item) (known : Known) (constants : Constants) (code : Option FileCode) (change : Option (FileCode × Place)) → i < length items → first_name_fault items ≡ name_fault_from (take i items) (drop i items) → code ≡ None → change ≡ None
-    → Judges (take i items) (get_or items i d).sign known code → change ≡ change_fault (take i items) (get_or items i d) → AreHeld (take i items ++ get_or items i d ∷ []) constants → Walks items (i + 1) known constants
-walk_on items i d known constants code change lt so none unchanged j c held =
+pub walk_on : (o : Outside) (items : List Item) (i : ℕ) (d : Item) (known : Known) (constants : Constants) (code : Option FileCode) (change : Option (FileCode × Place)) → i < length items → first_name_fault o items ≡ name_fault_from o (take i items) (drop i items) → code ≡ None → change ≡ None
+    → Judges o (take i items) (get_or items i d).sign known code → change ≡ change_fault o (take i items) (get_or items i d) → AreHeld (take i items ++ get_or items i d ∷ []) constants → Walks o items (i + 1) known constants
+walk_on o items i d known constants code change lt so none unchanged j c held =
     let t : take (i + 1) items ≡ take i items ++ get_or items i d ∷ [] = take_more items i d lt in
     let r : drop i items ≡ get_or items i d ∷ drop (i + 1) items = rw add-one (drop-cons items i d lt) in
     record {
       known_is = subst (λ (ys : List Item). IsKnown ys known) (sym t) (j.known_is none (get_or items i d).place);
       held = subst (λ (ys : List Item). AreHeld ys constants) (sym t) held;
       fault_is =
-          so ∙ ap (name_fault_from (take i items)) r
-          ∙ ap (λ (o : Option FileCode). or_later (option_map (λ k. (k, (get_or items i d).place)) o) (or_later (change_fault (take i items) (get_or items i d)) (name_fault_from (take i items ++ get_or items i d ∷ []) (drop (i + 1) items)))) (sym j.fault_is ∙ none)
-          ∙ ap (λ (o : Option (FileCode × Place)). or_later o (name_fault_from (take i items ++ get_or items i d ∷ []) (drop (i + 1) items))) (sym c ∙ unchanged)
-          ∙ ap (λ (ys : List Item). name_fault_from ys (drop (i + 1) items)) (sym t);
+          so ∙ ap (name_fault_from o (take i items)) r
+          ∙ ap (λ (code : Option FileCode). or_later (option_map (λ k. (k, (get_or items i d).place)) code) (or_later (change_fault o (take i items) (get_or items i d)) (name_fault_from o (take i items ++ get_or items i d ∷ []) (drop (i + 1) items)))) (sym j.fault_is ∙ none)
+          ∙ ap (λ (change : Option (FileCode × Place)). or_later change (name_fault_from o (take i items ++ get_or items i d ∷ []) (drop (i + 1) items))) (sym c ∙ unchanged)
+          ∙ ap (λ (ys : List Item). name_fault_from o ys (drop (i + 1) items)) (sym t);
     }
 
-pub walk_to : (items : List Item) (i : ℕ) (d : Item) (known : Known) (code : Option FileCode) (found : FileCode) → i < length items → first_name_fault items ≡ name_fault_from (take i items) (drop i items) → code ≡ Some found
-    → Judges (take i items) (get_or items i d).sign known code → Some (found, (get_or items i d).place) ≡ first_name_fault items
-walk_to items i d known code found lt so some j =
+pub walk_to : (o : Outside) (items : List Item) (i : ℕ) (d : Item) (known : Known) (code : Option FileCode) (found : FileCode) → i < length items → first_name_fault o items ≡ name_fault_from o (take i items) (drop i items) → code ≡ Some found
+    → Judges o (take i items) (get_or items i d).sign known code → Some (found, (get_or items i d).place) ≡ first_name_fault o items
+walk_to o items i d known code found lt so some j =
     let r : drop i items ≡ get_or items i d ∷ drop (i + 1) items = rw add-one (drop-cons items i d lt) in
-    sym (so ∙ ap (name_fault_from (take i items)) r
-    ∙ ap (λ (o : Option FileCode). or_later (option_map (λ k. (k, (get_or items i d).place)) o) (or_later (change_fault (take i items) (get_or items i d)) (name_fault_from (take i items ++ get_or items i d ∷ []) (drop (i + 1) items)))) (sym j.fault_is ∙ some))
+    sym (so ∙ ap (name_fault_from o (take i items)) r
+    ∙ ap (λ (code : Option FileCode). or_later (option_map (λ k. (k, (get_or items i d).place)) code) (or_later (change_fault o (take i items) (get_or items i d)) (name_fault_from o (take i items ++ get_or items i d ∷ []) (drop (i + 1) items)))) (sym j.fault_is ∙ some))
 
-pub walk_to_change : (items : List Item) (i : ℕ) (d : Item) (known : Known) (code : Option FileCode) (change : Option (FileCode × Place)) (found : FileCode × Place) → i < length items → first_name_fault items ≡ name_fault_from (take i items) (drop i items) → code ≡ None → change ≡ Some found
-    → Judges (take i items) (get_or items i d).sign known code → change ≡ change_fault (take i items) (get_or items i d) → Some found ≡ first_name_fault items
-walk_to_change items i d known code change found lt so none some j c =
+pub walk_to_change : (o : Outside) (items : List Item) (i : ℕ) (d : Item) (known : Known) (code : Option FileCode) (change : Option (FileCode × Place)) (found : FileCode × Place) → i < length items → first_name_fault o items ≡ name_fault_from o (take i items) (drop i items) → code ≡ None → change ≡ Some found
+    → Judges o (take i items) (get_or items i d).sign known code → change ≡ change_fault o (take i items) (get_or items i d) → Some found ≡ first_name_fault o items
+walk_to_change o items i d known code change found lt so none some j c =
     let r : drop i items ≡ get_or items i d ∷ drop (i + 1) items = rw add-one (drop-cons items i d lt) in
-    sym (so ∙ ap (name_fault_from (take i items)) r
-    ∙ ap (λ (o : Option FileCode). or_later (option_map (λ k. (k, (get_or items i d).place)) o) (or_later (change_fault (take i items) (get_or items i d)) (name_fault_from (take i items ++ get_or items i d ∷ []) (drop (i + 1) items)))) (sym j.fault_is ∙ none)
-    ∙ ap (λ (o : Option (FileCode × Place)). or_later o (name_fault_from (take i items ++ get_or items i d ∷ []) (drop (i + 1) items))) (sym c ∙ some))
+    sym (so ∙ ap (name_fault_from o (take i items)) r
+    ∙ ap (λ (code : Option FileCode). or_later (option_map (λ k. (k, (get_or items i d).place)) code) (or_later (change_fault o (take i items) (get_or items i d)) (name_fault_from o (take i items ++ get_or items i d ∷ []) (drop (i + 1) items)))) (sym j.fault_is ∙ none)
+    ∙ ap (λ (change : Option (FileCode × Place)). or_later change (name_fault_from o (take i items ++ get_or items i d ∷ []) (drop (i + 1) items))) (sym c ∙ some))

@@ -1,14 +1,17 @@
 -- What is known of names behind one item more.
-use Rattle.std.proofs.Common.{◌≡◌, ℕ, Bool, true, false, List, [], ◌∷◌, ◌++◌, Option, None, refl, sym, ap, subst, ◌∙◌, append_assoc}
-use Rattle.std.specs.Prelude.{◌||◌, if◌then◌else◌}
+use Rattle.std.proofs.Common.{◌≡◌, ℕ, Bool, true, false, List, [], ◌∷◌, ◌++◌, Option, None, refl, sym, ap, subst, ◌∙◌, append_assoc, append-nil}
+use Rattle.std.specs.Prelude.{◌||◌, not, if◌then◌else◌}
 use Rattle.fam_outer.specs.declared.faults.FileCode.{FileCode}
 use Rattle.c_grammar.specs.declared.items.Item.{Item}
 use Rattle.c_grammar.specs.declared.items.Sign.{Sign}
 use Rattle.c_grammar.specs.declared.items.Sign.TheVariants as signs
 use Rattle.c_grammar.specs.Grammar.{at}
 use Rattle.c_parser.specs.declared.names.Known.{Known}
-use Rattle.c_parser.specs.Names.{is_main, has_main, name_of, declared_by, declaration_fault, use_fault, name_fault}
-use Rattle.c_parser.specs.Judging.{Declares, IsKnown, Judges}
+use Rattle.c_grammar.specs.Functions.{is_void, is_equals, function_of, stands_behind, is_as_asked}
+use Rattle.c_parser.specs.declared.prototypes.Prototypes.{Prototypes}
+use Rattle.c_parser.specs.Names.{Outside, is_main, has_main, name_of, declared_by, functions_by, declaration_fault, use_fault, unlike_fault, prototype_fault, uncallable_fault, call_fault, name_fault}
+use Rattle.c_parser.specs.Judging.{Declares, DeclaresAlike, ArePrototypes, JudgesFunction, IsKnown, Judges}
+use Rattle.c_parser.proofs.PrototypesBehind.{functions_behind, functions_still, functions_on}
 
 -- `main` stands among items and one more
 pub main_on : (before : List Item) (x : Item) → has_main (before ++ x ∷ []) ≡ (has_main before || is_main x.sign)
@@ -49,50 +52,125 @@ or_false : (b : Bool) → (b || false) ≡ b
 or_false true = refl
 or_false false = refl
 
+-- ---- the functions that are declared behind one item more
+
+-- behind `main` they are the same
+prototypes_same : (before : List Item) (x : Item) (prototypes : Prototypes) → has_main before ≡ true → ArePrototypes before prototypes → ArePrototypes (before ++ x ∷ []) prototypes
+prototypes_same before x prototypes h f = record {
+  valued = f.valued ∙ sym (functions_behind false before x h);
+  void = f.void ∙ sym (functions_behind true before x h);
+}
+
+-- and so they are behind an item that is no function
+no_function : (before : List Item) (x : Item) (prototypes : Prototypes) → function_of x.sign ≡ [] → ArePrototypes before prototypes → ArePrototypes (before ++ x ∷ []) prototypes
+no_function before x prototypes e f = record {
+  valued = f.valued ∙ sym (functions_still false before x e);
+  void = f.void ∙ sym (functions_still true before x e);
+}
+
+-- a call
+pub called : (before : List Item) (k : ℕ) (prototypes : Prototypes) (main wants : Bool) (fault : Option FileCode) → main ≡ true → main ≡ has_main before → ArePrototypes before prototypes → wants ≡ stands_behind is_equals before
+    → fault ≡ uncallable_fault (if wants then prototypes.valued.items else prototypes.valued.items ++ prototypes.void.items) k → JudgesFunction before k prototypes fault
+called before k prototypes main wants fault e m f w is = record {
+  fault_is =
+      is
+      ∙ ap (λ (b : Bool). uncallable_fault (if b then prototypes.valued.items else prototypes.valued.items ++ prototypes.void.items) k) w
+      ∙ ap (λ (ns : List ℕ). uncallable_fault (if stands_behind is_equals before then ns else ns ++ prototypes.void.items) k) f.valued
+      ∙ ap (λ (ns : List ℕ). uncallable_fault (if stands_behind is_equals before then functions_by false before else functions_by false before ++ ns) k) f.void
+      ∙ ap (λ (b : Bool). if b then call_fault before k else prototype_fault before k) (sym (sym m ∙ e));
+  prototypes_are = λ _ p. prototypes_same before (at p (signs.Function k)) prototypes (sym m ∙ e) f;
+}
+
+-- a declaration with `void`
+pub declared_void : (before : List Item) (k : ℕ) (old new : Prototypes) (main void : Bool) (fault : Option FileCode) → main ≡ false → main ≡ has_main before → void ≡ true → ArePrototypes before old → void ≡ stands_behind is_void before
+    → new.valued.items ≡ old.valued.items → DeclaresAlike old.void.items old.valued.items k new.void.items fault → JudgesFunction before k new fault
+declared_void before k old new main void fault e m v f b same d = record {
+  fault_is =
+      d.fault_is
+      ∙ ap (λ (ns : List ℕ). unlike_fault ns k) f.valued
+      ∙ ap (λ (w : Bool). unlike_fault (functions_by (not w) before) k) (sym v ∙ b)
+      ∙ ap (λ (w : Bool). if w then call_fault before k else prototype_fault before k) (sym (sym m ∙ e));
+  prototypes_are = λ none p. record {
+    valued = same ∙ f.valued ∙ sym (functions_on false before (at p (signs.Function k)) k (sym m ∙ e) refl ∙ ap (λ (w : Bool). functions_by false before ++ (if is_as_asked false w then k ∷ [] else [])) (sym b ∙ v) ∙ append-nil (functions_by false before));
+    void = d.added none ∙ ap (λ (ns : List ℕ). ns ++ k ∷ []) f.void ∙ sym (functions_on true before (at p (signs.Function k)) k (sym m ∙ e) refl ∙ ap (λ (w : Bool). functions_by true before ++ (if is_as_asked true w then k ∷ [] else [])) (sym b ∙ v));
+  };
+}
+
+-- a declaration with a value
+pub declared_valued : (before : List Item) (k : ℕ) (old new : Prototypes) (main void : Bool) (fault : Option FileCode) → main ≡ false → main ≡ has_main before → void ≡ false → ArePrototypes before old → void ≡ stands_behind is_void before
+    → new.void.items ≡ old.void.items → DeclaresAlike old.valued.items old.void.items k new.valued.items fault → JudgesFunction before k new fault
+declared_valued before k old new main void fault e m v f b same d = record {
+  fault_is =
+      d.fault_is
+      ∙ ap (λ (ns : List ℕ). unlike_fault ns k) f.void
+      ∙ ap (λ (w : Bool). unlike_fault (functions_by (not w) before) k) (sym v ∙ b)
+      ∙ ap (λ (w : Bool). if w then call_fault before k else prototype_fault before k) (sym (sym m ∙ e));
+  prototypes_are = λ none p. record {
+    valued = d.added none ∙ ap (λ (ns : List ℕ). ns ++ k ∷ []) f.valued ∙ sym (functions_on false before (at p (signs.Function k)) k (sym m ∙ e) refl ∙ ap (λ (w : Bool). functions_by false before ++ (if is_as_asked false w then k ∷ [] else [])) (sym b ∙ v));
+    void = same ∙ f.void ∙ sym (functions_on true before (at p (signs.Function k)) k (sym m ∙ e) refl ∙ ap (λ (w : Bool). functions_by true before ++ (if is_as_asked true w then k ∷ [] else [])) (sym b ∙ v) ∙ append-nil (functions_by true before));
+  };
+}
+
 -- ---- one item more
 
-pub at_main : (before : List Item) (sign : Sign) (known : Known) → sign ≡ signs.Main → IsKnown before known → Judges before sign (record { declared = known.declared; in_main = true }) None
-at_main before sign known is k = subst (λ (s : Sign). Judges before s (record { declared = known.declared; in_main = true }) None) (sym is) (record {
+pub at_main : (o : Outside) (before : List Item) (sign : Sign) (known : Known) → sign ≡ signs.Main → IsKnown before known → Judges o before sign (record { declared = known.declared; prototypes = known.prototypes; in_main = true }) None
+at_main o before sign known is k = subst (λ (s : Sign). Judges o before s (record { declared = known.declared; prototypes = known.prototypes; in_main = true }) None) (sym is) (record {
   fault_is = refl;
   known_is = λ _ p. record {
     declared = k.declared ∙ sym (declared_still before (at p signs.Main) refl);
+    prototypes = no_function before (at p signs.Main) known.prototypes refl k.prototypes;
     main = sym (main_on before (at p signs.Main) ∙ or_true (has_main before));
   };
 })
 
-pub at_use : (before : List Item) (sign : Sign) (known : Known) (x : ℕ) (fault : Option FileCode) → sign ≡ signs.Name x → known.in_main ≡ true → IsKnown before known → fault ≡ use_fault known.declared.items x → Judges before sign known fault
-at_use before sign known x fault is main k f = subst (λ (s : Sign). Judges before s known fault) (sym is) (record {
-  fault_is = f ∙ ap (λ (ns : List ℕ). use_fault ns x) k.declared ∙ ap (λ (b : Bool). if b then use_fault (declared_by before) x else declaration_fault (declared_by before) x) (sym (sym k.main ∙ main));
+pub at_use : (o : Outside) (before : List Item) (sign : Sign) (known : Known) (x : ℕ) (fault : Option FileCode) → sign ≡ signs.Name x → known.in_main ≡ true → IsKnown before known → fault ≡ use_fault o known.declared.items x → Judges o before sign known fault
+at_use o before sign known x fault is main k f = subst (λ (s : Sign). Judges o before s known fault) (sym is) (record {
+  fault_is = f ∙ ap (λ (ns : List ℕ). use_fault o ns x) k.declared ∙ ap (λ (b : Bool). if b then use_fault o (declared_by before) x else declaration_fault o (declared_by before) x) (sym (sym k.main ∙ main));
   known_is = λ _ p. record {
     declared = k.declared ∙ sym (declared_behind before (at p (signs.Name x) ∷ []) (sym k.main ∙ main));
+    prototypes = no_function before (at p (signs.Name x)) known.prototypes refl k.prototypes;
     main = k.main ∙ sym (main_on before (at p (signs.Name x)) ∙ or_false (has_main before));
   };
 })
 
-pub at_declaration : (before : List Item) (sign : Sign) (known new : Known) (x : ℕ) (fault : Option FileCode) → sign ≡ signs.Name x → known.in_main ≡ false → new.in_main ≡ known.in_main → IsKnown before known → Declares known.declared.items x new.declared.items fault → Judges before sign new fault
-at_declaration before sign known new x fault is main same k d = subst (λ (s : Sign). Judges before s new fault) (sym is) (record {
-  fault_is = d.fault_is ∙ ap (λ (ns : List ℕ). declaration_fault ns x) k.declared ∙ ap (λ (b : Bool). if b then use_fault (declared_by before) x else declaration_fault (declared_by before) x) (sym (sym k.main ∙ main));
+pub at_declaration : (o : Outside) (before : List Item) (sign : Sign) (known new : Known) (x : ℕ) (fault : Option FileCode) → sign ≡ signs.Name x → known.in_main ≡ false → new.in_main ≡ known.in_main → new.prototypes ≡ known.prototypes → IsKnown before known → Declares o known.declared.items x new.declared.items fault → Judges o before sign new fault
+at_declaration o before sign known new x fault is main same others k d = subst (λ (s : Sign). Judges o before s new fault) (sym is) (record {
+  fault_is = d.fault_is ∙ ap (λ (ns : List ℕ). declaration_fault o ns x) k.declared ∙ ap (λ (b : Bool). if b then use_fault o (declared_by before) x else declaration_fault o (declared_by before) x) (sym (sym k.main ∙ main));
   known_is = λ none p. record {
     declared = d.added none ∙ ap (λ (ns : List ℕ). ns ++ x ∷ []) k.declared ∙ sym (declared_on before (at p (signs.Name x) ∷ []) (sym k.main ∙ main));
+    prototypes = subst (ArePrototypes (before ++ at p (signs.Name x) ∷ [])) (sym others) (no_function before (at p (signs.Name x)) known.prototypes refl k.prototypes);
     main = same ∙ k.main ∙ sym (main_on before (at p (signs.Name x)) ∙ or_false (has_main before));
+  };
+})
+
+pub at_function : (o : Outside) (before : List Item) (sign : Sign) (known new : Known) (x : ℕ) (fault : Option FileCode) → sign ≡ signs.Function x → new.declared.items ≡ known.declared.items → new.in_main ≡ known.in_main → IsKnown before known → JudgesFunction before x new.prototypes fault → Judges o before sign new fault
+at_function o before sign known new x fault is names same k f = subst (λ (s : Sign). Judges o before s new fault) (sym is) (record {
+  fault_is = f.fault_is;
+  known_is = λ none p. record {
+    declared = names ∙ k.declared ∙ sym (declared_still before (at p (signs.Function x)) refl);
+    prototypes = f.prototypes_are none p;
+    main = same ∙ k.main ∙ sym (main_on before (at p (signs.Function x)) ∙ or_false (has_main before));
   };
 })
 
 pub record IsOther (sign : Sign) : Type 0 where
   pub names_none : name_of sign ≡ []
+  pub functions_none : function_of sign ≡ []
   pub is_no_main : is_main sign ≡ false
-  pub has_no_fault : (before : List Item) → name_fault before sign ≡ None
+  pub has_no_fault : (o : Outside) (before : List Item) → name_fault o before sign ≡ None
 
-pub other_sign : (sign : Sign) → ((x : ℕ) → sign ≡ signs.Name x → ⊥) → (sign ≡ signs.Main → ⊥) → IsOther sign
-other_sign (signs.Name x) n m = absurd (n x refl)
-other_sign signs.Main n m = absurd (m refl)
-other_sign _ n m = record { names_none = refl; is_no_main = refl; has_no_fault = λ before. refl }
+pub other_sign : (sign : Sign) → ((x : ℕ) → sign ≡ signs.Name x → ⊥) → (sign ≡ signs.Main → ⊥) → ((x : ℕ) → sign ≡ signs.Function x → ⊥) → IsOther sign
+other_sign (signs.Name x) n m f = absurd (n x refl)
+other_sign signs.Main n m f = absurd (m refl)
+other_sign (signs.Function x) n m f = absurd (f x refl)
+other_sign _ n m f = record { names_none = refl; functions_none = refl; is_no_main = refl; has_no_fault = λ o before. refl }
 
-pub at_other : (before : List Item) (sign : Sign) (known : Known) → IsOther sign → IsKnown before known → Judges before sign known None
-at_other before sign known o k = record {
-  fault_is = sym (o.has_no_fault before);
+pub at_other : (o : Outside) (before : List Item) (sign : Sign) (known : Known) → IsOther sign → IsKnown before known → Judges o before sign known None
+at_other o before sign known other k = record {
+  fault_is = sym (other.has_no_fault o before);
   known_is = λ _ p. record {
-    declared = k.declared ∙ sym (declared_still before (at p sign) o.names_none);
-    main = k.main ∙ sym (main_on before (at p sign) ∙ ap (λ (b : Bool). has_main before || b) o.is_no_main ∙ or_false (has_main before));
+    declared = k.declared ∙ sym (declared_still before (at p sign) other.names_none);
+    prototypes = no_function before (at p sign) known.prototypes other.functions_none k.prototypes;
+    main = k.main ∙ sym (main_on before (at p sign) ∙ ap (λ (b : Bool). has_main before || b) other.is_no_main ∙ or_false (has_main before));
   };
 }

@@ -20,7 +20,7 @@ use Rattle.c_words.specs.Keywords.{is_keyword}
 use Rattle.c_parser.specs.Signs.{sign_in, used_words, keyword_or, keyword_of, marks}
 use Rattle.c_parser.specs.Items.{sign_of, word_sign, names_with, lexeme_in}
 use Rattle.c_parser.specs.Signing.{items_from}
-use Rattle.c_parser.specs.Items.{with_name, names_with_word, names_from, number_in}
+use Rattle.c_parser.specs.Items.{is_function, identifier_sign, names_with_identifier, with_name, names_with_word, names_from, number_in}
 use Rattle.c_parser.specs.Signing.{AreWithin}
 use Rattle.c_grammar.specs.Facts.{IsFit, AreFit, IsBeforeItems, AreRising}
 use Rattle.c_grammar.specs.Grammar.{is_group, has_groups}
@@ -41,18 +41,18 @@ within text start (t ∷ ts) end h = ((omega (arith, h.1.0.begins), omega (arith
 
 -- ---- places
 
-before_all : TokenLaws → (text : List ℕ) (k start : ℕ) → k < start → (names : List (List ℕ)) (ts : List Token) (end : ℕ) → StandBetween text start ts end → IsBeforeItems (place_at text k) (items_from text names ts)
-before_all laws text k start lt names [] end h = tt
-before_all laws text k start lt names (t ∷ ts) end h = (
+before_all : (functions : List (List ℕ)) → TokenLaws → (text : List ℕ) (k start : ℕ) → k < start → (names : List (List ℕ)) (ts : List Token) (end : ℕ) → StandBetween text start ts end → IsBeforeItems (place_at text k) (items_from functions text names ts)
+before_all functions laws text k start lt names [] end h = tt
+before_all functions laws text k start lt names (t ∷ ts) end h = (
   subst (λ (q : Place). IsTrue (is_before (place_at text k) q)) (sym h.1.0.place) (laws.rise text k t.start (omega (arith, h.0.order)) h.0.within),
-  before_all laws text k t.end (omega (arith, h.0.order, h.1.0.begins)) (names_with names t.kind (lexeme_in text t)) ts end h.1.1,
+  before_all functions laws text k t.end (omega (arith, h.0.order, h.1.0.begins)) (names_with functions names t.kind (lexeme_in text t)) ts end h.1.1,
 )
 
-rising : TokenLaws → (text : List ℕ) (start : ℕ) (names : List (List ℕ)) (ts : List Token) (end : ℕ) → StandBetween text start ts end → AreRising (items_from text names ts)
-rising laws text start names [] end h = tt
-rising laws text start names (t ∷ ts) end h = (
-  subst (λ (q : Place). IsBeforeItems q (items_from text (names_with names t.kind (lexeme_in text t)) ts)) (sym h.1.0.place) (before_all laws text t.start t.end h.1.0.begins (names_with names t.kind (lexeme_in text t)) ts end h.1.1),
-  rising laws text t.end (names_with names t.kind (lexeme_in text t)) ts end h.1.1,
+rising : (functions : List (List ℕ)) → TokenLaws → (text : List ℕ) (start : ℕ) (names : List (List ℕ)) (ts : List Token) (end : ℕ) → StandBetween text start ts end → AreRising (items_from functions text names ts)
+rising functions laws text start names [] end h = tt
+rising functions laws text start names (t ∷ ts) end h = (
+  subst (λ (q : Place). IsBeforeItems q (items_from functions text (names_with functions names t.kind (lexeme_in text t)) ts)) (sym h.1.0.place) (before_all functions laws text t.start t.end h.1.0.begins (names_with functions names t.kind (lexeme_in text t)) ts end h.1.1),
+  rising functions laws text t.end (names_with functions names t.kind (lexeme_in text t)) ts end h.1.1,
 )
 
 or_none : (a b : Bool) → a ≡ false → b ≡ false → (a || b) ≡ false
@@ -101,7 +101,7 @@ used_constant : AreConstant used_words
 used_constant = ((λ _. tt, refl), ((λ _. tt, refl), ((λ _. tt, refl), ((λ _. tt, refl), ((λ _. tt, refl), ((λ _. tt, refl), ((λ _. tt, refl), ((λ _. tt, refl), ((λ _. tt, refl), ((λ _. tt, refl), ((λ _. tt, refl), ((λ _. tt, refl), ((λ _. tt, refl), ((λ _. tt, refl), ((λ _. tt, refl), tt)))))))))))))))
 
 pub marks_constant : AreConstant marks
-marks_constant = ((λ _. tt, refl), ((λ _. tt, refl), ((λ _. tt, refl), ((λ _. tt, refl), ((λ _. tt, refl), ((λ _. tt, refl), ((λ _. tt, refl), ((λ _. tt, refl), ((λ _. tt, refl), ((λ _. tt, refl), ((λ _. tt, refl), ((λ _. tt, refl), ((λ _. tt, refl), ((λ _. tt, refl), ((λ _. tt, refl), ((λ _. tt, refl), ((λ _. tt, refl), ((λ _. tt, refl), ((λ _. tt, refl), ((λ _. tt, refl), ((λ _. tt, refl), ((λ _. tt, refl), ((λ _. tt, refl), ((λ _. tt, refl), ((λ _. tt, refl), ((λ _. tt, refl), ((λ _. tt, refl), ((λ _. tt, refl), tt))))))))))))))))))))))))))))
+marks_constant = ((λ _. tt, refl), ((λ _. tt, refl), ((λ _. tt, refl), ((λ _. tt, refl), ((λ _. tt, refl), ((λ _. tt, refl), ((λ _. tt, refl), ((λ _. tt, refl), ((λ _. tt, refl), ((λ _. tt, refl), ((λ _. tt, refl), ((λ _. tt, refl), ((λ _. tt, refl), ((λ _. tt, refl), ((λ _. tt, refl), ((λ _. tt, refl), ((λ _. tt, refl), ((λ _. tt, refl), ((λ _. tt, refl), ((λ _. tt, refl), ((λ _. tt, refl), ((λ _. tt, refl), ((λ _. tt, refl), ((λ _. tt, refl), ((λ _. tt, refl), ((λ _. tt, refl), ((λ _. tt, refl), ((λ _. tt, refl), ((λ _. tt, refl), tt)))))))))))))))))))))))))))))
 
 keyword_or_constant : (o : Option Sign) (w : List ℕ) → IfSome o IsConstant → IfSome (keyword_or o w) IsConstant
 keyword_or_constant (Some s) w h = h
@@ -119,22 +119,26 @@ pub record IsPlainSign (count : ℕ) (s : Sign) : Type 0 where
   pub fit : IsFit count s
   pub no_group : is_group s ≡ false
 
-word_fit : (names : List (List ℕ)) (w : List ℕ) (o : Option Sign) → IfSome o IsConstant → (count : ℕ) → length (names_with_word names w o) ≤ count → IsPlainSign count (word_sign names w o)
-word_fit names w (Some s) h count le = record { fit = h.0 count; no_group = h.1 }
-word_fit names w None h count le = record { fit = omega (arith, number_below names w, le); no_group = refl }
+identifier_fit : (b : Bool) (functions names : List (List ℕ)) (w : List ℕ) (count : ℕ) → length (names_with_identifier b names w) ≤ count → IsPlainSign count (identifier_sign b functions names w)
+identifier_fit true functions names w count le = record { fit = tt; no_group = refl }
+identifier_fit false functions names w count le = record { fit = omega (arith, number_below names w, le); no_group = refl }
 
-sign_fit : TokenLaws → (names : List (List ℕ)) (kind : TokenKind) (w : List ℕ) → kind_of w ≡ Some kind → (count : ℕ) → length (names_with names kind w) ≤ count → IsPlainSign count (sign_of names kind w)
-sign_fit laws names (kinds.Number n) w is count le = let h = laws.literal w n is in record { fit = (omega (arith, ints, h.1, h.2), omega (arith, ints, h.1, h.2)); no_group = refl }
-sign_fit laws names kinds.Word w is count le = word_fit names w (keyword_of w) (keyword_constant w) count le
-sign_fit laws names kinds.Mark w is count le = let h = unwrapped_constant (sign_in marks w) (table_constant marks marks_constant w) in record { fit = h.0 count; no_group = h.1 }
+word_fit : (functions names : List (List ℕ)) (w : List ℕ) (o : Option Sign) → IfSome o IsConstant → (count : ℕ) → length (names_with_word functions names w o) ≤ count → IsPlainSign count (word_sign functions names w o)
+word_fit functions names w (Some s) h count le = record { fit = h.0 count; no_group = h.1 }
+word_fit functions names w None h count le = identifier_fit (is_function functions w) functions names w count le
 
-fit_from : TokenLaws → (text : List ℕ) (start : ℕ) (names : List (List ℕ)) (ts : List Token) (end : ℕ) → StandBetween text start ts end → (count : ℕ) → length (names_from text names ts) ≤ count → AreFit count (items_from text names ts) × (has_groups (items_from text names ts) ≡ false)
-fit_from laws text start names [] end h count le = (tt, refl)
-fit_from laws text start names (t ∷ ts) end h count le =
-    let next = names_with names t.kind (lexeme_in text t) in
-    let here = sign_fit laws names t.kind (lexeme_in text t) h.1.0.kind count (omega (arith, grows text (names_with names t.kind (lexeme_in text t)) ts, le)) in
-    let rest = fit_from laws text t.end (names_with names t.kind (lexeme_in text t)) ts end h.1.1 count le in
-    ((here.fit, rest.0), or_none (is_group (sign_of names t.kind (lexeme_in text t))) (has_groups (items_from text (names_with names t.kind (lexeme_in text t)) ts)) here.no_group rest.1)
+sign_fit : (functions : List (List ℕ)) → TokenLaws → (names : List (List ℕ)) (kind : TokenKind) (w : List ℕ) → kind_of w ≡ Some kind → (count : ℕ) → length (names_with functions names kind w) ≤ count → IsPlainSign count (sign_of functions names kind w)
+sign_fit functions laws names (kinds.Number n) w is count le = let h = laws.literal w n is in record { fit = (omega (arith, ints, h.1, h.2), omega (arith, ints, h.1, h.2)); no_group = refl }
+sign_fit functions laws names kinds.Word w is count le = word_fit functions names w (keyword_of w) (keyword_constant w) count le
+sign_fit functions laws names kinds.Mark w is count le = let h = unwrapped_constant (sign_in marks w) (table_constant marks marks_constant w) in record { fit = h.0 count; no_group = h.1 }
+
+fit_from : (functions : List (List ℕ)) → TokenLaws → (text : List ℕ) (start : ℕ) (names : List (List ℕ)) (ts : List Token) (end : ℕ) → StandBetween text start ts end → (count : ℕ) → length (names_from functions text names ts) ≤ count → AreFit count (items_from functions text names ts) × (has_groups (items_from functions text names ts) ≡ false)
+fit_from functions laws text start names [] end h count le = (tt, refl)
+fit_from functions laws text start names (t ∷ ts) end h count le =
+    let next = names_with functions names t.kind (lexeme_in text t) in
+    let here = sign_fit functions laws names t.kind (lexeme_in text t) h.1.0.kind count (omega (arith, grows functions text (names_with functions names t.kind (lexeme_in text t)) ts, le)) in
+    let rest = fit_from functions laws text t.end (names_with functions names t.kind (lexeme_in text t)) ts end h.1.1 count le in
+    ((here.fit, rest.0), or_none (is_group (sign_of functions names t.kind (lexeme_in text t))) (has_groups (items_from functions text (names_with functions names t.kind (lexeme_in text t)) ts)) here.no_group rest.1)
 
 -- ---- how many tokens there are
 
@@ -150,11 +154,11 @@ tokens_within laws text ts is = within text 0 ts (length text) (stand laws text 
 pub tokens_few : TokenLaws → (text : List ℕ) (ts : List Token) → tokens_of text ≡ Ok ts → length ts ≤ length text
 tokens_few laws text ts is = omega (arith, few_from text 0 ts (length text) (stand laws text ts is))
 
-pub items_rise : TokenLaws → (text : List ℕ) (given : List (List ℕ)) (ts : List Token) → tokens_of text ≡ Ok ts → AreRising (items_from text given ts)
-items_rise laws text given ts is = rising laws text 0 given ts (length text) (stand laws text ts is)
+pub items_rise : (functions : List (List ℕ)) → TokenLaws → (text : List ℕ) (given : List (List ℕ)) (ts : List Token) → tokens_of text ≡ Ok ts → AreRising (items_from functions text given ts)
+items_rise functions laws text given ts is = rising functions laws text 0 given ts (length text) (stand laws text ts is)
 
-pub items_fit : TokenLaws → (text : List ℕ) (given : List (List ℕ)) (ts : List Token) → tokens_of text ≡ Ok ts → AreFit (length (names_from text given ts)) (items_from text given ts)
-items_fit laws text given ts is = (fit_from laws text 0 given ts (length text) (stand laws text ts is) (length (names_from text given ts)) (omega arith)).0
+pub items_fit : (functions : List (List ℕ)) → TokenLaws → (text : List ℕ) (given : List (List ℕ)) (ts : List Token) → tokens_of text ≡ Ok ts → AreFit (length (names_from functions text given ts)) (items_from functions text given ts)
+items_fit functions laws text given ts is = (fit_from functions laws text 0 given ts (length text) (stand laws text ts is) (length (names_from functions text given ts)) (omega arith)).0
 
-pub items_plain : TokenLaws → (text : List ℕ) (given : List (List ℕ)) (ts : List Token) → tokens_of text ≡ Ok ts → has_groups (items_from text given ts) ≡ false
-items_plain laws text given ts is = (fit_from laws text 0 given ts (length text) (stand laws text ts is) (length (names_from text given ts)) (omega arith)).1
+pub items_plain : (functions : List (List ℕ)) → TokenLaws → (text : List ℕ) (given : List (List ℕ)) (ts : List Token) → tokens_of text ≡ Ok ts → has_groups (items_from functions text given ts) ≡ false
+items_plain functions laws text given ts is = (fit_from functions laws text 0 given ts (length text) (stand laws text ts is) (length (names_from functions text given ts)) (omega arith)).1

@@ -11,11 +11,11 @@ use Rattle.c_tree.specs.Tree.{Code}
 use Rattle.c_grammar.specs.declared.items.Item.{Item}
 use Rattle.c_grammar.specs.declared.items.Sign.{Sign}
 use Rattle.c_grammar.specs.declared.items.Sign.TheVariants as signs
-use Rattle.c_grammar.specs.Grammar.{at, Optional, absent, present, Typed, int, int32, signed, signed_int, int_signed, Qualifier, Qualified, unqualified, const_before, const_behind, Begins, only_type, then_type, enumeration, Declarator, bare, positive, negative, counted, Ending, variables_end, constants_end, enumeration_end, comma_end, Part, Outer, Declares, nothing, variables, prototype, section, last_var, next_var, end_part, else_part, elif_part, Main, main, File, Forms, file}
+use Rattle.c_grammar.specs.Grammar.{at, Callable, of_input, of_function, Optional, absent, present, Typed, int, int32, signed, signed_int, int_signed, Qualifier, Qualified, unqualified, const_before, const_behind, Begins, only_type, then_type, enumeration, Declarator, bare, positive, negative, counted, Ending, variables_end, constants_end, enumeration_end, comma_end, Defines, defined, negative_defined, enclosed, negative_enclosed, Part, Outer, Declares, nothing, variables, prototype, void_prototype, definition, section, last_var, next_var, end_part, else_part, elif_part, Main, main, File, Forms, file}
 use Rattle.c_grammar.specs.Kept.{directive_of, kept_from}
 use Rattle.c_grammar.proofs.Preprocess.{leaves}
 use Rattle.family_names.specs.Names.{is_main, has_main, sections_behind, IsEither}
-use Rattle.c_parser.proofs.FewNames.{neither}
+use Rattle.c_parser.proofs.AmongNumbers.{neither}
 use Rattle.c_parser.proofs.KeptNames.{MainStays, kept_more}
 
 none_both : (us vs : List Item) → has_main us ≡ false → has_main vs ≡ false → has_main (us ++ vs) ≡ false
@@ -42,6 +42,14 @@ void_none : {us : List Item} → Optional signs.Void us → has_main us ≡ fals
 void_none (absent _) = refl
 void_none (present p _) = refl
 
+extern_none : {us : List Item} → Optional signs.Extern us → has_main us ≡ false
+extern_none (absent _) = refl
+extern_none (present p _) = refl
+
+callable_none : {f : Sign} (q : Place) (rest : List Item) → Callable f → has_main (at q f ∷ rest) ≡ has_main rest
+callable_none q rest of_input = refl
+callable_none q rest (of_function k) = refl
+
 declarator_none : {us : List Item} {x : ℕ} {n : ℤ} {kind : Qualifier} → Declarator kind us x n → has_main us ≡ false
 declarator_none (bare p x) = refl
 declarator_none (positive p q r x n) = refl
@@ -54,13 +62,24 @@ ending_none (constants_end p) = refl
 ending_none (enumeration_end last p q) = refl
 ending_none (comma_end last p q r) = refl
 
+definition_none : {us : List Item} {x : ℕ} {n : ℤ} → Defines us x n → has_main us ≡ false
+definition_none (defined p q r x n) = refl
+definition_none (negative_defined p q r s x n) = refl
+definition_none (enclosed p q r s t x n) = refl
+definition_none (negative_enclosed p q r s t u x n) = refl
+
 -- no declaration has it
 no_main : {part : Part} {us : List Item} {ds : List Declared} → Declares part us ds → has_main us ≡ false
 no_main (nothing gs) = refl
 no_main (variables gs {us} {vs} {ws} o v d) = none_both us (vs ++ ws) (begins_none refl o) (none_both vs ws (no_main v) (no_main d))
-no_main (prototype q r s t gs {us} {vs} {ws} o v d) =
-    none_both us (at q signs.Input ∷ at r signs.Open ∷ (vs ++ at s signs.Close ∷ at t signs.Semicolon ∷ ws)) (begins_none refl o)
+no_main (prototype q r s t gs {f} {us} {vs} {ws} o c v d) =
+    none_both us (at q f ∷ at r signs.Open ∷ (vs ++ at s signs.Close ∷ at t signs.Semicolon ∷ ws)) (begins_none refl o)
+    (callable_none q (at r signs.Open ∷ (vs ++ at s signs.Close ∷ at t signs.Semicolon ∷ ws)) c
+    ∙ none_both vs (at s signs.Close ∷ at t signs.Semicolon ∷ ws) (void_none v) (no_main d))
+no_main (void_prototype p q r s t k gs {us} {vs} {ws} o v d) =
+    none_both us (at p signs.Void ∷ at q (signs.Function k) ∷ at r signs.Open ∷ (vs ++ at s signs.Close ∷ at t signs.Semicolon ∷ ws)) (extern_none o)
     (none_both vs (at s signs.Close ∷ at t signs.Semicolon ∷ ws) (void_none v) (no_main d))
+no_main (definition gs {us} {ws} o d) = none_both us ws (definition_none o) (no_main d)
 no_main (section p n gs {us} {vs} {ws} a b d) = none_both us (vs ++ ws) (no_main a) (none_both vs ws (no_main b) (no_main d))
 no_main (last_var gs {us} {vs} d o) = none_both us vs (declarator_none d) (ending_none o)
 no_main (next_var p gs {us} {vs} d v) = none_both us (at p signs.Comma ∷ vs) (declarator_none d) (no_main v)

@@ -1,27 +1,49 @@
--- The names of a program that is read over no given names are those that its file declares.
-use Rattle.std.proofs.Common.{◌≡◌, ℕ, ◌+◌, Bool, true, false, List, [], ◌∷◌, ◌++◌, length, get_or, Result, Ok, Err, refl, sym, ap, subst, ◌∙◌, append_assoc, append-nil, arith}
-use Rattle.std.specs.Prelude.{if◌then◌else◌, IfOk}
-use Rattle.fam_outer.specs.declared.faults.FileRefusal.{FileRefusal}
-use Rattle.c_tree.specs.View.{whole}
-use Rattle.c_tree.specs.declared.tree.Program.{Program}
-use Rattle.std.specs.List.{list_any, range_with_len}
+-- The names of a program that is read over its file's own names are those that the file declares, and there are few.
+use Rattle.std.proofs.Common.{◌≡◌, ℕ, ◌+◌, ◌≤◌, ◌<◌, Bool, true, false, List, [], ◌∷◌, ◌++◌, length, get_or, Option, Some, None, Result, Ok, Err, refl, sym, ap, subst, ◌∙◌, append_assoc, append-nil, arith, inl}
+use Rattle.std.specs.Prelude.{nat_eq, nat_lt, if◌then◌else◌, ◌&&◌, IfOk}
+use Rattle.std.specs.List.{list_any}
 use Rattle.std.specs.Str.{bytes_eq}
-use Rattle.std.proofs.lemmas.List.{length-append}
-use Rattle.std.proofs.Math.Seq.{get_or-append_seam}
+use Rattle.std.proofs.lemmas.Bool.{eq-eqb}
+use Rattle.std.proofs.lemmas.Bool.Decides.{nat_tests}
+use Rattle.std.proofs.lemmas.List.{length-append, length-map}
+use Rattle.std.proofs.lemmas.List.Folds.{list_any_at}
+use Rattle.fam_outer.specs.declared.dialect.Includes.{Includes}
+use Rattle.fam_outer.specs.declared.faults.FileCode.{FileCode}
+use Rattle.fam_outer.specs.declared.faults.FileCode.TheVariants.{TooManyVariables, TooManyConstants}
+use Rattle.fam_outer.specs.declared.faults.FileRefusal.{FileRefusal}
+use Rattle.fam_outer.specs.declared.faults.FileRefusal.TheVariants as refusals
+use Rattle.fam_outer.specs.declared.faults.Place.{Place}
+use Rattle.fam_outer.specs.Results.{and_then}
 use Rattle.c_tokens.specs.declared.token.Token.{Token}
 use Rattle.c_tokens.specs.declared.token.TokenKind.{TokenKind}
 use Rattle.c_tokens.specs.declared.token.TokenKind.TheVariants as kinds
+use Rattle.c_tokens.specs.Reading.{tokens_of}
 use Rattle.c_tree.specs.Tree.{Whole}
+use Rattle.c_tree.specs.View.{whole}
+use Rattle.c_tree.specs.Whole.{IsProgram}
+use Rattle.c_tree.specs.declared.tree.Program.{Program}
+use Rattle.c_grammar.specs.declared.items.Item.{Item}
 use Rattle.c_grammar.specs.declared.items.Sign.{Sign}
 use Rattle.c_grammar.specs.Within.{WithinIsFile}
-use Rattle.std.specs.Prelude.{Option, Some, None}
-use Rattle.fam_outer.specs.declared.dialect.Includes.{Includes}
+use Rattle.c_parser.specs.declared.names.Limits.{Limits}
+use Rattle.c_parser.specs.declared.numbering.Numbered.{Numbered}
+use Rattle.c_parser.specs.declared.order.Arranged.{Arranged}
 use Rattle.c_parser.specs.Signs.{keyword_of}
-use Rattle.c_parser.specs.Items.{Listed, with_name, names_with_word, names_with, names_from, lexeme_in, AreNewBehind, AreDistinct}
-use Rattle.c_parser.specs.Names.{targets, names_at, each_once}
-use Rattle.c_parser.specs.Reading.{IsPlainReadOver, IsReadOver, AreDeclaredNames}
+use Rattle.c_parser.specs.Functions.{functions_of_bytes}
+use Rattle.c_parser.specs.Items.{Listed, is_function, number_in, with_name, names_with_identifier, names_with_word, names_with, names_from, lexeme_in, items_over, listed, AreNewBehind, AreDistinct}
+use Rattle.c_parser.specs.Judging.{counted}
+use Rattle.c_parser.specs.Names.{declared_by, first_name_fault, limit_fault, targets, names_at, each_once}
+use Rattle.c_parser.specs.Order.{variables_of, constants_of, arranged}
+use Rattle.c_parser.specs.Reading.{Given, code_of_file, items_of_code, items_of, outside, own, own_names, IsPlainRead, IsRead, IsReadOver, AreDeclaredNames}
+use Rattle.c_parser.specs.Stages.{IsOwn, list, listed_in}
+use Rattle.c_parser.proofs.Arranging.{text_same, arranged_distinct, arranged_among, arranged_length}
 use Rattle.c_parser.proofs.Declarations.{declared_forms}
-use Rattle.c_parser.proofs.Overs.{names_declared, stands_for}
+use Rattle.c_parser.proofs.Declared.{AreTold, names_from_declared}
+use Rattle.c_parser.proofs.Growing.{with_token}
+use Rattle.c_parser.proofs.Lexical.{TokenLaws}
+use Rattle.c_parser.proofs.NameNumbers.{number_at, number_among}
+use Rattle.c_parser.proofs.Overs.{listed_ok, no_list, same_listed, stands_anew, stands_for}
+use Rattle.c_parser.proofs.Renumbering.{fit_anew, listed_anew, renumbered}
 
 -- ---- distinct names
 
@@ -40,52 +62,236 @@ with_distinct names w h = elim (list_any (bytes_eq w) names) as (λ b. list_any 
   | false ↦ λ e. new_last [] names w h e
 ] refl
 
-word_distinct : (names : List (List ℕ)) (w : List ℕ) (o : Option Sign) → AreDistinct names → AreDistinct (names_with_word names w o)
-word_distinct names w (Some s) h = h
-word_distinct names w None h = with_distinct names w h
+identifier_distinct : (b : Bool) (names : List (List ℕ)) (w : List ℕ) → AreDistinct names → AreDistinct (names_with_identifier b names w)
+identifier_distinct true names w h = h
+identifier_distinct false names w h = with_distinct names w h
 
-token_distinct : (names : List (List ℕ)) (kind : TokenKind) (w : List ℕ) → AreDistinct names → AreDistinct (names_with names kind w)
-token_distinct names (kinds.Number n) w h = h
-token_distinct names kinds.Word w h = word_distinct names w (keyword_of w) h
-token_distinct names kinds.Mark w h = h
+word_distinct : (functions names : List (List ℕ)) (w : List ℕ) (o : Option Sign) → AreDistinct names → AreDistinct (names_with_word functions names w o)
+word_distinct functions names w (Some s) h = h
+word_distinct functions names w None h = identifier_distinct (is_function functions w) names w h
 
-pub distinct_from : (text : List ℕ) (names : List (List ℕ)) (ts : List Token) → AreDistinct names → AreDistinct (names_from text names ts)
-distinct_from text names [] h = h
-distinct_from text names (t ∷ ts) h = distinct_from text (names_with names t.kind (lexeme_in text t)) ts (token_distinct names t.kind (lexeme_in text t) h)
+token_distinct : (functions names : List (List ℕ)) (kind : TokenKind) (w : List ℕ) → AreDistinct names → AreDistinct (names_with functions names kind w)
+token_distinct functions names (kinds.Number n) w h = h
+token_distinct functions names kinds.Word w h = word_distinct functions names w (keyword_of w) h
+token_distinct functions names kinds.Mark w h = h
 
--- ---- the names with all numbers
+pub distinct_from : (functions : List (List ℕ)) (text : List ℕ) (names : List (List ℕ)) (ts : List Token) → AreDistinct names → AreDistinct (names_from functions text names ts)
+distinct_from functions text names [] h = h
+distinct_from functions text names (t ∷ ts) h = distinct_from functions text (names_with functions names t.kind (lexeme_in text t)) ts (token_distinct functions names t.kind (lexeme_in text t) h)
 
-all_at : (front names : List (List ℕ)) (k : ℕ) → k ≡ length front → names_at (front ++ names) (range_with_len k (length names)) ≡ names
-all_at front [] k e = refl
-all_at front (n ∷ ns) k e =
-    ap (λ (m : List ℕ). m ∷ names_at (front ++ n ∷ ns) (range_with_len (k + 1) (length ns))) (ap (λ (i : ℕ). get_or (front ++ n ∷ ns) i []) e ∙ get_or-append_seam front n ns [])
-    ∙ ap (λ (ms : List (List ℕ)). n ∷ ms)
-    (ap (λ (all : List (List ℕ)). names_at all (range_with_len (k + 1) (length ns))) (sym (append_assoc front (n ∷ []) ns))
-    ∙ all_at (front ++ n ∷ []) ns (k + 1) (omega (arith, e, length-append front (n ∷ []))))
+-- each token brings one name at most
+pub grows_by_few : (functions : List (List ℕ)) (text : List ℕ) (names : List (List ℕ)) (ts : List Token) → length (names_from functions text names ts) ≤ length names + length ts
+grows_by_few functions text names [] = omega arith
+grows_by_few functions text names (t ∷ ts) = omega (arith, (with_token functions names t.kind (lexeme_in text t)).1, grows_by_few functions text (names_with functions names t.kind (lexeme_in text t)) ts)
 
--- ---- the names of an accepted file
+-- ---- the names of a file in their order, which are counted
 
-abbrev IsDistinct : Listed → Type 0
-IsDistinct l = AreDistinct l.names
+abbrev pub limits_of : Listed → Limits
+limits_of first = record { variables = length (variables_of [] first); constants = length (constants_of [] first) }
 
-pub own_declared : WithinIsFile → (includes : Includes) (bytes : List ℕ) (p : Whole) → IsPlainReadOver includes [] bytes (Ok p) → AreDeclaredNames includes [] bytes p.names
-own_declared is_file includes bytes p a =
-    let l = a.listed in
-    let s = stands_for includes [] bytes a.listed a.are in
-    let distinct : AreDistinct a.listed.names = subst IsDistinct (sym s.is) (distinct_from s.code [] s.tokens tt) in
-    let spelled = is_file l.names l.items p a.spelled in
-    let file = spelled.file in
-    let numbers : targets spelled.file.declared ≡ range_with_len 0 (length a.listed.names) = sym (declared_forms spelled.forms) ∙ (names_declared includes bytes p a).0 in
+-- without a fault, the items over them declare those of the text in their order
+told_over : (functions : List (List ℕ)) → TokenLaws → (first : Listed) (code : List ℕ) (ts : List Token) → tokens_of code ≡ Ok ts → first.names ≡ names_from functions code [] ts → AreDistinct first.names → first_name_fault (counted (limits_of first)) (items_over functions (arranged [] first) code ts) ≡ None
+    → AreTold (limits_of first) (arranged [] first) first.names (items_over functions (arranged [] first) code ts)
+unfolding first_name_fault
+told_over functions laws first code ts is names distinct none =
+    subst (λ (ns : List (List ℕ)). AreTold (limits_of first) (arranged [] first) ns (items_over functions (arranged [] first) code ts)) (sym names)
+    (names_from_declared functions (limits_of first) (arranged [] first) (arranged_distinct [] first distinct) code [] ts [] (fit_anew functions laws [] first code ts is distinct names) (record { told = refl; each = λ x e. absurd cc }) none)
+
+-- so none of them is one too many
+none_too_many : (limits : Limits) (first : Listed) (items : List Item) → AreDistinct first.names → AreTold limits (arranged [] first) first.names items → (x : ℕ) → x < length (arranged [] first) → limit_fault (counted limits) x ≡ None
+none_too_many limits first items distinct h x lt =
+    let w = get_or (arranged [] first) x [] in
+    let apart : AreDistinct (arranged [] first) = arranged_distinct [] first distinct in
+    let here : list_any (bytes_eq w) (arranged [] first) ≡ true = list_any_at (bytes_eq w) (arranged [] first) x [] lt (text_same w) in
+    let there : list_any (bytes_eq w) (names_at (arranged [] first) (declared_by items)) ≡ true = ap (list_any (bytes_eq w)) h.told ∙ sym (arranged_among [] first distinct w) ∙ here in
+    let among : list_any (nat_eq (number_in (arranged [] first) w)) (declared_by items) ≡ true = number_among (arranged [] first) (declared_by items) w apart (λ y e. (h.each y e).below) there in
+    (h.each x (subst (λ (y : ℕ). list_any (nat_eq y) (declared_by items) ≡ true) (number_at (arranged [] first) x apart lt) among)).within
+
+-- ---- how many there are then
+
+abbrev limit_if : Bool → Bool → Bool → Bool → Option FileCode
+limit_if a b c d = if a && b then Some TooManyVariables else (if c && d then Some TooManyConstants else None)
+
+no_variable : (a b c d : Bool) → limit_if a b c d ≡ None → a ≡ true → b ≡ false
+no_variable true true c d h e = absurd cc
+no_variable true false c d h e = refl
+no_variable false b c d h e = absurd cc
+
+no_constant : (a b c d : Bool) → limit_if a b c d ≡ None → c ≡ true → d ≡ false
+no_constant true true c d h e = absurd cc
+no_constant true false true true h e = absurd cc
+no_constant true false true false h e = refl
+no_constant true false false d h e = absurd cc
+no_constant false b true true h e = absurd cc
+no_constant false b true false h e = refl
+no_constant false b false d h e = absurd cc
+
+below : (m n : ℕ) → nat_lt m n ≡ true → m < n
+below m n e = grind (arith, nat_tests)
+
+not_below : (m n : ℕ) → nat_lt m n ≡ false → n ≤ m
+not_below m n e = grind (arith, nat_tests)
+
+few_variables : (limits : Limits) → (16 < limits.variables → limit_fault (counted limits) 16 ≡ None) → limits.variables ≤ 16
+few_variables limits h = elim (nat_lt 16 limits.variables) as (λ b. nat_lt 16 limits.variables ≡ b → limits.variables ≤ 16) [
+  | true ↦ λ e. not_below 16 limits.variables (no_variable (nat_eq 16 16) (nat_lt 16 limits.variables) (nat_eq 16 (limits.variables + 16)) (nat_lt 16 (limits.variables + limits.constants)) (h (below 16 limits.variables e)) (eq-eqb 16 16 refl))
+  | false ↦ λ e. not_below 16 limits.variables e
+] refl
+
+few_constants : (limits : Limits) → (limits.variables + 16 < limits.variables + limits.constants → limit_fault (counted limits) (limits.variables + 16) ≡ None) → limits.variables + limits.constants ≤ limits.variables + 16
+few_constants limits h =
+    let x : ℕ = limits.variables + 16 in
+    let all : ℕ = limits.variables + limits.constants in
+    elim (nat_lt x all) as (λ b. nat_lt x all ≡ b → all ≤ x) [
+      | true ↦ λ e. not_below x all (no_constant (nat_eq x 16) (nat_lt x limits.variables) (nat_eq x x) (nat_lt x all) (h (below x all e)) (eq-eqb x x refl))
+      | false ↦ λ e. not_below x all e
+    ] refl
+
+-- the names are the variables and the constants
+counted_length : (first : Listed) → length (arranged [] first) ≡ length (variables_of [] first) + length (constants_of [] first)
+counted_length first =
+    ap length (append-nil (names_at first.names (variables_of [] first ++ constants_of [] first)))
+    ∙ length-map (variables_of [] first ++ constants_of [] first) (λ (x : ℕ). get_or first.names x [])
+    ∙ length-append (variables_of [] first) (constants_of [] first)
+
+few_names : (first : Listed) → ((x : ℕ) → x < length (arranged [] first) → limit_fault (counted (limits_of first)) x ≡ None) → length (arranged [] first) ≤ 32
+few_names first h =
+    let count = counted_length first in
+    let v = few_variables (limits_of first) (λ lt. h 16 (omega (arith, lt, count))) in
+    let c = few_constants (limits_of first) (λ lt. h (length (variables_of [] first) + 16) (omega (arith, lt, count))) in
+    omega (arith, count, v, c)
+
+-- ---- a file without a fault of a name
+
+no_tokens_over : (functions others given : List (List ℕ)) (code : List ℕ) (fault : FileCode × Place) (r : Result (List Token) (FileCode × Place)) → and_then r (λ ts. Ok (listed functions given code ts)) ≡ Err fault → and_then r (λ ts. Ok (listed others given code ts)) ≡ Err fault
+no_tokens_over functions others given code fault (Ok ts) e = absurd (no_list fault (listed functions given code ts) (listed_ok (listed functions given code ts)) e refl)
+no_tokens_over functions others given code fault (Err f) e = e
+
+no_code_over : (functions others given : List (List ℕ)) (fault : FileCode × Place) (r : Result (List ℕ) (FileCode × Place)) → and_then r (items_of_code functions given) ≡ Err fault → and_then r (items_of_code others given) ≡ Err fault
+no_code_over functions others given fault (Ok code) e = no_tokens_over functions others given code fault (tokens_of code) e
+no_code_over functions others given fault (Err f) e = e
+
+-- a fault before the items is one over any functions
+refused_over : (includes : Includes) (bytes : List ℕ) (fault : FileCode × Place) (functions others : List (List ℕ)) → items_of includes functions [] bytes ≡ Err fault → items_of includes others [] bytes ≡ Err fault
+unfolding items_of
+refused_over includes bytes fault functions others e = no_code_over functions others [] fault (code_of_file includes bytes) e
+
+pub record IsOwnList (includes : Includes) (bytes : List ℕ) (l : Listed) : Type 0 where
+  pub first : Listed
+  pub first_are : items_of includes (functions_of_bytes bytes) [] bytes ≡ Ok first
+  pub distinct : AreDistinct first.names
+  pub names : l.names ≡ arranged [] first
+  pub told : names_at l.names (declared_by l.items) ≡ first.names
+  pub few : length l.names ≤ 32
+
+own_list : TokenLaws → (includes : Includes) (bytes : List ℕ) (x : Result Listed (FileCode × Place)) → items_of includes (functions_of_bytes bytes) [] bytes ≡ x → (l : Listed)
+    → items_of includes (own_names (functions_of_bytes bytes) x).functions (own_names (functions_of_bytes bytes) x).names bytes ≡ Ok l → first_name_fault (outside (own_names (functions_of_bytes bytes) x)) l.items ≡ None → IsOwnList includes bytes l
+own_list laws includes bytes (Err fault) e l are none = absurd (no_list fault l (items_of includes [] [] bytes) (refused_over includes bytes fault (functions_of_bytes bytes) [] e) are)
+own_list laws includes bytes (Ok first) e l are none =
+    let functions = functions_of_bytes bytes in
+    let s = stands_for (functions_of_bytes bytes) includes [] bytes first e in
+    let names : first.names ≡ names_from (functions_of_bytes bytes) s.code [] s.tokens = ap (λ (m : Listed). m.names) s.is in
+    let distinct : AreDistinct first.names = subst AreDistinct (sym names) (distinct_from functions s.code [] s.tokens tt) in
+    let same : l ≡ renumbered (functions_of_bytes bytes) (arranged [] first) s.code s.tokens =
+    same_listed (listed functions (arranged [] first) s.code s.tokens) l (sym (stands_anew functions includes [] (arranged [] first) bytes first s) ∙ are) ∙ listed_anew functions [] first s.code s.tokens distinct names in
+    let none_there : first_name_fault (counted (limits_of first)) (items_over (functions_of_bytes bytes) (arranged [] first) s.code s.tokens) ≡ None = ap (λ (m : Listed). first_name_fault (counted (limits_of first)) m.items) (sym same) ∙ none in
+    let told = told_over functions laws first s.code s.tokens s.tokens_are names distinct none_there in
     record {
-      listed = l;
-      items = a.are;
-      file = file;
-      forms = spelled.forms;
-      are =
-          ap (λ (w : Whole). w.names) spelled.is
-          ∙ sym (ap (λ (xs : List ℕ). each_once [] (names_at l.names xs)) numbers ∙ ap (each_once []) (all_at [] l.names 0 refl) ∙ all_new [] l.names distinct);
+      first = first;
+      first_are = e;
+      distinct = distinct;
+      names = ap (λ (m : Listed). m.names) same;
+      told = ap (λ (m : Listed). names_at m.names (declared_by m.items)) same ∙ told.told;
+      few = subst (λ (m : Listed). length m.names ≤ 32) (sym same) (few_names first (none_too_many (limits_of first) first (items_over functions (arranged [] first) s.code s.tokens) distinct told));
     }
 
-pub read_declared : WithinIsFile → (includes : Includes) (bytes : List ℕ) (r : Result Program FileRefusal) → IsReadOver includes [] bytes r → IfOk r (λ p. AreDeclaredNames includes [] bytes (whole p).names)
-read_declared is_file includes bytes (Ok p) a = own_declared is_file includes bytes (whole p) a
-read_declared is_file includes bytes (Err e) h = tt
+own_read : TokenLaws → (includes : Includes) (bytes : List ℕ) (p : Whole) → (a : IsPlainRead includes bytes (Ok p)) → IsOwnList includes bytes a.accepted.listed
+own_read laws includes bytes p a = own_list laws includes bytes (items_of includes (functions_of_bytes bytes) [] bytes) refl a.accepted.listed a.accepted.are a.accepted.names
+
+-- values from outside change no name
+same_names : (includes : Includes) (bytes : List ℕ) (p : Whole) → (a : IsPlainRead includes bytes (Ok p)) → p.names ≡ a.accepted.listed.names
+same_names includes bytes p a = ap (λ (w : Whole). w.names) a.is ∙ ap (λ (w : Whole). w.names) a.accepted.spelled.is
+
+pub own_declared : TokenLaws → WithinIsFile → (includes : Includes) (bytes : List ℕ) (p : Whole) → IsPlainRead includes bytes (Ok p) → AreDeclaredNames includes bytes p.names
+own_declared laws is_file includes bytes p a =
+    let l = a.accepted.listed in
+    let o = own_read laws includes bytes p a in
+    let spelled = is_file l.names l.items a.spelled a.accepted.spelled in
+    let names = same_names includes bytes p a in
+    let given : (own includes bytes).names ≡ a.accepted.listed.names = ap (λ (r : Result Listed (FileCode × Place)). (own_names (functions_of_bytes bytes) r).names) o.first_are ∙ sym o.names in
+    let functions : (own includes bytes).functions ≡ functions_of_bytes bytes = ap (λ (r : Result Listed (FileCode × Place)). (own_names (functions_of_bytes bytes) r).functions) o.first_are in
+    let again : items_of includes (functions_of_bytes bytes) a.accepted.listed.names bytes ≡ Ok a.accepted.listed =
+    ap (λ (ns : List (List ℕ)). items_of includes (functions_of_bytes bytes) ns bytes) (sym given) ∙ ap (λ (fs : List (List ℕ)). items_of includes fs (own includes bytes).names bytes) (sym functions) ∙ a.accepted.are in
+    record {
+      first = o.first;
+      first_are = o.first_are;
+      items = l.items;
+      items_are = subst (λ (ns : List (List ℕ)). items_of includes (functions_of_bytes bytes) ns bytes ≡ Ok (record { names = ns; items = a.accepted.listed.items })) (sym names) again;
+      file = spelled.file;
+      forms = spelled.forms;
+      declared =
+          sym (all_new [] o.first.names o.distinct)
+          ∙ ap (each_once []) (sym o.told ∙ ap (names_at a.accepted.listed.names) (declared_forms spelled.forms) ∙ ap (λ (ns : List (List ℕ)). names_at ns (targets spelled.file.declared)) (sym names));
+      are = names ∙ o.names;
+    }
+
+pub few_declared : TokenLaws → (includes : Includes) (bytes : List ℕ) (p : Whole) → IsPlainRead includes bytes (Ok p) → length p.names ≤ 32
+few_declared laws includes bytes p a = subst (λ (ns : List (List ℕ)). length ns ≤ 32) (sym (same_names includes bytes p a)) (own_read laws includes bytes p a).few
+
+-- ---- what reading a file over its own names answers
+
+abbrev given_of : List (List ℕ) → List (List ℕ) → ℕ → ℕ → Given
+given_of functions names variables constants = record { functions = functions; names = names; variables = variables; constants = constants; values = [] }
+
+pub same_numbered : (first : Numbered) (names : List (List ℕ)) (items : List Item) → names ≡ first.names → items ≡ first.items.items → list names items ≡ listed_in first
+same_numbered first names items e f = ap (λ (ns : List (List ℕ)). list ns items) e ∙ ap (λ (xs : List Item). list first.names xs) f
+
+-- the items of a file's code are those of the file
+pub items_of_own : (includes : Includes) (functions given : List (List ℕ)) (bytes code : List ℕ) (l : Listed) → code_of_file includes bytes ≡ Ok code → items_of_code functions given code ≡ Ok l → items_of includes functions given bytes ≡ Ok l
+unfolding items_of
+items_of_own includes functions given bytes code l is h = ap (λ (r : Result (List ℕ) (FileCode × Place)). and_then r (items_of_code functions given)) is ∙ h
+
+pub own_given : (includes : Includes) (bytes : List ℕ) (functions : List (List ℕ)) (first : Listed) (made : Arranged) → functions_of_bytes bytes ≡ functions → items_of includes functions [] bytes ≡ Ok first → made.names ≡ arranged [] first → made.variables ≡ length (variables_of [] first) → made.constants ≡ length (constants_of [] first)
+    → IsOwn includes bytes (Ok (functions, made))
+own_given includes bytes functions first made own e names variables constants =
+    ap (λ (fs : List (List ℕ)). own_names fs (items_of includes fs [] bytes)) own
+    ∙ ap (own_names functions) e
+    ∙ ap (λ (ns : List (List ℕ)). given_of functions ns (length (variables_of [] first)) (length (constants_of [] first))) (sym names)
+    ∙ ap (λ (v : ℕ). given_of functions made.names v (length (constants_of [] first))) (sym variables)
+    ∙ ap (given_of functions made.names made.variables) (sym constants)
+
+pub given_distinct : (first : Listed) (made : Arranged) → AreDistinct first.names → made.names ≡ arranged [] first → AreDistinct made.names
+given_distinct first made distinct names = subst AreDistinct (sym names) (arranged_distinct [] first distinct)
+
+pub given_few : (first : Listed) (made : Arranged) (most : ℕ) → AreDistinct first.names → made.names ≡ arranged [] first → length first.names ≤ most → length made.names ≤ most
+given_few first made most distinct names few = omega (arith, few, arranged_length [] first distinct, ap (λ (ns : List (List ℕ)). length ns) names)
+
+pub given_counted : (first : Listed) (made : Arranged) → made.names ≡ arranged [] first → made.variables ≡ length (variables_of [] first) → made.constants ≡ length (constants_of [] first) → length made.names ≡ made.variables + made.constants
+given_counted first made names variables constants = omega (arith, ap (λ (ns : List (List ℕ)). length ns) names, counted_length first, variables, constants)
+
+-- a fault before the items is one over any functions and names
+pub own_refused : (includes : Includes) (bytes : List ℕ) (e : FileRefusal) → IsOwn includes bytes (Err e) → IsRead includes bytes (Err e)
+own_refused includes bytes (refusals.Fault code place) h = inl (
+    ap (λ (r : Result Listed (FileCode × Place)). items_of includes (own_names (functions_of_bytes bytes) r).functions (own_names (functions_of_bytes bytes) r).names bytes) h
+    ∙ refused_over includes bytes (code, place) (functions_of_bytes bytes) [] h)
+own_refused includes bytes refusals.NoMemory h = tt
+
+pub own_reads : (includes : Includes) (bytes : List ℕ) (given : Given) (r : Result Program FileRefusal) → own includes bytes ≡ given → IsReadOver includes given bytes r → IsRead includes bytes r
+own_reads includes bytes given r is h = subst (λ (g : Given). IsReadOver includes g bytes r) (sym is) h
+
+abbrev FewNames : Type 0
+FewNames = (includes : Includes) (bytes : List ℕ) (p : Whole) → IsPlainRead includes bytes (Ok p) → length p.names ≤ 32
+
+abbrev FormedIfFew : Program → Type 0
+FormedIfFew p = length (whole p).names ≤ 48 → IsProgram (whole p)
+
+pub own_formed : FewNames → (includes : Includes) (bytes : List ℕ) (r : Result Program FileRefusal) → IsRead includes bytes r → IfOk r FormedIfFew → IfOk r (λ p. IsProgram (whole p))
+own_formed few includes bytes (Ok p) a formed = formed (omega (arith, few includes bytes (whole p) a))
+own_formed few includes bytes (Err e) h formed = tt
+
+abbrev NamesDeclared : Type 0
+NamesDeclared = (includes : Includes) (bytes : List ℕ) (p : Whole) → IsPlainRead includes bytes (Ok p) → AreDeclaredNames includes bytes p.names
+
+pub read_declared : NamesDeclared → (includes : Includes) (bytes : List ℕ) (r : Result Program FileRefusal) → IsRead includes bytes r → IfOk r (λ p. AreDeclaredNames includes bytes (whole p).names)
+read_declared law includes bytes (Ok p) a = law includes bytes (whole p) a
+read_declared law includes bytes (Err e) h = tt

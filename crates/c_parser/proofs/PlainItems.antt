@@ -13,15 +13,15 @@ use Rattle.c_parser.specs.Reading.{items_of}
 use Rattle.c_parser.proofs.KeptItems.{sign_plain}
 use Rattle.c_parser.proofs.Overs.{stands_for}
 
-over_plain : (names : List (List ℕ)) (text : List ℕ) (ts : List Token) → has_groups (items_over names text ts) ≡ false
-over_plain names text [] = refl
-over_plain names text (t ∷ ts) = ap (λ (b : Bool). b || has_groups (items_over names text ts)) (sign_plain names t.kind (lexeme_in text t)) ∙ over_plain names text ts
+over_plain : (functions names : List (List ℕ)) (text : List ℕ) (ts : List Token) → has_groups (items_over functions names text ts) ≡ false
+over_plain functions names text [] = refl
+over_plain functions names text (t ∷ ts) = ap (λ (b : Bool). b || has_groups (items_over functions names text ts)) (sign_plain functions names t.kind (lexeme_in text t)) ∙ over_plain functions names text ts
 
 -- none of them is a group directive
-pub plain_items : (includes : Includes) (given : List (List ℕ)) (bytes : List ℕ) (l : Listed) → items_of includes given bytes ≡ Ok l → has_groups l.items ≡ false
-plain_items includes given bytes l is =
-    let s = stands_for includes given bytes l is in
-    subst (λ (m : Listed). has_groups m.items ≡ false) (sym s.is) (over_plain _ s.code s.tokens)
+pub plain_items : (includes : Includes) (functions given : List (List ℕ)) (bytes : List ℕ) (l : Listed) → items_of includes functions given bytes ≡ Ok l → has_groups l.items ≡ false
+plain_items includes functions given bytes l is =
+    let s = stands_for functions includes given bytes l is in
+    subst (λ (m : Listed). has_groups m.items ≡ false) (sym s.is) (over_plain functions _ s.code s.tokens)
 
 both_false : (b c : Bool) → (b || c) ≡ false → (b ≡ false) × (c ≡ false)
 both_false true c e = absurd cc

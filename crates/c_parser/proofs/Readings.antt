@@ -18,11 +18,12 @@ use Rattle.c_grammar.specs.Deep.{Fault, guarded}
 use Rattle.c_grammar.specs.Within.{SpellsWithin}
 use Rattle.c_grammar.specs.Laws.{ReadsWithin, StopsWrong, StopsDeep}
 use Rattle.item_reader.specs.Reading.{IsWrongAt, IsDeepAt}
+use Rattle.feature_values.specs.Declarators.{with_presets}
 use Rattle.c_parser.specs.Items.{Listed}
 use Rattle.c_parser.specs.Names.{first_name_fault}
 use Rattle.cpp_lines.specs.Whole.{file_place}
 use Rattle.c_parser.specs.Phases.{HasDeep, HasNameFault, HasWrong, place_with, wrong_code}
-use Rattle.c_parser.specs.Reading.{plain_files, IsPlainReadOver, code_of_file, items_of}
+use Rattle.c_parser.specs.Reading.{Given, outside, plain_files, IsPlainReadOver, code_of_file, items_of}
 
 -- the laws of the grammar that are used here
 pub record GrammarLaws : Type 0 where
@@ -93,51 +94,57 @@ abbrev pub with_names : Option (FileCode × Place) → Whole → Answer
 with_names None p = Ok p
 with_names (Some fault) p = Err fault
 
-abbrev answer_over : Listed → Place → Answer
-answer_over l end = and_then (spelled_by (wrong_code l.items) l end) (with_names (first_name_fault l.items))
+-- the values from outside are start values
+abbrev preset_or : Given → Option (FileCode × Place) → Whole → Answer
+preset_or given fault p = with_names fault (with_presets given.values p)
 
-abbrev answer : Includes → List (List ℕ) → List ℕ → Answer
-answer includes given bytes = and_then (items_of includes given bytes) (λ l. answer_over l (end_place bytes))
+abbrev answer_over : Given → Listed → Place → Answer
+answer_over given l end = and_then (spelled_by (wrong_code l.items) l end) (preset_or given (first_name_fault (outside given) l.items))
 
-named : GrammarLaws → (l : Listed) (end : Place) (p : Whole) (fault : Option (FileCode × Place)) → SpellsWithin l.names p l.items → first_name_fault l.items ≡ fault → answer_over l end ≡ with_names fault p
-named laws l end p fault s e =
-    ap (λ (x : Answer). and_then x (with_names (first_name_fault l.items))) (program_spelled laws (wrong_code l.items) l end p s) ∙ ap (λ (o : Option (FileCode × Place)). with_names o p) e
+abbrev answer : Includes → Given → List ℕ → Answer
+answer includes given bytes = and_then (items_of includes given.functions given.names bytes) (λ l. answer_over given l (end_place bytes))
+
+named : GrammarLaws → (given : Given) (l : Listed) (end : Place) (p : Whole) (fault : Option (FileCode × Place)) → SpellsWithin l.names p l.items → first_name_fault (outside given) l.items ≡ fault → answer_over given l end ≡ preset_or given fault p
+named laws given l end p fault s e =
+    ap (λ (x : Answer). and_then x (preset_or given (first_name_fault (outside given) l.items))) (program_spelled laws (wrong_code l.items) l end p s) ∙ ap (λ (o : Option (FileCode × Place)). preset_or given o p) e
 
 -- an item is wrong or too deep, or a name has a fault
-abbrev Refuses : Includes → List (List ℕ) → Listed → Place → FileCode × Place → Type 0
+abbrev Refuses : Includes → Given → Listed → Place → FileCode × Place → Type 0
 Refuses includes given l end fault = HasWrong l end fault ⊎ (HasDeep l end fault ⊎ HasNameFault (plain_files includes given) l tt fault)
 
-refused_answer : GrammarLaws → (includes : Includes) (given : List (List ℕ)) (l : Listed) (end : Place) (fault : FileCode × Place) → Refuses includes given l end fault → answer_over l end ≡ Err fault
+refused_answer : GrammarLaws → (includes : Includes) (given : Given) (l : Listed) (end : Place) (fault : FileCode × Place) → Refuses includes given l end fault → answer_over given l end ≡ Err fault
 refused_answer laws includes given l end fault (inl w) =
-    ap (λ (x : Answer). and_then x (with_names (first_name_fault l.items))) (wrong_spelled laws (wrong_code l.items) l end w.position w.wrong) ∙ ap (λ (f : FileCode × Place). Err f) (sym w.is)
+    ap (λ (x : Answer). and_then x (preset_or given (first_name_fault (outside given) l.items))) (wrong_spelled laws (wrong_code l.items) l end w.position w.wrong) ∙ ap (λ (f : FileCode × Place). Err f) (sym w.is)
 refused_answer laws includes given l end fault (inr (inl w)) =
-    ap (λ (x : Answer). and_then x (with_names (first_name_fault l.items))) (deep_spelled laws (wrong_code l.items) l end w.position w.deep) ∙ ap (λ (f : FileCode × Place). Err f) (sym w.is)
-refused_answer laws includes given l end fault (inr (inr w)) = named laws l end w.program (Some fault) w.spelled w.names
+    ap (λ (x : Answer). and_then x (preset_or given (first_name_fault (outside given) l.items))) (deep_spelled laws (wrong_code l.items) l end w.position w.deep) ∙ ap (λ (f : FileCode × Place). Err f) (sym w.is)
+refused_answer laws includes given l end fault (inr (inr w)) = named laws given l end w.program (Some fault) w.spelled w.names
 
-is_answer : GrammarLaws → (includes : Includes) (given : List (List ℕ)) (bytes : List ℕ) (r : Answer) → IsPlainReadOver includes given bytes r → answer includes given bytes ≡ r
+is_answer : GrammarLaws → (includes : Includes) (given : Given) (bytes : List ℕ) (r : Answer) → IsPlainReadOver includes given bytes r → answer includes given bytes ≡ r
 is_answer laws includes given bytes (Ok p) a =
-    ap (λ (x : Result Listed (FileCode × Place)). and_then x (λ l. answer_over l (end_place bytes))) a.are ∙ named laws a.listed (end_place bytes) p None a.spelled a.names
-is_answer laws includes given bytes (Err fault) (inl is) = ap (λ (x : Result Listed (FileCode × Place)). and_then x (λ l. answer_over l (end_place bytes))) is
+    ap (λ (x : Result Listed (FileCode × Place)). and_then x (λ l. answer_over given l (end_place bytes))) a.accepted.are
+    ∙ named laws given a.accepted.listed (end_place bytes) a.spelled None a.accepted.spelled a.accepted.names
+    ∙ ap (λ (q : Whole). Ok q) (sym a.is)
+is_answer laws includes given bytes (Err fault) (inl is) = ap (λ (x : Result Listed (FileCode × Place)). and_then x (λ l. answer_over given l (end_place bytes))) is
 is_answer laws includes given bytes (Err fault) (inr h) =
-    ap (λ (x : Result Listed (FileCode × Place)). and_then x (λ l. answer_over l (end_place bytes))) h.are ∙ refused_answer laws includes given h.listed (end_place bytes) fault h.is
+    ap (λ (x : Result Listed (FileCode × Place)). and_then x (λ l. answer_over given l (end_place bytes))) h.are ∙ refused_answer laws includes given h.listed (end_place bytes) fault h.is
 
 -- a file is read in one way
-pub reads_once : GrammarLaws → (includes : Includes) (given : List (List ℕ)) (bytes : List ℕ) (r s : Answer) → IsPlainReadOver includes given bytes r → IsPlainReadOver includes given bytes s → r ≡ s
+pub reads_once : GrammarLaws → (includes : Includes) (given : Given) (bytes : List ℕ) (r s : Answer) → IsPlainReadOver includes given bytes r → IsPlainReadOver includes given bytes s → r ≡ s
 reads_once laws includes given bytes r s h k = sym (is_answer laws includes given bytes r h) ∙ is_answer laws includes given bytes s k
 
 -- ---- each file is read
 
 -- what stands in an answer behind the items
-abbrev IsJudged : Includes → List (List ℕ) → Listed → Place → Answer → Type 0
-IsJudged includes given l end (Ok p) = SpellsWithin l.names p l.items × (first_name_fault l.items ≡ None)
+abbrev IsJudged : Includes → Given → Listed → Place → Answer → Type 0
+IsJudged includes given l end (Ok p) = SpellsWithin l.names p l.items × (first_name_fault (outside given) l.items ≡ None)
 IsJudged includes given l end (Err fault) = Refuses includes given l end fault
 
-with_fault : (includes : Includes) (given : List (List ℕ)) (l : Listed) (end : Place) (p : Whole) → SpellsWithin l.names p l.items → (o : Option (FileCode × Place)) → first_name_fault l.items ≡ o → (r : Answer) × IsJudged includes given l end r
+with_fault : (includes : Includes) (given : Given) (l : Listed) (end : Place) (p : Whole) → SpellsWithin l.names p l.items → (o : Option (FileCode × Place)) → first_name_fault (outside given) l.items ≡ o → (r : Answer) × IsJudged includes given l end r
 with_fault includes given l end p s None e = (Ok p, (s, e))
 with_fault includes given l end p s (Some fault) e = (Err fault, inr (inr (record { program = p; spelled = s; names = e })))
 
-by_machine : GrammarLaws → (includes : Includes) (given : List (List ℕ)) (l : Listed) (end : Place) (g : Came) → guarded start 0 l.items ≡ g → (r : Answer) × IsJudged includes given l end r
-by_machine laws includes given l end (Ok f) e = with_fault includes given l end (whole_of l.names l.items f) (record { file = f; forms = (laws.reads l.items f).0 e; is = refl }) (first_name_fault l.items) refl
+by_machine : GrammarLaws → (includes : Includes) (given : Given) (l : Listed) (end : Place) (g : Came) → guarded start 0 l.items ≡ g → (r : Answer) × IsJudged includes given l end r
+by_machine laws includes given l end (Ok f) e = with_fault includes given l end (whole_of l.names l.items f) (record { file = f; forms = (laws.reads l.items f).0 e; is = refl }) (first_name_fault (outside given) l.items) refl
 by_machine laws includes given l end (Err (limits.Wrong k)) e =
     let b = (laws.stops_wrong l.items k).0 e in
     let w = b.0 in (
@@ -158,19 +165,24 @@ by_machine laws includes given l end (Err (limits.Deep k)) e =
       })),
     )
 
-judged_reads : (includes : Includes) (given : List (List ℕ)) (bytes : List ℕ) (l : Listed) → items_of includes given bytes ≡ Ok l → (r : Answer) → IsJudged includes given l (end_place bytes) r → IsPlainReadOver includes given bytes r
-judged_reads includes given bytes l is (Ok p) j = record { listed = l; are = is; spelled = j.0; names = j.1 }
+-- the answer of a file, by that of its items
+abbrev preset_answer : Given → Answer → Answer
+preset_answer given (Ok p) = Ok (with_presets given.values p)
+preset_answer given (Err fault) = Err fault
+
+judged_reads : (includes : Includes) (given : Given) (bytes : List ℕ) (l : Listed) → items_of includes given.functions given.names bytes ≡ Ok l → (r : Answer) → IsJudged includes given l (end_place bytes) r → IsPlainReadOver includes given bytes (preset_answer given r)
+judged_reads includes given bytes l is (Ok p) j = record { spelled = p; accepted = record { listed = l; are = is; spelled = j.0; names = j.1 }; is = refl }
 judged_reads includes given bytes l is (Err fault) j = inr (record { listed = l; known = tt; are = is; is = j })
 
-by_items : GrammarLaws → (includes : Includes) (given : List (List ℕ)) (bytes : List ℕ) (x : Result Listed (FileCode × Place)) → items_of includes given bytes ≡ x → (r : Answer) × IsPlainReadOver includes given bytes r
-by_items laws includes given bytes (Ok l) is = let j = by_machine laws includes given l (end_place bytes) (guarded start 0 l.items) refl in (j.0, judged_reads includes given bytes l is j.0 j.1)
+by_items : GrammarLaws → (includes : Includes) (given : Given) (bytes : List ℕ) (x : Result Listed (FileCode × Place)) → items_of includes given.functions given.names bytes ≡ x → (r : Answer) × IsPlainReadOver includes given bytes r
+by_items laws includes given bytes (Ok l) is = let j = by_machine laws includes given l (end_place bytes) (guarded start 0 l.items) refl in (preset_answer given j.0, judged_reads includes given bytes l is j.0 j.1)
 by_items laws includes given bytes (Err fault) is = (Err fault, inl is)
 
 -- each file is read
-pub reads_any : GrammarLaws → (includes : Includes) (given : List (List ℕ)) (bytes : List ℕ) → (r : Answer) × IsPlainReadOver includes given bytes r
-reads_any laws includes given bytes = by_items laws includes given bytes (items_of includes given bytes) refl
+pub reads_any : GrammarLaws → (includes : Includes) (given : Given) (bytes : List ℕ) → (r : Answer) × IsPlainReadOver includes given bytes r
+reads_any laws includes given bytes = by_items laws includes given bytes (items_of includes given.functions given.names bytes) refl
 
 -- a file of more bytes is refused whole
-pub reads_too_long : (includes : Includes) (given : List (List ℕ)) (bytes : List ℕ) → file_bytes < length bytes → IsPlainReadOver includes given bytes (Err (TooLong, file_place))
+pub reads_too_long : (includes : Includes) (given : Given) (bytes : List ℕ) → file_bytes < length bytes → IsPlainReadOver includes given bytes (Err (TooLong, file_place))
 unfolding items_of code_of_file
 reads_too_long includes given bytes h = inl (rw (lt-ltb file_bytes (length bytes) h) refl)

@@ -28,17 +28,17 @@ abbrev pub item_below : ℕ → Item → Item
 item_below n x = at (lower_place n x.place) x.sign
 
 -- the items of a text alone, where it has tokens
-abbrev pub alone_of : List (List ℕ) → List ℕ → Result (List Token) (FileCode × Place) → List Item
-alone_of names text (Ok ts) = items_over names text ts
-alone_of names text (Err fault) = []
+abbrev pub alone_of : List (List ℕ) → List (List ℕ) → List ℕ → Result (List Token) (FileCode × Place) → List Item
+alone_of functions names text (Ok ts) = items_over functions names text ts
+alone_of functions names text (Err fault) = []
 
-abbrev pub alone : List (List ℕ) → List ℕ → List Item
-alone names text = alone_of names text (tokens_of text)
+abbrev pub alone : List (List ℕ) → List (List ℕ) → List ℕ → List Item
+alone functions names text = alone_of functions names text (tokens_of text)
 
 -- the items of lines, the first that many lines below
-abbrev pub by_piece : List (List ℕ) → ℕ → List (List ℕ) → List Item
-by_piece names n [] = []
-by_piece names n (p ∷ ps) = map (item_below n) (alone names p) ++ by_piece names (n + 1) ps
+abbrev pub by_piece : List (List ℕ) → List (List ℕ) → ℕ → List (List ℕ) → List Item
+by_piece functions names n [] = []
+by_piece functions names n (p ∷ ps) = map (item_below n) (alone functions names p) ++ by_piece functions names (n + 1) ps
 
 -- ---- lexemes of lines
 
@@ -66,17 +66,17 @@ slice_behind line rest s e =
 
 -- ---- items of lines
 
-items_front : (names : List (List ℕ)) (line ys : List ℕ) (ts : List Token) → AreWithin (length line) ts → items_over names (line ++ ys) ts ≡ items_over names line ts
-items_front names line ys [] h = refl
-items_front names line ys (t ∷ ts) h =
-    ap (λ (w : List ℕ). at t.place (sign_of names t.kind w) ∷ items_over names (line ++ ys) ts) (slice_front line ys t.start t.end h.0.0 h.0.1)
-    ∙ ap (λ (xs : List Item). at t.place (sign_of names t.kind (lexeme_in line t)) ∷ xs) (items_front names line ys ts h.1)
+items_front : (functions names : List (List ℕ)) (line ys : List ℕ) (ts : List Token) → AreWithin (length line) ts → items_over functions names (line ++ ys) ts ≡ items_over functions names line ts
+items_front functions names line ys [] h = refl
+items_front functions names line ys (t ∷ ts) h =
+    ap (λ (w : List ℕ). at t.place (sign_of functions names t.kind w) ∷ items_over functions names (line ++ ys) ts) (slice_front line ys t.start t.end h.0.0 h.0.1)
+    ∙ ap (λ (xs : List Item). at t.place (sign_of functions names t.kind (lexeme_in line t)) ∷ xs) (items_front functions names line ys ts h.1)
 
-items_behind : (names : List (List ℕ)) (line rest : List ℕ) (n : ℕ) (ts : List Token) → items_over names (line ++ 10 ∷ rest) (map (lower_token n (length line + 1)) ts) ≡ map (item_below n) (items_over names rest ts)
-items_behind names line rest n [] = refl
-items_behind names line rest n (t ∷ ts) =
-    ap (λ (w : List ℕ). at (lower_place n t.place) (sign_of names t.kind w) ∷ items_over names (line ++ 10 ∷ rest) (map (lower_token n (length line + 1)) ts)) (slice_behind line rest t.start t.end)
-    ∙ ap (λ (xs : List Item). at (lower_place n t.place) (sign_of names t.kind (lexeme_in rest t)) ∷ xs) (items_behind names line rest n ts)
+items_behind : (functions names : List (List ℕ)) (line rest : List ℕ) (n : ℕ) (ts : List Token) → items_over functions names (line ++ 10 ∷ rest) (map (lower_token n (length line + 1)) ts) ≡ map (item_below n) (items_over functions names rest ts)
+items_behind functions names line rest n [] = refl
+items_behind functions names line rest n (t ∷ ts) =
+    ap (λ (w : List ℕ). at (lower_place n t.place) (sign_of functions names t.kind w) ∷ items_over functions names (line ++ 10 ∷ rest) (map (lower_token n (length line + 1)) ts)) (slice_behind line rest t.start t.end)
+    ∙ ap (λ (xs : List Item). at (lower_place n t.place) (sign_of functions names t.kind (lexeme_in rest t)) ∷ xs) (items_behind functions names line rest n ts)
 
 further_below : (n : ℕ) (xs : List Item) → map (item_below n) (map (item_below 1) xs) ≡ map (item_below (n + 1)) xs
 further_below n [] = refl
@@ -90,32 +90,32 @@ abbrev got : List Token → Result (List Token) (FileCode × Place) → List Tok
 got ts (Ok us) = us
 got ts (Err fault) = ts
 
-two_lines : TokenLaws → (names : List (List ℕ)) (line rest : List ℕ) (n : ℕ) (ts : List Token) (r q : Result (List Token) (FileCode × Place)) → list_any is_newline line ≡ false → tokens_of line ≡ r → tokens_of rest ≡ q
-    → line_behind line r q ≡ Ok ts → (us : List Token) × (tokens_of rest ≡ Ok us) × (map (item_below n) (items_over names (line ++ 10 ∷ rest) ts) ≡ map (item_below n) (alone names line) ++ map (item_below (n + 1)) (items_over names rest us))
-two_lines laws names line rest n ts (Ok vs) (Ok us) none er eq h =
+two_lines : (functions : List (List ℕ)) → TokenLaws → (names : List (List ℕ)) (line rest : List ℕ) (n : ℕ) (ts : List Token) (r q : Result (List Token) (FileCode × Place)) → list_any is_newline line ≡ false → tokens_of line ≡ r → tokens_of rest ≡ q
+    → line_behind line r q ≡ Ok ts → (us : List Token) × (tokens_of rest ≡ Ok us) × (map (item_below n) (items_over functions names (line ++ 10 ∷ rest) ts) ≡ map (item_below n) (alone functions names line) ++ map (item_below (n + 1)) (items_over functions names rest us))
+two_lines functions laws names line rest n ts (Ok vs) (Ok us) none er eq h =
     let c : count_by is_newline line + 1 ≡ 1 = omega (arith, none_counted line none) in
     let is : vs ++ map (lower_token 1 (length line + 1)) us ≡ ts = ap (λ (i : ℕ). vs ++ map (lower_token i (length line + 1)) us) (sym c) ∙ ap (got []) h in (
       us,
       eq,
-      ap (λ (xs : List Token). map (item_below n) (items_over names (line ++ 10 ∷ rest) xs)) (sym is)
-          ∙ ap (map (item_below n)) (map-append (item_over names (line ++ 10 ∷ rest)) vs (map (lower_token 1 (length line + 1)) us))
-          ∙ map-append (item_below n) (items_over names (line ++ 10 ∷ rest) vs) (items_over names (line ++ 10 ∷ rest) (map (lower_token 1 (length line + 1)) us))
-          ∙ ap (λ (xs : List Item). map (item_below n) xs ++ map (item_below n) (items_over names (line ++ 10 ∷ rest) (map (lower_token 1 (length line + 1)) us)))
-          (items_front names line (10 ∷ rest) vs (tokens_within laws line vs er) ∙ ap (alone_of names line) (sym er))
-          ∙ ap (λ (xs : List Item). map (item_below n) (alone names line) ++ xs) (ap (map (item_below n)) (items_behind names line rest 1 us) ∙ further_below n (items_over names rest us)),
+      ap (λ (xs : List Token). map (item_below n) (items_over functions names (line ++ 10 ∷ rest) xs)) (sym is)
+          ∙ ap (map (item_below n)) (map-append (item_over functions names (line ++ 10 ∷ rest)) vs (map (lower_token 1 (length line + 1)) us))
+          ∙ map-append (item_below n) (items_over functions names (line ++ 10 ∷ rest) vs) (items_over functions names (line ++ 10 ∷ rest) (map (lower_token 1 (length line + 1)) us))
+          ∙ ap (λ (xs : List Item). map (item_below n) xs ++ map (item_below n) (items_over functions names (line ++ 10 ∷ rest) (map (lower_token 1 (length line + 1)) us)))
+          (items_front functions names line (10 ∷ rest) vs (tokens_within laws line vs er) ∙ ap (alone_of functions names line) (sym er))
+          ∙ ap (λ (xs : List Item). map (item_below n) (alone functions names line) ++ xs) (ap (map (item_below n)) (items_behind functions names line rest 1 us) ∙ further_below n (items_over functions names rest us)),
     )
-two_lines laws names line rest n ts (Ok vs) (Err fault) none er eq h = absurd cc
-two_lines laws names line rest n ts (Err fault) q none er eq h = absurd cc
+two_lines functions laws names line rest n ts (Ok vs) (Err fault) none er eq h = absurd cc
+two_lines functions laws names line rest n ts (Err fault) q none er eq h = absurd cc
 
-pub lines_of_text : TokenLaws → LinesApart → (names : List (List ℕ)) (text : List ℕ) (ps : List (List ℕ)) (n : ℕ) (ts : List Token) → pieces text ≡ ps → tokens_of text ≡ Ok ts
-    → map (item_below n) (items_over names text ts) ≡ by_piece names n ps
-lines_of_text laws apart names text [] n ts e is = absurd (not_none text e)
-lines_of_text laws apart names text (p ∷ []) n ts e is =
+pub lines_of_text : (functions : List (List ℕ)) → TokenLaws → LinesApart → (names : List (List ℕ)) (text : List ℕ) (ps : List (List ℕ)) (n : ℕ) (ts : List Token) → pieces text ≡ ps → tokens_of text ≡ Ok ts
+    → map (item_below n) (items_over functions names text ts) ≡ by_piece functions names n ps
+lines_of_text functions laws apart names text [] n ts e is = absurd (not_none text e)
+lines_of_text functions laws apart names text (p ∷ []) n ts e is =
     let k = last_piece text p e in
-    sym (append-nil (map (item_below n) (items_over names text ts)))
-    ∙ ap (λ (xs : List Item). map (item_below n) xs ++ []) (ap (alone_of names text) (sym is) ∙ ap (alone names) k.0)
-lines_of_text laws apart names text (p ∷ q ∷ qs) n ts e is =
+    sym (append-nil (map (item_below n) (items_over functions names text ts)))
+    ∙ ap (λ (xs : List Item). map (item_below n) xs ++ []) (ap (alone_of functions names text) (sym is) ∙ ap (alone functions names) k.0)
+lines_of_text functions laws apart names text (p ∷ q ∷ qs) n ts e is =
     let k = next_piece text p q qs e in
-    let two = two_lines laws names p k.0 n ts (tokens_of p) (tokens_of k.0) k.2 refl refl (sym (apart p k.0) ∙ ap tokens_of (sym k.1) ∙ is) in
-    ap (λ (t : List ℕ). map (item_below n) (items_over names t ts)) k.1 ∙ two.2
-    ∙ ap (λ (xs : List Item). map (item_below n) (alone names p) ++ xs) (lines_of_text laws apart names k.0 (q ∷ qs) (n + 1) two.0 k.3 two.1)
+    let two = two_lines functions laws names p k.0 n ts (tokens_of p) (tokens_of k.0) k.2 refl refl (sym (apart p k.0) ∙ ap tokens_of (sym k.1) ∙ is) in
+    ap (λ (t : List ℕ). map (item_below n) (items_over functions names t ts)) k.1 ∙ two.2
+    ∙ ap (λ (xs : List Item). map (item_below n) (alone functions names p) ++ xs) (lines_of_text functions laws apart names k.0 (q ∷ qs) (n + 1) two.0 k.3 two.1)

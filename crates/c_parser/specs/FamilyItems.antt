@@ -1,5 +1,5 @@
 -- The items of a file with groups: its tokens and its group directives, line by line (ISO/IEC 9899:2011, 5.1.1.2 and 6.10.1).
-use Rattle.std.specs.Prelude.{◌≡◌, ◌⊎◌, ℕ, nat_eq, nat_lt, Bool, false, List, [], ◌∷◌, ◌++◌, Option, Some, None, Ok, Err}
+use Rattle.std.specs.Prelude.{◌≡◌, ◌⊎◌, ℕ, nat_eq, nat_lt, Bool, false, List, [], ◌∷◌, ◌++◌, map, Option, Some, None, Ok, Err}
 use Rattle.std.specs.List.{filter, list_any}
 use Rattle.fam_outer.specs.declared.dialect.Dialect.{Dialect}
 use Rattle.fam_outer.specs.declared.faults.Place.{Place}
@@ -15,13 +15,16 @@ use Rattle.cpp_lines.specs.Whole.{blanked_file, HasLineFault}
 use Rattle.cpp_lines.specs.declared.line.Line.{Line}
 use Rattle.cpp_lines.specs.declared.line.LineKind.{LineKind}
 use Rattle.cpp_lines.specs.declared.line.LineKind.TheVariants as kinds
+use Rattle.c_parser.specs.Functions.{own_functions}
 use Rattle.c_parser.specs.Items.{Listed}
+use Rattle.c_parser.specs.Order.{arranged}
 use Rattle.c_parser.specs.Reading.{items_of_code}
 
 -- the sign of a line's group directive
 abbrev pub group_sign : LineKind → Option Sign
 group_sign kinds.Code = None
 group_sign kinds.Include = None
+group_sign kinds.Define = None
 group_sign (kinds.If n) = Some (signs.GroupIf n)
 group_sign (kinds.Elif n) = Some (signs.GroupElif n)
 group_sign kinds.Else = Some signs.GroupElse
@@ -63,13 +66,18 @@ family_listed lines l = record { names = l.names; items = by_line lines l.items 
 
 -- ---- the phases before the grammar: the length, the comments, the lines with the conditions, and the tokens of the code
 
--- the lines and conditions of a family, and its items
+abbrev pub feature_names : Plain → List (List ℕ)
+feature_names model = map (λ f. f.name) model.features
+
+-- the lines and conditions of a family, and its items over its own functions and its names in their order
 pub record HasItems (dialect : Dialect) (model : Plain) (bytes : List ℕ) (told : Told) (l : Listed) : Type 0 where
   pub blanked : List ℕ
   pub without_comments : blanked_file bytes ≡ Ok blanked
   pub read : TextIsRead dialect model blanked (Ok told)
+  pub first : Listed
+  pub first_are : items_of_code (own_functions (code_of blanked)) [] (code_of blanked) ≡ Ok first
   pub tokens : Listed
-  pub tokens_are : items_of_code [] (code_of blanked) ≡ Ok tokens
+  pub tokens_are : items_of_code (own_functions (code_of blanked)) (arranged (feature_names model) first) (code_of blanked) ≡ Ok tokens
   pub is : l ≡ family_listed told.lines tokens
 
 -- a token has this fault
@@ -78,7 +86,7 @@ pub record HasTokenFault (dialect : Dialect) (model : Plain) (bytes : List ℕ) 
   pub told : Told
   pub without_comments : blanked_file bytes ≡ Ok blanked
   pub read : TextIsRead dialect model blanked (Ok told)
-  pub token : items_of_code [] (code_of blanked) ≡ Err fault
+  pub token : items_of_code (own_functions (code_of blanked)) [] (code_of blanked) ≡ Err fault
 
 abbrev pub HasEarlyFault : Dialect → Plain → List ℕ → FileCode × Place → Type 0
 HasEarlyFault dialect model bytes fault = (blanked_file bytes ≡ Err fault) ⊎ (HasLineFault dialect model bytes fault ⊎ HasTokenFault dialect model bytes fault)

@@ -1,5 +1,6 @@
 pub mod Signs
 pub mod Items
+pub mod Functions
 pub mod Signing
 pub mod Names
 pub mod Phases
@@ -10,3 +11,4 @@ pub mod FamilyItems
 pub mod FamilyStages
 pub mod FamilyReading
 pub mod Variants
+pub mod Order

@@ -1,5 +1,5 @@
 -- What a file without groups is read as: the program that it spells, or its refusal.
-use Rattle.std.specs.Prelude.{◌≡◌, ◌<◌, ⊤, ℕ, nat_eq, true, List, [], length, Result, Ok, Err}
+use Rattle.std.specs.Prelude.{◌≡◌, ◌<◌, ⊤, ℕ, ℤ, nat_eq, true, List, [], length, map, Result, Ok, Err}
 use Rattle.std.specs.List.{list_any}
 use Rattle.fam_outer.specs.declared.dialect.Includes.{Includes}
 use Rattle.fam_outer.specs.declared.faults.Place.{Place}
@@ -16,8 +16,11 @@ use Rattle.c_tree.specs.View.{whole}
 use Rattle.c_tree.specs.declared.tree.Program.{Program}
 use Rattle.c_grammar.specs.declared.items.Item.{Item}
 use Rattle.c_grammar.specs.Grammar.{File, Forms}
+use Rattle.c_parser.specs.Functions.{functions_of_bytes}
 use Rattle.c_parser.specs.Items.{Listed, listed}
-use Rattle.c_parser.specs.Names.{declared_by, first_name_fault, targets, names_at, each_once}
+use Rattle.feature_values.specs.Declarators.{with_presets}
+use Rattle.c_parser.specs.Names.{Outside, declared_by, first_name_fault, targets, names_at, each_once}
+use Rattle.c_parser.specs.Order.{variables_of, constants_of, arranged}
 use Rattle.c_parser.specs.Phases.{FileMeaning, IsAcceptedFile, IsRefusedFile}
 
 -- ---- the phases before the grammar: the length, the comments, the lines, and the tokens of the code
@@ -29,52 +32,87 @@ code_of_blanked includes blanked = and_then (plain_lines_of includes blanked) (�
 unfoldable pub code_of_file : Includes → List ℕ → Result (List ℕ) (FileCode × Place)
 code_of_file includes bytes = and_then (blanked_file bytes) (code_of_blanked includes)
 
-abbrev pub items_of_code : List (List ℕ) → List ℕ → Result Listed (FileCode × Place)
-items_of_code given code = and_then (tokens_of code) (λ ts. Ok (listed given code ts))
+abbrev pub items_of_code : List (List ℕ) → List (List ℕ) → List ℕ → Result Listed (FileCode × Place)
+items_of_code functions given code = and_then (tokens_of code) (λ ts. Ok (listed functions given code ts))
 
--- the items of a file without groups, or the first fault, where these names are given
-unfoldable pub items_of : Includes → List (List ℕ) → List ℕ → Result Listed (FileCode × Place)
-items_of includes given bytes = and_then (code_of_file includes bytes) (items_of_code given)
+-- the items of a file without groups over these functions, or the first fault, where these names are given
+unfoldable pub items_of : Includes → List (List ℕ) → List (List ℕ) → List ℕ → Result Listed (FileCode × Place)
+items_of includes functions given bytes = and_then (code_of_file includes bytes) (items_of_code functions given)
 
 -- ---- all phases
 
--- files without groups, where these names are given before a file's own; nothing is known besides
-abbrev pub plain_files : Includes → List (List ℕ) → FileMeaning ⊤
+-- what is given of a file: the functions outside; before its own names others, of which the first so many are variables, and behind them so
+-- many constants, where they are to be counted; and the values that some of them have from outside, by their numbers
+pub record Given : Type 0 where
+  pub functions : List (List ℕ)
+  pub names : List (List ℕ)
+  pub variables : ℕ
+  pub constants : ℕ
+  pub values : List (ℕ × ℤ)
+
+-- these functions and names alone
+abbrev pub only_names : List (List ℕ) → List (List ℕ) → Given
+only_names functions names = record { functions = functions; names = names; variables = 0; constants = 0; values = [] }
+
+abbrev pub outside : Given → Outside
+outside given = record { variables = given.variables; constants = given.constants; values = map (λ v. v.0) given.values }
+
+-- files without groups; nothing is known besides
+abbrev pub plain_files : Includes → Given → FileMeaning ⊤
 plain_files includes given = record {
-  refused = λ bytes fault. items_of includes given bytes ≡ Err fault;
-  listed = λ bytes l known. items_of includes given bytes ≡ Ok l;
-  named = λ l known fault. first_name_fault l.items ≡ fault;
+  refused = λ bytes fault. items_of includes given.functions given.names bytes ≡ Err fault;
+  listed = λ bytes l known. items_of includes given.functions given.names bytes ≡ Ok l;
+  named = λ l known fault. first_name_fault (outside given) l.items ≡ fault;
 }
 
--- what the bytes of a file are read as, where these names are given before its own
-abbrev pub IsPlainReadOver : Includes → List (List ℕ) → List ℕ → Result Whole (FileCode × Place) → Type 0
-IsPlainReadOver includes given bytes (Ok p) = IsAcceptedFile (plain_files includes given) bytes tt p
+-- the bytes are read as this program: what their items spell, with the values from outside as start values
+pub record IsProgramOver (includes : Includes) (given : Given) (bytes : List ℕ) (p : Whole) : Type 0 where
+  pub spelled : Whole
+  pub accepted : IsAcceptedFile (plain_files includes given) bytes tt spelled
+  pub is : p ≡ with_presets given.values spelled
+
+-- what the bytes of a file are read as, where this is given
+abbrev pub IsPlainReadOver : Includes → Given → List ℕ → Result Whole (FileCode × Place) → Type 0
+IsPlainReadOver includes given bytes (Ok p) = IsProgramOver includes given bytes p
 IsPlainReadOver includes given bytes (Err fault) = IsRefusedFile (plain_files includes given) bytes fault
 
--- the same, where none is given
-abbrev pub IsPlainRead : Includes → List ℕ → Result Whole (FileCode × Place) → Type 0
-IsPlainRead includes bytes answer = IsPlainReadOver includes [] bytes answer
+-- the functions, and a file's own names in their order; none where it has a fault before its items
+abbrev pub own_names : List (List ℕ) → Result Listed (FileCode × Place) → Given
+own_names functions (Ok l) =
+    record { functions = functions; names = arranged [] l; variables = length (variables_of [] l); constants = length (constants_of [] l); values = [] }
+own_names functions (Err fault) = only_names [] []
 
--- the names that the spelled file declares, each once, in the order of their first declaration, where these names are given
-pub record AreDeclaredNames (includes : Includes) (given : List (List ℕ)) (bytes : List ℕ) (names : List (List ℕ)) : Type 0 where
-  pub listed : Listed
-  pub items : items_of includes given bytes ≡ Ok listed
+abbrev pub own : Includes → List ℕ → Given
+own includes bytes = own_names (functions_of_bytes bytes) (items_of includes (functions_of_bytes bytes) [] bytes)
+
+-- what they are read as where nothing is given but the file's own functions and names
+abbrev pub IsPlainRead : Includes → List ℕ → Result Whole (FileCode × Place) → Type 0
+IsPlainRead includes bytes answer = IsPlainReadOver includes (own includes bytes) bytes answer
+
+-- the names that the spelled file declares, each once: the variables, and behind them the constants, both in the order of their first
+-- declaration. By first occurrence the names of its text stand in the order of their declarations, whatever they are
+pub record AreDeclaredNames (includes : Includes) (bytes : List ℕ) (names : List (List ℕ)) : Type 0 where
+  pub first : Listed
+  pub first_are : items_of includes (functions_of_bytes bytes) [] bytes ≡ Ok first
+  pub items : List Item
+  pub items_are : items_of includes (functions_of_bytes bytes) names bytes ≡ Ok (record { names = names; items = items })
   pub file : File
-  pub forms : Forms listed.items file
-  pub are : names ≡ each_once [] (names_at listed.names (targets file.declared))
+  pub forms : Forms items file
+  pub declared : first.names ≡ each_once [] (names_at names (targets file.declared))
+  pub are : names ≡ arranged [] first
 
 abbrev pub AreAmong : List (List ℕ) → List Item → Type 0
 AreAmong given items = (x : ℕ) → list_any (nat_eq x) (declared_by items) ≡ true → x < length given
 
--- each name that a file declares is among these
-abbrev pub DeclaresAmong : Includes → List (List ℕ) → List ℕ → Type 0
-DeclaresAmong includes given bytes = (l : Listed) → items_of includes given bytes ≡ Ok l → AreAmong given l.items
+-- each name that a file declares over these functions is among these
+abbrev pub DeclaresAmong : Includes → List (List ℕ) → List (List ℕ) → List ℕ → Type 0
+DeclaresAmong includes functions given bytes = (l : Listed) → items_of includes functions given bytes ≡ Ok l → AreAmong given l.items
 
 -- what a call that reads a file answers; want of memory is free
-abbrev pub IsReadOver : Includes → List (List ℕ) → List ℕ → Result Program FileRefusal → Type 0
+abbrev pub IsReadOver : Includes → Given → List ℕ → Result Program FileRefusal → Type 0
 IsReadOver includes given bytes (Ok program) = IsPlainReadOver includes given bytes (Ok (whole program))
 IsReadOver includes given bytes (Err (refusals.Fault code place)) = IsPlainReadOver includes given bytes (Err (code, place))
 IsReadOver includes given bytes (Err refusals.NoMemory) = ⊤
 
 abbrev pub IsRead : Includes → List ℕ → Result Program FileRefusal → Type 0
-IsRead includes bytes answer = IsReadOver includes [] bytes answer
+IsRead includes bytes answer = IsReadOver includes (own includes bytes) bytes answer

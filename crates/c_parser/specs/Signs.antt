@@ -28,6 +28,7 @@ keyword_or None word = if is_keyword word then Some signs.Reserved else None
 abbrev pub keyword_of : List ℕ → Option Sign
 keyword_of word = keyword_or (sign_in used_words word) word
 
+-- the byte 1 stands for `#define`
 abbrev pub marks : List (List ℕ × Sign)
 marks =
     (codes "(", signs.Open) ∷ (codes ")", signs.Close) ∷ (codes "{", signs.LeftBrace) ∷ (codes "}", signs.RightBrace) ∷ (codes ";", signs.Semicolon)
@@ -35,7 +36,8 @@ marks =
     ∷ (codes "*", signs.Oper Mul) ∷ (codes "/", signs.Oper Div) ∷ (codes "%", signs.Oper Rem) ∷ (codes "<", signs.Oper Lt) ∷ (codes ">", signs.Oper Gt)
     ∷ (codes "<=", signs.Oper Le) ∷ (codes ">=", signs.Oper Ge) ∷ (codes "==", signs.Oper Eq) ∷ (codes "!=", signs.Oper Ne) ∷ (codes "&&", signs.Oper And)
     ∷ (codes "||", signs.Oper Or) ∷ (codes "++", signs.PlusPlus) ∷ (codes "--", signs.MinusMinus) ∷ (codes "+=", signs.PlusEquals)
-    ∷ (codes "-=", signs.MinusEquals) ∷ (codes "*=", signs.StarEquals) ∷ (codes "/=", signs.SlashEquals) ∷ (codes "%=", signs.PercentEquals) ∷ []
+    ∷ (codes "-=", signs.MinusEquals) ∷ (codes "*=", signs.StarEquals) ∷ (codes "/=", signs.SlashEquals) ∷ (codes "%=", signs.PercentEquals)
+    ∷ (1 ∷ [], signs.Define) ∷ []
 
 -- the sign of a mark; no token is a mark without one
 abbrev pub mark_of : List ℕ → Sign

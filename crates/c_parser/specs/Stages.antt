@@ -1,5 +1,5 @@
 -- What the phases of reading a file answer.
-use Rattle.std.specs.Prelude.{◌≡◌, ◌⊎◌, ⊤, ℕ, false, List, length, Result, Ok, Err}
+use Rattle.std.specs.Prelude.{◌≡◌, ◌⊎◌, ⊤, ℕ, false, List, [], length, Result, Ok, Err}
 use Rattle.fam_outer.specs.declared.faults.Place.{Place}
 use Rattle.fam_outer.specs.declared.faults.FileCode.{FileCode}
 use Rattle.fam_outer.specs.declared.faults.FileRefusal.{FileRefusal}
@@ -12,8 +12,13 @@ use Rattle.c_grammar.specs.Facts.{AreFit, AreRising}
 use Rattle.c_grammar.specs.Grammar.{has_groups}
 use Rattle.c_grammar.specs.Within.{SpellsWithin}
 use Rattle.c_parser.specs.declared.numbering.Numbered.{Numbered}
+use Rattle.fam_outer.specs.declared.dialect.Includes.{Includes}
+use Rattle.c_parser.specs.declared.names.Limits.{Limits}
+use Rattle.c_parser.specs.declared.order.Arranged.{Arranged}
+use Rattle.c_parser.specs.Functions.{functions_of_bytes}
 use Rattle.c_parser.specs.Items.{Listed}
 use Rattle.c_parser.specs.Phases.{FileMeaning, HasWrong, HasDeep}
+use Rattle.c_parser.specs.Reading.{Given, items_of, own}
 
 -- items that a reader may be given, and that have no groups
 pub record AreProper (names : List (List ℕ)) (items : List Item) : Type 0 where
@@ -54,3 +59,13 @@ abbrev pub IsSpelledAs : List (List ℕ) → List Item → Place → Result Prog
 IsSpelledAs names items end (Ok program) = SpellsWithin names (whole program) items
 IsSpelledAs names items end (Err (refusals.Fault code place)) = HasWrong (list names items) end (code, place) ⊎ HasDeep (list names items) end (code, place)
 IsSpelledAs names items end (Err refusals.NoMemory) = ⊤
+
+-- functions and names that are given, and how many of them are to be counted
+abbrev pub given_in : List (List ℕ) → List (List ℕ) → Limits → Given
+given_in functions names limits = record { functions = functions; names = names; variables = limits.variables; constants = limits.constants; values = [] }
+
+-- the functions and the names of a file in their order, these with their counts, or its first fault before the grammar; want of memory is free
+abbrev pub IsOwn : Includes → List ℕ → Result (List (List ℕ) × Arranged) FileRefusal → Type 0
+IsOwn includes bytes (Ok (functions, made)) = own includes bytes ≡ given_in functions made.names (record { variables = made.variables; constants = made.constants })
+IsOwn includes bytes (Err (refusals.Fault code place)) = items_of includes (functions_of_bytes bytes) [] bytes ≡ Err (code, place)
+IsOwn includes bytes (Err refusals.NoMemory) = ⊤

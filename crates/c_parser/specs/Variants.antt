@@ -4,6 +4,7 @@ use Rattle.fam_outer.specs.declared.dialect.Dialect.{Dialect}
 use Rattle.fam_outer.specs.declared.dialect.Includes.{Includes}
 use Rattle.fam_outer.specs.declared.faults.FileCode.{FileCode}
 use Rattle.fam_outer.specs.declared.faults.Place.{Place}
+use Rattle.linear_atoms.specs.declared.atoms.Feature.{Feature}
 use Rattle.cpp_conditions.specs.declared.models.Model.{Model}
 use Rattle.cpp_conditions.specs.Validity.{plain, IsValid}
 use Rattle.cpp_lines.specs.Sections.{truths_at, truths_on}
@@ -14,9 +15,12 @@ use Rattle.c_tree.specs.View.{whole}
 use Rattle.c_grammar.specs.declared.items.Item.{Item}
 use Rattle.c_grammar.specs.Within.{SpellsWithin}
 use Rattle.c_parser.specs.declared.family.Family.{Family}
+use Rattle.feature_values.specs.Declarators.{presets}
+use Rattle.feature_values.specs.Values.{uses_of}
 use Rattle.c_parser.specs.FamilyReading.{IsFamilyOf, IsFamilyRefused}
+use Rattle.c_parser.specs.Functions.{functions_of_bytes}
 use Rattle.c_parser.specs.Items.{AreDistinct}
-use Rattle.c_parser.specs.Reading.{items_of, IsPlainReadOver, DeclaresAmong}
+use Rattle.c_parser.specs.Reading.{Given, items_of, IsPlainReadOver, DeclaresAmong}
 
 -- the program of a family where its conditions have these truths
 abbrev pub projection : Family → List Bool → Whole
@@ -30,39 +34,53 @@ truths_in f values = truths_on f.atoms values f.conditions
 abbrev pub names_in : Family → List (List ℕ)
 names_in f = (whole f.code).names
 
--- a text has these names at most, and its items over them spell this program within the limits, whichever includes a file may have
-pub record TextSpells (names : List (List ℕ)) (text : List ℕ) (p : Whole) : Type 0 where
-  pub items : List Item
-  pub are : (includes : Includes) → items_of includes names text ≡ Ok (record { names = names; items = items })
-  pub spelled : SpellsWithin names p items
+-- what is given of a family to the text of the variant of a configuration: its functions, its names, and the values of the features among
+-- these
+abbrev pub given_of : List Feature → List (List ℕ) → List (List ℕ) → List ℤ → Given
+given_of features functions names values = record { functions = functions; names = names; variables = 0; constants = 0; values = presets (uses_of features names) values }
 
--- for every list of truths, what stays of a family's text spells the family's projection over its names
+abbrev pub given_at : Model → List (List ℕ) → Family → List ℤ → Given
+given_at model functions f values = given_of model.features functions (names_in f) values
+
+-- a program with these start values
+abbrev pub starting_at : List ℤ → Whole → Whole
+starting_at start p = record { names = p.names; start = start; declared = p.declared; body = p.body; end = p.end }
+
+-- a text has these names at most, and its items over these functions and them spell this program within the limits, but for the start values that features have
+-- from outside; whichever includes a file may have
+pub record TextSpells (functions names : List (List ℕ)) (text : List ℕ) (p : Whole) : Type 0 where
+  pub items : List Item
+  pub are : (includes : Includes) → items_of includes functions names text ≡ Ok (record { names = names; items = items })
+  pub start : List ℤ
+  pub spelled : SpellsWithin names (starting_at start p) items
+
+-- for every list of truths, what stays of a family's text spells the family's projection over its functions and names
 abbrev pub TextsSpellProjections : Type 0
 TextsSpellProjections = (dialect : Dialect) (model : Model) (bytes text : List ℕ) (f : Family) (truths : List Bool) → IsFamilyOf dialect model bytes f → IsPreprocessed dialect (plain model) (λ conditions. truths) bytes text
-    → TextSpells (names_in f) text (projection f truths)
+    → TextSpells (functions_of_bytes bytes) (names_in f) text (projection f truths)
 
 -- what stays of it at the values of a configuration stays at the truths of the family's conditions there
 abbrev pub VariantsAreTexts : Type 0
 VariantsAreTexts = (dialect : Dialect) (model : Model) (bytes text : List ℕ) (f : Family) (values : List ℤ) → IsFamilyOf dialect model bytes f → IsPreprocessed dialect (plain model) (truths_at values) bytes text
     → IsPreprocessed dialect (plain model) (λ conditions. truths_in f values) bytes text
 
--- at every valid configuration it is read as the family's projection over its names
+-- at every valid configuration it is read as the family's projection over its functions, its names and the values of its features
 abbrev pub VariantsAreRead : Type 0
 VariantsAreRead = (dialect : Dialect) (model : Model) (bytes text : List ℕ) (f : Family) (values : List ℤ) → IsFamilyOf dialect model bytes f → IsValid (plain model) values → IsPreprocessed dialect (plain model) (truths_at values) bytes text
-    → (includes : Includes) → IsPlainReadOver includes (names_in f) text (Ok (projection f (truths_in f values)))
+    → (includes : Includes) → IsPlainReadOver includes (given_at model (functions_of_bytes bytes) f values) text (Ok (projection f (truths_in f values)))
 
 -- an accepted family has no fault of its length, its comments or its lines
 abbrev pub FamiliesHaveTexts : Type 0
 FamiliesHaveTexts = (dialect : Dialect) (model : Model) (bytes : List ℕ) (f : Family) (fault : FileCode × Place) → IsFamilyOf dialect model bytes f → (blanked_file bytes ≡ Err fault) ⊎ HasLineFault dialect (plain model) bytes fault → ⊥
 
--- a family has at most 16 names, all distinct
+-- a family has at most 32 names, all distinct: 16 variables, and 16 constants and features
 abbrev pub FamilyNamesAreFew : Type 0
-FamilyNamesAreFew = (dialect : Dialect) (model : Model) (bytes : List ℕ) (f : Family) → IsFamilyOf dialect model bytes f → (length (names_in f) ≤ 16) × AreDistinct (names_in f)
+FamilyNamesAreFew = (dialect : Dialect) (model : Model) (bytes : List ℕ) (f : Family) → IsFamilyOf dialect model bytes f → (length (names_in f) ≤ 32) × AreDistinct (names_in f)
 
 -- among them are all names that a variant's text declares
 abbrev pub VariantsDeclareAmong : Type 0
 VariantsDeclareAmong = (dialect : Dialect) (model : Model) (bytes text : List ℕ) (f : Family) (truths : List Bool) → IsFamilyOf dialect model bytes f → IsPreprocessed dialect (plain model) (λ conditions. truths) bytes text
-    → (includes : Includes) → DeclaresAmong includes (names_in f) text
+    → (includes : Includes) → DeclaresAmong includes (functions_of_bytes bytes) (names_in f) text
 
 -- two families that a file is read as have one program, and the same truths at each configuration
 pub record AreSameFamily (f g : Family) : Type 0 where

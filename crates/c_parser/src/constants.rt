@@ -3,20 +3,19 @@
 
 ghost use Rattle.std.specs.Prelude.{◌≡◌, [], ◌∷◌, ◌++◌, List, OnOk};
 ghost use Rattle.c_grammar.specs.declared.items.Item as items;
+ghost use Rattle.c_parser.specs.declared.names.Limits.{Limits};
 ghost use Rattle.c_parser.specs.Judging as judging;
 ghost use Rattle.c_parser.specs.Names as specs;
 
 use crate::names::{Known, contains};
-use c_grammar::{Item, Sign, changed_behind, is_constant_behind};
+use c_grammar::{Item, Sign, Track};
 use fam_outer::{FileCode, NoMemory, Place};
 use std::alloc::Global;
 
-/// What is known of constants behind some items: the last item, whether a declaration with `const` or `enum` goes on, and
-/// the names of constants.
+/// What is known of constants behind some items: what they tell of the next one, and the names of constants.
 #[derive(Drop)]
 pub(crate) struct Constants {
-    last: Option<Item>,
-    goes_on: bool,
+    pub(crate) track: Track,
     names: Vec<u32>,
 }
 
@@ -40,12 +39,12 @@ pub(crate) fn change_fault(
 ) -> Option<(FileCode, Place)>
     ensures { (before : List items.Item) → judging.IsKnown before known.now
         → judging.AreHeld before constants.now
-        → result ≡ specs.change_fault before item }
+        → (limits : Limits) → result ≡ specs.change_fault (judging.counted limits) before item }
 {
     if !known.in_main {
         return None;
     }
-    constant_fault(&constants.names, changed_behind(constants.last, item))
+    constant_fault(&constants.names, constants.track.change(item))
 }
 
 /// Adds the name, where the sign is one and it is a constant's.
@@ -67,23 +66,21 @@ impl Constants {
         ensures { judging.AreHeld [] result }
     {
         Constants {
-            last: None,
-            goes_on: false,
+            track: Track::new(),
             names: Vec::new(alloc),
         }
     }
 
-    /// Goes on behind an item, behind others of which this is known: a name that is declared with `const` or `enum` is a
-    /// constant's.
+    /// Goes on behind an item, behind others of which this is known: a name that is declared with `const` or `enum`, or by
+    /// `#define`, is a constant's.
     pub(crate) fn follow(&mut self, known: &Known, item: Item) -> Result<(), NoMemory>
         ensures { (before : List items.Item) → judging.IsKnown before known.now
             → judging.AreHeld before self.old
             → OnOk result (judging.AreHeld (before ++ item ∷ []) self.new) }
     {
-        let is_constant = self.goes_on && !known.in_main;
+        let is_constant = self.track.is_constant() && !known.in_main;
         declare_constant(&mut self.names, is_constant, item.sign)?;
-        self.last = Some(item);
-        self.goes_on = is_constant_behind(self.goes_on, item.sign);
+        self.track.follow(item);
         Ok(())
     }
 }

@@ -1,7 +1,7 @@
 //! The program of a file with groups.
 #![tactic(auto)]
 
-ghost use Rattle.std.specs.Prelude.{◌≤◌, length, IfOk};
+ghost use Rattle.std.specs.Prelude.{◌≡◌, ◌+◌, ◌<◌, ◌≤◌, ◌^◌, length, IfOk};
 ghost use Rattle.std.specs.List.{All};
 ghost use Rattle.linear_atoms.specs.Atoms.{AreAtoms};
 ghost use Rattle.cpp_conditions.specs.Distinct.{HaveFewAtoms};
@@ -13,7 +13,11 @@ ghost use Rattle.c_tree.specs.Project.{IsConditioned};
 ghost use Rattle.c_tree.specs.View.{whole};
 ghost use Rattle.c_tree.specs.Whole.{IsProgram};
 ghost use Rattle.c_grammar.specs.Laws.{AtMostOne};
-ghost use Rattle.c_parser.specs.FamilyReading.{IsFamilyRead};
+ghost use Rattle.feature_values.specs.Declarators as values;
+ghost use Rattle.feature_values.specs.Moved.{AddsTests};
+ghost use Rattle.feature_values.specs.Values.{test_count};
+ghost use Rattle.c_parser.specs.FamilyReading.{IsFamilyRead, uses_in};
+ghost use Rattle.c_parser.specs.FamilyStages.{AreFileConditions};
 
 use crate::family_items::{Conditions, list_family};
 use crate::laws::family_names_occur;
@@ -25,12 +29,15 @@ use c_grammar::laws::{files_are_programs, spells_at_most_one, within_the_limits_
 use c_tree::{Names, Program};
 use cpp_conditions::Model;
 use cpp_lines::{Atoms, Formulas};
-use fam_outer::{Dialect, FileCode, FileRefusal, NoMemory, Place};
+use fam_outer::{Dialect, FileCode, FileRefusal, MOST_TESTS, MOST_VALUE_TESTS, NoMemory, Place};
 use family_names::{NameContext, first_name_fault};
+use feature_values::laws::{uses_stand, values_keep_programs};
+use feature_values::{add_tests, add_values, uses};
 use std::alloc::Global;
 
-/// A family: the program of a file with groups, the conditions of its group directives in their order, and the atoms of the
-/// model and of these conditions, which rise strictly. A formula has the numbers of its condition's atoms.
+/// A family: the program of a file with groups, the conditions of its group directives in their order with the tests of the
+/// features that it uses as values behind them, and the atoms of the model and of these, which rise strictly. A formula has
+/// the numbers of its condition's atoms.
 #[derive(Debug, Drop)]
 pub struct Family {
     pub code: Program,
@@ -80,9 +87,43 @@ impl FileKind for FamilyFiles<'_> {
             atoms: known.atoms.items(),
             conditions: known.formulas.items(),
             names: names.items(),
+            functions: known.functions.items(),
         };
         first_name_fault(alloc, &context, items)
     }
+}
+
+/// The family of a program and of its conditions: the tests of the features that it names stand behind these.
+fn with_values(
+    alloc: Global,
+    model: &Model,
+    code: Program,
+    known: &Conditions,
+) -> Result<Family, NoMemory>
+    requires features { AreFeatures model.now.features }
+    requires names { length (whole code).names < 2 ^ 32 }
+    requires proper { AreFileConditions (length model.now.features) known.now }
+    requires few { test_count model.now.features (uses_in model.now (whole code)) ≤ MOST_VALUE_TESTS }
+    ensures code { IfOk result (λ f. whole f.code ≡ values.with_values (length known.now.formulas)
+        model.now.features (uses_in model.now (whole code)) (whole code)) }
+    ensures tests { IfOk result (λ f. AddsTests model.now.features (uses_in model.now (whole code))
+        known.now.atoms known.now.formulas f.atoms f.conditions) }
+    ensures count { IfOk result (λ f. length f.conditions
+        ≡ length known.now.formulas + test_count model.now.features (uses_in model.now (whole code))) }
+    ensures few { IfOk result (λ f. length f.atoms ≤ MOST_TESTS) }
+    ensures atoms { IfOk result (λ f. AreAtoms (length model.now.features) f.atoms) }
+    ensures below { IfOk result (λ f. All (λ c. IsBelow (length f.atoms) (formula c)) f.conditions) }
+{
+    uses_stand();
+    let features = model.features.items();
+    let formulas = known.formulas.items();
+    let used = uses(alloc, features, code.names.items())?;
+    let (atoms, conditions) = add_tests(alloc, features, &used, known.atoms.items(), formulas)?;
+    Ok(Family {
+        code: add_values(alloc, formulas.len() as u32, features, &used, code)?,
+        conditions: Formulas::from_vec(conditions),
+        atoms: Atoms::from_vec(atoms),
+    })
 }
 
 /// The family that a file spells over a model. Over one list of names, a list of items spells at most one program.
@@ -91,7 +132,10 @@ impl FileKind for FamilyFiles<'_> {
 /// may stand around whole declarations and whole statements, and behind `main` around nothing (ISO/IEC 9899:2011, 6.10.1).
 /// In the program a group in a list of statements is a `Cond`, with the number of its condition; an `#elif` opens one in
 /// the `no` side of the one before. Each declarator stands with the guards of the groups around it. Each name is one that
-/// the file declares; there are at most 16. A file without group directives gives a plain program.
+/// the file declares, or that of an integer feature which it uses as a value: at most 16 variables, then the constants, and
+/// then the features, these two at most 16 together. A feature that is used has its value from tests of the feature, at most
+/// 256 in all, which stand behind the conditions of the file: by a declarator for each value, with the guard of its test. So
+/// there are at most 320 atoms. A file without group directives that names no feature gives a plain program.
 ///
 /// The earliest of these phases that has a fault decides, and in a phase the first place: `TooLong`, `OpenComment`, `Splice`
 /// and `CommentAtDirective` as `cpp_lines::blanked_file` has them; `Directive` to `TooManyTests` as
@@ -114,7 +158,7 @@ pub fn read_family(
     ensures once { AtMostOne }
     ensures program { IfOk result (λ f. IsProgram (whole f.code)) }
     ensures conditioned { IfOk result (λ f. IsConditioned (length f.conditions) (whole f.code)) }
-    ensures few { IfOk result (λ f. length f.atoms ≤ 64) }
+    ensures few { IfOk result (λ f. length f.atoms ≤ MOST_TESTS) }
     ensures atoms { IfOk result (λ f. AreAtoms (length model.now.features) f.atoms) }
     ensures below { IfOk result (λ f. All (λ c. IsBelow (length f.atoms) (formula c)) f.conditions) }
 {
@@ -122,14 +166,8 @@ pub fn read_family(
     within_the_limits_is_a_file();
     files_are_programs();
     family_names_occur();
-    let (code, Conditions { formulas, atoms }) = read_file(
-        alloc,
-        &FamilyFiles { dialect, model },
-        bytes,
-    )?;
-    Ok(Family {
-        code,
-        conditions: formulas,
-        atoms,
-    })
+    uses_stand();
+    values_keep_programs();
+    let (code, known) = read_file(alloc, &FamilyFiles { dialect, model }, bytes)?;
+    Ok(with_values(alloc, model, code, &known)?)
 }

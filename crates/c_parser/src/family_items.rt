@@ -13,9 +13,12 @@ ghost use Rattle.c_parser.specs.FamilyReading.{families_over};
 ghost use Rattle.c_parser.specs.FamilyStages.{AreProperConditions};
 ghost use Rattle.c_parser.specs.Stages.{IsListedAs, listed_in};
 
+use crate::functions::own_functions;
 use crate::numbering::Numbered;
+use crate::order::arrange;
 use crate::plain::number_code;
 use c_grammar::{Item, Sign};
+use c_tree::Names;
 use cpp_conditions::Model;
 use cpp_lines::laws::places_stay;
 use cpp_lines::{Atoms, Formulas, Line, LineKind, blanked_file, code_text, read_sections};
@@ -29,6 +32,7 @@ fn group_sign(kind: LineKind) -> Option<Sign>
     match kind {
         LineKind::Code => None,
         LineKind::Include => None,
+        LineKind::Define => None,
         LineKind::If(number) => Some(Sign::GroupIf(number)),
         LineKind::Elif(number) => Some(Sign::GroupElif(number)),
         LineKind::Else => Some(Sign::GroupElse),
@@ -86,11 +90,13 @@ pub(crate) fn by_line(alloc: Global, lines: &[Line], tokens: &[Item]) -> Result<
     Ok(items)
 }
 
-/// The conditions of a file with groups, in their order, and the atoms of the model and of these conditions.
+/// What is known of a file with groups besides its items: its conditions in their order, the atoms of the model and of these
+/// conditions, and its functions.
 #[derive(Drop)]
 pub(crate) struct Conditions {
     pub formulas: Formulas,
     pub atoms: Atoms,
+    pub functions: Names,
 }
 
 /// The names and items of a file with groups, and its conditions.
@@ -113,12 +119,27 @@ pub(crate) fn list_family(
     places_stay();
     let blanked = blanked_file(alloc, bytes)?;
     let sections = read_sections(alloc, dialect, model, blanked.bytes())?;
-    let code = code_text(alloc, blanked.bytes(), sections.lines.items())?;
-    let Numbered { names, items } = number_code(alloc, &[], code.bytes())?;
+    let code = code_text(alloc, blanked.bytes())?;
+    let functions = own_functions(alloc, code.bytes())?;
+    let first = number_code(alloc, functions.items(), &[], code.bytes())?;
+    let arranged = arrange(
+        alloc,
+        model.features.items(),
+        first.names.items(),
+        first.items.as_slice(),
+    )?;
+    let listed = number_code(
+        alloc,
+        functions.items(),
+        arranged.names.items(),
+        code.bytes(),
+    )?;
+    let Numbered { names, items } = listed;
     let items = by_line(alloc, sections.lines.items(), items.as_slice())?;
     let conditions = Conditions {
         formulas: sections.conditions,
         atoms: sections.atoms,
+        functions,
     };
     Ok((Numbered { names, items }, conditions))
 }

@@ -1,7 +1,7 @@
 //! Laws of reading files, for the crates above: each function does nothing, and its contract is the law.
 #![tactic(auto)]
 
-ghost use Rattle.std.specs.Prelude.{◌≡◌, ◌≤◌, ◌<◌, true, false, ℕ, List, [], length, Result, Ok};
+ghost use Rattle.std.specs.Prelude.{◌≡◌, ◌≤◌, ◌<◌, true, false, ℕ, List, length, Result, Ok};
 ghost use Rattle.fam_outer.specs.declared.dialect.Dialect.{Dialect};
 ghost use Rattle.fam_outer.specs.declared.dialect.Includes.{Includes};
 ghost use Rattle.fam_outer.specs.declared.faults.FileCode.{FileCode};
@@ -16,15 +16,15 @@ ghost use Rattle.cpp_lines.specs.Sections.{Told};
 ghost use Rattle.c_parser.specs.FamilyItems.{HasItems, has};
 ghost use Rattle.c_parser.specs.Names.{declared_by, targets};
 ghost use Rattle.c_parser.specs.Phases.{wrong_code};
-ghost use Rattle.c_parser.specs.Reading.{IsPlainRead, IsPlainReadOver, items_of, AreDeclaredNames};
+ghost use Rattle.c_parser.specs.Reading.{Given, IsPlainRead, IsPlainReadOver, items_of, AreDeclaredNames};
 
 use c_grammar::laws::{reads_within_the_limits, within_the_limits_is_a_file};
 use c_tokens::laws::{lines_are_apart, literals_are_numbers, one_reading, reads_longest_lexemes};
 use fam_outer::places_rise;
 
-/// A file is read in one way.
+/// A file is read in one way, over whatever is given.
 pub fn reads_at_most_once()
-    ensures { (includes : Includes) (given : List (List ℕ)) (bytes : List ℕ) (r s : Result Whole (FileCode × Place))
+    ensures { (includes : Includes) (given : Given) (bytes : List ℕ) (r s : Result Whole (FileCode × Place))
         → IsPlainReadOver includes given bytes r → IsPlainReadOver includes given bytes s → r ≡ s }
 {
     reads_within_the_limits();
@@ -32,21 +32,24 @@ pub fn reads_at_most_once()
 
 /// Each file is read as a program, or has a refusal.
 pub fn reads_something()
-    ensures { (includes : Includes) (given : List (List ℕ)) (bytes : List ℕ)
+    ensures { (includes : Includes) (given : Given) (bytes : List ℕ)
         → (r : Result Whole (FileCode × Place)) × IsPlainReadOver includes given bytes r }
 {
     reads_within_the_limits();
 }
 
-/// The names of a program that is read over no given names are those that its file declares, in the order of their
-/// declarations; there are at most 16.
+/// The names of a program that is read over its file's own names are those that the file declares: the variables, and behind
+/// them the constants, both in the order of their first declaration. There are at most 32, 16 of each kind.
 pub fn names_are_declared()
     ensures names { (includes : Includes) (bytes : List ℕ) (p : Whole)
-        → IsPlainRead includes bytes (Ok p) → AreDeclaredNames includes [] bytes p.names }
+        → IsPlainRead includes bytes (Ok p) → AreDeclaredNames includes bytes p.names }
     ensures few { (includes : Includes) (bytes : List ℕ) (p : Whole)
-        → IsPlainRead includes bytes (Ok p) → length p.names ≤ 16 }
+        → IsPlainRead includes bytes (Ok p) → length p.names ≤ 32 }
 {
     within_the_limits_is_a_file();
+    reads_longest_lexemes();
+    literals_are_numbers();
+    places_rise();
 }
 
 /// What stands as declared in phase 6, each name before `main`, is what the grammar declares: the targets of the
@@ -71,7 +74,7 @@ pub fn family_names_occur()
 /// `GroupInsideStatement` is a fault of families alone.
 #[tactic(auto, using(crate::proofs::PlainItems::plain_items, crate::proofs::PlainItems::plain_code))]
 pub fn plain_files_have_no_groups()
-    ensures items { (includes : Includes) (given : List (List ℕ)) (bytes : List ℕ) (l : Listed)
-        → items_of includes given bytes ≡ Ok l → has_groups l.items ≡ false }
+    ensures items { (includes : Includes) (functions given : List (List ℕ)) (bytes : List ℕ) (l : Listed)
+        → items_of includes functions given bytes ≡ Ok l → has_groups l.items ≡ false }
     ensures wrong { (items : List Item) (n : ℕ) → has_groups items ≡ false → wrong_code items n ≡ Syntax }
 {}

@@ -5,11 +5,14 @@ ghost use Rattle.std.specs.Prelude.{◌≡◌, nat_eq, List, IfOk};
 ghost use Rattle.std.specs.List.{list_any};
 ghost use Rattle.c_parser.specs.Names as specs;
 ghost use Rattle.c_grammar.specs.declared.items.Item as items;
-ghost use Rattle.c_parser.specs.Judging.{Declares, IsKnown, Judges};
+ghost use Rattle.c_grammar.specs.Constants.{IsTrack};
+ghost use Rattle.c_parser.specs.declared.names.Limits as limits;
+ghost use Rattle.c_parser.specs.Judging.{Declares, IsKnown, Judges, counted};
 
 use crate::constants::{Constants, change_fault};
-use c_grammar::{Item, Sign};
-use fam_outer::{FileCode, MOST_NAMES, NoMemory, Place};
+use crate::prototypes::Prototypes;
+use c_grammar::{Item, Sign, Track};
+use fam_outer::{FileCode, MOST_CONSTANTS, MOST_NAMES, NoMemory, Place};
 use std::alloc::Global;
 
 /// Whether a number is among these.
@@ -24,29 +27,50 @@ pub(crate) fn contains(numbers: &[u32], number: u32) -> bool
     false
 }
 
-/// What is known behind some items: the names that they declare, and whether `main` is among them.
+/// What is known behind some items: the names and the functions that they declare, and whether `main` is among them.
 #[derive(Drop)]
 pub(crate) struct Known {
     declared: Vec<u32>,
+    prototypes: Prototypes,
     pub(crate) in_main: bool,
 }
 
-/// The fault of a declaration.
-fn declaration_fault(declared: &[u32], number: u32) -> Option<FileCode>
-    ensures { result ≡ specs.declaration_fault declared.now number }
+/// How many of the names of a file, the first ones, are variables, and how many behind these are constants, where both are
+/// to be counted.
+#[derive(Clone, Copy)]
+pub(crate) struct Limits {
+    pub(crate) variables: u32,
+    pub(crate) constants: u32,
+}
+
+/// The fault of a name that is the 17th variable or the 17th constant.
+fn limit_fault(limits: Limits, number: u32) -> Option<FileCode>
+    ensures { result ≡ specs.limit_fault (counted limits) number }
 {
-    if contains(declared, number) {
-        return Some(FileCode::Twice(None));
-    }
-    if declared.len() >= MOST_NAMES {
+    let number = number as usize;
+    let variables = limits.variables as usize;
+    if number == MOST_NAMES && number < variables {
         return Some(FileCode::TooManyVariables);
+    }
+    if number == variables + MOST_CONSTANTS && number < variables + limits.constants as usize {
+        return Some(FileCode::TooManyConstants);
     }
     None
 }
 
+/// The fault of a declaration.
+fn declaration_fault(limits: Limits, declared: &[u32], number: u32) -> Option<FileCode>
+    ensures { result ≡ specs.declaration_fault (counted limits) declared.now number }
+{
+    if contains(declared, number) {
+        return Some(FileCode::Twice(None));
+    }
+    limit_fault(limits, number)
+}
+
 /// The fault of a use.
 fn use_fault(declared: &[u32], number: u32) -> Option<FileCode>
-    ensures { result ≡ specs.use_fault declared.now number }
+    ensures { (counts : limits.Limits) → result ≡ specs.use_fault (counted counts) declared.now number }
 {
     if contains(declared, number) {
         None
@@ -56,20 +80,29 @@ fn use_fault(declared: &[u32], number: u32) -> Option<FileCode>
 }
 
 /// The fault of a declaration; without one the name is declared.
-fn declare(declared: &mut Vec<u32>, number: u32) -> Result<Option<FileCode>, NoMemory>
-    ensures { IfOk result (λ fault. Declares declared.old.items number declared.new.items fault) }
+fn declare(
+    limits: Limits,
+    declared: &mut Vec<u32>,
+    number: u32,
+) -> Result<Option<FileCode>, NoMemory>
+    ensures { IfOk result (λ fault. Declares (counted limits) declared.old.items number declared.new.items fault) }
 {
-    let fault = declaration_fault(declared, number);
+    let fault = declaration_fault(limits, declared, number);
     if fault.is_none() {
         declared.push(number)?;
     }
     Ok(fault)
 }
 
-/// The fault of an item; without one it is known.
-fn judge(known: &mut Known, sign: Sign) -> Result<Option<FileCode>, NoMemory>
-    ensures { (before : List items.Item) → IsKnown before known.old
-        → IfOk result (λ fault. Judges before sign known.new fault) }
+/// The fault of an item behind others that this tells of; without one it is known.
+fn judge(
+    limits: Limits,
+    known: &mut Known,
+    track: &Track,
+    sign: Sign,
+) -> Result<Option<FileCode>, NoMemory>
+    ensures { (before : List items.Item) → IsKnown before known.old → IsTrack before track.now
+        → IfOk result (λ fault. Judges (counted limits) before sign known.new fault) }
 {
     match sign {
         Sign::Main => {
@@ -80,30 +113,34 @@ fn judge(known: &mut Known, sign: Sign) -> Result<Option<FileCode>, NoMemory>
             if known.in_main {
                 Ok(use_fault(&known.declared, number))
             } else {
-                declare(&mut known.declared, number)
+                declare(limits, &mut known.declared, number)
             }
         }
+        Sign::Function(number) => known.prototypes.judge(known.in_main, track, number),
         _ => Ok(None),
     }
 }
 
-/// The first fault of a name among the items of a file, with its place.
+/// The first fault of a name among the items of a file, with its place; no name has a value from outside.
 #[tactic(auto, unfolding(crate::specs::Names::first_name_fault))]
 pub(crate) fn first_name_fault(
     alloc: Global,
+    limits: Limits,
     items: &[Item],
 ) -> Result<Option<(FileCode, Place)>, NoMemory>
-    ensures { IfOk result (λ fault. fault ≡ specs.first_name_fault items.now) }
+    ensures { IfOk result (λ fault. fault ≡ specs.first_name_fault (counted limits) items.now) }
 {
     let mut known = Known {
         declared: Vec::new(alloc),
+        prototypes: Prototypes::new(alloc),
         in_main: false,
     };
     let mut constants = Constants::new(alloc);
     for item in items {
         let change = change_fault(&known, &constants, *item);
+        let track = constants.track;
         constants.follow(&known, *item)?;
-        if let Some(code) = judge(&mut known, item.sign)? {
+        if let Some(code) = judge(limits, &mut known, &track, item.sign)? {
             return Ok(Some((code, item.place)));
         }
         if let Some(fault) = change {

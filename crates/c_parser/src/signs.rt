@@ -28,8 +28,8 @@ const USED_WORDS: [(&str, Sign); 15] = [
     ("enum", Sign::Enum),
 ];
 
-/// The marks.
-const MARKS: [(&str, Sign); 28] = [
+/// The marks. The byte 1 stands for `#define`.
+const MARKS: [(&str, Sign); 29] = [
     ("(", Sign::Open),
     (")", Sign::Close),
     ("{", Sign::LeftBrace),
@@ -58,6 +58,7 @@ const MARKS: [(&str, Sign); 28] = [
     ("*=", Sign::StarEquals),
     ("/=", Sign::SlashEquals),
     ("%=", Sign::PercentEquals),
+    ("\u{1}", Sign::Define),
 ];
 
 /// Whether the lexeme is this text.

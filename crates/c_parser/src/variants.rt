@@ -5,12 +5,14 @@ ghost use Rattle.c_parser.specs.Variants.{FamiliesAreNotRefused, FamiliesAreRead
 
 use crate::laws::family_names_occur;
 use c_grammar::laws::{
-    leaving_out_makes_nothing_deeper, reads_within_the_limits, within_the_limits_is_a_file,
+    files_are_programs, leaving_out_makes_nothing_deeper, reads_within_the_limits,
+    within_the_limits_is_a_file,
 };
 use c_tokens::laws::{lines_are_apart, literals_are_numbers, one_reading, reads_longest_lexemes};
 use cpp_lines::laws::{texts_are_read_once, variants_are_plain};
 use fam_outer::places_rise;
 use family_names::laws::names_are_judged_once;
+use feature_values::laws::{conditions_are_enough, values_are_starts};
 
 /// A file is read as one family, with one program and with one truth of each condition at each configuration, or it has one
 /// refusal. It is so over each model, and the same over models with the same features and the same constraints.
@@ -24,23 +26,17 @@ pub fn families_are_read_once()
     names_are_judged_once();
 }
 
-/// The names of a family are distinct, and there are at most 16.
+/// The names of a family are distinct, and there are at most 32: 16 variables, and 16 constants and features together.
 pub fn family_names_are_few()
     ensures { FamilyNamesAreFew }
 {
-    reads_longest_lexemes();
-    literals_are_numbers();
-    places_rise();
-    lines_are_apart();
-    one_reading();
-    texts_are_read_once();
     family_names_occur();
 }
 
 /// Preprocessing and then reading is reading and then projecting. What stays of the text of an accepted family spells,
-/// over the family's names, the family's projection, for every list of truths of its conditions: so no variant is deeper
-/// than the limits. At a valid configuration that text is read over these names as this program: so no name of a variant
-/// has a fault. The lines of an accepted family have none either, so `variant_text` has no refusal but want of memory.
+/// over the family's names, the family's projection, but for the start values of features, for every list of truths of its
+/// conditions: so no variant is deeper than the limits. At a valid configuration that text is read over these names and the
+/// features' values as this program: so no name of a variant has a fault. The lines of an accepted family have none either, so `variant_text` has no refusal but want of memory.
 pub fn variants_are_projections()
     ensures spelled { TextsSpellProjections }
     ensures texts { VariantsAreTexts }
@@ -57,4 +53,8 @@ pub fn variants_are_projections()
     variants_are_plain();
     leaving_out_makes_nothing_deeper();
     within_the_limits_is_a_file();
+    files_are_programs();
+    values_are_starts();
+    conditions_are_enough();
+    family_names_occur();
 }

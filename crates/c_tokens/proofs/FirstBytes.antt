@@ -1,10 +1,10 @@
 -- The first byte of a lexeme is no white space.
-use Rattle.std.proofs.Common.{◌≡◌, ℕ, zero, suc, ◌<◌, ◌≤◌, inl, inr, Bool, true, false, cond, eqb, leb, List, [], ◌∷◌, take, refl, arith}
+use Rattle.std.proofs.Common.{◌≡◌, ℕ, zero, suc, ◌<◌, ◌≤◌, inl, inr, Bool, true, false, not, cond, eqb, leb, List, [], ◌∷◌, take, refl, sym, subst, arith}
 use Rattle.std.specs.Prelude.{◌||◌, ◌&&◌, codes}
 use Rattle.std.specs.List.{list_all}
 use Rattle.std.proofs.lemmas.Bool.{and_parts, or_cases, or_right, eqb-true, leb-true, false_from_ne_true}
 use Rattle.c_words.specs.Bytes.{is_space, is_digit, is_letter, is_nondigit, is_word_byte}
-use Rattle.c_tokens.specs.Lexemes.{is_one_of}
+use Rattle.c_tokens.specs.Lexemes.{is_one_of, single_marks}
 use Rattle.c_tokens.specs.Lexemes.{is_lexeme, is_run, is_mark, is_pair, is_quoted, is_empty, closes, is_number_behind}
 
 space_below : (b : ℕ) → is_space b ≡ true → b ≤ 32
@@ -37,26 +37,39 @@ pair_above b c e = elim (or_cases (is_one_of (codes "=!<>+-*/%") b && eqb c 61) 
   | inr h ↦ one_above (codes "&|+-") b refl (and_parts (is_one_of (codes "&|+-") b) (eqb c b) h).0
 ]
 
-mark_above : (b : ℕ) (xs : List ℕ) → is_mark (b ∷ xs) ≡ true → 33 ≤ b
-mark_above b [] e = one_above (codes "(){};,=<>+-*/%!") b refl e
-mark_above b (c ∷ []) e = pair_above b c e
-mark_above b (c ∷ d ∷ xs) e = absurd cc
+no_space_above : (b : ℕ) → 33 ≤ b → is_space b ≡ false
+no_space_above b le = false_from_ne_true (is_space b) (λ s. let h = space_below b s in absurd (omega arith))
+
+is_not : (v : Bool) → not v ≡ true → v ≡ false
+is_not true e = absurd cc
+is_not false e = refl
+
+one_no_space : (ms : List ℕ) (b : ℕ) → list_all (λ m. not (is_space m)) ms ≡ true → is_one_of ms b ≡ true → is_space b ≡ false
+one_no_space [] b all e = absurd cc
+one_no_space (m ∷ ms) b all e =
+    let p = and_parts (not (is_space m)) (list_all (λ m. not (is_space m)) ms) all in
+    elim (or_cases (eqb b m) (is_one_of ms b) e) [
+      | inl h ↦ subst (λ (i : ℕ). is_space i ≡ false) (sym (eqb-true b m h)) (is_not (is_space m) p.0)
+      | inr h ↦ one_no_space ms b p.1 h
+    ]
+
+mark_no_space : (b : ℕ) (xs : List ℕ) → is_mark (b ∷ xs) ≡ true → is_space b ≡ false
+mark_no_space b [] e = one_no_space single_marks b refl e
+mark_no_space b (c ∷ []) e = no_space_above b (pair_above b c e)
+mark_no_space b (c ∷ d ∷ xs) e = absurd cc
 
 run_above : (b : ℕ) (xs : List ℕ) (v : Bool) → is_digit b ≡ v → cond v (is_number_behind b xs) (is_word_byte b && list_all is_word_byte xs) ≡ true → 33 ≤ b
 run_above b xs true d e = word_above b (or_right (is_nondigit b) (is_digit b) d)
 run_above b xs false d e = word_above b (and_parts (is_word_byte b) (list_all is_word_byte xs) e).0
 
-lexeme_above : (b : ℕ) (xs : List ℕ) → is_lexeme (b ∷ xs) ≡ true → 33 ≤ b
-lexeme_above b xs e = elim (or_cases (is_run (b ∷ xs)) (is_mark (b ∷ xs) || is_quoted (b ∷ xs)) e) [
-  | inl h ↦ run_above b xs (is_digit b) refl h
+pub no_space : (b : ℕ) (xs : List ℕ) → is_lexeme (b ∷ xs) ≡ true → is_space b ≡ false
+no_space b xs e = elim (or_cases (is_run (b ∷ xs)) (is_mark (b ∷ xs) || is_quoted (b ∷ xs)) e) [
+  | inl h ↦ no_space_above b (run_above b xs (is_digit b) refl h)
   | inr h ↦ elim (or_cases (is_mark (b ∷ xs)) (is_quoted (b ∷ xs)) h) [
-    | inl k ↦ mark_above b xs k
-    | inr k ↦ omega (arith, eqb-true b 39 (and_parts (eqb b 39) (is_empty xs || closes false xs) k).0)
+    | inl k ↦ mark_no_space b xs k
+    | inr k ↦ no_space_above b (omega (arith, eqb-true b 39 (and_parts (eqb b 39) (is_empty xs || closes false xs) k).0))
   ]
 ]
-
-pub no_space : (b : ℕ) (xs : List ℕ) → is_lexeme (b ∷ xs) ≡ true → is_space b ≡ false
-no_space b xs e = false_from_ne_true (is_space b) (λ s. let h = space_below b s in let k = lexeme_above b xs e in absurd (omega arith))
 
 pub no_space_first : (b : ℕ) (bs : List ℕ) (n : ℕ) → 0 < n → is_lexeme (take n (b ∷ bs)) ≡ true → is_space b ≡ false
 no_space_first b bs zero lt e = absurd (omega arith)

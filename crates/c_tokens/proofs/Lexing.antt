@@ -4,7 +4,7 @@ use Rattle.std.specs.Prelude.{◌&&◌, ◌||◌, codes, unwrap_or}
 use Rattle.std.specs.List.{list_all, prefix_len}
 use Rattle.std.proofs.lemmas.Bool.{and_parts, and_left, or_from, or_right, eqb-true, ne_eqb, both_ways}
 use Rattle.c_words.specs.Bytes.{is_digit, is_nondigit, is_word_byte}
-use Rattle.c_tokens.specs.Lexemes.{is_one_of}
+use Rattle.c_tokens.specs.Lexemes.{is_one_of, single_marks}
 use Rattle.c_tokens.specs.Lexemes.{IsLongest, is_mark, is_run, is_quoted, is_lexeme, lexeme_of, is_number_behind, number_len, close_len}
 use Rattle.c_tokens.proofs.Longest.{is_longest, one_longest}
 use Rattle.c_tokens.proofs.Runs.{number_longest, word_longest}
@@ -22,7 +22,7 @@ not_one_of (m ∷ ms) b none w =
     or_from (eqb b m) (is_one_of ms b) (elim (eqb b m) as (λ v. eqb b m ≡ v → v ≡ false) [ true ↦ λ e. absurd (differs b m w p.0 (eqb-true b m e)) | false ↦ λ e. refl ] refl) (not_one_of ms b p.1 w)
 
 mark_not : (b : ℕ) (xs : List ℕ) → is_word_byte b ≡ true → is_mark (b ∷ xs) ≡ false
-mark_not b [] w = not_one_of (codes "(){};,=<>+-*/%!") b refl w
+mark_not b [] w = not_one_of single_marks b refl w
 mark_not b (c ∷ []) w = or_from (is_one_of (codes "=!<>+-*/%") b && eqb c 61) (is_one_of (codes "&|+-") b && eqb c b) (and_left _ _ (not_one_of (codes "=!<>+-*/%") b refl w)) (and_left _ _ (not_one_of (codes "&|+-") b refl w))
 mark_not b (c ∷ d ∷ xs) w = refl
 

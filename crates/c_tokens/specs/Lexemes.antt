@@ -12,9 +12,16 @@ abbrev pub is_one_of : List ℕ → ℕ → Bool
 is_one_of [] b = false
 is_one_of (m ∷ ms) b = (b == m) || is_one_of ms b
 
+-- the mark with which a definition begins: it stands for the `#` of a `#define`, and for no byte of a file
+abbrev pub definition_byte : ℕ
+definition_byte = 1
+
+abbrev pub single_marks : List ℕ
+single_marks = definition_byte ∷ codes "(){};,=<>+-*/%!"
+
 -- the marks of one byte
 abbrev pub is_single : ℕ → Bool
-is_single b = is_one_of (codes "(){};,=<>+-*/%!") b
+is_single b = is_one_of single_marks b
 
 -- the marks of two bytes: `==` `!=` `<=` `>=` `+=` `-=` `*=` `/=` `%=`, and `&&` `||` `++` `--`
 abbrev pub is_pair : ℕ → ℕ → Bool

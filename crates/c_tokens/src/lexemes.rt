@@ -142,7 +142,7 @@ fn kind_of(lexeme: &[u8]) -> Option<TokenKind>
 }
 
 /// The kind and the length of the longest lexeme at the front, or why no token stands there.
-pub(crate) fn front(bytes: &[u8]) -> Result<(TokenKind, usize), FileCode>
+pub fn front(bytes: &[u8]) -> Result<(TokenKind, usize), FileCode>
     ensures value { result ≡ front_of bytes.now }
     ensures len { IfOk result (λ found. (0 < found.1) × (found.1 ≤ length bytes.now)) }
 {

@@ -3,12 +3,14 @@
 
 mod characters;
 pub mod laws;
-mod lexemes;
-mod mark_bytes;
+pub mod lexemes;
+pub mod mark_bytes;
 #[cfg(test)]
 mod number_tests;
 pub mod scanner;
 pub mod token;
 
+pub use lexemes::front;
+pub use mark_bytes::DEFINITION_BYTE;
 pub use scanner::tokens;
 pub use token::{Token, TokenKind, Tokens};

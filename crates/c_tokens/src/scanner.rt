@@ -14,8 +14,8 @@ use std::alloc::Global;
 /// The tokens of a text, or its first fault.
 ///
 /// Tokens are words (identifiers and keywords), numbers and the marks
-/// `( ) { } ; , = == != < <= > >= + - * / % ! && || ++ -- += -= *= /= %=`. Each is the longest sequence of bytes that
-/// could be one (ISO/IEC 9899:2011, 6.4, paragraph 4), and white space separates them. Places count lines and columns
+/// `( ) { } ; , = == != < <= > >= + - * / % ! && || ++ -- += -= *= /= %=`, and the byte 1, which stands for the `#` of a
+/// definition and for no byte of a file. Each is the longest sequence of bytes that could be one (ISO/IEC 9899:2011, 6.4, paragraph 4), and white space separates them. Places count lines and columns
 /// from 1, columns in bytes.
 ///
 /// A number is an integer constant without a suffix up to 2147483647, decimal, octal (`017`) or hexadecimal (`0x2F`), or

@@ -59,7 +59,7 @@ fn row_by(
 /// The rows of the literals of atoms: each atom before its negation.
 fn literal_rows(alloc: Global, features: &[Feature], atoms: &[Atom]) -> Result<Vec<Row>, NoMemory>
     requires atoms { AreAtoms (length features.now) atoms.now }
-    requires few { length atoms.now ≤ 64 }
+    requires few { length atoms.now ≤ 320 }
     ensures { IfOk result (λ made. made.items ≡ rows_from features.now 0 atoms.now) }
 {
     let mut rows = Vec::new(alloc);
@@ -76,7 +76,7 @@ fn literal_rows(alloc: Global, features: &[Feature], atoms: &[Atom]) -> Result<V
 
 /// The number of the first atom with the same terms and the next bound.
 fn next_of(atoms: &[Atom], atom: &Atom) -> Option<u32>
-    requires few { length atoms.now ≤ 64 }
+    requires few { length atoms.now ≤ 320 }
     requires bound { unsigned_abs atom.now.bound ≤ 2147483649 }
     ensures { result ≡ next_from 0 atoms.now atom.now }
 {
@@ -102,7 +102,7 @@ fn push_value(
     rows: &mut Vec<Row>,
 ) -> Result<(), NoMemory>
     requires atom { IsAtom (length features.now) atom.now }
-    requires few { length atoms.now ≤ 64 }
+    requires few { length atoms.now ≤ 320 }
     ensures { IfOk result (λ _. rows.new.items
         ≡ rows.old.items ++ value_row features.now number atom.now (next_from 0 atoms.now atom.now)) }
 {
@@ -124,7 +124,7 @@ fn push_values(
     rows: &mut Vec<Row>,
 ) -> Result<(), NoMemory>
     requires atoms { AreAtoms (length features.now) atoms.now }
-    requires few { length atoms.now ≤ 64 }
+    requires few { length atoms.now ≤ 320 }
     ensures { IfOk result (λ _. rows.new.items ≡ rows.old.items ++ values_from features.now atoms.now 0 atoms.now) }
 {
     let mut number: u32 = 0;
@@ -144,7 +144,7 @@ pub(crate) fn rows_of(
     atoms: &[Atom],
 ) -> Result<Vec<Row>, NoMemory>
     requires atoms { AreAtoms (length features.now) atoms.now }
-    requires few { length atoms.now ≤ 64 }
+    requires few { length atoms.now ≤ 320 }
     ensures { IfOk result (λ made. made.items ≡ all_rows features.now atoms.now) }
 {
     let mut rows = literal_rows(alloc, features, atoms)?;

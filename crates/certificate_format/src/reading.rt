@@ -182,7 +182,7 @@ pub fn read_certificate(
     bytes: &[u8],
 ) -> Result<Certificate, Refusal<CertificateFault>>
     requires atoms { AreAtoms (length features.now) atoms.now }
-    requires few { length atoms.now ≤ 64 }
+    requires few { length atoms.now ≤ 320 }
     ensures answers { IsCertificateRead (piece_of features.now atoms.now) names.now bytes.now result }
     ensures loops { IfOk result (λ c. All (λ (l : LoopLine). IsBelow
         (length atoms.now) (formula l.region)) c.loops.items) }

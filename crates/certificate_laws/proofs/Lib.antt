@@ -14,6 +14,7 @@ pub mod LeavesOver
 pub mod Features
 pub mod Intervals
 pub mod Spelled
+pub mod OrderedNames
 pub mod Programs
 pub mod Families
 pub mod AcceptedLists

@@ -1,5 +1,5 @@
 -- The places of a family's program are those of a file, and its names stand in one line.
-use Rattle.std.proofs.Common.{◌≡◌, ℕ, suc, ◌+◌, ◌≤◌, Bool, true, false, ◌⊎◌, List, [], ◌∷◌, ◌++◌, length, refl, sym, ap, subst, ◌∙◌, arith, inl, inr}
+use Rattle.std.proofs.Common.{◌≡◌, ℕ, suc, ◌+◌, ◌≤◌, Bool, true, false, ◌⊎◌, List, [], ◌∷◌, ◌++◌, length, sym, ap, subst, ◌∙◌, arith, inl, inr}
 use Rattle.std.specs.Prelude.{if◌then◌else◌, nat_lt, Option, Some, None, Result, Ok, Err}
 use Rattle.std.specs.List.{AllByRecursion, filter, prefix_len}
 use Rattle.std.proofs.lemmas.Bool.Decides.{nat_tests}
@@ -15,10 +15,11 @@ use Rattle.fam_outer.specs.Results.{and_then}
 use Rattle.c_words.specs.Bytes.{is_gap}
 use Rattle.linear_atoms.specs.declared.atoms.Atom.{Atom}
 use Rattle.cpp_conditions.specs.Propositions.{Proposition}
-use Rattle.cpp_conditions.specs.Validity.{Plain}
+use Rattle.cpp_conditions.specs.Validity.{Plain, plain}
 use Rattle.cpp_lines.specs.declared.line.Line.{Line}
-use Rattle.cpp_lines.specs.Code.{code_from, code_of}
+use Rattle.cpp_lines.specs.Code.{code_of}
 use Rattle.cpp_lines.specs.Comments.{blank}
+use Rattle.cpp_lines.specs.Defined.{names_in}
 use Rattle.cpp_lines.specs.Directives.{begins_directive}
 use Rattle.cpp_lines.specs.Faults.{first_fault, blanked_or, without_comments}
 use Rattle.cpp_lines.specs.Lines.{in_first, pieces, line_place}
@@ -27,6 +28,7 @@ use Rattle.cpp_lines.specs.Sections.{Told, line_at, in_front}
 use Rattle.cpp_lines.specs.Sections as sections
 use Rattle.cpp_lines.specs.Whole.{file_place, blanked_file}
 use Rattle.cpp_lines.proofs.Blanking.{length-blank_from}
+use Rattle.cpp_lines.proofs.Places.{alike, code_alike}
 use Rattle.c_grammar.specs.declared.items.Item.{Item}
 use Rattle.c_grammar.specs.declared.items.Sign.{Sign}
 use Rattle.c_grammar.proofs.PlacesRise.{IsPart, end, keep, pass, file_part}
@@ -34,12 +36,15 @@ use Rattle.c_grammar.proofs.Within.{within_is_file_law}
 use Rattle.c_tree.specs.Places.{program_places}
 use Rattle.c_tree.specs.Tree.{Whole}
 use Rattle.c_tree.specs.View.{whole}
-use Rattle.c_parser.specs.FamilyItems.{group_sign, stands_in, or_directive, items_of_line, by_line}
+use Rattle.c_parser.specs.FamilyItems.{feature_names, group_sign, stands_in, or_directive, items_of_line, by_line}
+use Rattle.c_parser.specs.Functions.{own_functions}
 use Rattle.c_parser.specs.Items.{Listed}
+use Rattle.c_parser.specs.Order.{arranged}
 use Rattle.certificate_format.specs.Lines.{IsPlace}
 use Rattle.certificate_laws.specs.Laws.{FamiliesAreOfFiles}
 use Rattle.certificate_laws.specs.Written.{IsOneLine}
 use Rattle.certificate_laws.proofs.Literals.{by_truth}
+use Rattle.certificate_laws.proofs.OrderedNames.{arranged_lines}
 use Rattle.certificate_laws.proofs.Spelled.{IsNear, near_place, near_at, HavePlaces, items_read}
 use Rattle.certificate_laws.proofs.Trees.{all_both}
 
@@ -59,13 +64,8 @@ limited bytes blanked e = by (by_truth (nat_lt file_bytes (length bytes)))
         let short : length bytes ≤ file_bytes = grind (arith, nat_tests) in
         by_fault (first_fault bytes) (sym (ap (λ b. and_then (if b then Err (TooLong, file_place) else Ok bytes) without_comments) fits) ∙ e) short
 
-length-code_from : (directive : Bool) (bytes : List ℕ) → length (code_from directive bytes) ≡ length bytes
-length-code_from directive [] = refl
-length-code_from directive (b ∷ bs) = ap suc (length-code_from (if is_newline b then begins_directive bs else directive) bs)
-
 length-code_of : (bytes : List ℕ) → length (code_of bytes) ≡ length bytes
-unfolding code_of
-length-code_of bytes = length-code_from (begins_directive bytes) bytes
+length-code_of bytes = (alike (code_of bytes) bytes (code_alike bytes)).3
 
 -- ---- lines
 
@@ -109,14 +109,14 @@ one_more : (l : Line) (qs : List (Proposition Atom)) (r : Result Told (FileCode 
 one_more l qs (Ok told) h k = (h, k)
 one_more l qs (Err fault) h k = tt
 
-lines_placed : (dialect : Dialect) (m : Plain) (text : List ℕ) (opens : List Bool) (ps : List (Proposition Atom)) (start : ℕ) (lines : List (List ℕ)) (r : Result Told (FileCode × Place)) → length text ≤ file_bytes → AreShort file_bytes lines
-    → sections.AreRead dialect m text opens ps start lines r → LinesPlaced r
-lines_placed dialect m text opens ps start [] r short fit (sections.none o q s) = tt
-lines_placed dialect m text opens ps start (line ∷ lines) r short fit (sections.unclosed o q s l ls u) = tt
-lines_placed dialect m text opens ps start (line ∷ lines) r short fit (sections.faulty o q s l ls code u f) = tt
-lines_placed dialect m text opens ps start (line ∷ lines) r short fit (sections.goes_on o q s l ls qs x u i k) =
+lines_placed : (dialect : Dialect) (m : Plain) (text : List ℕ) (above : List (List ℕ)) (opens : List Bool) (ps : List (Proposition Atom)) (start : ℕ) (lines : List (List ℕ)) (r : Result Told (FileCode × Place)) → length text ≤ file_bytes → AreShort file_bytes lines
+    → sections.AreRead dialect m text above opens ps start lines r → LinesPlaced r
+lines_placed dialect m text above opens ps start [] r short fit (sections.none o q s) = tt
+lines_placed dialect m text above opens ps start (line ∷ lines) r short fit (sections.unclosed o q s l ls u) = tt
+lines_placed dialect m text above opens ps start (line ∷ lines) r short fit (sections.faulty o q s l ls code u f) = tt
+lines_placed dialect m text above opens ps start (line ∷ lines) r short fit (sections.goes_on o q s l ls qs x u i k) =
     one_more (line_at (length ps) start (place_at text start) line) qs x (line_placed (place_at text start) line (near_at text start short) fit.0)
-    (lines_placed dialect m text (opened_by (named_in line) opens) (ps ++ qs) (start + length line + 1) lines x short fit.1 k)
+    (lines_placed dialect m text (above ++ names_in line) (opened_by (named_in line) opens) (ps ++ qs) (start + length line + 1) lines x short fit.1 k)
 
 -- ---- items, line by line
 
@@ -146,16 +146,21 @@ part_placed (keep x part) h = (h.0, part_placed part h.1)
 part_placed (pass x part) h = part_placed part h.1
 
 pub family_told : FamiliesAreOfFiles
-family_told dialect model bytes f h =
+family_told dialect model bytes f o =
+    let h = o.accepted in
     let items = h.are.items in
     let short = limited bytes items.blanked items.without_comments in
-    let lines : LinesPlaced (Ok h.are.told) = lines_placed dialect _ items.blanked [] [] 0 (pieces items.blanked) (Ok h.are.told) short (longer (length items.blanked) file_bytes (pieces items.blanked) short (pieces_short items.blanked)) items.read in
-    let code = items_read (code_of items.blanked) items.tokens (subst (λ n. n ≤ file_bytes) (sym (length-code_of items.blanked)) short) items.tokens_are in
-    let spelled = within_is_file_law h.listed.names h.listed.items (whole f.code) h.spelled in
+    let lines : LinesPlaced (Ok h.are.told) = lines_placed dialect _ items.blanked [] [] [] 0 (pieces items.blanked) (Ok h.are.told) short (longer (length items.blanked) file_bytes (pieces items.blanked) short (pieces_short items.blanked)) items.read in
+    let code_short : length (code_of items.blanked) ≤ file_bytes = subst (λ n. n ≤ file_bytes) (sym (length-code_of items.blanked)) short in
+    let first = items_read (own_functions (code_of items.blanked)) [] (code_of items.blanked) items.first tt code_short items.first_are in
+    let given = arranged (feature_names (plain model)) items.first in
+    let code = items_read (own_functions (code_of items.blanked)) given (code_of items.blanked) items.tokens (arranged_lines (feature_names (plain model)) items.first first.lines) code_short items.tokens_are in
+    let spelled = within_is_file_law h.listed.names h.listed.items o.spelled h.spelled in
     let own : HavePlaces h.listed.items = subst (λ (l : Listed). HavePlaces l.items) (sym items.is) (by_line_placed h.are.told.lines items.tokens.items lines code.places) in
     let places = part_placed (file_part h.listed.items spelled.file spelled.forms) own in
     let names : AllByRecursion IsOneLine h.listed.names = subst (λ (l : Listed). AllByRecursion IsOneLine l.names) (sym items.is) code.lines in
     record {
-      placed = All-from_recursion IsPlace (program_places (whole f.code)) (subst (λ (w : Whole). AllByRecursion IsPlace (program_places w)) (sym spelled.is) places);
-      lines = All-from_recursion IsOneLine (whole f.code).names (subst (λ (w : Whole). AllByRecursion IsOneLine w.names) (sym spelled.is) names);
+      placed = All-from_recursion IsPlace (program_places (whole f.code))
+          (subst (λ (w : Whole). AllByRecursion IsPlace (program_places w)) (sym o.code) (subst (λ (w : Whole). AllByRecursion IsPlace (program_places w)) (sym spelled.is) places));
+      lines = All-from_recursion IsOneLine (whole f.code).names (subst (λ (w : Whole). AllByRecursion IsOneLine w.names) (sym o.code) (subst (λ (w : Whole). AllByRecursion IsOneLine w.names) (sym spelled.is) names));
     }

@@ -15,7 +15,7 @@ use Rattle.c_tokens.specs.declared.token.TokenKind.TheVariants as kinds
 use Rattle.c_tokens.specs.Reading.{StandBetween, IsReading, tokens_of}
 use Rattle.c_grammar.specs.declared.items.Item.{Item}
 use Rattle.c_grammar.specs.declared.items.Sign.{Sign}
-use Rattle.c_parser.specs.Items.{Listed, with_name, names_with_word, names_with, lexeme_in, names_from, items_over, listed}
+use Rattle.c_parser.specs.Items.{Listed, is_function, with_name, names_with_identifier, names_with_word, names_with, lexeme_in, names_from, items_over, listed}
 use Rattle.c_parser.specs.Reading.{items_of_code}
 use Rattle.c_parser.specs.Signs.{keyword_of}
 use Rattle.c_tokens.proofs.Newlines.{in_lexeme}
@@ -87,53 +87,57 @@ tokens_kept text short start (t ∷ ts) end h = (
   tokens_kept text short t.end ts end h.1.1,
 )
 
-abbrev AreLines : List (List ℕ) → Type 0
+abbrev pub AreLines : List (List ℕ) → Type 0
 AreLines names = AllByRecursion IsOneLine names
 
 more_line : (names : List (List ℕ)) (name : List ℕ) → AreLines names → IsOneLine name → AreLines (names ++ name ∷ [])
 more_line [] name h k = (k, tt)
 more_line (n ∷ names) name h k = (h.0, more_line names name h.1 k)
 
-with_line : (names : List (List ℕ)) (name : List ℕ) → AreLines names → IsOneLine name → AreLines (with_name names name)
+pub with_line : (names : List (List ℕ)) (name : List ℕ) → AreLines names → IsOneLine name → AreLines (with_name names name)
 with_line names name h k = either (list_any (bytes_eq name) names)
   where
     either : (t : Bool) → AreLines (if t then names else names ++ name ∷ [])
     either true = h
     either false = more_line names name h k
 
-word_line : (names : List (List ℕ)) (word : List ℕ) (o : Option Sign) → AreLines names → IsOneLine word → AreLines (names_with_word names word o)
-word_line names word (Some sign) h k = h
-word_line names word None h k = with_line names word h k
+identifier_line : (t : Bool) (names : List (List ℕ)) (word : List ℕ) → AreLines names → IsOneLine word → AreLines (names_with_identifier t names word)
+identifier_line true names word h k = h
+identifier_line false names word h k = with_line names word h k
 
-kind_line : (names : List (List ℕ)) (kind : TokenKind) (lexeme : List ℕ) → AreLines names → IsOneLine lexeme → AreLines (names_with names kind lexeme)
-kind_line names (kinds.Number n) lexeme h k = h
-kind_line names kinds.Word lexeme h k = word_line names lexeme (keyword_of lexeme) h k
-kind_line names kinds.Mark lexeme h k = h
+word_line : (functions names : List (List ℕ)) (word : List ℕ) (o : Option Sign) → AreLines names → IsOneLine word → AreLines (names_with_word functions names word o)
+word_line functions names word (Some sign) h k = h
+word_line functions names word None h k = identifier_line (is_function functions word) names word h k
 
-names_lines : (text : List ℕ) (names : List (List ℕ)) (ts : List Token) → AreLines names → AllByRecursion (IsKept text) ts → AreLines (names_from text names ts)
-names_lines text names [] h k = h
-names_lines text names (t ∷ ts) h k = names_lines text (names_with names t.kind (lexeme_in text t)) ts (kind_line names t.kind (lexeme_in text t) h k.0.line) k.1
+kind_line : (functions names : List (List ℕ)) (kind : TokenKind) (lexeme : List ℕ) → AreLines names → IsOneLine lexeme → AreLines (names_with functions names kind lexeme)
+kind_line functions names (kinds.Number n) lexeme h k = h
+kind_line functions names kinds.Word lexeme h k = word_line functions names lexeme (keyword_of lexeme) h k
+kind_line functions names kinds.Mark lexeme h k = h
+
+names_lines : (functions : List (List ℕ)) (text : List ℕ) (names : List (List ℕ)) (ts : List Token) → AreLines names → AllByRecursion (IsKept text) ts → AreLines (names_from functions text names ts)
+names_lines functions text names [] h k = h
+names_lines functions text names (t ∷ ts) h k = names_lines functions text (names_with functions names t.kind (lexeme_in text t)) ts (kind_line functions names t.kind (lexeme_in text t) h k.0.line) k.1
 
 -- ---- items
 
 abbrev pub HavePlaces : List Item → Type 0
 HavePlaces items = AllByRecursion (λ (x : Item). IsPlace x.place) items
 
-items_placed : (names : List (List ℕ)) (text : List ℕ) (ts : List Token) → AllByRecursion (IsKept text) ts → HavePlaces (items_over names text ts)
-items_placed names text [] h = tt
-items_placed names text (t ∷ ts) h = (h.0.place, items_placed names text ts h.1)
+items_placed : (functions names : List (List ℕ)) (text : List ℕ) (ts : List Token) → AllByRecursion (IsKept text) ts → HavePlaces (items_over functions names text ts)
+items_placed functions names text [] h = tt
+items_placed functions names text (t ∷ ts) h = (h.0.place, items_placed functions names text ts h.1)
 
 -- the names and the items of a code that is not too long
 pub record AreRead (l : Listed) : Type 0 where
   pub lines : AreLines l.names
   pub places : HavePlaces l.items
 
-code_read : (code : List ℕ) (l : Listed) (r : Result (List Token) (FileCode × Place)) → length code ≤ file_bytes → IsReading code r → and_then r (λ ts. Ok (listed [] code ts)) ≡ Ok l → AreRead l
-code_read code l (Ok ts) short h e =
-    let same : listed [] code ts ≡ l = cc in
+code_read : (functions given : List (List ℕ)) (code : List ℕ) (l : Listed) (r : Result (List Token) (FileCode × Place)) → AreLines given → length code ≤ file_bytes → IsReading code r → and_then r (λ ts. Ok (listed functions given code ts)) ≡ Ok l → AreRead l
+code_read functions given code l (Ok ts) own short h e =
+    let same : listed functions given code ts ≡ l = cc in
     let kept = tokens_kept code short 0 ts (length code) h in
-    subst AreRead same (record { lines = names_lines code [] ts tt kept; places = items_placed (names_from code [] ts) code ts kept })
-code_read code l (Err fault) short h e = cc
+    subst AreRead same (record { lines = names_lines functions code given ts own kept; places = items_placed functions (names_from functions code given ts) code ts kept })
+code_read functions given code l (Err fault) own short h e = cc
 
-pub items_read : (code : List ℕ) (l : Listed) → length code ≤ file_bytes → items_of_code [] code ≡ Ok l → AreRead l
-items_read code l short e = code_read code l (tokens_of code) short (is_reading code) e
+pub items_read : (functions given : List (List ℕ)) (code : List ℕ) (l : Listed) → AreLines given → length code ≤ file_bytes → items_of_code functions given code ≡ Ok l → AreRead l
+items_read functions given code l own short e = code_read functions given code l (tokens_of code) own short (is_reading code) e

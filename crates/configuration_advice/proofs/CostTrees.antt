@@ -20,8 +20,8 @@ use Rattle.configuration_advice.specs.Nearest.{are_false}
 
 -- ---- numbers and tests of what is made
 
-pub numbered_in : {E L : Type 0} (made : Result (Tree L) E) (forest : List (Plain L)) → IfOk made (λ r. IsTreeIn 0 64 forest (numbered r)) → IfOk made (λ r. IsNumberedTree 0 64 (numbered r))
-numbered_in {E} {L} made forest = IfOk-weaker made (λ (r : Tree L). IsTreeIn 0 64 forest (numbered r)) (λ (r : Tree L). IsNumberedTree 0 64 (numbered r)) (λ r h. numbered_tree 0 64 forest (numbered r) h)
+pub numbered_in : {E L : Type 0} (made : Result (Tree L) E) (forest : List (Plain L)) → IfOk made (λ r. IsTreeIn 0 320 forest (numbered r)) → IfOk made (λ r. IsNumberedTree 0 320 (numbered r))
+numbered_in {E} {L} made forest = IfOk-weaker made (λ (r : Tree L). IsTreeIn 0 320 forest (numbered r)) (λ (r : Tree L). IsNumberedTree 0 320 (numbered r)) (λ r h. numbered_tree 0 320 forest (numbered r) h)
 
 pub below_of : {E A B : Type 0} (made : Result (Tree B) E) (t : Plain A) → IfOk made (λ r. TestsAreOf t (plain r)) → IfOk made (λ r. (count : ℕ) → TestsBelow count t → TestsBelow count (plain r))
 below_of {E} {A} {B} made t =

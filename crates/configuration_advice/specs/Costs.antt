@@ -15,4 +15,4 @@ cost_at p values = leaf_of (plain p.cost.now) (vector_at p.tests.now values)
 pub record IsPriced (p : Priced) : Type 0 where
   pub atoms : AreAtoms (length p.prepared.now.features) p.tests.now
   pub tests : TestsBelow (length p.tests.now) (plain p.cost.now)
-  pub tree : IsNumberedTree 0 64 (numbered p.cost.now)
+  pub tree : IsNumberedTree 0 320 (numbered p.cost.now)

@@ -61,13 +61,13 @@ fn unkept_in<K: Ledger>(
     kept: &[Formula],
     steps: &mut Steps<K>,
 ) -> Result<Tree<u32>, NoMemory>
-    requires below { All (λ (f : Formula). IsBelow 64 (formula f)) kept.now }
+    requires below { All (λ (f : Formula). IsBelow 320 (formula f)) kept.now }
     requires few { length kept.now < too_many }
     ensures counts { IfOk result (λ t. (v : List Bool)
         → leaf_of (plain t) v ≡ unkept (map formula kept.now) v) }
     ensures tests { IfOk result (λ t. (count : ℕ)
         → All (λ (f : Formula). IsBelow count (formula f)) kept.now → TestsBelow count (plain t)) }
-    ensures numbered { IfOk result (λ t. IsNumberedTree 0 64 (numbered t)) }
+    ensures numbered { IfOk result (λ t. IsNumberedTree 0 320 (numbered t)) }
 {
     let Some((first, behind)) = cut(kept) else {
         return forest.leaf(0);
@@ -95,13 +95,13 @@ fn either_in<K: Ledger>(
     right: Tree<bool>,
     steps: &mut Steps<K>,
 ) -> Result<Tree<bool>, NoMemory>
-    requires left { IsNumberedTree 0 64 (numbered left) }
-    requires right { IsNumberedTree 0 64 (numbered right) }
+    requires left { IsNumberedTree 0 320 (numbered left) }
+    requires right { IsNumberedTree 0 320 (numbered right) }
     ensures truth { IfOk result (λ t. (v : List Bool) → not (leaf_of (plain t) v)
         ≡ (not (leaf_of (plain left) v) && not (leaf_of (plain right) v))) }
     ensures tests { IfOk result (λ t. (count : ℕ) → TestsBelow count (plain left)
         → TestsBelow count (plain right) → TestsBelow count (plain t)) }
-    ensures numbered { IfOk result (λ t. IsNumberedTree 0 64 (numbered t)) }
+    ensures numbered { IfOk result (λ t. IsNumberedTree 0 320 (numbered t)) }
 {
     if is_never(&left) {
         Ok(right)
@@ -119,12 +119,12 @@ fn any_in<K: Ledger>(
     trees: &[Tree<bool>],
     steps: &mut Steps<K>,
 ) -> Result<Tree<bool>, NoMemory>
-    requires { All (λ (t : Tree Bool). IsNumberedTree 0 64 (numbered t)) trees.now }
+    requires { All (λ (t : Tree Bool). IsNumberedTree 0 320 (numbered t)) trees.now }
     ensures truth { IfOk result (λ t. (v : List Bool)
         → not (leaf_of (plain t) v) ≡ are_false (map plain trees.now) v) }
     ensures tests { IfOk result (λ t. (count : ℕ)
         → All (λ (t : Tree Bool). TestsBelow count (plain t)) trees.now → TestsBelow count (plain t)) }
-    ensures numbered { IfOk result (λ t. IsNumberedTree 0 64 (numbered t)) }
+    ensures numbered { IfOk result (λ t. IsNumberedTree 0 320 (numbered t)) }
 {
     match trees {
         [] => forest.leaf(false),
@@ -148,15 +148,15 @@ fn cost_counted<K: Ledger>(
     requires name { blank.name ≡ K.name }
     requires parts { blank.parts ≡ K.parts }
     requires some { 0 < K.parts }
-    requires alarms { All (λ (t : Tree Bool). IsNumberedTree 0 64 (numbered t)) alarms.now }
-    requires below { All (λ (f : Formula). IsBelow 64 (formula f)) kept.now }
+    requires alarms { All (λ (t : Tree Bool). IsNumberedTree 0 320 (numbered t)) alarms.now }
+    requires below { All (λ (f : Formula). IsBelow 320 (formula f)) kept.now }
     requires few { length kept.now < too_many }
     ensures cost { IfOk result (λ t. (v : List Bool)
         → leaf_of (plain t) v ≡ cost_of (map plain alarms.now) (map formula kept.now) v) }
     ensures tests { IfOk result (λ t. (count : ℕ)
         → All (λ (t : Tree Bool). TestsBelow count (plain t)) alarms.now
         → All (λ (f : Formula). IsBelow count (formula f)) kept.now → TestsBelow count (plain t)) }
-    ensures numbered { IfOk result (λ t. IsNumberedTree 0 64 (numbered t)) }
+    ensures numbered { IfOk result (λ t. IsNumberedTree 0 320 (numbered t)) }
 {
     let mut steps = Steps::<K>::new(blank);
     let mut truths = Forest::new(alloc);
@@ -173,15 +173,15 @@ pub(crate) fn cost(
     alarms: &[Tree<bool>],
     kept: &[Formula],
 ) -> Result<Tree<u32>, NoMemory>
-    requires alarms { All (λ (t : Tree Bool). IsNumberedTree 0 64 (numbered t)) alarms.now }
-    requires below { All (λ (f : Formula). IsBelow 64 (formula f)) kept.now }
+    requires alarms { All (λ (t : Tree Bool). IsNumberedTree 0 320 (numbered t)) alarms.now }
+    requires below { All (λ (f : Formula). IsBelow 320 (formula f)) kept.now }
     requires few { length kept.now < too_many }
     ensures cost { IfOk result (λ t. (v : List Bool)
         → leaf_of (plain t) v ≡ cost_of (map plain alarms.now) (map formula kept.now) v) }
     ensures tests { IfOk result (λ t. (count : ℕ)
         → All (λ (t : Tree Bool). TestsBelow count (plain t)) alarms.now
         → All (λ (f : Formula). IsBelow count (formula f)) kept.now → TestsBelow count (plain t)) }
-    ensures numbered { IfOk result (λ t. IsNumberedTree 0 64 (numbered t)) }
+    ensures numbered { IfOk result (λ t. IsNumberedTree 0 320 (numbered t)) }
 {
     cost_counted::<Brand>(alloc, alarms, kept, Blank::new(1))
 }
@@ -196,11 +196,11 @@ fn above_counted<K: Ledger>(
     requires name { blank.name ≡ K.name }
     requires parts { blank.parts ≡ K.parts }
     requires some { 0 < K.parts }
-    requires cost { IsNumberedTree 0 64 (numbered cost.now) }
+    requires cost { IsNumberedTree 0 320 (numbered cost.now) }
     ensures above { IfOk result (λ t. (v : List Bool)
         → IsAbove most (leaf_of (plain cost.now) v) (leaf_of (plain t) v)) }
     ensures tests { IfOk result (λ t. (count : ℕ) → TestsBelow count (plain cost.now) → TestsBelow count (plain t)) }
-    ensures numbered { IfOk result (λ t. IsNumberedTree 0 64 (numbered t)) }
+    ensures numbered { IfOk result (λ t. IsNumberedTree 0 320 (numbered t)) }
 {
     let mut steps = Steps::<K>::new(blank);
     let mut forest = Forest::new(alloc);
@@ -212,11 +212,11 @@ fn above_counted<K: Ledger>(
 
 /// The vectors at which a number is more than so much.
 pub(crate) fn above(alloc: Global, cost: &Tree<u32>, most: u32) -> Result<Tree<bool>, NoMemory>
-    requires { IsNumberedTree 0 64 (numbered cost.now) }
+    requires { IsNumberedTree 0 320 (numbered cost.now) }
     ensures above { IfOk result (λ t. (v : List Bool)
         → IsAbove most (leaf_of (plain cost.now) v) (leaf_of (plain t) v)) }
     ensures tests { IfOk result (λ t. (count : ℕ) → TestsBelow count (plain cost.now) → TestsBelow count (plain t)) }
-    ensures numbered { IfOk result (λ t. IsNumberedTree 0 64 (numbered t)) }
+    ensures numbered { IfOk result (λ t. IsNumberedTree 0 320 (numbered t)) }
 {
     above_counted::<Brand>(alloc, cost, most, Blank::new(1))
 }

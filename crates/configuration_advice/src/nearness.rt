@@ -28,12 +28,9 @@ use crate::searching::search;
 use atom_solver::Prepared;
 use cpp_conditions::{Formula, Model};
 use decision_tree::Tree;
-use fam_outer::NoMemory;
+use fam_outer::{MOST_TESTS, NoMemory};
 use linear_atoms::{Atom, Config};
 use std::alloc::Global;
-
-/// The most tests that trees have.
-const MOST_TESTS: usize = 64;
 
 /// The nearest candidate, asked for with rising numbers of changes.
 fn rising(
@@ -112,13 +109,13 @@ fn nearest_by_cost(
     given: &Config,
 ) -> Result<Option<Advice>, NoMemory>
     requires told { TellsChanges prepared.now.features tests.now (map formula kept.now) given.now.values }
-    requires few { length tests.now ≤ 64 }
+    requires few { length tests.now ≤ 320 }
     requires atoms { AreAtoms (length prepared.now.features) tests.now }
     requires given { length given.now.values ≤ 32 }
     requires count { length kept.now ≤ length given.now.values }
     requires kept { All (λ (f : Formula). IsBelow (length tests.now) (formula f)) kept.now }
     requires alarms { All (λ (t : Tree Bool). TestsBelow (length tests.now) (plain t)) alarms.now }
-    requires numbered { All (λ (t : Tree Bool). IsNumberedTree 0 64 (numbered t)) alarms.now }
+    requires numbered { All (λ (t : Tree Bool). IsNumberedTree 0 320 (numbered t)) alarms.now }
     ensures { IfOk result (λ found. Advises prepared.now tests.now
         (map plain alarms.now) given.now.values found) }
 {
@@ -138,7 +135,7 @@ fn nearest_by_cost(
 /// The given configuration is within the ranges of the features, of which there are at most 32. The trees have numbers, as those of
 /// a forest have. The other conditions are those of `alarm_report::regions` for each tree.
 ///
-/// Where the atoms and the tests that tell of the features whether they keep their values are at most 64, there is one question
+/// Where the atoms and the tests that tell of the features whether they keep their values are at most 320, there is one question
 /// along a tree for each number of changes; else what must change is searched for, which may take a question for each choice
 /// of the features that change.
 pub fn nearest(
@@ -153,7 +150,7 @@ pub fn nearest(
     requires atoms { AreAtoms (length model.now.features) atoms.now }
     requires few { length atoms.now < 2 ^ 31 }
     requires tests { All (λ (t : Tree Bool). TestsBelow (length atoms.now) (plain t)) alarms.now }
-    requires trees { All (λ (t : Tree Bool). IsNumberedTree 0 64 (numbered t)) alarms.now }
+    requires trees { All (λ (t : Tree Bool). IsNumberedTree 0 320 (numbered t)) alarms.now }
     requires given { IsWithin model.now.features given.now.values }
     ensures { IfOk result (λ found. Advises model.now atoms.now
         (map plain alarms.now) given.now.values found) }

@@ -3,7 +3,7 @@ use Rattle.std.proofs.Common.{◌≡◌, ℕ, zero, suc, ◌≤◌, ◌<◌, ◌
 use Rattle.std.proofs.lemmas.Bool.{cases_lt}
 use Rattle.fam_outer.specs.declared.faults.ConditionFault.{ConditionFault}
 use Rattle.fam_outer.specs.declared.faults.ConditionFault.TheVariants as faults
-use Rattle.fam_outer.specs.declared.dialect.Unknown.{Unknown}
+use Rattle.cpp_conditions.specs.Macros.{Macros}
 use Rattle.linear_atoms.specs.declared.atoms.Atom.{Atom}
 use Rattle.linear_atoms.specs.declared.atoms.Feature.{Feature}
 use Rattle.cpp_conditions.specs.Expressions.{Expression}
@@ -45,19 +45,19 @@ decided (suc n) (b ∷ bs) h = decided_by b bs (is_gap b) refl (λ after le. dec
 none_some : (o : Option Expression) (e : Expression) → o ≡ None → o ≡ Some e → ⊥
 none_some o e p q = absurd cc
 
-abbrev Reading : Unknown → List Feature → List ℕ → Type 0
-Reading unknown features bytes = (r : Result (Proposition Atom) ConditionFault) × ReadsAs unknown features bytes r
+abbrev Reading : Macros → List Feature → List ℕ → Type 0
+Reading macros features bytes = (r : Result (Proposition Atom) ConditionFault) × ReadsAs macros features bytes r
 
-read_tokens : (unknown : Unknown) (features : List Feature) (bytes : List ℕ) (ts : List Token) (o : Option Expression) → SpellsTokens bytes ts → weight_behind false ts ≤ 64 → read_by (Wants []) ts ≡ o → Reading unknown features bytes
-read_tokens unknown features bytes ts None s h e = (Result.Err faults.Syntax, no_condition ts s h (λ d x. none_some (read_by (Wants []) ts) d e (is_read ts d x)))
-read_tokens unknown features bytes ts (Some d) s h e = (judged unknown features d, read ts d s h (read_spells ts d e))
+read_tokens : (macros : Macros) (features : List Feature) (bytes : List ℕ) (ts : List Token) (o : Option Expression) → SpellsTokens bytes ts → weight_behind false ts ≤ 64 → read_by (Wants []) ts ≡ o → Reading macros features bytes
+read_tokens macros features bytes ts None s h e = (Result.Err faults.Syntax, no_condition ts s h (λ d x. none_some (read_by (Wants []) ts) d e (is_read ts d x)))
+read_tokens macros features bytes ts (Some d) s h e = (judged macros features d, read ts d s h (read_spells ts d e))
 
-reading_of : (unknown : Unknown) (features : List Feature) (bytes : List ℕ) → Decided bytes → Reading unknown features bytes
-reading_of unknown features bytes (inr n) = (Result.Err faults.Syntax, no_tokens n)
-reading_of unknown features bytes (inl t) = elim (cases_lt 64 (weight_behind false t.0)) [
+reading_of : (macros : Macros) (features : List Feature) (bytes : List ℕ) → Decided bytes → Reading macros features bytes
+reading_of macros features bytes (inr n) = (Result.Err faults.Syntax, no_tokens n)
+reading_of macros features bytes (inl t) = elim (cases_lt 64 (weight_behind false t.0)) [
   | inl h ↦ (Result.Err faults.TooDeep, too_deep t.0 t.1 h)
-  | inr h ↦ read_tokens unknown features bytes t.0 (read_by (Wants []) t.0) t.1 h refl
+  | inr h ↦ read_tokens macros features bytes t.0 (read_by (Wants []) t.0) t.1 h refl
 ]
 
-pub some_reading : (unknown : Unknown) (features : List Feature) (bytes : List ℕ) → Reading unknown features bytes
-some_reading unknown features bytes = reading_of unknown features bytes (decided (length bytes) bytes (omega arith))
+pub some_reading : (macros : Macros) (features : List Feature) (bytes : List ℕ) → Reading macros features bytes
+some_reading macros features bytes = reading_of macros features bytes (decided (length bytes) bytes (omega arith))

@@ -1,5 +1,5 @@
 -- Which bytes spell a condition, and which refusal the others have.
-use Rattle.std.specs.Prelude.{ℕ, suc, ◌≤◌, ◌<◌, pos, negsuc, Bool, true, false, ◌&&◌, ◌||◌, if◌then◌else◌, List, [], ◌∷◌, ◌++◌, is_none, Result, Ok, Err}
+use Rattle.std.specs.Prelude.{ℕ, suc, ◌≤◌, ◌<◌, pos, negsuc, Bool, true, false, not, ◌&&◌, ◌||◌, if◌then◌else◌, List, [], ◌∷◌, ◌++◌, is_none, Result, Ok, Err}
 use Rattle.c_words.specs.Identifiers.{begins_with_two_underscores}
 use Rattle.fam_outer.specs.declared.dialect.Unknown.{Unknown}
 use Rattle.fam_outer.specs.declared.dialect.Unknown.TheVariants.{Zero, Refuse}
@@ -15,6 +15,7 @@ use Rattle.cpp_conditions.specs.declared.operators.Operator.TheVariants.{Times, 
 use Rattle.cpp_conditions.specs.declared.operators.Prefix.{Prefix}
 use Rattle.cpp_conditions.specs.declared.operators.Prefix.TheVariants.{Positive, Negative, Inverse}
 use Rattle.cpp_conditions.specs.Expressions.{Expression, Number, Name, IsDefined, Unary, Binary, found}
+use Rattle.cpp_conditions.specs.Macros.{Macros, is_one_of}
 use Rattle.cpp_conditions.specs.Meaning.{is_truth, is_linear, form, difference, less_one, cond}
 use Rattle.cpp_conditions.specs.Tokens.{Token, Digits, Word, Defined, Open, Close, Bang, Oper, SpellsTokens, weight_behind}
 
@@ -66,17 +67,34 @@ has_reserved (Binary op a b) = has_reserved a || has_reserved b
 
 -- ---- names that no feature has
 
-abbrev pub has_unknown : List Feature → Expression → Bool
-has_unknown features (Number n) = false
-has_unknown features (Name x) = is_none (found x features)
-has_unknown features (IsDefined x) = is_none (found x features)
-has_unknown features (Unary u e) = has_unknown features e
-has_unknown features (Binary op a b) = has_unknown features a || has_unknown features b
+-- the name is that of no feature, and the file has no definition of it
+abbrev pub is_unknown : List (List ℕ) → List Feature → List ℕ → Bool
+is_unknown file features x = not (is_one_of file x) && is_none (found x features)
 
--- a name that no feature has refuses it
-abbrev pub unknown_refuses : Unknown → List Feature → Expression → Bool
-unknown_refuses Zero features e = false
-unknown_refuses Refuse features e = has_unknown features e
+abbrev pub has_unknown : List (List ℕ) → List Feature → Expression → Bool
+has_unknown file features (Number n) = false
+has_unknown file features (Name x) = is_unknown file features x
+has_unknown file features (IsDefined x) = is_unknown file features x
+has_unknown file features (Unary u e) = has_unknown file features e
+has_unknown file features (Binary op a b) = has_unknown file features a || has_unknown file features b
+
+-- names that are unknown are refused
+abbrev pub refuses : Unknown → Bool
+refuses Zero = false
+refuses Refuse = true
+
+-- a name that is unknown refuses it
+abbrev pub unknown_refuses : Macros → List Feature → Expression → Bool
+unknown_refuses macros features e = refuses macros.unknown && has_unknown macros.file features e
+
+-- ---- names that are defined above it
+
+abbrev pub has_defined : List (List ℕ) → Expression → Bool
+has_defined above (Number n) = false
+has_defined above (Name x) = is_one_of above x
+has_defined above (IsDefined x) = is_one_of above x
+has_defined above (Unary u e) = has_defined above e
+has_defined above (Binary op a b) = has_defined above a || has_defined above b
 
 -- ---- sizes
 
@@ -122,13 +140,14 @@ is_small_condition features e = are_small_forms features e && is_small_truth fea
 abbrev pub judged_form : List Feature → Expression → Result (Proposition Atom) ConditionFault
 judged_form features e = if is_linear features e then (if is_small_condition features e then Ok (cond features e) else Err faults.TooLarge) else Err faults.NonLinear
 
-abbrev pub judged : Unknown → List Feature → Expression → Result (Proposition Atom) ConditionFault
-judged unknown features e =
+abbrev pub judged : Macros → List Feature → Expression → Result (Proposition Atom) ConditionFault
+judged macros features e =
     if has_reserved e then Err faults.ReservedName
-    else (if unknown_refuses unknown features e then Err faults.UnknownName else judged_form features e)
+    else (if unknown_refuses macros features e then Err faults.UnknownName
+    else (if has_defined macros.above e then Err faults.DefinedName else judged_form features e))
 
-pub data ReadsAs (unknown : Unknown) (features : List Feature) (bytes : List ℕ) : Result (Proposition Atom) ConditionFault → Type 0 where
-  no_tokens : ((ts : List Token) → SpellsTokens bytes ts → ⊥) → ReadsAs unknown features bytes (Err faults.Syntax)
-  too_deep : (ts : List Token) → SpellsTokens bytes ts → 64 < weight_behind false ts → ReadsAs unknown features bytes (Err faults.TooDeep)
-  no_condition : (ts : List Token) → SpellsTokens bytes ts → weight_behind false ts ≤ 64 → ((e : Expression) → Spells 6 ts e → ⊥) → ReadsAs unknown features bytes (Err faults.Syntax)
-  read : (ts : List Token) (e : Expression) → SpellsTokens bytes ts → weight_behind false ts ≤ 64 → Spells 6 ts e → ReadsAs unknown features bytes (judged unknown features e)
+pub data ReadsAs (macros : Macros) (features : List Feature) (bytes : List ℕ) : Result (Proposition Atom) ConditionFault → Type 0 where
+  no_tokens : ((ts : List Token) → SpellsTokens bytes ts → ⊥) → ReadsAs macros features bytes (Err faults.Syntax)
+  too_deep : (ts : List Token) → SpellsTokens bytes ts → 64 < weight_behind false ts → ReadsAs macros features bytes (Err faults.TooDeep)
+  no_condition : (ts : List Token) → SpellsTokens bytes ts → weight_behind false ts ≤ 64 → ((e : Expression) → Spells 6 ts e → ⊥) → ReadsAs macros features bytes (Err faults.Syntax)
+  read : (ts : List Token) (e : Expression) → SpellsTokens bytes ts → weight_behind false ts ≤ 64 → Spells 6 ts e → ReadsAs macros features bytes (judged macros features e)

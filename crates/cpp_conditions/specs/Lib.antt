@@ -6,6 +6,7 @@ pub mod Grammar
 pub mod Integers
 pub mod Judged
 pub mod Machine
+pub mod Macros
 pub mod Meaning
 pub mod Naming
 pub mod Numbering

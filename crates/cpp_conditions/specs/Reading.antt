@@ -2,7 +2,7 @@
 use Rattle.std.specs.Prelude.{◌≡◌, ⊤, ℕ, List, Result, Ok, Err}
 use Rattle.fam_outer.specs.declared.faults.ConditionFault.{ConditionFault}
 use Rattle.fam_outer.specs.declared.faults.ConditionFault.TheVariants as faults
-use Rattle.fam_outer.specs.declared.dialect.Unknown.{Unknown}
+use Rattle.cpp_conditions.specs.Macros.{Macros}
 use Rattle.linear_atoms.specs.declared.atoms.Atom.{Atom}
 use Rattle.linear_atoms.specs.declared.atoms.Feature.{Feature}
 use Rattle.linear_atoms.specs.declared.linear_fault.LinearFault.{LinearFault}
@@ -17,10 +17,10 @@ use Rattle.cpp_conditions.specs.Propositions.{Proposition}
 use Rattle.cpp_conditions.specs.View.{proposition}
 
 -- the answer is what the bytes are read as, unless memory runs out
-abbrev pub IsConditionRead : Unknown → List Feature → List ℕ → Result Condition ConditionRefusal → Type 0
-IsConditionRead unknown features bytes (Ok made) = ReadsAs unknown features bytes (Ok (proposition made))
-IsConditionRead unknown features bytes (Err refusals.NoMemory) = ⊤
-IsConditionRead unknown features bytes (Err (refusals.Fault fault)) = ReadsAs unknown features bytes (Err fault)
+abbrev pub IsConditionRead : Macros → List Feature → List ℕ → Result Condition ConditionRefusal → Type 0
+IsConditionRead macros features bytes (Ok made) = ReadsAs macros features bytes (Ok (proposition made))
+IsConditionRead macros features bytes (Err refusals.NoMemory) = ⊤
+IsConditionRead macros features bytes (Err (refusals.Fault fault)) = ReadsAs macros features bytes (Err fault)
 
 -- the answer is the expected one, unless memory runs out
 abbrev pub Judges : Result Condition ConditionRefusal → Result (Proposition Atom) ConditionFault → Type 0

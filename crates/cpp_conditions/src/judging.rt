@@ -1,16 +1,18 @@
 //! What refuses an expression before its numbers are looked at.
 #![tactic(auto)]
 
-ghost use Rattle.std.specs.Prelude.{◌≡◌, ◌≤◌, false};
+ghost use Rattle.std.specs.Prelude.{◌≡◌, ◌≤◌, map, false};
 ghost use Rattle.cpp_conditions.specs.Expressions.{found};
 ghost use Rattle.cpp_conditions.specs.Descent.{expression, plain};
 ghost use Rattle.cpp_conditions.specs.Grammar as grammar;
 ghost use Rattle.cpp_conditions.specs.Judged as judged;
+ghost use Rattle.cpp_conditions.specs.Macros.{macros as plain_macros};
 ghost use Rattle.cpp_conditions.specs.Meaning as meaning;
 ghost use Rattle.cpp_conditions.specs.Scanning.{token as plainly};
 ghost use Rattle.cpp_conditions.specs.Tokens as kinds;
 
 use crate::expressions::Expression;
+use crate::macros::{Macros, is_one_of};
 use crate::names::Names;
 use crate::operators::{Operator, Prefix};
 use crate::tokens::Token;
@@ -61,25 +63,46 @@ pub(crate) fn has_reserved(tree: &Expression<'_>) -> bool
     }
 }
 
-/// Whether a name in the expression is that of no feature.
-fn has_unknown(names: &Names<'_>, tree: &Expression<'_>) -> bool
-    ensures { result ≡ grammar.has_unknown names.now (expression tree.now) }
+/// Whether a name is that of no feature, and none of those that the file defines.
+fn is_unknown(file: &[&[u8]], names: &Names<'_>, name: &[u8]) -> bool
+    ensures { result ≡ grammar.is_unknown (map (λ it. it.now) file.now) names.now name.now }
+{
+    !is_one_of(file, name) && names.number(name).is_none()
+}
+
+/// Whether a name in the expression is that of no feature, and none of those that the file defines.
+fn has_unknown(file: &[&[u8]], names: &Names<'_>, tree: &Expression<'_>) -> bool
+    ensures { result ≡ grammar.has_unknown (map (λ it. it.now) file.now) names.now (expression tree.now) }
 {
     match tree {
         Expression::Number(_) => false,
-        Expression::Name(name) | Expression::IsDefined(name) => names.number(name).is_none(),
-        Expression::Unary(_, operand) => has_unknown(names, operand),
-        Expression::Binary(_, left, right) => has_unknown(names, left) || has_unknown(names, right),
+        Expression::Name(name) | Expression::IsDefined(name) => is_unknown(file, names, name),
+        Expression::Unary(_, operand) => has_unknown(file, names, operand),
+        Expression::Binary(_, left, right) => {
+            has_unknown(file, names, left) || has_unknown(file, names, right)
+        }
     }
 }
 
 /// Whether a name that no feature has refuses the expression.
-pub(crate) fn unknown_refuses(unknown: Unknown, names: &Names<'_>, tree: &Expression<'_>) -> bool
-    ensures { result ≡ grammar.unknown_refuses unknown names.now (expression tree.now) }
+pub(crate) fn unknown_refuses(macros: Macros<'_>, names: &Names<'_>, tree: &Expression<'_>) -> bool
+    ensures { result ≡ grammar.unknown_refuses (plain_macros macros.entry) names.now (expression tree.now) }
 {
-    match unknown {
+    match macros.unknown {
         Unknown::Zero => false,
-        Unknown::Refuse => has_unknown(names, tree),
+        Unknown::Refuse => has_unknown(macros.file, names, tree),
+    }
+}
+
+/// Whether a name in the expression is one of those that are defined above it.
+pub(crate) fn has_defined(above: &[&[u8]], tree: &Expression<'_>) -> bool
+    ensures { result ≡ grammar.has_defined (map (λ it. it.now) above.now) (expression tree.now) }
+{
+    match tree {
+        Expression::Number(_) => false,
+        Expression::Name(name) | Expression::IsDefined(name) => is_one_of(above, name),
+        Expression::Unary(_, operand) => has_defined(above, operand),
+        Expression::Binary(_, left, right) => has_defined(above, left) || has_defined(above, right),
     }
 }
 

@@ -1,18 +1,18 @@
 //! What holds of the definitions alone.
 #![tactic(auto)]
 
-ghost use Rattle.std.specs.Prelude.{◌≡◌, ◌↔◌, ℕ, ℤ, List, Result, Ok, true};
+ghost use Rattle.std.specs.Prelude.{◌≡◌, ◌↔◌, ℕ, ℤ, List, [], Result, Ok, true, false};
 ghost use Rattle.fam_outer.specs.declared.faults.ConditionFault.{ConditionFault};
-ghost use Rattle.fam_outer.specs.declared.dialect.Unknown.{Unknown};
 ghost use Rattle.fam_outer.specs.declared.dialect.Unknown.TheVariants.{Zero, Refuse};
 ghost use Rattle.linear_atoms.specs.declared.atoms.Atom.{Atom};
 ghost use Rattle.linear_atoms.specs.declared.atoms.Feature.{Feature};
 ghost use Rattle.linear_atoms.specs.Atoms.{IsWithin};
 ghost use Rattle.cpp_conditions.specs.Expressions.{Expression, value, is_nonzero};
+ghost use Rattle.cpp_conditions.specs.Macros.{Macros, among};
 ghost use Rattle.cpp_conditions.specs.Meaning.{is_linear, cond};
 ghost use Rattle.cpp_conditions.specs.Propositions.{Proposition, true_at};
 ghost use Rattle.cpp_conditions.specs.Distinct.{AreAtomsOf, HaveFewAtoms, HaveMoreAtoms};
-ghost use Rattle.cpp_conditions.specs.Grammar.{CSpells, ReadsAs};
+ghost use Rattle.cpp_conditions.specs.Grammar.{CSpells, ReadsAs, has_defined};
 ghost use Rattle.cpp_conditions.specs.Validity.{Plain, all_true, IsValid};
 
 /// The condition that an expression means is true at a configuration within the ranges exactly where C's value of
@@ -31,14 +31,14 @@ pub fn bytes_spell_one_expression()
 
 /// Bytes are read in one way: as a condition, or with one fault.
 pub fn bytes_have_one_reading()
-    ensures { (unknown : Unknown) (features : List Feature) (bytes : List ℕ) (r s : Result (Proposition Atom) ConditionFault)
-        → ReadsAs unknown features bytes r → ReadsAs unknown features bytes s → r ≡ s }
+    ensures { (macros : Macros) (features : List Feature) (bytes : List ℕ) (r s : Result (Proposition Atom) ConditionFault)
+        → ReadsAs macros features bytes r → ReadsAs macros features bytes s → r ≡ s }
 {}
 
 /// What is read where unknown names are refused is read in the same way where they are 0.
 pub fn known_names_have_one_meaning()
-    ensures { (features : List Feature) (bytes : List ℕ) (p : Proposition Atom)
-        → ReadsAs Refuse features bytes (Ok p) → ReadsAs Zero features bytes (Ok p) }
+    ensures { (above file : List (List ℕ)) (features : List Feature) (bytes : List ℕ) (p : Proposition Atom)
+        → ReadsAs (among Refuse above file) features bytes (Ok p) → ReadsAs (among Zero above file) features bytes (Ok p) }
 {}
 
 #[tactic(auto, using(crate::proofs::Collected::one_list))]
@@ -62,6 +62,11 @@ pub fn valid_configurations_are_those_within()
 
 /// Bytes are always read in some way.
 pub fn bytes_have_a_reading()
-    ensures { (unknown : Unknown) (features : List Feature) (bytes : List ℕ)
-        → (r : Result (Proposition Atom) ConditionFault) × ReadsAs unknown features bytes r }
+    ensures { (macros : Macros) (features : List Feature) (bytes : List ℕ)
+        → (r : Result (Proposition Atom) ConditionFault) × ReadsAs macros features bytes r }
+{}
+
+/// Where nothing is defined, no name is refused for its definition.
+pub fn nothing_is_defined()
+    ensures { (e : Expression) → has_defined [] e ≡ false }
 {}

@@ -12,6 +12,7 @@ pub mod Faulting
 pub mod Piecing
 pub mod Listing
 pub mod Coding
+pub mod BlankLines
 pub mod Places
 pub mod Deciding
 pub mod Placed

@@ -10,6 +10,7 @@ use Rattle.linear_atoms.specs.declared.atoms.Atom.{Atom}
 use Rattle.cpp_conditions.specs.Propositions.{Proposition}
 use Rattle.cpp_conditions.specs.Validity.{Plain}
 use Rattle.c_words.specs.Bytes.{is_gap}
+use Rattle.cpp_lines.specs.Defined.{names_in}
 use Rattle.cpp_lines.specs.Directives.{begins_directive}
 use Rattle.cpp_lines.specs.Lines.{pieces, line_place, AreCounted}
 use Rattle.cpp_lines.specs.Nesting.{named_in, opened_by}
@@ -47,17 +48,17 @@ rest_behind text start rest p more er ec =
     let next : start + (length p + 1) ≡ start + length p + 1 = omega arith in
     sym (behind_line p more) ∙ ap (drop (length p + 1)) (sym ec) ∙ behind text start (length p + 1) rest er ∙ ap (λ (i : ℕ). drop i text) next
 
-alone : (dialect : Dialect) (m : Plain) (text : List ℕ) (opens : List Bool) (ps : List (Proposition Atom)) (start n : ℕ) (r : Result Told (FileCode × Place)) → AreRead dialect m text opens ps start [] r → Counts n r
-alone dialect m text opens ps start n r (sections.none o q s) = tt
+alone : (dialect : Dialect) (m : Plain) (text : List ℕ) (above : List (List ℕ)) (opens : List Bool) (ps : List (Proposition Atom)) (start n : ℕ) (r : Result Told (FileCode × Place)) → AreRead dialect m text above opens ps start [] r → Counts n r
+alone dialect m text above opens ps start n r (sections.none o q s) = tt
 
-pub counted : (dialect : Dialect) (m : Plain) (text : List ℕ) (opens : List Bool) (ps : List (Proposition Atom)) (start : ℕ) (rest : List ℕ) (lines : List (List ℕ)) (n : ℕ) (r : Result Told (FileCode × Place)) → pieces rest ≡ lines → rest ≡ drop start text
-    → (place_at text start).line ≡ n → AreRead dialect m text opens ps start lines r → Counts n r
-counted dialect m text opens ps start rest [] n r e er h (sections.none o q s) = tt
-counted dialect m text opens ps start rest (line ∷ lines) n r e er h (sections.unclosed o q s l ls u) = tt
-counted dialect m text opens ps start rest (line ∷ lines) n r e er h (sections.faulty o q s l ls code u f) = tt
-counted dialect m text opens ps start rest (line ∷ []) n r e er h (sections.goes_on o q s l ls qs x u i k) =
-    one_more n (length ps) start (place_at text start) line qs x h (alone dialect m text (opened_by (named_in line) opens) (ps ++ qs) (start + length line + 1) (n + 1) x k)
-counted dialect m text opens ps start rest (line ∷ q ∷ lines) n r e er h (sections.goes_on o p s l ls qs x u i k) =
+pub counted : (dialect : Dialect) (m : Plain) (text : List ℕ) (above : List (List ℕ)) (opens : List Bool) (ps : List (Proposition Atom)) (start : ℕ) (rest : List ℕ) (lines : List (List ℕ)) (n : ℕ) (r : Result Told (FileCode × Place)) → pieces rest ≡ lines → rest ≡ drop start text
+    → (place_at text start).line ≡ n → AreRead dialect m text above opens ps start lines r → Counts n r
+counted dialect m text above opens ps start rest [] n r e er h (sections.none o q s) = tt
+counted dialect m text above opens ps start rest (line ∷ lines) n r e er h (sections.unclosed o q s l ls u) = tt
+counted dialect m text above opens ps start rest (line ∷ lines) n r e er h (sections.faulty o q s l ls code u f) = tt
+counted dialect m text above opens ps start rest (line ∷ []) n r e er h (sections.goes_on o q s l ls qs x u i k) =
+    one_more n (length ps) start (place_at text start) line qs x h (alone dialect m text (above ++ names_in line) (opened_by (named_in line) opens) (ps ++ qs) (start + length line + 1) (n + 1) x k)
+counted dialect m text above opens ps start rest (line ∷ q ∷ lines) n r e er h (sections.goes_on o p s l ls qs x u i k) =
     let c = next_piece rest line q lines e in
     one_more n (length ps) start (place_at text start) line qs x h
-    (counted dialect m text (opened_by (named_in line) opens) (ps ++ qs) (start + length line + 1) c.0 (q ∷ lines) (n + 1) x c.3 (rest_behind text start rest line c.0 er c.1) (place_behind text start rest line q lines n er e h) k)
+    (counted dialect m text (above ++ names_in line) (opened_by (named_in line) opens) (ps ++ qs) (start + length line + 1) c.0 (q ∷ lines) (n + 1) x c.3 (rest_behind text start rest line c.0 er c.1) (place_behind text start rest line q lines n er e h) k)

@@ -16,8 +16,8 @@ use Rattle.cpp_lines.specs.declared.line.LineKind.{LineKind}
 use Rattle.cpp_lines.specs.declared.directives.Directive.{Directive}
 use Rattle.cpp_lines.specs.declared.directives.Directive.TheVariants as named
 use Rattle.cpp_lines.specs.declared.line.LineKind.TheVariants.{Code}
-use Rattle.cpp_lines.specs.Directives.{begins_directive, behind_hash, directive_of, include_fault, include_unless, plain_directive, plain_kind}
-use Rattle.cpp_lines.specs.Lines.{line_with, plain_line, before, plain_lines_from, is_code, IsLineAt, AreLinesFrom}
+use Rattle.cpp_lines.specs.Directives.{begins_directive, behind_hash, directive_of, is_define, include_fault, include_unless, plain_directive, plain_kind}
+use Rattle.cpp_lines.specs.Lines.{line_with, plain_line, before, plain_lines_from, is_code, stays, is_text, IsLineAt, AreLinesFrom}
 use Rattle.cpp_lines.proofs.Faulting.{front_more}
 
 -- these lines in front of what is read behind them
@@ -99,9 +99,37 @@ no_code includes (Some named.Ifndef) = tt
 no_code includes (Some named.Elif) = tt
 no_code includes (Some named.Else) = tt
 no_code includes (Some named.Endif) = tt
+no_code includes (Some named.Define) = refl
 
 pub kind_is : (includes : Includes) (line : List ℕ) → IsCodeOr (begins_directive line) (plain_kind includes line)
 kind_is includes line = elim (begins_directive line) as (λ t. IsCodeOr t (cond t (plain_directive includes (directive_of (behind_hash line))) (Ok Code))) [ true ↦ no_code includes (directive_of (behind_hash line)) | false ↦ refl ]
+
+-- a line without a model stays exactly where it is code or a definition
+abbrev IsTextOr : Bool → Result LineKind FileCode → Type 0
+IsTextOr text (Ok kind) = stays kind ≡ text
+IsTextOr text (Err code) = Unit {0}
+
+other_stays_not : (includes : Includes) → IsTextOr false (include_unless (include_fault includes))
+other_stays_not Assert = tt
+other_stays_not Skip = refl
+
+directive_stays : (includes : Includes) (d : Option Directive) → IsTextOr (is_define d) (plain_directive includes d)
+directive_stays includes None = tt
+directive_stays includes (Some named.Include) = refl
+directive_stays includes (Some named.OtherInclude) = other_stays_not includes
+directive_stays includes (Some named.If) = tt
+directive_stays includes (Some named.Ifdef) = tt
+directive_stays includes (Some named.Ifndef) = tt
+directive_stays includes (Some named.Elif) = tt
+directive_stays includes (Some named.Else) = tt
+directive_stays includes (Some named.Endif) = tt
+directive_stays includes (Some named.Define) = refl
+
+text_is : (includes : Includes) (line : List ℕ) → IsTextOr (is_text line) (plain_kind includes line)
+text_is includes line = elim (begins_directive line) as (λ t. IsTextOr (cond t (is_define (directive_of (behind_hash line))) true) (cond t (plain_directive includes (directive_of (behind_hash line))) (Ok Code))) [
+  | true ↦ directive_stays includes (directive_of (behind_hash line))
+  | false ↦ refl
+]
 
 -- the value of an `Ok`
 abbrev pub got : {X Y : Type 0} → X → Result X Y → X
@@ -109,10 +137,10 @@ got x (Ok y) = y
 got x (Err e) = x
 
 line_is : (includes : Includes) (start : ℕ) (first : Place) (p : List ℕ) (l : Line) → plain_line includes start first p ≡ Ok l → IsLineAt start p l
-line_is includes start first p l e = elim (plain_kind includes p) as (λ r. IsCodeOr (begins_directive p) r → line_with r start first p ≡ Ok l → IsLineAt start p l) [
-  | Ok kind ↦ λ k h. subst (λ (x : Line). IsLineAt start p x) (ap (got l) h) (record { starts = refl; ends = refl; kind = k })
-  | Err code ↦ λ k h. absurd cc
-] (kind_is includes p) e
+line_is includes start first p l e = elim (plain_kind includes p) as (λ r. IsCodeOr (begins_directive p) r → IsTextOr (is_text p) r → line_with r start first p ≡ Ok l → IsLineAt start p l) [
+  | Ok kind ↦ λ k s h. subst (λ (x : Line). IsLineAt start p x) (ap (got l) h) (record { starts = refl; ends = refl; kind = k; text = s })
+  | Err code ↦ λ k s h. absurd cc
+] (kind_is includes p) (text_is includes p) e
 
 pub both : (r : Result Line (FileCode × Place)) (q : Result (List Line) (FileCode × Place)) (ls : List Line) → before r q ≡ Ok ls → (l : Line) × (ks : List Line) × (r ≡ Ok l) × (q ≡ Ok ks) × ((l ∷ ks) ≡ ls)
 both (Ok l) (Ok ks) ls e = (l, ks, refl, refl, ap (got ls) e)

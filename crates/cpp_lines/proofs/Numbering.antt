@@ -8,6 +8,7 @@ use Rattle.fam_outer.specs.declared.faults.Place.{Place}
 use Rattle.fam_outer.specs.Places.{place_at}
 use Rattle.linear_atoms.specs.declared.atoms.Atom.{Atom}
 use Rattle.cpp_conditions.specs.declared.formulas.Formula.{Formula}
+use Rattle.cpp_conditions.specs.Macros.{Macros}
 use Rattle.cpp_conditions.specs.Numbering.{IsNumbered, AreAllAmong}
 use Rattle.cpp_conditions.specs.Propositions.{Proposition}
 use Rattle.cpp_conditions.specs.Validity.{Plain}
@@ -16,9 +17,11 @@ use Rattle.cpp_lines.specs.declared.directives.Directive.{Directive}
 use Rattle.cpp_lines.specs.declared.directives.Directive.TheVariants as named
 use Rattle.cpp_lines.specs.declared.line.Line.{Line}
 use Rattle.cpp_lines.specs.declared.line.LineKind.TheVariants as kinds
-use Rattle.cpp_lines.specs.Directives.{begins_directive, behind_hash, behind_word, directive_of}
+use Rattle.cpp_lines.specs.Bytes.{behind_word}
+use Rattle.cpp_lines.specs.Defined.{names_in, macros_behind}
+use Rattle.cpp_lines.specs.Directives.{begins_directive, behind_hash, directive_of, is_define}
 use Rattle.cpp_lines.specs.GroupConditions.{condition_text}
-use Rattle.cpp_lines.specs.Lines.{is_code, IsLineAt, AreLinesFrom}
+use Rattle.cpp_lines.specs.Lines.{is_code, stays, IsLineAt, AreLinesFrom}
 use Rattle.cpp_lines.specs.Nesting.{line_fault, directive_fault, named_in, opened_by}
 use Rattle.cpp_lines.specs.Sections as sections
 use Rattle.cpp_lines.specs.Sections.{AreNumbered, Told, AreRead, IsRead, in_front, line_at, kind_of, IsNumberedBelow, AreNumberedBelow}
@@ -34,33 +37,35 @@ numbered_more atoms (q ∷ ps) (g ∷ fs) p f h k = (h.0, numbered_more atoms ps
 
 -- a line without a fault has the kind of its directive
 abbrev HasKind : ℕ → Bool → Option Directive → Type 0
-HasKind n b d = is_code (cond b (kind_of n d) kinds.Code) ≡ not b
+HasKind n b d = (is_code (cond b (kind_of n d) kinds.Code) ≡ not b) × (stays (cond b (kind_of n d) kinds.Code) ≡ cond b (is_define d) true)
 
 known : (includes : Includes) (n : ℕ) (opens : List Bool) (d : Option Directive) → directive_fault includes opens d ≡ None → HasKind n true d
 known includes n opens None e = absurd cc
-known includes n opens (Some named.Include) e = refl
-known includes n opens (Some named.OtherInclude) e = refl
-known includes n opens (Some named.If) e = refl
-known includes n opens (Some named.Ifdef) e = refl
-known includes n opens (Some named.Ifndef) e = refl
-known includes n opens (Some named.Elif) e = refl
-known includes n opens (Some named.Else) e = refl
-known includes n opens (Some named.Endif) e = refl
+known includes n opens (Some named.Include) e = (refl, refl)
+known includes n opens (Some named.OtherInclude) e = (refl, refl)
+known includes n opens (Some named.If) e = (refl, refl)
+known includes n opens (Some named.Ifdef) e = (refl, refl)
+known includes n opens (Some named.Ifndef) e = (refl, refl)
+known includes n opens (Some named.Elif) e = (refl, refl)
+known includes n opens (Some named.Else) e = (refl, refl)
+known includes n opens (Some named.Endif) e = (refl, refl)
+known includes n opens (Some named.Define) e = (refl, refl)
 
 has_kind : (includes : Includes) (n : ℕ) (opens : List Bool) (b : Bool) (d : Option Directive) → cond b (directive_fault includes opens d) None ≡ None → HasKind n b d
 has_kind includes n opens true d e = known includes n opens d e
-has_kind includes n opens false d e = refl
+has_kind includes n opens false d e = (refl, refl)
 
-fine : (dialect : Dialect) (m : Plain) (opens : List Bool) (ps qs : List (Proposition Atom)) (line : List ℕ) → IsRead dialect m opens ps line qs → line_fault dialect.includes opens line ≡ None
-fine dialect m opens ps [] line (sections.untested f e) = f
-fine dialect m opens ps (q ∷ []) line (sections.tested text p f e h k) = f
-fine dialect m opens ps (q ∷ (_ ∷ _)) line x5 = elim x5 [ ]
+fine : (dialect : Dialect) (macros : Macros) (m : Plain) (opens : List Bool) (ps qs : List (Proposition Atom)) (line : List ℕ) → IsRead dialect macros m opens ps line qs → line_fault dialect.includes opens line ≡ None
+fine dialect macros m opens ps [] line (sections.untested f e) = f
+fine dialect macros m opens ps (q ∷ []) line (sections.tested text p f e h k) = f
+fine dialect macros m opens ps (q ∷ (_ ∷ _)) line x5 = elim x5 [ ]
 
-line_is : (dialect : Dialect) (m : Plain) (opens : List Bool) (ps qs : List (Proposition Atom)) (start : ℕ) (first : Place) (line : List ℕ) → IsRead dialect m opens ps line qs → IsLineAt start line (line_at (length ps) start first line)
-line_is dialect m opens ps qs start first line h = record {
+line_is : (dialect : Dialect) (macros : Macros) (m : Plain) (opens : List Bool) (ps qs : List (Proposition Atom)) (start : ℕ) (first : Place) (line : List ℕ) → IsRead dialect macros m opens ps line qs → IsLineAt start line (line_at (length ps) start first line)
+line_is dialect macros m opens ps qs start first line h = record {
   starts = refl;
   ends = refl;
-  kind = has_kind dialect.includes (length ps) opens (begins_directive line) (directive_of (behind_hash line)) (fine dialect m opens ps qs line h);
+  kind = (has_kind dialect.includes (length ps) opens (begins_directive line) (directive_of (behind_hash line)) (fine dialect macros m opens ps qs line h)).0;
+  text = (has_kind dialect.includes (length ps) opens (begins_directive line) (directive_of (behind_hash line)) (fine dialect macros m opens ps qs line h)).1;
 }
 
 abbrev LinesAre : ℕ → List (List ℕ) → Result Told (FileCode × Place) → Type 0
@@ -72,13 +77,13 @@ one_more_line : (start : ℕ) (line : List ℕ) (lines : List (List ℕ)) (l : L
 one_more_line start line lines l qs (Ok told) h k = (h, k)
 one_more_line start line lines l qs (Err fault) h k = tt
 
-pub lines_are : (dialect : Dialect) (m : Plain) (text : List ℕ) (opens : List Bool) (ps : List (Proposition Atom)) (start : ℕ) (lines : List (List ℕ)) (r : Result Told (FileCode × Place)) → AreRead dialect m text opens ps start lines r → LinesAre start lines r
-lines_are dialect m text opens ps start [] r (sections.none o q s) = tt
-lines_are dialect m text opens ps start (line ∷ lines) r (sections.unclosed o q s l ls u) = tt
-lines_are dialect m text opens ps start (line ∷ lines) r (sections.faulty o q s l ls code u f) = tt
-lines_are dialect m text opens ps start (line ∷ lines) r (sections.goes_on o q s l ls qs x u h k) =
-    one_more_line start line lines (line_at (length ps) start (place_at text start) line) qs x (line_is dialect m opens ps qs start (place_at text start) line h)
-    (lines_are dialect m text (opened_by (named_in line) opens) (ps ++ qs) (start + length line + 1) lines x k)
+pub lines_are : (dialect : Dialect) (m : Plain) (text : List ℕ) (above : List (List ℕ)) (opens : List Bool) (ps : List (Proposition Atom)) (start : ℕ) (lines : List (List ℕ)) (r : Result Told (FileCode × Place)) → AreRead dialect m text above opens ps start lines r → LinesAre start lines r
+lines_are dialect m text above opens ps start [] r (sections.none o q s) = tt
+lines_are dialect m text above opens ps start (line ∷ lines) r (sections.unclosed o q s l ls u) = tt
+lines_are dialect m text above opens ps start (line ∷ lines) r (sections.faulty o q s l ls code u f) = tt
+lines_are dialect m text above opens ps start (line ∷ lines) r (sections.goes_on o q s l ls qs x u h k) =
+    one_more_line start line lines (line_at (length ps) start (place_at text start) line) qs x (line_is dialect (macros_behind dialect.unknown text above) m opens ps qs start (place_at text start) line h)
+    (lines_are dialect m text (above ++ names_in line) (opened_by (named_in line) opens) (ps ++ qs) (start + length line + 1) lines x k)
 
 -- ---- the numbers of conditions
 
@@ -96,6 +101,7 @@ below_any n count (Some named.Include) k = tt
 below_any n count (Some named.OtherInclude) k = tt
 below_any n count (Some named.Else) k = tt
 below_any n count (Some named.Endif) k = tt
+below_any n count (Some named.Define) k = tt
 
 asks_not : (n count : ℕ) (d : Option Directive) (rest : List ℕ) → condition_text d rest ≡ None → IsNumberedBelow count (kind_of n d)
 asks_not n count None rest h = tt
@@ -107,6 +113,7 @@ asks_not n count (Some named.Include) rest h = tt
 asks_not n count (Some named.OtherInclude) rest h = tt
 asks_not n count (Some named.Else) rest h = tt
 asks_not n count (Some named.Endif) rest h = tt
+asks_not n count (Some named.Define) rest h = tt
 
 kind_not : (n count : ℕ) (b : Bool) (d : Option Directive) (rest : List ℕ) → cond b (condition_text d rest) None ≡ None → IsNumberedBelow count (cond b (kind_of n d) kinds.Code)
 kind_not n count true d rest e = asks_not n count d rest e
@@ -116,25 +123,25 @@ kind_below : (n count : ℕ) (b : Bool) (d : Option Directive) → n < count →
 kind_below n count true d k = below_any n count d k
 kind_below n count false d k = tt
 
-line_below : (dialect : Dialect) (m : Plain) (opens : List Bool) (ps qs more : List (Proposition Atom)) (line : List ℕ) (n : ℕ) → IsRead dialect m opens ps line qs → n ≡ length (ps ++ (qs ++ more))
+line_below : (dialect : Dialect) (macros : Macros) (m : Plain) (opens : List Bool) (ps qs more : List (Proposition Atom)) (line : List ℕ) (n : ℕ) → IsRead dialect macros m opens ps line qs → n ≡ length (ps ++ (qs ++ more))
     → IsNumberedBelow n (cond (begins_directive line) (kind_of (length ps) (directive_of (behind_hash line))) kinds.Code)
-line_below dialect m opens ps [] more line n (sections.untested f e) k = kind_not (length ps) n (begins_directive line) (directive_of (behind_hash line)) (behind_word (behind_hash line)) e
-line_below dialect m opens ps (q ∷ []) more line n (sections.tested text p f e h j) k =
+line_below dialect macros m opens ps [] more line n (sections.untested f e) k = kind_not (length ps) n (begins_directive line) (directive_of (behind_hash line)) (behind_word (behind_hash line)) e
+line_below dialect macros m opens ps (q ∷ []) more line n (sections.tested text p f e h j) k =
     kind_below (length ps) n (begins_directive line) (directive_of (behind_hash line)) (omega (arith, length-append ps (q ∷ more)))
-line_below dialect m opens ps (q ∷ (_ ∷ _)) more line n x6 k = elim x6 [ ]
+line_below dialect macros m opens ps (q ∷ (_ ∷ _)) more line n x6 k = elim x6 [ ]
 
-one_more_number : (dialect : Dialect) (m : Plain) (opens : List Bool) (ps qs : List (Proposition Atom)) (start : ℕ) (first : Place) (line : List ℕ) (r : Result Told (FileCode × Place)) → IsRead dialect m opens ps line qs → NumbersBelow (ps ++ qs) r
+one_more_number : (dialect : Dialect) (macros : Macros) (m : Plain) (opens : List Bool) (ps qs : List (Proposition Atom)) (start : ℕ) (first : Place) (line : List ℕ) (r : Result Told (FileCode × Place)) → IsRead dialect macros m opens ps line qs → NumbersBelow (ps ++ qs) r
     → NumbersBelow ps (in_front (line_at (length ps) start first line ∷ []) qs r)
-one_more_number dialect m opens ps qs start first line (Ok told) h k = λ n e.
-    (line_below dialect m opens ps qs told.conditions line n h e, k n (e ∙ ap length (sym (append_assoc ps qs told.conditions))))
-one_more_number dialect m opens ps qs start first line (Err fault) h k = tt
+one_more_number dialect macros m opens ps qs start first line (Ok told) h k = λ n e.
+    (line_below dialect macros m opens ps qs told.conditions line n h e, k n (e ∙ ap length (sym (append_assoc ps qs told.conditions))))
+one_more_number dialect macros m opens ps qs start first line (Err fault) h k = tt
 
-pub numbers_are : (dialect : Dialect) (m : Plain) (text : List ℕ) (opens : List Bool) (ps : List (Proposition Atom)) (start : ℕ) (lines : List (List ℕ)) (r : Result Told (FileCode × Place)) → AreRead dialect m text opens ps start lines r → NumbersBelow ps r
-numbers_are dialect m text opens ps start [] r (sections.none o q s) = λ n e. tt
-numbers_are dialect m text opens ps start (line ∷ lines) r (sections.unclosed o q s l ls u) = tt
-numbers_are dialect m text opens ps start (line ∷ lines) r (sections.faulty o q s l ls code u f) = tt
-numbers_are dialect m text opens ps start (line ∷ lines) r (sections.goes_on o q s l ls qs x u h k) =
-    one_more_number dialect m opens ps qs start (place_at text start) line x h (numbers_are dialect m text (opened_by (named_in line) opens) (ps ++ qs) (start + length line + 1) lines x k)
+pub numbers_are : (dialect : Dialect) (m : Plain) (text : List ℕ) (above : List (List ℕ)) (opens : List Bool) (ps : List (Proposition Atom)) (start : ℕ) (lines : List (List ℕ)) (r : Result Told (FileCode × Place)) → AreRead dialect m text above opens ps start lines r → NumbersBelow ps r
+numbers_are dialect m text above opens ps start [] r (sections.none o q s) = λ n e. tt
+numbers_are dialect m text above opens ps start (line ∷ lines) r (sections.unclosed o q s l ls u) = tt
+numbers_are dialect m text above opens ps start (line ∷ lines) r (sections.faulty o q s l ls code u f) = tt
+numbers_are dialect m text above opens ps start (line ∷ lines) r (sections.goes_on o q s l ls qs x u h k) =
+    one_more_number dialect (macros_behind dialect.unknown text above) m opens ps qs start (place_at text start) line x h (numbers_are dialect m text (above ++ names_in line) (opened_by (named_in line) opens) (ps ++ qs) (start + length line + 1) lines x k)
 
 pub same_count : (atoms : List Atom) (ps : List (Proposition Atom)) (fs : List Formula) → AreNumbered atoms ps fs → length ps ≡ length fs
 same_count atoms [] [] h = refl

@@ -1,13 +1,16 @@
 -- Places stay where newlines stay.
-use Rattle.std.proofs.Common.{◌≡◌, ℕ, zero, suc, ◌+◌, Bool, true, false, not, cond, List, [], ◌∷◌, length, take, drop, ◌-◌, refl, sym, ap, ◌∙◌}
+use Rattle.std.proofs.Common.{◌≡◌, ℕ, zero, suc, ◌+◌, Bool, true, false, cond, List, [], ◌∷◌, ◌++◌, length, take, drop, ◌-◌, refl, sym, ap, ◌∙◌}
 use Rattle.std.specs.Prelude.{◌||◌, map, count_by}
 use Rattle.std.specs.List.{list_any}
+use Rattle.std.proofs.lemmas.Bool.{or_parts}
 use Rattle.std.proofs.lemmas.List.Sums.{sum_by-cons}
 use Rattle.fam_outer.specs.Places.{is_newline, last_line, place_at}
 use Rattle.fam_outer.proofs.Placing.{one_spot}
 use Rattle.cpp_lines.specs.Comments.{comment_left, blanked_byte, blank_from}
-use Rattle.cpp_lines.specs.Directives.{begins_directive}
-use Rattle.cpp_lines.specs.Code.{code_byte, code_from}
+use Rattle.cpp_lines.specs.Code.{code_piece, code_of}
+use Rattle.cpp_lines.specs.Lines.{pieces}
+use Rattle.cpp_lines.specs.Preprocessed.{with_newlines}
+use Rattle.cpp_lines.proofs.CodeLines.{AreLines, pieces_are_lines, joined_again, piece_quiet, piece_len}
 
 -- which bytes are newlines
 abbrev pub newlines : List ℕ → List Bool
@@ -60,11 +63,34 @@ blank_alike left [] = refl
 blank_alike left (b ∷ bs) =
     ap (λ (v : Bool). v ∷ newlines (blank_from (comment_left left (b ∷ bs) - 1) bs)) (blanked_kept (comment_left left (b ∷ bs)) b) ∙ ap (λ (vs : List Bool). is_newline b ∷ vs) (blank_alike (comment_left left (b ∷ bs) - 1) bs)
 
-code_kept : (d : Bool) (b : ℕ) → is_newline (code_byte d b) ≡ is_newline b
-code_kept false b = refl
-code_kept true b = elim (is_newline b) as (λ v. is_newline b ≡ v → is_newline (cond (not v) 32 b) ≡ v) [ true ↦ λ e. e | false ↦ λ e. refl ] refl
+-- ---- the code of a text
 
-pub code_alike : (d : Bool) (bytes : List ℕ) → newlines (code_from d bytes) ≡ newlines bytes
-code_alike d [] = refl
-code_alike d (b ∷ bs) =
-    ap (λ (v : Bool). v ∷ newlines (code_from (cond (is_newline b) (begins_directive bs) d) bs)) (code_kept d b) ∙ ap (λ (vs : List Bool). is_newline b ∷ vs) (code_alike (cond (is_newline b) (begins_directive bs) d) bs)
+quiet_alike : (xs ys : List ℕ) → list_any is_newline xs ≡ false → list_any is_newline ys ≡ false → length xs ≡ length ys → newlines xs ≡ newlines ys
+quiet_alike [] [] h k e = refl
+quiet_alike [] (y ∷ ys) h k e = absurd cc
+quiet_alike (x ∷ xs) [] h k e = absurd cc
+quiet_alike (x ∷ xs) (y ∷ ys) h k e =
+    let p = or_parts (is_newline x) (list_any is_newline xs) h in
+    let q = or_parts (is_newline y) (list_any is_newline ys) k in
+    let less : length xs ≡ length ys = cc in
+    ap (λ (v : Bool). v ∷ newlines xs) (p.0 ∙ sym q.0) ∙ ap (λ (vs : List Bool). is_newline y ∷ vs) (quiet_alike xs ys p.1 q.1 less)
+
+newlines_append : (xs ys : List ℕ) → newlines (xs ++ ys) ≡ newlines xs ++ newlines ys
+newlines_append [] ys = refl
+newlines_append (x ∷ xs) ys = ap (λ (vs : List Bool). is_newline x ∷ vs) (newlines_append xs ys)
+
+piece_alike : (p : List ℕ) → list_any is_newline p ≡ false → newlines (code_piece p) ≡ newlines p
+piece_alike p none = quiet_alike (code_piece p) p (piece_quiet p none) none (piece_len p)
+
+lines_alike : (ps : List (List ℕ)) → AreLines ps → newlines (with_newlines (map code_piece ps)) ≡ newlines (with_newlines ps)
+lines_alike [] h = refl
+lines_alike (p ∷ []) h = piece_alike p h.0
+lines_alike (p ∷ q ∷ qs) h =
+    newlines_append (code_piece p) (10 ∷ with_newlines (map code_piece (q ∷ qs)))
+    ∙ ap (λ (vs : List Bool). vs ++ newlines (10 ∷ with_newlines (map code_piece (q ∷ qs)))) (piece_alike p h.0)
+    ∙ ap (λ (vs : List Bool). newlines p ++ is_newline 10 ∷ vs) (lines_alike (q ∷ qs) h.1)
+    ∙ sym (newlines_append p (10 ∷ with_newlines (q ∷ qs)))
+
+pub code_alike : (text : List ℕ) → newlines (code_of text) ≡ newlines text
+unfolding code_of
+code_alike text = lines_alike (pieces text) (pieces_are_lines text (pieces text) refl) ∙ ap newlines (joined_again text (pieces text) refl)

@@ -8,6 +8,7 @@ use Rattle.fam_outer.specs.declared.faults.FileCode.{FileCode}
 use Rattle.fam_outer.specs.declared.faults.FileCode.TheVariants.{NoEndif}
 use Rattle.fam_outer.specs.Places.{place_at}
 use Rattle.linear_atoms.specs.declared.atoms.Atom.{Atom}
+use Rattle.cpp_conditions.specs.Macros.{Macros, among}
 use Rattle.cpp_conditions.specs.Propositions.{Proposition}
 use Rattle.cpp_conditions.specs.Validity.{Plain}
 use Rattle.cpp_conditions.specs.View.{proposition}
@@ -15,12 +16,13 @@ use Rattle.cpp_lines.specs.declared.directives.Directive.{Directive}
 use Rattle.cpp_lines.specs.declared.directives.Directive.TheVariants as named
 use Rattle.cpp_lines.specs.declared.line.Line.{Line}
 use Rattle.cpp_lines.specs.declared.sections.Reading.{Reading}
-use Rattle.cpp_lines.specs.Lines.{line_place}
+use Rattle.cpp_lines.specs.Defined.{names_in, names_of}
+use Rattle.cpp_lines.specs.Lines.{line_place, pieces}
 use Rattle.cpp_lines.specs.Nesting.{named_in, opens_section, ends_before, ends_of, opened_by}
 use Rattle.cpp_lines.specs.Opens.{flags, first_after, first_of}
 use Rattle.cpp_lines.specs.Sections as sections
-use Rattle.cpp_lines.specs.Sections.{Told, AreRead, TextIsRead, IsRead, line_at, in_front}
-use Rattle.cpp_lines.specs.Taking.{meant, IsTaken, IsFaulty, IsFollowed, Takes, ReadsLines, earlier, is_short}
+use Rattle.cpp_lines.specs.Sections.{Told, AreRead, TextIsRead, HasFault, IsRead, line_at, in_front}
+use Rattle.cpp_lines.specs.Taking.{meant, plain_names, macros_of, IsTaken, IsFaulty, IsFollowed, Takes, ReadsLines, earlier, is_short}
 use Rattle.fam_outer.specs.declared.faults.FileRefusal.{FileRefusal}
 use Rattle.fam_outer.specs.declared.faults.FileRefusal.TheVariants.{NoMemory, Fault}
 
@@ -56,6 +58,7 @@ nest_on (Some named.OtherInclude) opens n h = (h, refl)
 nest_on (Some named.Elif) opens n h = (h, refl)
 nest_on (Some named.Else) opens n h = (else_on opens n h, refl)
 nest_on (Some named.Endif) opens n h = (ended_on opens n h, refl)
+nest_on (Some named.Define) opens n h = (h, refl)
 
 abbrev IsOff : Option Directive → List Bool → ℕ → Type 0
 IsOff d opens n = (ends_before d n < length opens) ⊎ ((opens ≡ []) × (opens_section d ≡ true) × ((opens_section d && (n == 0)) ≡ true))
@@ -82,6 +85,7 @@ nest_off (Some named.OtherInclude) opens n h = inl h
 nest_off (Some named.Elif) opens n h = inl h
 nest_off (Some named.Else) opens n h = inl (else_off opens n h)
 nest_off (Some named.Endif) opens n h = inl (ended_off opens n h)
+nest_off (Some named.Define) opens n h = inl h
 
 -- the outermost section stays the same while one is open
 same_first : (d : Option Directive) (place : Place) (opens : List Bool) (first : Place) (n : ℕ) → n < length opens → first_after d place opens first ≡ first
@@ -103,7 +107,8 @@ in_front_on xs ys ps qs (Err fault) = refl
 -- where as many sections are ended as are open, the text is read as what is read so far and then the rest; where fewer are, the
 -- outermost open section has no end
 pub record Stands (dialect : Dialect) (m : Plain) (text : List ℕ) (start : ℕ) (now : Reading) (lines : List (List ℕ)) : Type 0 where
-  pub goes_on : (r : Result Told (FileCode × Place)) → length (flags now.opens) ≤ ends_of lines → AreRead dialect m text (flags now.opens) (meant now) start lines r → TextIsRead dialect m text (in_front now.lines.items (meant now) r)
+  pub goes_on : (r : Result Told (FileCode × Place)) → length (flags now.opens) ≤ ends_of lines → AreRead dialect m text (plain_names now.above.items) (flags now.opens) (meant now) start lines r → TextIsRead dialect m text (in_front now.lines.items (meant now) r)
+  pub defined : plain_names now.defined.items ≡ names_of (pieces text)
   pub unclosed : ends_of lines < length (flags now.opens) → TextIsRead dialect m text (Err (NoEndif, now.opens.first))
 
 pub unclosed_on : (dialect : Dialect) (m : Plain) (text : List ℕ) (start : ℕ) (first : Place) (line : List ℕ) (lines : List (List ℕ)) (old new : Reading) → first ≡ place_at text start → Stands dialect m text start old (line ∷ lines)
@@ -119,14 +124,16 @@ unclosed_on dialect m text start first line lines old new ef s f h =
     ]
 
 goes_on_read : (dialect : Dialect) (m : Plain) (text : List ℕ) (start : ℕ) (first : Place) (line : List ℕ) (lines : List (List ℕ)) (old new : Reading) → first ≡ place_at text start → Stands dialect m text start old (line ∷ lines) → (t : IsTaken dialect m start first line old new)
-    → (r : Result Told (FileCode × Place)) → length (flags new.opens) ≤ ends_of lines → AreRead dialect m text (flags new.opens) (meant new) (start + length line + 1) lines r
+    → (r : Result Told (FileCode × Place)) → length (flags new.opens) ≤ ends_of lines → AreRead dialect m text (plain_names new.above.items) (flags new.opens) (meant new) (start + length line + 1) lines r
     → TextIsRead dialect m text (in_front old.lines.items (meant old) (in_front (line_at (length (meant old)) start (place_at text start) line ∷ []) t.judged.conditions r))
 goes_on_read dialect m text start first line lines old new ef s t r h k =
     let n = nest_on (named_in line) (flags old.opens) (ends_of lines) (subst (λ (os : List Bool). length os ≤ ends_of lines) t.followed.opened h) in
     s.goes_on (in_front (line_at (length (meant old)) start (place_at text start) line ∷ []) t.judged.conditions r) n.0
-    (sections.goes_on (flags old.opens) (meant old) start line lines t.judged.conditions r n.1 t.judged.is_read
-    (subst (λ (os : List Bool). AreRead dialect m text os (meant old ++ t.judged.conditions) (start + length line + 1) lines r) t.followed.opened
-    (subst (λ (ps : List (Proposition Atom)). AreRead dialect m text (flags new.opens) ps (start + length line + 1) lines r) t.judged.meant_now k)))
+    (sections.goes_on (flags old.opens) (meant old) start line lines t.judged.conditions r n.1
+    (subst (λ (file : List (List ℕ)). IsRead dialect (among dialect.unknown (plain_names old.above.items) file) m (flags old.opens) (meant old) line t.judged.conditions) s.defined t.judged.is_read)
+    (subst (λ (os : List Bool). AreRead dialect m text (plain_names old.above.items ++ names_in line) os (meant old ++ t.judged.conditions) (start + length line + 1) lines r) t.followed.opened
+    (subst (λ (above : List (List ℕ)). AreRead dialect m text above (flags new.opens) (meant old ++ t.judged.conditions) (start + length line + 1) lines r) t.named.above
+    (subst (λ (ps : List (Proposition Atom)). AreRead dialect m text (plain_names new.above.items) (flags new.opens) ps (start + length line + 1) lines r) t.judged.meant_now k))))
 
 pub stands_on : (dialect : Dialect) (m : Plain) (text : List ℕ) (start : ℕ) (first : Place) (line : List ℕ) (lines : List (List ℕ)) (old new : Reading) → first ≡ place_at text start → Stands dialect m text start old (line ∷ lines)
     → IsTaken dialect m start first line old new → Stands dialect m text (start + length line + 1) new lines
@@ -137,6 +144,7 @@ stands_on dialect m text start first line lines old new ef s t = record {
       ∙ ap (λ (ls : List Line). in_front ls (meant old ++ t.judged.conditions) r) (sym t.lines)
       ∙ ap (λ (ps : List (Proposition Atom)). in_front new.lines.items ps r) (sym t.judged.meant_now))
       (goes_on_read dialect m text start first line lines old new ef s t r h k);
+  defined = ap (λ (v : _). plain_names v.items) t.named.defined ∙ s.defined;
   unclosed = unclosed_on dialect m text start first line lines old new ef s t.followed;
 }
 
@@ -146,7 +154,8 @@ fault_on : (dialect : Dialect) (m : Plain) (text : List ℕ) (start : ℕ) (firs
 fault_on dialect m text start first line lines old new code place ef s f h =
     let n = nest_on (named_in line) (flags old.opens) (ends_of lines) (subst (λ (os : List Bool). length os ≤ ends_of lines) f.followed.opened h) in
     subst (λ (p : Place). TextIsRead dialect m text (Err (code, p))) (sym (f.place_is ∙ ap (λ (p : Place). line_place p line) ef))
-    (s.goes_on (Err (code, line_place (place_at text start) line)) n.0 (sections.faulty (flags old.opens) (meant old) start line lines code n.1 f.fault))
+    (s.goes_on (Err (code, line_place (place_at text start) line)) n.0 (sections.faulty (flags old.opens) (meant old) start line lines code n.1
+    (subst (λ (file : List (List ℕ)). HasFault dialect (among dialect.unknown (plain_names old.above.items) file) m (flags old.opens) (meant old) line code) s.defined f.fault)))
 
 fewer : (a b : ℕ) → nat_lt a b ≡ true → a < b
 fewer a b e = grind (arith, nat_tests)
@@ -163,17 +172,17 @@ fault_read dialect m text start first line lines old new (Fault code place) ef s
       | false ↦ λ e. fault_on dialect m text start first line lines old new code place ef s f (not_fewer (ends_of lines) (length (flags new.opens)) e)
     ] refl
 
-one_at_most : (dialect : Dialect) (m : Plain) (opens : List Bool) (ps : List (Proposition Atom)) (line : List ℕ) (qs : List (Proposition Atom)) → IsRead dialect m opens ps line qs → length qs ≤ 1
-one_at_most dialect m opens ps line [] (sections.untested f e) = omega arith
-one_at_most dialect m opens ps line (q ∷ []) (sections.tested text p f e h k) = omega arith
-one_at_most dialect m opens ps line (q ∷ (_ ∷ _)) x5 = elim x5 [ ]
+one_at_most : (dialect : Dialect) (macros : Macros) (m : Plain) (opens : List Bool) (ps : List (Proposition Atom)) (line : List ℕ) (qs : List (Proposition Atom)) → IsRead dialect macros m opens ps line qs → length qs ≤ 1
+one_at_most dialect macros m opens ps line [] (sections.untested f e) = omega arith
+one_at_most dialect macros m opens ps line (q ∷ []) (sections.tested text p f e h k) = omega arith
+one_at_most dialect macros m opens ps line (q ∷ (_ ∷ _)) x5 = elim x5 [ ]
 
 -- at most one more condition
 pub one_more_at_most : (dialect : Dialect) (m : Plain) (start : ℕ) (first : Place) (line : List ℕ) (old new : Reading) → IsTaken dialect m start first line old new → length new.conditions.items ≤ length old.conditions.items + 1
 one_more_at_most dialect m start first line old new t =
     omega (
       arith,
-      one_at_most dialect m (flags old.opens) (meant old) line t.judged.conditions t.judged.is_read,
+      one_at_most dialect (macros_of dialect old) m (flags old.opens) (meant old) line t.judged.conditions t.judged.is_read,
       ap length t.judged.meant_now,
       length-append (meant old) t.judged.conditions,
       length-map new.conditions.items proposition,
@@ -186,14 +195,18 @@ nothing_in_front : (r : Result Told (FileCode × Place)) → in_front [] [] r �
 nothing_in_front (Ok told) = refl
 nothing_in_front (Err fault) = refl
 
-pub begun : (dialect : Dialect) (m : Plain) (text : List ℕ) (now : Reading) (lines : List (List ℕ)) → now.lines.items ≡ [] → now.conditions.items ≡ [] → flags now.opens ≡ []
-    → ((r : Result Told (FileCode × Place)) → AreRead dialect m text [] [] 0 lines r → TextIsRead dialect m text r) → Stands dialect m text 0 now lines
-begun dialect m text now lines el ec eo all =
+pub begun : (dialect : Dialect) (m : Plain) (text : List ℕ) (now : Reading) (lines : List (List ℕ)) → now.lines.items ≡ [] → now.conditions.items ≡ [] → flags now.opens ≡ [] → now.above.items ≡ []
+    → plain_names now.defined.items ≡ names_of (pieces text)
+    → ((r : Result Told (FileCode × Place)) → AreRead dialect m text [] [] [] 0 lines r → TextIsRead dialect m text r) → Stands dialect m text 0 now lines
+begun dialect m text now lines el ec eo ea named all =
     let em : meant now ≡ [] = ap (map proposition) ec in
     record {
       goes_on = λ r h k. subst (λ (x : Result Told (FileCode × Place)). TextIsRead dialect m text x)
           (sym (ap (λ (ls : List Line). in_front ls (meant now) r) el ∙ ap (λ (ps : List (Proposition Atom)). in_front [] ps r) em ∙ nothing_in_front r))
-          (all r (subst (λ (os : List Bool). AreRead dialect m text os [] 0 lines r) eo (subst (λ (ps : List (Proposition Atom)). AreRead dialect m text (flags now.opens) ps 0 lines r) em k)));
+          (all r (subst (λ (above : List (List ℕ)). AreRead dialect m text above [] [] 0 lines r) (ap plain_names ea)
+          (subst (λ (os : List Bool). AreRead dialect m text (plain_names now.above.items) os [] 0 lines r) eo
+          (subst (λ (ps : List (Proposition Atom)). AreRead dialect m text (plain_names now.above.items) (flags now.opens) ps 0 lines r) em k))));
+      defined = named;
       unclosed = λ h. absurd (let z : ends_of lines < 0 = subst (λ (os : List Bool). ends_of lines < length os) eo h in omega arith);
     }
 

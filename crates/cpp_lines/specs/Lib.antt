@@ -2,6 +2,8 @@ pub mod Around
 pub mod Bytes
 pub mod Code
 pub mod Comments
+pub mod Defined
+pub mod Definitions
 pub mod Directives
 pub mod Faults
 pub mod GroupConditions

@@ -7,9 +7,9 @@ use Rattle.fam_outer.specs.declared.faults.FileCode.{FileCode}
 use Rattle.fam_outer.specs.Places.{is_newline, place_at}
 use Rattle.cpp_lines.specs.declared.line.Line.{Line}
 use Rattle.cpp_lines.specs.declared.line.LineKind.{LineKind}
-use Rattle.cpp_lines.specs.declared.line.LineKind.TheVariants.{Code}
+use Rattle.cpp_lines.specs.declared.line.LineKind.TheVariants.{Code, Define}
 use Rattle.c_words.specs.Bytes.{is_gap}
-use Rattle.cpp_lines.specs.Directives.{begins_directive, plain_kind}
+use Rattle.cpp_lines.specs.Directives.{begins_directive, behind_hash, directive_of, is_define, plain_kind}
 
 -- a byte in front of the first piece
 abbrev pub in_first : ℕ → List (List ℕ) → List (List ℕ)
@@ -53,11 +53,27 @@ abbrev pub is_code : LineKind → Bool
 is_code Code = true
 is_code other = false
 
--- the line has the bytes of this piece, and is code exactly where that is no directive line
+-- a line of this kind stays in the text of a variant, where its groups are kept: code, or a definition
+abbrev pub stays : LineKind → Bool
+stays Code = true
+stays Define = true
+stays other = false
+
+abbrev pub AllStay : List Line → Type 0
+AllStay [] = ⊤
+AllStay (l ∷ ls) = (stays l.kind ≡ true) × AllStay ls
+
+-- the same of a line's bytes
+abbrev pub is_text : List ℕ → Bool
+is_text piece = if begins_directive piece then is_define (directive_of (behind_hash piece)) else true
+
+-- the line has the bytes of this piece, is code exactly where that is no directive line, and stays exactly where it is code or a
+-- definition
 pub record IsLineAt (start : ℕ) (piece : List ℕ) (line : Line) : Type 0 where
   pub starts : line.start ≡ start
   pub ends : line.end ≡ start + length piece
   pub kind : is_code line.kind ≡ not (begins_directive piece)
+  pub text : stays line.kind ≡ is_text piece
 
 -- these are the lines of these pieces, in their order
 abbrev pub AreLinesFrom : ℕ → List (List ℕ) → List Line → Type 0

@@ -5,7 +5,8 @@ use Rattle.fam_outer.specs.declared.faults.FileCode.{FileCode}
 use Rattle.fam_outer.specs.declared.faults.FileCode.TheVariants as codes_of
 use Rattle.cpp_lines.specs.declared.directives.Directive.{Directive}
 use Rattle.cpp_lines.specs.declared.directives.Directive.TheVariants as named
-use Rattle.cpp_lines.specs.Directives.{begins_directive, behind_hash, word_of, directive_named, directive_of, include_fault}
+use Rattle.cpp_lines.specs.Bytes.{word_of}
+use Rattle.cpp_lines.specs.Directives.{begins_directive, behind_hash, directive_named, directive_of, include_fault}
 
 -- the directive that a line names, whatever stands behind the name
 abbrev pub named_in : List ℕ → Option Directive
@@ -22,6 +23,7 @@ opens_section (Some named.OtherInclude) = false
 opens_section (Some named.Elif) = false
 opens_section (Some named.Else) = false
 opens_section (Some named.Endif) = false
+opens_section (Some named.Define) = false
 
 -- the directive ends a section
 abbrev pub ends_section : Option Directive → Bool
@@ -34,6 +36,7 @@ ends_section (Some named.OtherInclude) = false
 ends_section (Some named.Elif) = false
 ends_section (Some named.Else) = false
 ends_section (Some named.Endif) = true
+ends_section (Some named.Define) = false
 
 -- how many sections that are open before a line end, where those behind it end so many: an `#endif` ends one more, and what an
 -- `#if` opens takes one of them
@@ -70,6 +73,7 @@ opened_by (Some named.OtherInclude) opens = opens
 opened_by (Some named.Elif) opens = opens
 opened_by (Some named.Else) opens = with_else opens
 opened_by (Some named.Endif) opens = without_inner opens
+opened_by (Some named.Define) opens = opens
 
 -- ---- faults of directives, but for those of conditions and of sections that nothing ends
 
@@ -94,6 +98,7 @@ directive_fault includes opens (Some named.OtherInclude) = include_fault include
 directive_fault includes opens (Some named.Elif) = later_fault opens
 directive_fault includes opens (Some named.Else) = later_fault opens
 directive_fault includes opens (Some named.Endif) = end_fault opens
+directive_fault includes opens (Some named.Define) = None
 
 -- the fault of a line behind these open sections
 abbrev pub line_fault : Includes → List Bool → List ℕ → Option FileCode

@@ -7,7 +7,7 @@ use Rattle.cpp_groups.specs.Kept.{all_kept, sections_after}
 use Rattle.cpp_lines.specs.declared.line.Line.{Line}
 use Rattle.cpp_lines.specs.declared.line.LineKind.{LineKind}
 use Rattle.cpp_lines.specs.declared.line.LineKind.TheVariants as kinds
-use Rattle.cpp_lines.specs.Lines.{is_code, pieces}
+use Rattle.cpp_lines.specs.Lines.{stays, pieces}
 
 -- the group directive of a line
 abbrev pub group_of : LineKind → Option GroupDirective
@@ -17,10 +17,12 @@ group_of (kinds.If n) = Some (directives.If n)
 group_of (kinds.Elif n) = Some (directives.Elif n)
 group_of kinds.Else = Some directives.Else
 group_of kinds.Endif = Some directives.Endif
+group_of kinds.Define = None
 
--- a line stays as it is where it is no directive and each group around it is the kept one of its section; every other one is empty
+-- a line stays as it is where it is code or a definition, and each group around it is the kept one of its section; every other one is
+-- empty
 abbrev pub kept_line : List Section → LineKind → List ℕ → List ℕ
-kept_line sections kind piece = if is_code kind && all_kept sections then piece else []
+kept_line sections kind piece = if stays kind && all_kept sections then piece else []
 
 -- these lines, the first behind these open sections
 abbrev pub kept_lines : List Bool → List Section → List Line → List (List ℕ) → List (List ℕ)

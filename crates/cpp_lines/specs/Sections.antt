@@ -11,6 +11,7 @@ use Rattle.fam_outer.specs.Places.{place_at}
 use Rattle.linear_atoms.specs.declared.atoms.Atom.{Atom}
 use Rattle.cpp_conditions.specs.declared.formulas.Formula.{Formula}
 use Rattle.cpp_conditions.specs.Distinct.{AreAtomsOf, HaveFewAtoms, HaveMoreAtoms}
+use Rattle.cpp_conditions.specs.Macros.{Macros}
 use Rattle.cpp_conditions.specs.Numbering.{IsNumbered, vector_at}
 use Rattle.cpp_conditions.specs.Propositions.{Proposition, true_at, true_on}
 use Rattle.cpp_conditions.specs.Validity.{Plain}
@@ -21,6 +22,7 @@ use Rattle.cpp_lines.specs.declared.line.Line.{Line}
 use Rattle.cpp_lines.specs.declared.line.LineKind.{LineKind}
 use Rattle.cpp_lines.specs.declared.line.LineKind.TheVariants as kinds
 use Rattle.cpp_lines.specs.declared.sections.Sections.{Sections}
+use Rattle.cpp_lines.specs.Defined.{names_in, macros_behind}
 use Rattle.cpp_lines.specs.Directives.{begins_directive, behind_hash, directive_of}
 use Rattle.cpp_lines.specs.GroupConditions.{condition_in, IsGroupCondition}
 use Rattle.cpp_lines.specs.Lines.{line_place, pieces}
@@ -37,6 +39,7 @@ kind_of n (Some named.Ifndef) = kinds.If n
 kind_of n (Some named.Elif) = kinds.Elif n
 kind_of n (Some named.Else) = kinds.Else
 kind_of n (Some named.Endif) = kinds.Endif
+kind_of n (Some named.Define) = kinds.Define
 
 -- the line at this offset and place
 abbrev pub line_at : ℕ → ℕ → Place → List ℕ → Line
@@ -50,18 +53,18 @@ line_at n start first line = record {
 -- ---- one line, behind these open sections and conditions
 
 -- the line has this fault; that nothing ends its section is a matter of the lines behind it
-pub data HasFault (dialect : Dialect) (model : Plain) (opens : List Bool) (ps : List (Proposition Atom)) (line : List ℕ) : FileCode → Type 0 where
-  misplaced : (code : FileCode) → line_fault dialect.includes opens line ≡ Some code → HasFault dialect model opens ps line code
+pub data HasFault (dialect : Dialect) (macros : Macros) (model : Plain) (opens : List Bool) (ps : List (Proposition Atom)) (line : List ℕ) : FileCode → Type 0 where
+  misplaced : (code : FileCode) → line_fault dialect.includes opens line ≡ Some code → HasFault dialect macros model opens ps line code
   refused : (text : Result (List ℕ) ConditionFault) (fault : ConditionFault) → line_fault dialect.includes opens line ≡ None → condition_in line ≡ Some text
-      → IsGroupCondition dialect.unknown model.features text (Err fault) → HasFault dialect model opens ps line (codes_of.Condition fault)
+      → IsGroupCondition macros model.features text (Err fault) → HasFault dialect macros model opens ps line (codes_of.Condition fault)
   crowded : (text : Result (List ℕ) ConditionFault) (p : Proposition Atom) → line_fault dialect.includes opens line ≡ None → condition_in line ≡ Some text
-      → IsGroupCondition dialect.unknown model.features text (Ok p) → HaveMoreAtoms 64 (model.constraints ++ (ps ++ p ∷ [])) → HasFault dialect model opens ps line codes_of.TooManyTests
+      → IsGroupCondition macros model.features text (Ok p) → HaveMoreAtoms 64 (model.constraints ++ (ps ++ p ∷ [])) → HasFault dialect macros model opens ps line codes_of.TooManyTests
 
 -- the line has no fault, and this condition or none
-pub data IsRead (dialect : Dialect) (model : Plain) (opens : List Bool) (ps : List (Proposition Atom)) (line : List ℕ) : List (Proposition Atom) → Type 0 where
-  untested : line_fault dialect.includes opens line ≡ None → condition_in line ≡ None → IsRead dialect model opens ps line []
+pub data IsRead (dialect : Dialect) (macros : Macros) (model : Plain) (opens : List Bool) (ps : List (Proposition Atom)) (line : List ℕ) : List (Proposition Atom) → Type 0 where
+  untested : line_fault dialect.includes opens line ≡ None → condition_in line ≡ None → IsRead dialect macros model opens ps line []
   tested : (text : Result (List ℕ) ConditionFault) (p : Proposition Atom) → line_fault dialect.includes opens line ≡ None → condition_in line ≡ Some text
-      → IsGroupCondition dialect.unknown model.features text (Ok p) → HaveFewAtoms 64 (model.constraints ++ (ps ++ p ∷ [])) → IsRead dialect model opens ps line (p ∷ [])
+      → IsGroupCondition macros model.features text (Ok p) → HaveFewAtoms 64 (model.constraints ++ (ps ++ p ∷ [])) → IsRead dialect macros model opens ps line (p ∷ [])
 
 -- ---- all lines
 
@@ -75,20 +78,22 @@ abbrev pub in_front : List Line → List (Proposition Atom) → Result Told (Fil
 in_front lines ps (Ok told) = Ok (record { lines = lines ++ told.lines; conditions = ps ++ told.conditions })
 in_front lines ps (Err fault) = Err fault
 
--- what the lines from an offset on are read as: the first line with a fault decides, and in it the lowest code
-pub data AreRead (dialect : Dialect) (model : Plain) (text : List ℕ) : List Bool → List (Proposition Atom) → ℕ → List (List ℕ) → Result Told (FileCode × Place) → Type 0 where
-  none : (opens : List Bool) (ps : List (Proposition Atom)) (start : ℕ) → AreRead dialect model text opens ps start [] (Ok (record { lines = []; conditions = [] }))
-  unclosed : (opens : List Bool) (ps : List (Proposition Atom)) (start : ℕ) (line : List ℕ) (lines : List (List ℕ)) → is_unclosed line lines ≡ true
-      → AreRead dialect model text opens ps start (line ∷ lines) (Err (codes_of.NoEndif, line_place (place_at text start) line))
-  faulty : (opens : List Bool) (ps : List (Proposition Atom)) (start : ℕ) (line : List ℕ) (lines : List (List ℕ)) (code : FileCode) → is_unclosed line lines ≡ false
-      → HasFault dialect model opens ps line code → AreRead dialect model text opens ps start (line ∷ lines) (Err (code, line_place (place_at text start) line))
-  goes_on : (opens : List Bool) (ps : List (Proposition Atom)) (start : ℕ) (line : List ℕ) (lines : List (List ℕ)) (qs : List (Proposition Atom)) (r : Result Told (FileCode × Place)) → is_unclosed line lines ≡ false
-      → IsRead dialect model opens ps line qs → AreRead dialect model text (opened_by (named_in line) opens) (ps ++ qs) (start + length line + 1) lines r
-      → AreRead dialect model text opens ps start (line ∷ lines) (in_front (line_at (length ps) start (place_at text start) line ∷ []) qs r)
+-- what the lines from an offset on are read as, where those above define these names: the first line with a fault decides, and in it
+-- the lowest code
+pub data AreRead (dialect : Dialect) (model : Plain) (text : List ℕ) : List (List ℕ) → List Bool → List (Proposition Atom) → ℕ → List (List ℕ) → Result Told (FileCode × Place) → Type 0 where
+  none : {above : List (List ℕ)} (opens : List Bool) (ps : List (Proposition Atom)) (start : ℕ) → AreRead dialect model text above opens ps start [] (Ok (record { lines = []; conditions = [] }))
+  unclosed : {above : List (List ℕ)} (opens : List Bool) (ps : List (Proposition Atom)) (start : ℕ) (line : List ℕ) (lines : List (List ℕ)) → is_unclosed line lines ≡ true
+      → AreRead dialect model text above opens ps start (line ∷ lines) (Err (codes_of.NoEndif, line_place (place_at text start) line))
+  faulty : {above : List (List ℕ)} (opens : List Bool) (ps : List (Proposition Atom)) (start : ℕ) (line : List ℕ) (lines : List (List ℕ)) (code : FileCode) → is_unclosed line lines ≡ false
+      → HasFault dialect (macros_behind dialect.unknown text above) model opens ps line code → AreRead dialect model text above opens ps start (line ∷ lines) (Err (code, line_place (place_at text start) line))
+  goes_on : {above : List (List ℕ)} (opens : List Bool) (ps : List (Proposition Atom)) (start : ℕ) (line : List ℕ) (lines : List (List ℕ)) (qs : List (Proposition Atom)) (r : Result Told (FileCode × Place)) → is_unclosed line lines ≡ false
+      → IsRead dialect (macros_behind dialect.unknown text above) model opens ps line qs
+      → AreRead dialect model text (above ++ names_in line) (opened_by (named_in line) opens) (ps ++ qs) (start + length line + 1) lines r
+      → AreRead dialect model text above opens ps start (line ∷ lines) (in_front (line_at (length ps) start (place_at text start) line ∷ []) qs r)
 
 -- what a text is read as
 abbrev pub TextIsRead : Dialect → Plain → List ℕ → Result Told (FileCode × Place) → Type 0
-TextIsRead dialect model text r = AreRead dialect model text [] [] 0 (pieces text) r
+TextIsRead dialect model text r = AreRead dialect model text [] [] [] 0 (pieces text) r
 
 -- each formula is its condition with the numbers of its atoms
 abbrev pub AreNumbered : List Atom → List (Proposition Atom) → List Formula → Type 0

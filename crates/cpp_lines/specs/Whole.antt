@@ -11,9 +11,8 @@ use Rattle.linear_atoms.specs.declared.atoms.Atom.{Atom}
 use Rattle.cpp_conditions.specs.Propositions.{Proposition}
 use Rattle.cpp_conditions.specs.Validity.{Plain}
 use Rattle.cpp_lines.specs.declared.line.Line.{Line}
-use Rattle.cpp_lines.specs.Code.{code_of}
 use Rattle.cpp_lines.specs.Faults.{without_comments}
-use Rattle.cpp_lines.specs.Lines.{plain_lines_of}
+use Rattle.cpp_lines.specs.Lines.{AllStay, plain_lines_of}
 use Rattle.cpp_lines.specs.Preprocessed.{preprocessed}
 use Rattle.cpp_lines.specs.Sections.{Told, TextIsRead}
 
@@ -42,9 +41,10 @@ pub record IsPreprocessed (dialect : Dialect) (model : Plain) (truths : List (Pr
   pub read : TextIsRead dialect model blanked (Ok told)
   pub is : text ≡ preprocessed (truths told.conditions) told.lines blanked
 
--- a text without comments, splices and directive lines: it is its own blanked text, and its own code, whichever includes a file may have
+-- a text of code and definitions alone, without comments and splices: it is its own blanked text, and a file without groups,
+-- whichever includes a file may have
 pub record IsPlainText (text : List ℕ) : Type 0 where
   pub lines : List Line
   pub blanked : blanked_file text ≡ Ok text
   pub lines_are : (includes : Includes) → plain_lines_of includes text ≡ Ok lines
-  pub code : code_of text ≡ text
+  pub stay : AllStay lines

@@ -3,6 +3,7 @@
 
 ghost use Rattle.std.specs.Prelude.{◌≡◌, ◌≤◌, [], length, take, drop};
 ghost use Rattle.std.specs.List.{prefix_len};
+ghost use Rattle.std.specs.Str.{bytes_eq};
 ghost use Rattle.c_words.specs.Bytes as words;
 ghost use Rattle.cpp_lines.specs.Bytes as kinds;
 
@@ -66,4 +67,28 @@ pub(crate) fn split_word(bytes: &[u8]) -> (&[u8], &[u8])
     ensures behind { result.1.now ≡ drop (prefix_len words.is_word_byte bytes.now) bytes.now }
 {
     bytes.split_at(word_len(bytes))
+}
+
+/// Nothing but white space.
+pub(crate) fn is_gap_only(bytes: &[u8]) -> bool
+    ensures { result ≡ kinds.is_gap_only bytes.now }
+{
+    bytes.iter().all(|b| is_gap(*b))
+}
+
+/// Whether white space stands at the front.
+pub(crate) fn begins_with_gap(bytes: &[u8]) -> bool
+    ensures { result ≡ kinds.begins_with_gap bytes.now }
+{
+    match bytes {
+        [] => false,
+        [b, ..] => is_gap(*b),
+    }
+}
+
+/// Whether the bytes are this text.
+pub(crate) fn is(bytes: &[u8], text: &str) -> bool
+    ensures { result ≡ bytes_eq bytes.now text.now }
+{
+    bytes == text.as_bytes()
 }

@@ -2,12 +2,12 @@
 #![tactic(auto)]
 
 ghost use Rattle.std.specs.Prelude.{◌≡◌, true, map};
-ghost use Rattle.std.specs.Str.{bytes_eq};
 ghost use Rattle.cpp_lines.specs.Directives as specs;
+ghost use Rattle.cpp_lines.specs.declared.directives.Directive.TheVariants.{Define};
 
-use crate::bytes::{behind_gap, has_first, split_word};
+use crate::bytes::{behind_gap, has_first, is, is_gap_only, split_word};
+use crate::definitions::is_definition_text;
 use crate::line::LineKind;
-use c_words::is_gap;
 use fam_outer::{FileCode, Includes};
 
 /// A known directive. `Include` is that of `<assert.h>`, and the name of all includes.
@@ -21,10 +21,11 @@ pub(crate) enum Directive {
     Elif,
     Else,
     Endif,
+    Define,
 }
 
 /// The names of the known directives.
-const NAMES: [(&str, Directive); 7] = [
+const NAMES: [(&str, Directive); 8] = [
     ("include", Directive::Include),
     ("if", Directive::If),
     ("ifdef", Directive::Ifdef),
@@ -32,6 +33,7 @@ const NAMES: [(&str, Directive); 7] = [
     ("elif", Directive::Elif),
     ("else", Directive::Else),
     ("endif", Directive::Endif),
+    ("define", Directive::Define),
 ];
 
 /// Whether the line at the front is a directive line: its first byte that is not white space is `#`.
@@ -39,13 +41,6 @@ pub(crate) fn begins_directive(bytes: &[u8]) -> bool
     ensures { result ≡ specs.begins_directive bytes.now }
 {
     has_first(b'#', behind_gap(bytes))
-}
-
-/// Whether the bytes are this text.
-pub(crate) fn is(bytes: &[u8], text: &str) -> bool
-    ensures { result ≡ bytes_eq bytes.now text.now }
-{
-    bytes == text.as_bytes()
 }
 
 /// The directive that a table gives a word.
@@ -65,13 +60,6 @@ pub(crate) fn directive_named(word: &[u8]) -> Option<Directive>
     ensures { result ≡ specs.directive_named word.now }
 {
     directive_in(&NAMES, word)
-}
-
-/// Nothing but white space.
-pub(crate) fn is_gap_only(bytes: &[u8]) -> bool
-    ensures { result ≡ specs.is_gap_only bytes.now }
-{
-    bytes.iter().all(|b| is_gap(*b))
 }
 
 /// Exactly `<assert.h>`, with white space before and behind it.
@@ -105,6 +93,17 @@ fn alone(directive: Directive, rest: &[u8]) -> Option<Directive>
     }
 }
 
+/// A definition, where a name, white space and a constant stand behind `define`.
+fn definition(rest: &[u8]) -> Option<Directive>
+    ensures { result ≡ specs.with_rest Define rest.now }
+{
+    if is_definition_text(rest) {
+        Some(Directive::Define)
+    } else {
+        None
+    }
+}
+
 /// The directive of this name with this behind it; none, where this may not stand there.
 fn with_rest(directive: Directive, rest: &[u8]) -> Option<Directive>
     ensures { result ≡ specs.with_rest directive rest.now }
@@ -118,10 +117,12 @@ fn with_rest(directive: Directive, rest: &[u8]) -> Option<Directive>
         Directive::Ifdef => Some(Directive::Ifdef),
         Directive::Ifndef => Some(Directive::Ifndef),
         Directive::Elif => Some(Directive::Elif),
+        Directive::Define => definition(rest),
     }
 }
 
-/// The directive of what stands behind `#`; none, where it is no known one, or `else` or `endif` with text behind it.
+/// The directive of what stands behind `#`; none, where it is no known one, or `else` or `endif` with text behind it, or
+/// `define` without a name and a constant.
 pub(crate) fn directive_of(bytes: &[u8]) -> Option<Directive>
     ensures { result ≡ specs.directive_of bytes.now }
 {
@@ -164,6 +165,7 @@ pub(crate) fn plain_kind(includes: Includes, line: &[u8]) -> Result<LineKind, Fi
             None => Ok(LineKind::Include),
             Some(code) => Err(code),
         },
+        Some(Directive::Define) => Ok(LineKind::Define),
         Some(_) => Err(FileCode::GroupHere),
     }
 }

@@ -2,15 +2,16 @@
 #![tactic(auto)]
 
 ghost use Rattle.std.specs.Prelude.{◌≡◌, ◌++◌, option_map, IfOk};
+ghost use Rattle.cpp_conditions.specs.Macros.{macros as plain_macros};
 ghost use Rattle.cpp_conditions.specs.Naming.{AreFeatures};
 ghost use Rattle.cpp_lines.specs.GroupConditions as asked;
 ghost use Rattle.cpp_lines.specs.Taking as taking;
 
-use crate::bytes::{behind_gap, split_word};
-use crate::directives::{Directive, begins_directive, behind_hash, directive_of, is, is_gap_only};
+use crate::bytes::{behind_gap, is, is_gap_only, split_word};
+use crate::directives::{Directive, begins_directive, behind_hash, directive_of};
 use c_words::is_digit;
-use cpp_conditions::{Condition, ConditionRefusal, read_condition};
-use fam_outer::{ConditionFault, NoMemory, Text, Unknown, cut};
+use cpp_conditions::{Condition, ConditionRefusal, Macros, read_condition};
+use fam_outer::{ConditionFault, NoMemory, Text, cut};
 use linear_atoms::Feature;
 use std::alloc::Global;
 
@@ -76,6 +77,7 @@ fn condition_text(
         Some(Directive::OtherInclude) => Ok(None),
         Some(Directive::Else) => Ok(None),
         Some(Directive::Endif) => Ok(None),
+        Some(Directive::Define) => Ok(None),
     }
 }
 
@@ -94,15 +96,15 @@ pub(crate) fn condition_in(alloc: Global, line: &[u8]) -> Result<Option<Conditio
 /// The condition that a text spells, or its fault.
 pub(crate) fn read_text(
     alloc: Global,
-    unknown: Unknown,
+    macros: Macros<'_>,
     features: &[Feature],
     text: &ConditionText,
 ) -> Result<Condition, ConditionRefusal>
     requires { AreFeatures features.now }
-    ensures { taking.ReadsText unknown features.now text.now result }
+    ensures { taking.ReadsText (plain_macros macros.entry) features.now text.now result }
 {
     match text {
-        Ok(bytes) => read_condition(alloc, unknown, features, bytes.bytes()),
+        Ok(bytes) => read_condition(alloc, macros, features, bytes.bytes()),
         Err(fault) => Err(ConditionRefusal::Fault(*fault)),
     }
 }

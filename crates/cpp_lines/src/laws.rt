@@ -13,7 +13,8 @@ ghost use Rattle.cpp_conditions.specs.Validity.{Plain};
 ghost use Rattle.cpp_lines.specs.Code.{code_of};
 ghost use Rattle.cpp_lines.specs.Comments.{blank};
 ghost use Rattle.cpp_lines.specs.declared.line.Line as declared;
-ghost use Rattle.cpp_lines.specs.Lines.{ArePlaced, plain_lines_of};
+ghost use Rattle.cpp_lines.specs.Lines.{AreLinesOf, ArePlaced, plain_lines_of};
+ghost use Rattle.cpp_lines.specs.Preprocessed.{preprocessed};
 ghost use Rattle.cpp_lines.specs.Faults.{IsFirstFault, fault_of, first_fault};
 ghost use Rattle.cpp_lines.specs.Sections.{Told, TextIsRead};
 ghost use Rattle.cpp_lines.specs.Whole.{IsPlainText, IsPreprocessed};
@@ -76,9 +77,15 @@ pub fn variants_have_one_text()
     texts_are_read_once();
 }
 
-/// The text of a variant has no comment, no splice and no directive line, and no more bytes than a file may have: it is its
-/// own blanked text and its own code, and a file without groups.
+/// The text of a variant has no comment and no splice, and no more bytes than a file may have: it is its own blanked text,
+/// and a file without groups, of code and definitions.
 pub fn variants_are_plain()
     ensures { (dialect : Dialect) (model : Plain) (truths : List (Proposition Atom) → List Bool)
         (bytes text : List ℕ) → IsPreprocessed dialect model truths bytes text → IsPlainText text }
+{}
+
+/// The code of the lines that stay of a text is what stays of its code.
+pub fn code_stays()
+    ensures { (truths : List Bool) (lines : List declared.Line) (text : List ℕ) → AreLinesOf text lines
+        → code_of (preprocessed truths lines text) ≡ preprocessed truths lines (code_of text) }
 {}

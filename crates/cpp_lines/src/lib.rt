@@ -4,6 +4,8 @@
 mod bytes;
 pub mod code;
 mod comments;
+mod defined;
+mod definitions;
 mod directives;
 mod group_conditions;
 pub mod laws;

@@ -6,11 +6,12 @@ ghost use Rattle.std.specs.Prelude.{◌≡◌};
 use fam_outer::Place;
 use std::marker::Model;
 
-/// The kind of a line: code, an include, or a group directive. The number names a condition.
+/// The kind of a line: code, an include, the definition of a constant, or a group directive. The number names a condition.
 #[derive(Clone, Copy, Debug, PartialEq, Eq)]
 pub enum LineKind {
     Code,
     Include,
+    Define,
     If(u32),
     Elif(u32),
     Else,

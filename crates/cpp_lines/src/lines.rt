@@ -66,10 +66,10 @@ fn plain_line(
 
 /// The lines of a blanked text that has no groups.
 ///
-/// Its lines are the pieces between its newlines, so there is one more than there are newlines, and each is code or an
-/// include. It answers `Directive` at the `#` of a directive that is none of the six group directives `if`, `ifdef`,
+/// Its lines are the pieces between its newlines, so there is one more than there are newlines, and each is code, an
+/// include or a definition. It answers `Directive` at the `#` of a directive that is none of the six group directives `if`, `ifdef`,
 /// `ifndef`, `elif`, `else` and `endif`, nor `include` with exactly `<assert.h>`, or where includes are skipped with
-/// anything, and of `else` or `endif` with text behind it; and `GroupHere` at the `#` of any other group directive. The
+/// anything, nor `define` with a name and a constant, and of `else` or `endif` with text behind it; and `GroupHere` at the `#` of any other group directive. The
 /// first place decides. It answers `NoMemory` for want of memory.
 pub fn plain_lines(alloc: Global, includes: Includes, blanked: &[u8]) -> Result<Lines, FileRefusal>
     requires { length blanked.now ≤ FILE_BYTES }

@@ -155,6 +155,7 @@ impl Opens {
             Some(Directive::Elif) => self.later_fault(),
             Some(Directive::Else) => self.later_fault(),
             Some(Directive::Endif) => self.end_fault(),
+            Some(Directive::Define) => None,
         }
     }
 

@@ -6,7 +6,6 @@ ghost use Rattle.cpp_groups.specs.Kept as groups;
 ghost use Rattle.cpp_lines.specs.Lines as lists;
 ghost use Rattle.cpp_lines.specs.Preprocessed as kept;
 
-use crate::code::is_code;
 use crate::line::{Line, LineKind};
 use crate::lines::cut_line;
 use cpp_groups::{GroupDirective, OpenSections};
@@ -20,10 +19,22 @@ fn group_of(kind: LineKind) -> Option<GroupDirective>
     match kind {
         LineKind::Code => None,
         LineKind::Include => None,
+        LineKind::Define => None,
         LineKind::If(number) => Some(GroupDirective::If(number)),
         LineKind::Elif(number) => Some(GroupDirective::Elif(number)),
         LineKind::Else => Some(GroupDirective::Else),
         LineKind::Endif => Some(GroupDirective::Endif),
+    }
+}
+
+/// Whether a line of this kind stays where its groups are kept: code, or a definition.
+fn stays(kind: LineKind) -> bool
+    ensures { result ≡ lists.stays kind }
+{
+    match kind {
+        LineKind::Code => true,
+        LineKind::Define => true,
+        _ => false,
     }
 }
 
@@ -39,7 +50,7 @@ fn add_line(
     ensures sections { OnOk result (sections.new
         ≡ groups.sections_after truths.now sections.old (kept.group_of kind)) }
 {
-    if is_code(kind) && sections.are_kept() {
+    if stays(kind) && sections.are_kept() {
         out.extend_from_slice(piece)?;
     }
     match group_of(kind) {
@@ -50,7 +61,7 @@ fn add_line(
 
 /// The text of a variant of a blanked text, whose conditions have these truths.
 ///
-/// A line stays as it is where it is no directive and each group around it is the kept one of its section: the first
+/// A line stays as it is where it is code or a definition, and each group around it is the kept one of its section: the first
 /// whose condition is true, else that of `#else`. Every other line becomes empty. The newlines stay, and so do all
 /// places. A condition without a truth is false. The lines are those of the text. It answers `NoMemory` for want of
 /// memory.

@@ -14,6 +14,7 @@ ghost use Rattle.cpp_lines.specs.Lines as lists;
 ghost use Rattle.cpp_lines.specs.Sections as sections;
 ghost use Rattle.cpp_lines.specs.Taking as taking;
 
+use crate::defined::{add_name, names_of};
 use crate::directives::{Directive, begins_directive, behind_hash, directive_of};
 use crate::group_conditions::{ConditionText, condition_in, read_text};
 use crate::line::{Line, LineKind, Lines};
@@ -21,7 +22,7 @@ use crate::lines::{cut_line, line_place};
 use crate::lists::{Atoms, Formulas};
 use crate::nesting::ends_of;
 use crate::open_sections::Opens;
-use cpp_conditions::{Condition, ConditionRefusal, Formula, Model, add_atoms, number};
+use cpp_conditions::{Condition, ConditionRefusal, Formula, Macros, Model, add_atoms, number};
 use fam_outer::{Dialect, FILE_BYTES, FileCode, FileRefusal, MOST_ATOMS, NoMemory, Place, Refusal};
 use linear_atoms::Atom;
 use std::alloc::Global;
@@ -35,9 +36,11 @@ pub struct Sections {
     pub atoms: Atoms,
 }
 
-/// What is read so far.
+/// What is read so far: with the names that the file defines, and those that the lines so far define.
 #[derive(Drop)]
-struct Reading {
+struct Reading<'a> {
+    defined: Vec<&'a [u8]>,
+    above: Vec<&'a [u8]>,
     lines: Vec<Line>,
     conditions: Vec<Condition>,
     atoms: Vec<Atom>,
@@ -59,7 +62,7 @@ fn add_condition(
     alloc: Global,
     dialect: Dialect,
     model: &Model,
-    reading: &mut Reading,
+    reading: &mut Reading<'_>,
     text: &ConditionText,
 ) -> Result<(), Refusal<FileCode>>
     requires features { AreFeatures model.now.features }
@@ -67,8 +70,15 @@ fn add_condition(
     ensures adds { taking.Adds dialect (plain model.now) text.now reading.old reading.new result }
     ensures lines { reading.new.lines ≡ reading.old.lines }
     ensures opens { reading.new.opens ≡ reading.old.opens }
+    ensures above { reading.new.above ≡ reading.old.above }
+    ensures defined { reading.new.defined ≡ reading.old.defined }
 {
-    let condition = match read_text(alloc, dialect.unknown, model.features.items(), text) {
+    let macros = Macros {
+        unknown: dialect.unknown,
+        above: reading.above.as_slice(),
+        file: reading.defined.as_slice(),
+    };
+    let condition = match read_text(alloc, macros, model.features.items(), text) {
         Ok(condition) => condition,
         Err(refusal) => return Err(condition_refusal(refusal)),
     };
@@ -94,6 +104,7 @@ fn kind_of(number: u32, directive: Option<Directive>) -> LineKind
         Some(Directive::Elif) => LineKind::Elif(number),
         Some(Directive::Else) => LineKind::Else,
         Some(Directive::Endif) => LineKind::Endif,
+        Some(Directive::Define) => LineKind::Define,
     }
 }
 
@@ -122,7 +133,7 @@ fn judge_line(
     alloc: Global,
     dialect: Dialect,
     model: &Model,
-    reading: &mut Reading,
+    reading: &mut Reading<'_>,
     line: &[u8],
 ) -> Result<(), Refusal<FileCode>>
     requires features { AreFeatures model.now.features }
@@ -130,6 +141,8 @@ fn judge_line(
     ensures judges { taking.Judges dialect (plain model.now) line.now reading.old reading.new result }
     ensures lines { reading.new.lines ≡ reading.old.lines }
     ensures opens { reading.new.opens ≡ reading.old.opens }
+    ensures above { reading.new.above ≡ reading.old.above }
+    ensures defined { reading.new.defined ≡ reading.old.defined }
 {
     if let Some(code) = reading.opens.line_fault(dialect.includes, line) {
         return Err(Refusal::Fault(code));
@@ -152,14 +165,14 @@ fn at_place(refusal: Refusal<FileCode>, place: Place) -> FileRefusal
 
 /// Adds a line, whose first byte stands at this offset and place, and goes on behind it. Of the line's faults it answers
 /// all but that of a section that nothing ends.
-fn take_line(
+fn take_line<'a>(
     alloc: Global,
     dialect: Dialect,
     model: &Model,
-    reading: &mut Reading,
+    reading: &mut Reading<'a>,
     start: u32,
     first: Place,
-    line: &[u8],
+    line: &'a [u8],
 ) -> Result<(), FileRefusal>
     requires features { AreFeatures model.now.features }
     requires kept { taking.IsKept (plain model.now) reading.old }
@@ -176,20 +189,24 @@ fn take_line(
         return Err(at_place(refusal, place));
     }
     reading.lines.push(made)?;
+    add_name(&mut reading.above, line)?;
     Ok(())
 }
 
-/// Nothing is read of a file yet: there are the atoms of the model alone.
-fn begin(alloc: Global, model: &Model) -> Result<Reading, NoMemory>
+/// Nothing is read of a file yet: there are the atoms of the model, and the names that the file defines.
+fn begin<'a>(alloc: Global, model: &Model, defined: Vec<&'a [u8]>) -> Result<Reading<'a>, NoMemory>
     requires few { HaveFewAtoms 64 (plain model.now).constraints }
     ensures kept { IfOk result (λ reading. taking.IsKept (plain model.now) reading) }
     ensures nothing { IfOk result (λ reading. taking.IsBegun reading) }
+    ensures defined { IfOk result (λ reading. reading.defined ≡ defined.entry) }
 {
     let mut atoms = Vec::new(alloc);
     for constraint in model.constraints.items() {
         add_atoms(alloc, &mut atoms, constraint)?;
     }
     Ok(Reading {
+        defined,
+        above: Vec::new(alloc),
         lines: Vec::new(alloc),
         conditions: Vec::new(alloc),
         atoms,
@@ -218,19 +235,20 @@ fn earlier(refusal: FileRefusal, opens: &Opens, ends: usize) -> FileRefusal
 }
 
 /// The lines of a text and their conditions.
-fn read_lines(
+fn read_lines<'a>(
     alloc: Global,
     dialect: Dialect,
     model: &Model,
-    blanked: &[u8],
-) -> Result<Reading, FileRefusal>
+    blanked: &'a [u8],
+) -> Result<Reading<'a>, FileRefusal>
     requires short { length blanked.now ≤ FILE_BYTES }
     requires features { AreFeatures model.now.features }
     requires few { HaveFewAtoms 64 (plain model.now).constraints }
     ensures read { taking.ReadsLines dialect (plain model.now) blanked.now result }
     ensures kept { IfOk result (λ reading. taking.IsKept (plain model.now) reading) }
 {
-    let mut reading = begin(alloc, model)?;
+    let defined = names_of(alloc, blanked)?;
+    let mut reading = begin(alloc, model, defined)?;
     let mut first = Place { line: 1, column: 1 };
     let mut start: u32 = 0;
     let mut rest = blanked;
@@ -285,12 +303,13 @@ fn formulas_of(
 ///
 /// Its faults, each at the `#` of its line; the first line with one decides, and in a line the lowest code:
 /// - `Directive`, where the directive is none of the six group directives `if`, `ifdef`, `ifndef`, `elif`, `else` and
-///   `endif`, nor `include` with exactly `<assert.h>` (where includes are skipped, with anything), and at `else` or `endif` with text behind it. Sections are
-///   matched by the names of directives alone, so such a line still ends its section, or is its `#else`;
+///   `endif`, nor `include` with exactly `<assert.h>` (where includes are skipped, with anything), nor `define` with a
+///   name and a constant, and at `else` or `endif` with text behind it. Sections are matched by the names of directives
+///   alone, so such a line still ends its section, or is its `#else`;
 /// - `NoIf`, at `#elif`, `#else` or `#endif` outside every section;
 /// - `NoEndif`, at the directive that opens a section without its end;
 /// - `SecondElse`, at `#elif` or `#else` after the section's `#else`;
-/// - `Condition`, where the condition has a fault; `#ifdef` and `#ifndef` without exactly one identifier, or with
+/// - `Condition`, where the condition has a fault, among them a name that a line above defines; `#ifdef` and `#ifndef` without exactly one identifier, or with
 ///   `defined`, have the fault `Syntax`;
 /// - `TooManyTests`, at the condition with which the atoms of the model and of the conditions so far pass 64.
 ///

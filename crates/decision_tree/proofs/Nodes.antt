@@ -132,16 +132,16 @@ module _ {L : Type 0} where
   leads_of_made k low high t (inr h) v = ap (λ u. leaf_of u v) h.1
 
   -- the tree that is made of a test and two trees of a forest
-  pub tree_made : (k : ℕ) (before after : List (Plain L)) (off on t : Numbered L) → k < 64 → IsTreeIn (k + 1) 64 before off → IsTreeIn (k + 1) 64 before on → IsNodeOf k (erase off) (erase on) (erase t) → IsOf after t → IsTreeIn k 64 after t
+  pub tree_made : (k : ℕ) (before after : List (Plain L)) (off on t : Numbered L) → k < 320 → IsTreeIn (k + 1) 320 before off → IsTreeIn (k + 1) 320 before on → IsNodeOf k (erase off) (erase on) (erase t) → IsOf after t → IsTreeIn k 320 after t
   tree_made k before after off on t small no_tree yes_tree made own = record {
     reduced = reduced_of_made k (erase off) (erase on) (erase t) no_tree.reduced yes_tree.reduced made;
-    small = below_of_made 64 k (erase off) (erase on) (erase t) made small no_tree.small yes_tree.small;
+    small = below_of_made 320 k (erase off) (erase on) (erase t) made small no_tree.small yes_tree.small;
     own = own;
   }
 
   -- where both children are equal, it is the first
-  pub tree_of_equal : (k : ℕ) (forest : List (Plain L)) (off t : Numbered L) → t ≡ off → IsTreeIn (k + 1) 64 forest off → IsTreeIn k 64 forest t
-  tree_of_equal k forest off t e h = subst (IsTreeIn k 64 forest) (sym e) (record { reduced = lower_bound (erase off) (k + 1) k (omega arith) h.reduced; small = h.small; own = h.own })
+  pub tree_of_equal : (k : ℕ) (forest : List (Plain L)) (off t : Numbered L) → t ≡ off → IsTreeIn (k + 1) 320 forest off → IsTreeIn k 320 forest t
+  tree_of_equal k forest off t e h = subst (IsTreeIn k 320 forest) (sym e) (record { reduced = lower_bound (erase off) (k + 1) k (omega arith) h.reduced; small = h.small; own = h.own })
 
   -- a leaf that a forest has is a tree in it, with any bounds
   pub leaf_tree : (first bound : ℕ) (forest : List (Plain L)) (t : Numbered L) (x : L) → erase t ≡ leaf x → IsOf forest t → IsTreeIn first bound forest t

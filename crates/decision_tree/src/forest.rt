@@ -86,7 +86,7 @@ impl<L: Eq + Hash + Drop> Forest<L> {
     pub fn leaf(&mut self, value: L) -> Result<Tree<L>, NoMemory>
         requires { IsExact L.eq }
         ensures same { IfOk result (λ t. plain t ≡ leaf value) }
-        ensures tree { IfOk result (λ t. IsTreeIn 0 64 self.new (numbered t)) }
+        ensures tree { IfOk result (λ t. IsTreeIn 0 320 self.new (numbered t)) }
         ensures added { IfOk result (λ t. (self.new ≡ self.old)
             ⊎ (self.new ≡ self.old ++ leaf value ∷ [])) }
         ensures unchanged { OnErr result (self.new ≡ self.old) }
@@ -105,15 +105,15 @@ impl<L: Eq + Hash + Drop> Forest<L> {
     }
 
     /// The forest's tree that tests first and goes on at `no` or `yes`, made where it has none: `no` itself where they
-    /// are equal, and then the forest stays as it was. The test must be below 64, and both reduced trees of this forest
+    /// are equal, and then the forest stays as it was. The test must be below 320, and both reduced trees of this forest
     /// whose tests are greater.
     #[tactic(auto, using(crate::proofs::Nodes::tree_of_equal))]
     pub fn node(&mut self, test: u32, no: &Tree<L>, yes: &Tree<L>) -> Result<Tree<L>, NoMemory>
-        requires small { test < 64 }
-        requires no { IsTreeIn (test + 1) 64 self.old (numbered no.now) }
-        requires yes { IsTreeIn (test + 1) 64 self.old (numbered yes.now) }
+        requires small { test < 320 }
+        requires no { IsTreeIn (test + 1) 320 self.old (numbered no.now) }
+        requires yes { IsTreeIn (test + 1) 320 self.old (numbered yes.now) }
         ensures made { IfOk result (λ t. IsNodeOf test (plain no.now) (plain yes.now) (plain t)) }
-        ensures tree { IfOk result (λ t. IsTreeIn test 64 self.new (numbered t)) }
+        ensures tree { IfOk result (λ t. IsTreeIn test 320 self.new (numbered t)) }
         ensures leads { IfOk result (λ t. (v : List Bool)
             → leaf_of (plain t) v ≡ leaf_of (node test (plain no.now) (plain yes.now)) v) }
         ensures added { IfOk result (λ t. (self.new ≡ self.old)

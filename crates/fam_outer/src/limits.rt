@@ -22,8 +22,17 @@ pub const MOST_VALUE: u32 = 1_048_576;
 /// The most distinct atoms of the constraints of a model and the conditions of a file.
 pub const MOST_ATOMS: usize = 64;
 
-/// The most names that a file declares.
+/// The most tests of the values of features that a file uses as values.
+pub const MOST_VALUE_TESTS: usize = 256;
+
+/// The most distinct atoms of a family: those of its conditions, and the tests of its values.
+pub const MOST_TESTS: usize = 320;
+
+/// The most variables that a file declares.
 pub const MOST_NAMES: usize = 16;
+
+/// The most constants that a file declares and features that it uses as values, together.
+pub const MOST_CONSTANTS: usize = 16;
 
 /// The most operators and parentheses of a condition, and of a full expression of code.
 pub const MOST_OPERATORS: usize = 64;

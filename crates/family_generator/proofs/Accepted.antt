@@ -20,14 +20,15 @@ use Rattle.c_grammar.specs.Machine.{start}
 use Rattle.c_grammar.specs.Deep.{Fault, guarded}
 use Rattle.c_grammar.specs.Deep as limits
 use Rattle.c_grammar.specs.Laws.{ReadsWithin, StopsWrong, StopsDeep}
-use Rattle.cpp_lines.specs.Code.{code_of, code_from}
-use Rattle.cpp_lines.specs.Directives.{begins_directive}
+use Rattle.cpp_lines.specs.Code.{code_piece, code_of}
+use Rattle.cpp_lines.specs.Defined.{names_of}
 use Rattle.cpp_lines.specs.Lines.{pieces}
 use Rattle.cpp_lines.specs.Sections.{Told, AreRead, TextIsRead}
 use Rattle.cpp_lines.specs.Whole.{blanked_file}
-use Rattle.cpp_lines.proofs.CodeLines.{code_piece, code_pieces}
+use Rattle.cpp_lines.proofs.CodeLines.{code_pieces}
 use Rattle.c_parser.specs.FamilyItems.{HasItems, HasEarlyFault}
 use Rattle.c_parser.specs.FamilyReading.{IsFamilyRefused, families_over, context_of}
+use Rattle.c_parser.specs.Functions.{own_functions}
 use Rattle.c_parser.specs.Items.{Listed, listed}
 use Rattle.c_parser.specs.Phases.{HasWrong, HasDeep, HasItemFault}
 use Rattle.c_parser.specs.Reading.{items_of_code}
@@ -41,7 +42,8 @@ use Rattle.family_generator.specs.Texts.{generated_text}
 use Rattle.family_generator.proofs.BlockTexts.{Block, AreBlocks, generated_blocks, are_blocks}
 use Rattle.family_generator.proofs.BlockLines.{file_lines, file_ended, file_pieces, generated_ended}
 use Rattle.family_generator.proofs.Blanked.{file_blanked}
-use Rattle.family_generator.proofs.Told.{plain_model, kind_in, file_kinds, file_read}
+use Rattle.family_generator.proofs.Told.{plain_model, kind_in, file_kinds, DefinesNothing, nothing_defined, file_read}
+use Rattle.family_generator.proofs.NoFunctions.{file_uncalled, no_functions}
 use Rattle.family_generator.proofs.Lexed.{first_in, second_in, file_line_signs, file_lexed, lexed_read, sorted_signs, signs_sorted, file_sorted}
 use Rattle.family_generator.proofs.Signs.{laid, laid_again, sign_in, place_in, blocks_signs, file_signs}
 use Rattle.family_generator.proofs.Statements.{IsFormed, signs_formed}
@@ -116,10 +118,15 @@ pub record Accepts (laws : Laws) (model : Model) (text : List ℕ) (bs : List Bl
 
 -- the code has tokens
 code_read : (laws : Laws) (model : Model) (text : List ℕ) (bs : List Block) → Accepts laws model text bs → (ts : List Token) × (tokens_of (code_of text) ≡ Ok ts)
-unfolding code_of
 code_read laws model text bs a =
-    text_read laws.texts.apart (code_from (begins_directive text) text) (map code_piece (file_lines bs)) (code_pieces text (file_lines bs) a.cut)
+    text_read laws.texts.apart (code_of text) (map code_piece (file_lines bs)) (code_pieces text ∙ ap (map code_piece) a.cut)
     (lexed_read [] (file_lines bs) (file_line_signs (first_in []) (second_in []) bs) (file_lexed [] bs a.blocks))
+
+-- it declares no functions
+none_outside : (laws : Laws) (model : Model) (text : List ℕ) (bs : List Block) → Accepts laws model text bs → own_functions (code_of text) ≡ []
+none_outside laws model text bs a =
+    let ts = code_read laws model text bs a in
+    no_functions laws.texts.tokens laws.texts.apart text (file_lines bs) (file_line_signs (first_in []) (second_in []) bs) ts.0 a.cut ts.1 (file_lexed [] bs a.blocks) (file_uncalled (first_in []) (second_in []) bs)
 
 -- ---- no phase before the grammar has a fault
 
@@ -131,8 +138,9 @@ no_early laws model text bs fault a (inr (inl h)) =
 no_early laws model text bs fault a (inr (inr h)) =
     let same : h.blanked ≡ text = same_blanked text h.blanked text h.without_comments a.blanked in
     let ts = code_read laws model text bs a in
-    listed_not_both (items_of_code [] (code_of text)) (listed [] (code_of text) ts.0) fault (ap (λ (r : Result (List Token) (FileCode × Place)). and_then r (λ us. Ok (listed [] (code_of text) us))) ts.1)
-    (ap (λ (t : List ℕ). items_of_code [] (code_of t)) (sym same) ∙ h.token)
+    let functions = own_functions (code_of text) in
+    listed_not_both (items_of_code functions [] (code_of text)) (listed functions [] (code_of text) ts.0) fault (ap (λ (r : Result (List Token) (FileCode × Place)). and_then r (λ us. Ok (listed (own_functions (code_of text)) [] (code_of text) us))) ts.1)
+    (ap (λ (t : List ℕ). items_of_code (own_functions (code_of t)) [] (code_of t)) (sym same) ∙ h.token)
 
 -- ---- the items of the family
 
@@ -141,12 +149,14 @@ signs_are : (laws : Laws) (model : Model) (text : List ℕ) (bs : List Block) (t
 signs_are laws model text bs told l a h =
     let by = by_line_of laws.texts.tokens laws.texts.apart generated_dialect (plain model) text told l h in
     let same = same_told laws.texts generated_dialect (plain model) text h.blanked text told a.told h.without_comments a.blanked h.read a.read in
+    let none : own_functions (code_of h.blanked) ≡ [] = ap (λ (t : List ℕ). own_functions (code_of t)) same.blanked ∙ none_outside laws model text bs a in
     let mine : l.names ≡ h.tokens.names = ap (λ (k : Listed). k.names) h.is in
     let x = first_in h.tokens.names in
     let y = second_in h.tokens.names in
     ap (map sign_in) by.are
-    ∙ ap (λ (t : Told). map sign_in (by_both h.tokens.names 0 t.lines (map code_piece (pieces h.blanked)))) same.told
-    ∙ ap (λ (ps : List (List ℕ)). map sign_in (by_both h.tokens.names 0 a.told.lines (map code_piece ps))) (ap pieces same.blanked ∙ a.cut)
+    ∙ ap (λ (fs : List (List ℕ)). map sign_in (by_both fs h.tokens.names 0 told.lines (map code_piece (pieces h.blanked)))) none
+    ∙ ap (λ (t : Told). map sign_in (by_both [] h.tokens.names 0 t.lines (map code_piece (pieces h.blanked)))) same.told
+    ∙ ap (λ (ps : List (List ℕ)). map sign_in (by_both [] h.tokens.names 0 a.told.lines (map code_piece ps))) (ap pieces same.blanked ∙ a.cut)
     ∙ signs_sorted h.tokens.names 0 a.told.lines (file_lines bs) (file_line_signs (first_in h.tokens.names) (second_in h.tokens.names) bs) (file_lexed h.tokens.names bs a.blocks)
     ∙ ap (λ (ks : List _). sorted_signs ks (file_line_signs (first_in h.tokens.names) (second_in h.tokens.names) bs)) a.sorts
     ∙ file_sorted x y bs
@@ -167,17 +177,17 @@ nowhere = record { line = 0; column = 0 }
 items_laid : (x y : ℕ) (bs : List Block) (xs : List Item) → map sign_in xs ≡ file_signs x y bs → xs ≡ laid (place_in nowhere xs) 0 (file_signs x y bs)
 items_laid x y bs xs e = sym (laid_again nowhere xs) ∙ ap (laid (place_in nowhere xs) 0) e
 
-no_name : (laws : Laws) (model : Model) (text : List ℕ) (bs : List Block) (told : Told) (l : Listed) (atoms : List Atom) (formulas : List Formula) (fault : FileCode × Place) → Accepts laws model text bs → HasItems generated_dialect (plain model) text told l
-    → IsFirstNameFault (context_of model atoms formulas l.names) l.items (Some fault) → ⊥
-no_name laws model text bs told l atoms formulas fault a h n =
-    let context = context_of model atoms formulas l.names in
+no_name : (laws : Laws) (model : Model) (text : List ℕ) (bs : List Block) (told : Told) (l : Listed) (atoms : List Atom) (formulas : List Formula) (functions : List (List ℕ)) (fault : FileCode × Place) → Accepts laws model text bs → HasItems generated_dialect (plain model) text told l
+    → IsFirstNameFault (context_of model atoms formulas l.names functions) l.items (Some fault) → ⊥
+no_name laws model text bs told l atoms formulas functions fault a h n =
+    let context = context_of model atoms formulas l.names functions in
     let x = first_in l.names in
     let y = second_in l.names in
     let f = place_in nowhere l.items in
     let are = signs_are laws model text bs told l a h in
-    let free = names_free (context_of model atoms formulas l.names) bs l.items a.features (family_fit laws.texts generated_dialect (plain model) text told l h) are in
+    let free = names_free (context_of model atoms formulas l.names functions) bs l.items a.features (family_fit laws.texts generated_dialect (plain model) text told l h) are in
     not_none fault (no_fault context f x y (laid f 12 (blocks_signs x y 0 bs ++ signs.RightBrace ∷ [])) (Some fault) free (statements_own f x y bs)
-    (subst (λ (xs : List Item). IsFirstNameFault (context_of model atoms formulas l.names) xs (Some fault)) (items_laid x y bs l.items are) n))
+    (subst (λ (xs : List Item). IsFirstNameFault (context_of model atoms formulas l.names functions) xs (Some fault)) (items_laid x y bs l.items are) n))
 
 no_item : (laws : Laws) (model : Model) (text : List ℕ) (bs : List Block) (fault : FileCode × Place) → Accepts laws model text bs → HasItemFault (families_over generated_dialect model) text fault → ⊥
 no_item laws model text bs fault a h =
@@ -186,7 +196,7 @@ no_item laws model text bs fault a h =
       | inl w ↦ no_wrong laws h.listed (end_place text) fault formed w
       | inr rest ↦ elim rest [
         | inl d ↦ no_deep laws h.listed (end_place text) fault formed d
-        | inr n ↦ no_name laws model text bs h.are.told h.listed h.known.atoms h.known.formulas fault a h.are.items n.names
+        | inr n ↦ no_name laws model text bs h.are.told h.listed h.known.atoms h.known.formulas h.known.functions fault a h.are.items n.names
       ]
     ]
 
@@ -209,7 +219,8 @@ accepts : (laws : Laws) (model : Model) (number : ℕ) → model.features ≡ ge
 accepts laws model number f c le =
     let bs = generated_blocks number 0 number in
     let all = are_blocks number 0 number in
-    let reads = file_read (file_ended (generated_blocks number 0 number)) (generated_blocks number 0 number) all in
+    let undefined : DefinesNothing (file_ended (generated_blocks number 0 number)) = ap names_of (file_pieces bs all) ∙ nothing_defined bs in
+    let reads = file_read (file_ended (generated_blocks number 0 number)) undefined (generated_blocks number 0 number) all in
     let few : length (generated_blocks number 0 number) ≤ 2000 = omega (arith, blocks_counted number 0 number, le) in
     record {
       features = f;
@@ -219,7 +230,7 @@ accepts laws model number f c le =
       blanked = file_blanked bs all few;
       told = reads.told;
       read = subst (λ (m : Plain). TextIsRead generated_dialect m (file_ended (generated_blocks number 0 number)) (Ok reads.told)) (sym (same_plain model f c))
-          (subst (λ (ps : List (List ℕ)). AreRead generated_dialect plain_model (file_ended (generated_blocks number 0 number)) [] [] 0 ps (Ok reads.told)) (sym (file_pieces bs all)) reads.read);
+          (subst (λ (ps : List (List ℕ)). AreRead generated_dialect plain_model (file_ended (generated_blocks number 0 number)) [] [] [] 0 ps (Ok reads.told)) (sym (file_pieces bs all)) reads.read);
       sorts = reads.sorts_are;
     }
 

@@ -10,6 +10,7 @@ use Rattle.c_words.specs.Identifiers.{is_identifier}
 use Rattle.cpp_conditions.specs.Expressions.{Expression, Number, Name, IsDefined, Binary}
 use Rattle.cpp_conditions.specs.Propositions.{Proposition, Const, Test, Not, And}
 use Rattle.cpp_conditions.specs.Grammar.{ReadsAs, read, judged, Spells, number, name, defined, loose, binary}
+use Rattle.cpp_conditions.specs.Macros.{no_macros}
 use Rattle.cpp_conditions.specs.Integers.{is_integer, integer_value, ends_in_exponent}
 use Rattle.cpp_conditions.specs.Tokens as tokens
 use Rattle.family_generator.specs.Features.{generated_dialect, generated_features}
@@ -30,7 +31,7 @@ abbrev Judged : Type 0
 Judged = Result (Proposition Atom) ConditionFault
 
 abbrev judged_switch : ℕ → Judged
-judged_switch f = judged generated_dialect.unknown generated_features (IsDefined (switch_name f))
+judged_switch f = judged (no_macros generated_dialect.unknown) generated_features (IsDefined (switch_name f))
 
 abbrev test_of_switch : ℕ → Judged
 test_of_switch f = Ok (switch_test f)
@@ -48,8 +49,8 @@ switch_is_name f lt = each_below is_switch_name (λ _. true) 8 refl f lt
 abbrev at_any_level : (ts : List tokens.Token) (e : Expression) → Spells 0 ts e → Spells 6 ts e
 at_any_level ts e s = loose (loose (loose (loose (loose (loose s)))))
 
-pub switch_is_read : (f : ℕ) → f < 8 → ReadsAs generated_dialect.unknown generated_features (codes "defined " ++ switch_name f) (Ok (switch_test f))
-switch_is_read f lt = subst (ReadsAs generated_dialect.unknown generated_features (codes "defined " ++ switch_name f)) (switch_is_judged f lt)
+pub switch_is_read : (f : ℕ) → f < 8 → ReadsAs (no_macros generated_dialect.unknown) generated_features (codes "defined " ++ switch_name f) (Ok (switch_test f))
+switch_is_read f lt = subst (ReadsAs (no_macros generated_dialect.unknown) generated_features (codes "defined " ++ switch_name f)) (switch_is_judged f lt)
     (read (tokens.Defined ∷ tokens.Word (switch_name f) ∷ []) (IsDefined (switch_name f))
     (tokens.word (codes "defined") refl refl (tokens.space 32 refl (tokens.word (switch_name f) (switch_is_name f lt) tt tokens.none)))
     (omega arith) (at_any_level (tokens.Defined ∷ tokens.Word (switch_name f) ∷ []) (IsDefined (switch_name f)) (defined (switch_name f))))
@@ -75,7 +76,7 @@ abbrev at_least : ℕ → Expression
 at_least c = compared_by (tokens.pair_of 62 61) c
 
 abbrev judged_bound : ℕ → Judged
-judged_bound c = judged generated_dialect.unknown generated_features (at_least c)
+judged_bound c = judged (no_macros generated_dialect.unknown) generated_features (at_least c)
 
 abbrev test_of_bound : ℕ → Judged
 test_of_bound c = Ok (bound_test c)
@@ -94,8 +95,8 @@ ends_alone : (v : Bool) → not v ≡ true → (v && false) ≡ false
 ends_alone true e = refl
 ends_alone false e = refl
 
-pub bound_is_read : (c : ℕ) → c < 9 → ReadsAs generated_dialect.unknown generated_features (codes " N >= " ++ digit c) (Ok (bound_test c))
-bound_is_read c lt = subst (ReadsAs generated_dialect.unknown generated_features (codes " N >= " ++ digit c)) (bound_is_judged c lt)
+pub bound_is_read : (c : ℕ) → c < 9 → ReadsAs (no_macros generated_dialect.unknown) generated_features (codes " N >= " ++ digit c) (Ok (bound_test c))
+bound_is_read c lt = subst (ReadsAs (no_macros generated_dialect.unknown) generated_features (codes " N >= " ++ digit c)) (bound_is_judged c lt)
     (read (tokens.Word (codes "N") ∷ at_least_token ∷ tokens.Digits (integer_value (digit c)) ∷ []) (at_least c)
     (tokens.space 32 refl (tokens.word (codes "N") refl refl (tokens.space 32 refl (tokens.pair 62 61 at_least_token refl (tokens.space 32 refl
     (tokens.number (digit c) (and_parts (is_integer (digit c)) (not (ends_in_exponent (digit c))) (bound_is_number c lt)).0 tt (ends_alone (ends_in_exponent (digit c)) (and_parts (is_integer (digit c)) (not (ends_in_exponent (digit c))) (bound_is_number c lt)).1) tokens.none))))))

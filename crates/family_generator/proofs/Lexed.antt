@@ -10,7 +10,7 @@ use Rattle.c_grammar.specs.declared.items.Sign.{Sign}
 use Rattle.c_grammar.specs.declared.items.Sign.TheVariants as signs
 use Rattle.cpp_lines.specs.declared.line.Line.{Line}
 use Rattle.cpp_lines.specs.declared.line.LineKind.{LineKind}
-use Rattle.cpp_lines.proofs.CodeLines.{code_piece}
+use Rattle.cpp_lines.specs.Code.{code_piece}
 use Rattle.c_parser.specs.FamilyItems.{group_sign, or_directive}
 use Rattle.c_parser.specs.Items.{number_in, items_over}
 use Rattle.c_parser.proofs.KeptItems.{AreRead}
@@ -22,9 +22,9 @@ use Rattle.family_generator.proofs.BlockLines.{switch_line, bound_line, count_li
 use Rattle.family_generator.proofs.Signs.{sign_in, input_signs, count_signs, reset_signs, choice_signs, assert_signs, block_signs, blocks_signs, condition_count, header_signs, file_signs}
 use Rattle.family_generator.proofs.Told.{kind_in, block_kinds, blocks_kinds, file_kinds}
 
--- the signs of a text's tokens over these names
+-- the signs of a text's tokens over these names, and no functions
 abbrev lexed_of : List (List ℕ) → List ℕ → Result (List Token) (FileCode × Place) → Option (List Sign)
-lexed_of names text (Ok ts) = Some (map sign_in (items_over names text ts))
+lexed_of names text (Ok ts) = Some (map sign_in (items_over [] names text ts))
 lexed_of names text (Err fault) = None
 
 abbrev pub lexed : List (List ℕ) → List ℕ → Option (List Sign)
@@ -121,26 +121,26 @@ sorted_signs [] ss = []
 sorted_signs (k ∷ ks) [] = []
 sorted_signs (k ∷ ks) (s ∷ ss) = sign_or (group_sign k) s ++ sorted_signs ks ss
 
-signs_alone : (names : List (List ℕ)) (text : List ℕ) (s : List Sign) (r : Result (List Token) (FileCode × Place)) → lexed_of names text r ≡ Some s → map sign_in (alone_of names text r) ≡ s
+pub signs_alone : (names : List (List ℕ)) (text : List ℕ) (s : List Sign) (r : Result (List Token) (FileCode × Place)) → lexed_of names text r ≡ Some s → map sign_in (alone_of [] names text r) ≡ s
 signs_alone names text s (Ok ts) e = cc
 signs_alone names text s (Err fault) e = absurd cc
 
-below_same : (n : ℕ) (xs : List Item) → map sign_in (map (item_below n) xs) ≡ map sign_in xs
+pub below_same : (n : ℕ) (xs : List Item) → map sign_in (map (item_below n) xs) ≡ map sign_in xs
 below_same n [] = refl
 below_same n (x ∷ xs) = ap (λ (ss : List Sign). x.sign ∷ ss) (below_same n xs)
 
-one_sorted : (o : Option Sign) (place : Place) (n : ℕ) (names : List (List ℕ)) (text : List ℕ) (s : List Sign) → lexed names text ≡ Some s → map sign_in (or_directive o place (map (item_below n) (alone names text))) ≡ sign_or o s
-one_sorted None place n names text s e = below_same n (alone names text) ∙ signs_alone names text s (tokens_of text) e
+one_sorted : (o : Option Sign) (place : Place) (n : ℕ) (names : List (List ℕ)) (text : List ℕ) (s : List Sign) → lexed names text ≡ Some s → map sign_in (or_directive o place (map (item_below n) (alone [] names text))) ≡ sign_or o s
+one_sorted None place n names text s e = below_same n (alone [] names text) ∙ signs_alone names text s (tokens_of text) e
 one_sorted (Some t) place n names text s e = refl
 
-pub signs_sorted : (names : List (List ℕ)) (n : ℕ) (ls : List Line) (ps : List (List ℕ)) (ss : List (List Sign)) → AreLexed names ps ss → map sign_in (by_both names n ls (map code_piece ps)) ≡ sorted_signs (map kind_in ls) ss
+pub signs_sorted : (names : List (List ℕ)) (n : ℕ) (ls : List Line) (ps : List (List ℕ)) (ss : List (List Sign)) → AreLexed names ps ss → map sign_in (by_both [] names n ls (map code_piece ps)) ≡ sorted_signs (map kind_in ls) ss
 signs_sorted names n [] ps ss h = refl
 signs_sorted names n (l ∷ ls) [] [] h = refl
 signs_sorted names n (l ∷ ls) [] (s ∷ ss) h = absurd h
 signs_sorted names n (l ∷ ls) (p ∷ ps) [] h = absurd h
 signs_sorted names n (l ∷ ls) (p ∷ ps) (s ∷ ss) h =
-    map-append sign_in (or_directive (group_sign l.kind) l.place (map (item_below n) (alone names (code_piece p)))) (by_both names (n + 1) ls (map code_piece ps))
-    ∙ ap (λ (t : List Sign). t ++ map sign_in (by_both names (n + 1) ls (map code_piece ps))) (one_sorted (group_sign l.kind) l.place n names (code_piece p) s h.0)
+    map-append sign_in (or_directive (group_sign l.kind) l.place (map (item_below n) (alone [] names (code_piece p)))) (by_both [] names (n + 1) ls (map code_piece ps))
+    ∙ ap (λ (t : List Sign). t ++ map sign_in (by_both [] names (n + 1) ls (map code_piece ps))) (one_sorted (group_sign l.kind) l.place n names (code_piece p) s h.0)
     ∙ ap (λ (t : List Sign). sign_or (group_sign l.kind) s ++ t) (signs_sorted names (n + 1) ls ps ss h.1)
 
 -- ---- which are those of the file

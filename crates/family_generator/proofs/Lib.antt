@@ -11,5 +11,6 @@ pub mod Blanked
 pub mod Told
 pub mod NameFaults
 pub mod Lexed
+pub mod NoFunctions
 pub mod FreeNames
 pub mod Accepted

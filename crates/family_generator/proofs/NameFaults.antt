@@ -1,18 +1,19 @@
 -- No name of a generated family has a fault.
-use Rattle.std.proofs.Common.{◌≡◌, ◌⊎◌, inl, inr, ℕ, ℤ, nat_eq, nat_le, Bool, true, false, cond, not, ◌||◌, ◌&&◌, List, [], ◌∷◌, ◌++◌, take, drop, Option, Some, None, refl, ap, ◌∙◌, sym, subst, append_assoc, arith}
+use Rattle.std.proofs.Common.{◌≡◌, ◌⊎◌, inl, inr, ℕ, ℤ, nat_eq, Bool, true, false, cond, not, ◌||◌, ◌&&◌, List, [], ◌∷◌, ◌++◌, length, take, drop, Option, Some, None, refl, ap, ◌∙◌, sym, subst, append_assoc, arith}
 use Rattle.std.proofs.lemmas.Bool.Decides.{nat_tests}
 use Rattle.fam_outer.specs.declared.faults.Place.{Place}
 use Rattle.fam_outer.specs.declared.faults.FileCode.{FileCode}
-use Rattle.fam_outer.specs.declared.faults.FileCode.TheVariants.{Undeclared, Twice, FeatureInCode, TooManyVariables, ChangedConstant}
+use Rattle.fam_outer.specs.declared.faults.FileCode.TheVariants.{Undeclared, Twice, FeatureInCode, ChangedConstant}
 use Rattle.linear_atoms.specs.declared.atoms.Config.{Config}
 use Rattle.cpp_conditions.specs.declared.models.Model.{Model}
 use Rattle.atom_solver.specs.Solutions.{Finds}
 use Rattle.c_grammar.specs.declared.items.Item.{Item}
 use Rattle.c_grammar.specs.declared.items.Sign.{Sign}
 use Rattle.c_grammar.specs.declared.items.Sign.TheVariants as signs
-use Rattle.c_grammar.specs.Constants.{changed_at}
+use Rattle.c_grammar.specs.Constants.{is_change, name_at, changed_from, changed_behind, last_from, changed_at}
 use Rattle.c_grammar.specs.Grammar.{at}
-use Rattle.family_names.specs.Names.{NameContext, IsWithFirst, IsEither, IsUseFault, IsDeclarationFault, IsNameFault, IsChangeOf, IsChangeFault, IsChangeOr, changed_place, IsThisOr, IsFaultFrom, IsFirstNameFault, is_feature, is_missed, is_met_again, is_met_constant, is_kept, is_among, truths_at, declared_by, declared_at, each_once, new_name_fault, code_with}
+use Rattle.family_names.specs.Names.{NameContext, IsWithFirst, IsEither, IsUseFault, IsDeclarationFault, IsNameFault, IsChangeOf, IsChangeFault, IsChangeOr, changed_place, IsThisOr, IsFaultFrom, IsFirstNameFault, is_feature, is_value, is_missed, is_met_again, is_met_constant, is_kept, is_among, truths_at, declared_at, constants_of, values_of, value_fault, full_fault, new_name_fault, code_with}
+use Rattle.family_names.proofs.Features.{no_value}
 use Rattle.family_generator.proofs.Signs.{laid, header_signs}
 
 -- two names that are no features'
@@ -54,10 +55,17 @@ among_both x y z (inr e) = or_true (nat_eq z x) (nat_eq z y || false) (ap (λ (t
 abbrev use_by : NameContext → List Item → ℕ → Option FileCode → Bool → Type 0
 use_by context before z fault b = IsEither b (IsWithFirst context.model (is_missed context before z) Undeclared None fault) (fault ≡ Some (Undeclared None))
 
+abbrev other_by : NameContext → List Item → ℕ → Option FileCode → Bool → Bool → Type 0
+other_by context before z fault b feature = IsEither feature (fault ≡ Some FeatureInCode) (use_by context before z fault b)
+
 -- a use of a declared name has no fault
 used : (context : NameContext) (f : ℕ → Place) (x y z : ℕ) (mid : List Item) (fault : Option FileCode) → (z ≡ x) ⊎ (z ≡ y) → is_feature context z ≡ false → IsUseFault context (header f x y ++ mid) z fault → fault ≡ None
 used context f x y z mid fault one free h =
-    let declared : use_by context (header f x y ++ mid) z fault (is_among z (x ∷ y ∷ [])) = subst (λ (b : Bool). IsEither b (fault ≡ Some FeatureInCode) (use_by context (header f x y ++ mid) z fault (is_among z (x ∷ y ∷ [])))) free h in
+    let before : List Item = header f x y ++ mid in
+    let other : other_by context (header f x y ++ mid) z fault (is_among z (x ∷ y ∷ [])) (is_feature context z) =
+    subst (λ (b : Bool). IsEither b (fault ≡ value_fault context (values_of context before) (length (constants_of before)) z) (other_by context before z fault (is_among z (x ∷ y ∷ [])) (is_feature context z)))
+    (no_value context z free) h in
+    let declared : use_by context (header f x y ++ mid) z fault (is_among z (x ∷ y ∷ [])) = subst (other_by context (header f x y ++ mid) z fault (is_among z (x ∷ y ∷ []))) free other in
     let found = subst (use_by context (header f x y ++ mid) z fault) (among_both x y z one) declared in
     other_one context.model (is_missed context (header f x y ++ mid) z) Undeclared None fault
     (λ values e. none_holds (is_kept (truths_at context values) (header f x y ++ mid)) (not (is_among z (x ∷ y ∷ []))) (ap not (among_both x y z one)) e) found
@@ -65,6 +73,7 @@ used context f x y z mid fault one free h =
 -- names among these signs are one of both
 abbrev pub IsOwn : ℕ → ℕ → Sign → Type 0
 IsOwn x y (signs.Name z) = (z ≡ x) ⊎ (z ≡ y)
+IsOwn x y (signs.Function k) = ⊥
 IsOwn x y _ = Unit {0}
 
 abbrev pub AreOwn : ℕ → ℕ → List Item → Type 0
@@ -77,32 +86,66 @@ free_one context x y z h (inr e) = subst (λ (k : ℕ). is_feature context k ≡
 
 no_fault_at : (context : NameContext) (f : ℕ → Place) (x y : ℕ) (mid : List Item) (s : Sign) (code : Option FileCode) → AreFree context x y → IsOwn x y s → IsNameFault context (header f x y ++ mid) s code → code ≡ None
 no_fault_at context f x y mid (signs.Name z) code free own h = used context f x y z mid code own (free_one context x y z free own) h
+no_fault_at context f x y mid (signs.Function k) code free own h = absurd own
 no_fault_at context f x y mid _ code free own h = h
 
 later : (code : Option FileCode) (place : Place) (fault : Option (FileCode × Place)) (L : Type 0) → code ≡ None → IsThisOr code place fault L → L
 later code place fault L e h = subst (λ (c : Option FileCode). IsThisOr c place fault L) e h
 
--- there is no constant
-unchanged_by : (context : NameContext) (f : ℕ → Place) (x y : ℕ) (mid : List Item) (change : Option (ℕ × Place)) (code : Option FileCode) → IsChangeOf context (header f x y ++ mid) change code → code ≡ None
-unchanged_by context f x y mid None code h = h
-unchanged_by context f x y mid (Some change) code h =
-    other_one context.model (is_met_constant context (header f x y ++ mid) change.0) (λ example. ChangedConstant) None code (λ values e. none_holds (is_kept (truths_at context values) (header f x y ++ mid)) false refl e) h
+-- a name that is changed is one of both
+abbrev IsOwnChange : ℕ → ℕ → Option (ℕ × Place) → Type 0
+IsOwnChange x y None = Unit {0}
+IsOwnChange x y (Some change) = (change.0 ≡ x) ⊎ (change.0 ≡ y)
 
-unchanged : (context : NameContext) (f : ℕ → Place) (x y : ℕ) (mid : List Item) (i : Item) (code : Option FileCode) → IsChangeFault context (header f x y ++ mid) i code → code ≡ None
-unchanged context f x y mid i code h = unchanged_by context f x y mid (changed_at (header f x y ++ mid) i) code h
+abbrev IsOwnLast : ℕ → ℕ → Option Item → Type 0
+IsOwnLast x y None = Unit {0}
+IsOwnLast x y (Some i) = IsOwn x y i.sign
 
-pub behind_header : (context : NameContext) (f : ℕ → Place) (x y : ℕ) (mid xs : List Item) (fault : Option (FileCode × Place)) → AreFree context x y → AreOwn x y xs → IsFaultFrom context (header f x y ++ mid) xs fault → fault ≡ None
-behind_header context f x y mid [] fault free own h = h
-behind_header context f x y mid (i ∷ is) fault free own h =
+own_at : (x y : ℕ) (changes : Bool) (s : Sign) (p : Place) → IsOwn x y s → IsOwnChange x y (name_at changes s p)
+own_at x y true (signs.Name z) p h = h
+own_at x y true _ p h = tt
+own_at x y false s p h = tt
+
+own_from : (x y : ℕ) (p : Place) (s : Sign) (i : Item) → IsOwn x y s → IsOwn x y i.sign → IsOwnChange x y (changed_from p s i)
+own_from x y p signs.PlusPlus i h k = own_at x y true i.sign i.place k
+own_from x y p signs.MinusMinus i h k = own_at x y true i.sign i.place k
+own_from x y p s i h k = own_at x y (is_change i.sign) s p h
+
+own_behind : (x y : ℕ) (last : Option Item) (i : Item) → IsOwnLast x y last → IsOwn x y i.sign → IsOwnChange x y (changed_behind last i)
+own_behind x y None i h k = tt
+own_behind x y (Some j) i h k = own_from x y j.place j.sign i h k
+
+last_more : (last : Option Item) (before : List Item) (i : Item) → last_from last (before ++ i ∷ []) ≡ Some i
+last_more last [] i = refl
+last_more last (j ∷ js) i = last_more (Some j) js i
+
+-- there is no constant, and both are no values
+unchanged_by : (context : NameContext) (f : ℕ → Place) (x y : ℕ) (mid : List Item) (change : Option (ℕ × Place)) (code : Option FileCode) → AreFree context x y → IsOwnChange x y change → IsChangeOf context (header f x y ++ mid) change code → code ≡ None
+unchanged_by context f x y mid None code free own h = h
+unchanged_by context f x y mid (Some change) code free own h =
+    let other : (is_value context change.0 || false) ≡ false = ap (λ (b : Bool). b || false) (no_value context change.0 (free_one context x y change.0 free own)) in
+    other_one context.model (is_met_constant context (header f x y ++ mid) change.0) (λ example. ChangedConstant) None code
+    (λ values e. none_holds (is_kept (truths_at context values) (header f x y ++ mid)) (is_value context change.0 || false) other e) h
+
+unchanged : (context : NameContext) (f : ℕ → Place) (x y : ℕ) (mid : List Item) (i : Item) (code : Option FileCode) → AreFree context x y → IsOwnLast x y (last_from None (header f x y ++ mid)) → IsOwn x y i.sign
+    → IsChangeFault context (header f x y ++ mid) i code → code ≡ None
+unchanged context f x y mid i code free last own h =
+    unchanged_by context f x y mid (changed_at (header f x y ++ mid) i) code free (own_behind x y (last_from None (header f x y ++ mid)) i last own) h
+
+pub behind_header : (context : NameContext) (f : ℕ → Place) (x y : ℕ) (mid xs : List Item) (fault : Option (FileCode × Place)) → AreFree context x y → IsOwnLast x y (last_from None (header f x y ++ mid)) → AreOwn x y xs
+    → IsFaultFrom context (header f x y ++ mid) xs fault → fault ≡ None
+behind_header context f x y mid [] fault free last own h = h
+behind_header context f x y mid (i ∷ is) fault free last own h =
     let change = later h.0 i.place fault (IsChangeOr context (header f x y ++ mid) i fault (IsFaultFrom context ((header f x y ++ mid) ++ i ∷ []) is fault)) (no_fault_at context f x y mid i.sign h.0 free own.0 h.1) h.2 in
-    let next = later change.0 (changed_place (header f x y ++ mid) i) fault (IsFaultFrom context ((header f x y ++ mid) ++ i ∷ []) is fault) (unchanged context f x y mid i change.0 change.1) change.2 in
-    behind_header context f x y (mid ++ i ∷ []) is fault free own.1 (subst (λ (b : List Item). IsFaultFrom context b is fault) (append_assoc (header f x y) mid (i ∷ [])) next)
+    let next = later change.0 (changed_place (header f x y ++ mid) i) fault (IsFaultFrom context ((header f x y ++ mid) ++ i ∷ []) is fault) (unchanged context f x y mid i change.0 free last own.0 change.1) change.2 in
+    let same : Some i ≡ last_from None (header f x y ++ (mid ++ i ∷ [])) = sym (last_more None (header f x y ++ mid) i) ∙ ap (last_from None) (append_assoc (header f x y) mid (i ∷ [])) in
+    behind_header context f x y (mid ++ i ∷ []) is fault free (subst (IsOwnLast x y) same own.0) own.1 (subst (λ (b : List Item). IsFaultFrom context b is fault) (append_assoc (header f x y) mid (i ∷ [])) next)
 
 -- ---- the header
 
-declared_new : (context : NameContext) (before : List Item) (x : ℕ) (fault : Option FileCode) → IsDeclarationFault context before x fault → ((values : List ℤ) → is_among x (declared_at (truths_at context values) before) ≡ false) → fault ≡ new_name_fault context (each_once [] (declared_by before)) x
+declared_new : (context : NameContext) (before : List Item) (x : ℕ) (fault : Option FileCode) → IsDeclarationFault context before x fault → ((values : List ℤ) → is_among x (declared_at (truths_at context values) before) ≡ false) → fault ≡ new_name_fault context before x
 declared_new context before x fault h none =
-    other_one context.model (is_met_again context before x) Twice (new_name_fault context (each_once [] (declared_by before)) x) fault
+    other_one context.model (is_met_again context before x) Twice (new_name_fault context before x) fault
     (λ values e. none_holds (is_kept (truths_at context values) before) (is_among x (declared_at (truths_at context values) before)) (none values) e) h
 
 next_item : (context : NameContext) (before : List Item) (i : Item) (xs : List Item) (fault : Option (FileCode × Place)) → ((code : Option FileCode) → IsNameFault context before i.sign code → code ≡ None) → ((code : Option FileCode) → IsChangeFault context before i code → code ≡ None)
@@ -111,8 +154,12 @@ next_item context before i xs fault none still h =
     let change = later h.0 i.place fault (IsChangeOr context before i fault (IsFaultFrom context (before ++ i ∷ []) xs fault)) (none h.0 h.1) h.2 in
     later change.0 (changed_place before i) fault (IsFaultFrom context (before ++ i ∷ []) xs fault) (still change.0 change.1) change.2
 
-abbrev new_by : Bool → Bool → Option FileCode
-new_by feature many = cond feature (Some FeatureInCode) (cond many (Some TooManyVariables) None)
+abbrev new_by : Bool → Bool → Option FileCode → Option FileCode
+new_by feature again full = cond feature (Some FeatureInCode) (cond again None full)
+
+-- where the first name is declared as a variable
+abbrev room : ℕ → Bool → Option FileCode
+room x same = full_fault false 0 (length (cond (not (cond same false false)) (x ∷ []) []))
 
 -- the items of the header before one of them, and those from one on
 abbrev front : (ℕ → Place) → ℕ → ℕ → ℕ → List Item
@@ -122,12 +169,12 @@ abbrev behind : (ℕ → Place) → ℕ → ℕ → List Item → ℕ → List I
 behind f x y rest n = laid f n (drop n (header_signs x y)) ++ rest
 
 first_new : (context : NameContext) (f : ℕ → Place) (x y : ℕ) (code : Option FileCode) → AreFree context x y → IsDeclarationFault context (front f x y 1) x code → code ≡ None
-first_new context f x y code free e = declared_new context (front f x y 1) x code e (λ values. refl) ∙ ap (λ (b : Bool). new_by b (not (is_among x []) && nat_le 16 0)) free.first
+first_new context f x y code free e = declared_new context (front f x y 1) x code e (λ values. refl) ∙ ap (λ (b : Bool). new_by b false None) free.first
 
 second_new : (context : NameContext) (f : ℕ → Place) (x y : ℕ) (code : Option FileCode) → AreFree context x y → IsDeclarationFault context (front f x y 4) y code → code ≡ None
 second_new context f x y code free e =
     declared_new context (front f x y 4) y code e (λ values. ap (λ (b : Bool). b || false) free.apart)
-    ∙ ap (λ (b : Bool). new_by b (not (nat_eq y x || false) && nat_le 16 1)) free.second ∙ ap (λ (b : Bool). new_by false (not (b || false) && nat_le 16 1)) free.apart
+    ∙ ap (λ (b : Bool). new_by b (nat_eq y x || false) (room x (nat_eq x x))) free.second ∙ ap (λ (b : Bool). new_by false (b || false) (room x (nat_eq x x))) free.apart ∙ ap (room x) (same_number x)
 
 pub no_fault : (context : NameContext) (f : ℕ → Place) (x y : ℕ) (rest : List Item) (fault : Option (FileCode × Place)) → AreFree context x y → AreOwn x y rest → IsFirstNameFault context (header f x y ++ rest) fault → fault ≡ None
 no_fault context f x y rest fault free own h =
@@ -143,4 +190,4 @@ no_fault context f x y rest fault free own h =
     let h9 = next_item context (front f x y 9) (at (f 9) (signs.Void)) (behind f x y rest 10) fault (λ code e. e) (λ code e. e) h8 in
     let h10 = next_item context (front f x y 10) (at (f 10) (signs.Close)) (behind f x y rest 11) fault (λ code e. e) (λ code e. e) h9 in
     let h11 = next_item context (front f x y 11) (at (f 11) (signs.LeftBrace)) (behind f x y rest 12) fault (λ code e. e) (λ code e. e) h10 in
-    behind_header context f x y [] rest fault free own h11
+    behind_header context f x y [] rest fault free tt own h11

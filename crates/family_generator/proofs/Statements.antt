@@ -7,7 +7,7 @@ use Rattle.c_tree.specs.declared.tree.Op.TheVariants.{Add, Lt, Gt, Ge}
 use Rattle.c_grammar.specs.declared.items.Item.{Item}
 use Rattle.c_grammar.specs.declared.items.Sign.TheVariants as signs
 use Rattle.c_grammar.specs.Grammar as grammar
-use Rattle.c_grammar.specs.Grammar.{at, Expresses, number, name, loose, binary, Listed, Raise, Outer, File, present, int, unqualified, only_type, bare, variables_end, no_return}
+use Rattle.c_grammar.specs.Grammar.{at, of_input, Expresses, number, name, loose, binary, Listed, Raise, Outer, File, present, int, unqualified, only_type, bare, variables_end, no_return}
 use Rattle.c_grammar.specs.Within.{Full, WritesIn, none, more, choice, ends, otherwise, assign, input, count, assert, while, if_else, DeclaresIn, nothing, variables, last_var, no_more, body, main, FormsWithin, file}
 use Rattle.family_generator.proofs.BlockTexts.{Block, Switched, Bounded, Checked}
 use Rattle.family_generator.proofs.Signs.{laid, laid_joined, laid_again, sign_in, place_in, block_signs, condition_count, blocks_signs, header_signs, file_signs}
@@ -60,7 +60,7 @@ switched_lists : (a p q r s t u z : Place) (x n : ℕ) (rest : List Item) → Li
 switched_lists a p q r s t u z x n rest h = record {
   code = _;
   written = choice a n {ts = input_items p q r s t u x} {us = at z signs.GroupEnd ∷ []} {vs = rest} {k = 63}
-      (more {ts = input_items p q r s t u x} {us = []} (input p q r s t u x) none) (ends z) h.written;
+      (more {ts = input_items p q r s t u x} {us = []} (input p q r s t u x of_input) none) (ends z) h.written;
 }
 
 abbrev while_items : Place → Place → Place → Place → Place → Place → Place → Place → Place → ℕ → ℤ → List Item

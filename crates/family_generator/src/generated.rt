@@ -53,7 +53,7 @@ fn family_of(
     ensures spelled { IfOk result (λ f. IsFamilyOf dialect model.now text.now f) }
     ensures program { IfOk result (λ f. IsProgram (whole f.code)) }
     ensures conditioned { IfOk result (λ f. IsConditioned (length f.conditions) (whole f.code)) }
-    ensures few { IfOk result (λ f. length f.atoms ≤ 64) }
+    ensures few { IfOk result (λ f. length f.atoms ≤ 320) }
     ensures atoms { IfOk result (λ f. AreAtoms (length model.now.features) f.atoms) }
     ensures below { IfOk result (λ f. All (λ c. IsBelow (length f.atoms) (formula c)) f.conditions) }
 {
@@ -81,7 +81,7 @@ pub fn generated_family(alloc: Global, number: u32) -> Result<GeneratedFamily, N
     ensures program { IfOk result (λ made. IsProgram (whole made.family.code)) }
     ensures conditioned { IfOk result (λ made.
         IsConditioned (length made.family.conditions) (whole made.family.code)) }
-    ensures few { IfOk result (λ made. length made.family.atoms ≤ 64) }
+    ensures few { IfOk result (λ made. length made.family.atoms ≤ 320) }
     ensures atoms { IfOk result (λ made. AreAtoms (length made.model.features) made.family.atoms) }
     ensures below { IfOk result (λ made. All
         (λ c. IsBelow (length made.family.atoms) (formula c)) made.family.conditions) }

@@ -1,11 +1,12 @@
 -- Items have one first fault of a name.
 use Rattle.std.proofs.Common.{◌≡◌, ℕ, ℤ, ◌<ℤ◌, ◌≤ℤ◌, Bool, true, false, not, ◌&&◌, List, [], ◌∷◌, ◌++◌, length, slice_get, Option, Some, None, refl, sym, ap, subst, ◌∙◌, inl, inr, arith}
-use Rattle.std.specs.Prelude.{if◌then◌else◌, nat_le}
+use Rattle.std.specs.Prelude.{◌+◌, ◌||◌, if◌then◌else◌, nat_le, nat_lt}
 use Rattle.std.specs.List.{list_any}
 use Rattle.std.specs.Str.{bytes_eq}
 use Rattle.std.proofs.lemmas.Int.{by_lt_z, ints}
+use Rattle.std.proofs.lemmas.List.Sums.{sum_by-cons}
 use Rattle.fam_outer.specs.declared.faults.FileCode.{FileCode}
-use Rattle.fam_outer.specs.declared.faults.FileCode.TheVariants.{Undeclared, Twice, FeatureInCode, TooManyVariables, ChangedConstant}
+use Rattle.fam_outer.specs.declared.faults.FileCode.TheVariants.{Undeclared, Twice, FeatureInCode, TooManyValueTests, ChangedConstant, TooManyConstants}
 use Rattle.fam_outer.specs.declared.faults.Place.{Place}
 use Rattle.linear_atoms.specs.Atoms.{IsWithin}
 use Rattle.linear_atoms.specs.declared.atoms.Config.{Config}
@@ -16,10 +17,14 @@ use Rattle.cpp_conditions.proofs.Within.{valid_parts}
 use Rattle.c_grammar.specs.declared.items.Item.{Item}
 use Rattle.c_grammar.specs.declared.items.Sign.{Sign}
 use Rattle.c_grammar.specs.declared.items.Sign.TheVariants as signs
-use Rattle.c_grammar.specs.Constants.{changed_at}
+use Rattle.c_grammar.specs.declared.constants.NameKind.TheVariants as kinds
+use Rattle.c_grammar.specs.Constants.{is_constant, kind_after, changed_at}
+use Rattle.c_grammar.specs.Functions.{is_void, is_equals, stands_behind}
 use Rattle.atom_solver.specs.Solutions.{IsBefore, IsFirst, Finds}
+use Rattle.family_names.specs.Functions.{functions_at, callable_by, callable_at}
 use Rattle.family_names.specs.Laws.{AreAlike, NamesAreJudgedOnce}
-use Rattle.family_names.specs.Names.{NameContext, has_main, declared_by, declared_at, is_among, each_once, is_kept, is_missed, is_met_again, is_met_constant, constants_at, is_feature_name, is_feature, new_name_fault, code_with, IsWithFirst, IsEither, IsUseFault, IsDeclarationFault, IsNameFault, IsChangeOf, IsChangeFault, changed_place, IsThisOr, IsChangeOr, IsFaultFrom}
+use Rattle.family_names.specs.Names.{NameContext, truths_at, has_main, names_of, declared_by, declared_at, constants_of, variables_of, behind_main, values_of, test_count, is_among, each_once, is_kept, is_missed, is_met_again, is_met_unlike, is_uncallable, is_met_constant, constants_at, is_feature_name, is_feature, feature_in, named_feature, feature_of, is_integer, is_value, width_or_none, value_fault, full_fault, new_name_fault, function_fault, code_with, IsWithFirst, IsEither, IsUseFault, IsDeclarationFault, IsPrototypeFault, IsCallFault, IsNameFault, IsChangeOf, IsChangeFault, changed_place, IsThisOr, IsChangeOr, IsFaultFrom}
+use Rattle.family_names.proofs.KindsBehind.{filter_same}
 
 -- ---- the first configuration
 
@@ -73,9 +78,44 @@ same_feature : (a b : NameContext) → AreAlike a b → (x : ℕ) → is_feature
 same_feature a b s x =
     same_feature_name a.model b.model (ap (λ (p : Plain). p.features) s.models) (slice_get a.names x) ∙ ap (λ (names : List (List ℕ)). is_feature_name b.model (slice_get names x)) s.names
 
-same_new : (a b : NameContext) → AreAlike a b → (declared : List ℕ) (x : ℕ) → new_name_fault a declared x ≡ new_name_fault b declared x
-same_new a b s declared x =
-    ap (λ (f : Bool). if f then Some FeatureInCode else (if not (is_among x declared) && nat_le 16 (length declared) then Some TooManyVariables else None)) (same_feature a b s x)
+same_function : (a b : NameContext) → AreAlike a b → (k : ℕ) → function_fault a k ≡ function_fault b k
+same_function a b s k =
+    ap (λ (f : Bool). if f then Some FeatureInCode else None) (same_feature_name a.model b.model (ap (λ (p : Plain). p.features) s.models) (slice_get a.functions k)
+    ∙ ap (λ (functions : List (List ℕ)). is_feature_name b.model (slice_get functions k)) s.functions)
+
+same_new : (a b : NameContext) → AreAlike a b → (before : List Item) (x : ℕ) → new_name_fault a before x ≡ new_name_fault b before x
+same_new a b s before x =
+    ap (λ (f : Bool). if f then Some FeatureInCode else (if is_among x (declared_by before) then None
+    else full_fault (is_constant (kind_after kinds.Variable before)) (length (constants_of before)) (length (variables_of before)))) (same_feature a b s x)
+
+same_named : (m n : Model) → m.features ≡ n.features → (o : Option (List ℕ)) → named_feature m o ≡ named_feature n o
+same_named m n e None = refl
+same_named m n e (Some name) = ap (λ (fs : List Feature). feature_in fs name) e
+
+same_of : (a b : NameContext) → AreAlike a b → (x : ℕ) → feature_of a x ≡ feature_of b x
+same_of a b s x =
+    same_named a.model b.model (ap (λ (p : Plain). p.features) s.models) (slice_get a.names x) ∙ ap (λ (names : List (List ℕ)). named_feature b.model (slice_get names x)) s.names
+
+same_value_name : (a b : NameContext) → AreAlike a b → (x : ℕ) → is_value a x ≡ is_value b x
+same_value_name a b s x = ap is_integer (same_of a b s x)
+
+same_tests : (a b : NameContext) → AreAlike a b → (numbers : List ℕ) → test_count a numbers ≡ test_count b numbers
+same_tests a b s [] = refl
+same_tests a b s (x ∷ xs) =
+    sum_by-cons (λ y. width_or_none (feature_of a y)) x xs
+    ∙ ap (λ (f : Option Feature). width_or_none f + test_count a xs) (same_of a b s x) ∙ ap (λ (n : ℕ). width_or_none (feature_of b x) + n) (same_tests a b s xs)
+    ∙ sym (sum_by-cons (λ y. width_or_none (feature_of b y)) x xs)
+
+same_values_of : (a b : NameContext) → AreAlike a b → (items : List Item) → values_of a items ≡ values_of b items
+same_values_of a b s items = ap (each_once []) (filter_same (is_value a) (is_value b) (names_of (behind_main items)) (λ x _. same_value_name a b s x))
+
+same_value_fault : (a b : NameContext) → AreAlike a b → (before : List Item) (x : ℕ)
+    → value_fault a (values_of a before) (length (constants_of before)) x ≡ value_fault b (values_of b before) (length (constants_of before)) x
+same_value_fault a b s before x =
+    ap (λ (used : List ℕ). value_fault a used (length (constants_of before)) x) (same_values_of a b s before)
+    ∙ ap (λ (n : ℕ). if is_among x (values_of b before) then None
+    else (if nat_lt 256 n then Some TooManyValueTests else (if nat_le 16 (length (constants_of before) + length (values_of b before)) then Some TooManyConstants else None)))
+    (same_tests a b s (values_of b before ++ x ∷ []))
 
 same_missed : (a b : NameContext) → AreAlike a b → (before : List Item) (x : ℕ) (values : List ℤ) → is_missed a before x values ≡ is_missed b before x values
 same_missed a b s before x values = ap (λ (ts : List Bool). is_kept ts before && not (is_among x (declared_at ts before))) (s.truths values)
@@ -83,14 +123,26 @@ same_missed a b s before x values = ap (λ (ts : List Bool). is_kept ts before &
 same_met : (a b : NameContext) → AreAlike a b → (before : List Item) (x : ℕ) (values : List ℤ) → is_met_again a before x values ≡ is_met_again b before x values
 same_met a b s before x values = ap (λ (ts : List Bool). is_kept ts before && is_among x (declared_at ts before)) (s.truths values)
 
+same_unlike : (a b : NameContext) → AreAlike a b → (before : List Item) (k : ℕ) (values : List ℤ) → is_met_unlike a before k values ≡ is_met_unlike b before k values
+same_unlike a b s before k values = ap (λ (ts : List Bool). is_kept ts before && is_among k (functions_at ts (not (stands_behind is_void before)) before)) (s.truths values)
+
+same_uncallable : (a b : NameContext) → AreAlike a b → (before : List Item) (k : ℕ) (values : List ℤ) → is_uncallable a before k values ≡ is_uncallable b before k values
+same_uncallable a b s before k values = ap (λ (ts : List Bool). is_kept ts before && not (is_among k (callable_at ts (stands_behind is_equals before) before))) (s.truths values)
+
 either_same : (A B C D : Type 0) (c d : Option FileCode) (f g : Bool) → f ≡ g → (A → C → c ≡ d) → (B → D → c ≡ d) → IsEither f A B → IsEither g C D → c ≡ d
 either_same A B C D c d true true e one two h k = one h k
 either_same A B C D c d false false e one two h k = two h k
 either_same A B C D c d true false e one two h k = absurd cc
 either_same A B C D c d false true e one two h k = absurd cc
 
-same_use : (a b : NameContext) → AreAlike a b → (before : List Item) (x : ℕ) (c d : Option FileCode) → IsUseFault a before x c → IsUseFault b before x d → c ≡ d
-same_use a b s before x c d h k =
+-- a use of a name that is no value's
+abbrev IsOther : NameContext → List Item → ℕ → Option FileCode → Type 0
+IsOther context before x fault =
+    IsEither (is_feature context x) (fault ≡ Some FeatureInCode)
+    (IsEither (is_among x (declared_by before)) (IsWithFirst context.model (is_missed context before x) Undeclared None fault) (fault ≡ Some (Undeclared None)))
+
+same_other : (a b : NameContext) → AreAlike a b → (before : List Item) (x : ℕ) (c d : Option FileCode) → IsOther a before x c → IsOther b before x d → c ≡ d
+same_other a b s before x c d h k =
     either_same (c ≡ Some FeatureInCode) (IsEither (is_among x (declared_by before)) (IsWithFirst a.model (is_missed a before x) Undeclared None c) (c ≡ Some (Undeclared None)))
     (d ≡ Some FeatureInCode) (IsEither (is_among x (declared_by before)) (IsWithFirst b.model (is_missed b before x) Undeclared None d) (d ≡ Some (Undeclared None)))
     c d (is_feature a x) (is_feature b x) (same_feature a b s x) (λ i j. i ∙ sym j)
@@ -101,21 +153,44 @@ same_use a b s before x c d h k =
     (λ w z. w ∙ sym z) i j)
     h k
 
+same_use : (a b : NameContext) → AreAlike a b → (before : List Item) (x : ℕ) (c d : Option FileCode) → IsUseFault a before x c → IsUseFault b before x d → c ≡ d
+same_use a b s before x c d h k =
+    either_same (c ≡ value_fault a (values_of a before) (length (constants_of before)) x) (IsOther a before x c) (d ≡ value_fault b (values_of b before) (length (constants_of before)) x) (IsOther b before x d)
+    c d (is_value a x) (is_value b x) (same_value_name a b s x) (λ i j. i ∙ same_value_fault a b s before x ∙ sym j) (same_other a b s before x c d) h k
+
 same_declaration : (a b : NameContext) → AreAlike a b → (before : List Item) (x : ℕ) (c d : Option FileCode) → IsDeclarationFault a before x c → IsDeclarationFault b before x d → c ≡ d
 same_declaration a b s before x c d h k =
     same_with a.model b.model s.models (is_met_again a before x) (is_met_again b before x) (same_met a b s before x) Twice
-    (new_name_fault a (each_once [] (declared_by before)) x) (new_name_fault b (each_once [] (declared_by before)) x) c d (same_new a b s (each_once [] (declared_by before)) x) h k
+    (new_name_fault a before x) (new_name_fault b before x) c d (same_new a b s before x) h k
+
+same_prototype : (a b : NameContext) → AreAlike a b → (before : List Item) (k : ℕ) (c d : Option FileCode) → IsPrototypeFault a before k c → IsPrototypeFault b before k d → c ≡ d
+same_prototype a b s before k c d h i =
+    same_with a.model b.model s.models (is_met_unlike a before k) (is_met_unlike b before k) (same_unlike a b s before k) Twice
+    (function_fault a k) (function_fault b k) c d (same_function a b s k) h i
+
+same_call : (a b : NameContext) → AreAlike a b → (before : List Item) (k : ℕ) (c d : Option FileCode) → IsCallFault a before k c → IsCallFault b before k d → c ≡ d
+same_call a b s before k c d h i =
+    let named : Bool = is_among k (callable_by (stands_behind is_equals before) before) in
+    either_same (IsWithFirst a.model (is_uncallable a before k) Undeclared None c) (c ≡ Some (Undeclared None)) (IsWithFirst b.model (is_uncallable b before k) Undeclared None d) (d ≡ Some (Undeclared None))
+    c d named named refl
+    (λ w z. same_with a.model b.model s.models (is_uncallable a before k) (is_uncallable b before k) (same_uncallable a b s before k) Undeclared None None c d refl w z)
+    (λ w z. w ∙ sym z) h i
 
 same_code : (a b : NameContext) → AreAlike a b → (before : List Item) (sign : Sign) (c d : Option FileCode) → IsNameFault a before sign c → IsNameFault b before sign d → c ≡ d
 same_code a b s before (signs.Name x) c d h k =
     either_same (IsUseFault a before x c) (IsDeclarationFault a before x c) (IsUseFault b before x d) (IsDeclarationFault b before x d) c d (has_main before) (has_main before) refl
     (same_use a b s before x c d) (same_declaration a b s before x c d) h k
+same_code a b s before (signs.Function n) c d h k =
+    either_same (IsCallFault a before n c) (IsPrototypeFault a before n c) (IsCallFault b before n d) (IsPrototypeFault b before n d) c d (has_main before) (has_main before) refl
+    (same_call a b s before n c d) (same_prototype a b s before n c d) h k
 same_code a b s before _ c d h k = h ∙ sym k
 
 -- ---- a name that is changed
 
 same_constant : (a b : NameContext) → AreAlike a b → (before : List Item) (x : ℕ) (values : List ℤ) → is_met_constant a before x values ≡ is_met_constant b before x values
-same_constant a b s before x values = ap (λ (ts : List Bool). is_kept ts before && is_among x (constants_at ts before)) (s.truths values)
+same_constant a b s before x values =
+    ap (λ (ts : List Bool). is_kept ts before && (is_value a x || is_among x (constants_at ts before))) (s.truths values)
+    ∙ ap (λ (v : Bool). is_kept (truths_at b values) before && (v || is_among x (constants_at (truths_at b values) before))) (same_value_name a b s x)
 
 same_change_of : (a b : NameContext) → AreAlike a b → (before : List Item) (change : Option (ℕ × Place)) (c d : Option FileCode) → IsChangeOf a before change c → IsChangeOf b before change d → c ≡ d
 same_change_of a b s before None c d h k = h ∙ sym k

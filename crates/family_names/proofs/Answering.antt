@@ -32,7 +32,7 @@ and_left : (a b : Bool) → (a && b) ≡ true → a ≡ true
 and_left true b e = refl
 and_left false b e = absurd cc
 
-not_both : (a b : Bool) → (a ≡ true → b ≡ true) → (a && not b) ≡ false
+pub not_both : (a b : Bool) → (a ≡ true → b ≡ true) → (a && not b) ≡ false
 not_both true b h = rw (h refl) refl
 not_both false b h = refl
 
@@ -83,7 +83,7 @@ kept_name x y b e = elim (nat_eq x y) as (λ t. nat_eq x y ≡ t → (t && b) �
 
 -- what is never missed here is settled
 pub settle : (context : NameContext) (seen : Seen) (old settled : List Declaration) (x : ℕ) (d : Declaration) → AreSettled context seen.declarations.items old
-    → Finds context.model (is_missed context seen x) None → settled ≡ old ++ d ∷ [] → d.name ≡ x → d.groups ≡ seen.groups → Misses context seen settled x None
+    → Finds context.model (is_missed context seen.groups seen.declarations.items x) None → settled ≡ old ++ d ∷ [] → d.name ≡ x → d.groups ≡ seen.groups → Misses context seen settled x None
 settle context seen old settled x d s none e name groups = record {
   fault_is = record { found = None; finds = none; fault_is = refl };
   settled_is = subst (AreSettled context seen.declarations.items) (sym e) (settled_more context seen.declarations.items old d s

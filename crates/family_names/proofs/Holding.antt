@@ -8,10 +8,12 @@ use Rattle.linear_atoms.specs.declared.atoms.Config.{Config}
 use Rattle.atom_solver.specs.Solutions.{Finds}
 use Rattle.cpp_groups.specs.declared.section.Section.{Section}
 use Rattle.cpp_groups.specs.Kept.{all_kept, sections_after}
+use Rattle.c_grammar.specs.declared.constants.NameKind.{NameKind}
+use Rattle.c_grammar.specs.declared.constants.NameKind.TheVariants as kinds
 use Rattle.c_grammar.specs.declared.items.Item.{Item}
 use Rattle.c_grammar.specs.declared.items.Sign.{Sign}
 use Rattle.c_grammar.specs.declared.items.Sign.TheVariants as signs
-use Rattle.c_grammar.specs.Constants.{is_name, is_constant_behind, is_constant_after, constants_from, of_constants, changed_at, changed_behind, last_from}
+use Rattle.c_grammar.specs.Constants.{is_name, is_constant, kind_behind, kind_after, constants_from, of_constants, changed_at, IsTrack}
 use Rattle.c_grammar.specs.Grammar.{at}
 use Rattle.c_grammar.specs.Kept.{directive_of}
 use Rattle.family_names.specs.declared.constants.Constants.{Constants}
@@ -20,30 +22,20 @@ use Rattle.family_names.specs.declared.faults.Seen.{Seen}
 use Rattle.family_names.specs.declared.groups.Group.{Group}
 use Rattle.family_names.specs.Declarations.{is_declared, has_one}
 use Rattle.family_names.specs.Groups.{sections, are_kept}
-use Rattle.family_names.specs.Names.{NameContext, truths_at, is_main, has_main, name_of, declared_at, constants_at, is_among, sections_behind, is_kept, is_met_constant, code_with, IsEither, IsChangeOf, IsChangeFault, place_or}
+use Rattle.family_names.specs.Names.{NameContext, truths_at, is_main, has_main, name_of, declared_at, constants_at, is_among, sections_behind, is_kept, is_value, is_met_constant, code_with, IsEither, IsChangeOf, IsChangeFault, place_or}
 use Rattle.family_names.specs.Judging as judging
 use Rattle.family_names.specs.Judging.{IsSeen, AreHeld, IsChange, with_constant}
 use Rattle.family_names.proofs.Answering.{found_same}
-use Rattle.family_names.proofs.Walking.{still_behind, still_main, still_other, one_more}
-
--- ---- the last item, and whether a declaration goes on
-
-pub last_more : (last : Option Item) (before : List Item) (x : Item) → last_from last (before ++ x ∷ []) ≡ Some x
-last_more last [] x = refl
-last_more last (y ∷ ys) x = last_more (Some y) ys x
-
-pub after_more : (b : Bool) (before : List Item) (x : Item) → is_constant_after b (before ++ x ∷ []) ≡ is_constant_behind (is_constant_after b before) x.sign
-after_more b [] x = refl
-after_more b (y ∷ ys) x = after_more (is_constant_behind b y.sign) ys x
+use Rattle.family_names.proofs.Declared.{still_behind, still_main, still_other, one_more}
 
 -- ---- the items without the names of variables
 
-pub from_more : (b : Bool) (before : List Item) (x : Item) → constants_from b (before ++ x ∷ []) ≡ constants_from b before ++ constants_from (is_constant_after b before) (x ∷ [])
-from_more b [] x = refl
-from_more b (y ∷ ys) x =
-    let c = is_constant_behind b y.sign in
-    elim (b || not (is_name y.sign)) as (λ t. (if t then y ∷ constants_from (is_constant_behind b y.sign) (ys ++ x ∷ []) else constants_from (is_constant_behind b y.sign) (ys ++ x ∷ []))
-    ≡ (if t then y ∷ constants_from (is_constant_behind b y.sign) ys else constants_from (is_constant_behind b y.sign) ys) ++ constants_from (is_constant_after (is_constant_behind b y.sign) ys) (x ∷ [])) [
+pub from_more : (kind : NameKind) (before : List Item) (x : Item) → constants_from kind (before ++ x ∷ []) ≡ constants_from kind before ++ constants_from (kind_after kind before) (x ∷ [])
+from_more kind [] x = refl
+from_more kind (y ∷ ys) x =
+    let c = kind_behind kind y.sign in
+    elim (is_constant kind || not (is_name y.sign)) as (λ t. (if t then y ∷ constants_from (kind_behind kind y.sign) (ys ++ x ∷ []) else constants_from (kind_behind kind y.sign) (ys ++ x ∷ []))
+    ≡ (if t then y ∷ constants_from (kind_behind kind y.sign) ys else constants_from (kind_behind kind y.sign) ys) ++ constants_from (kind_after (kind_behind kind y.sign) ys) (x ∷ [])) [
       | true ↦ ap (λ (zs : List Item). y ∷ zs) (from_more c ys x)
       | false ↦ from_more c ys x
     ]
@@ -54,20 +46,20 @@ left_out true s e = absurd cc
 left_out false (signs.Name n) e = (n, refl)
 left_out false _ e = absurd cc
 
-pub from_main : (b : Bool) (before : List Item) → has_main (constants_from b before) ≡ has_main before
-from_main b [] = refl
-from_main b (y ∷ ys) =
-    elim (b || not (is_name y.sign)) as (λ t. (b || not (is_name y.sign)) ≡ t → has_main (if t then y ∷ constants_from (is_constant_behind b y.sign) ys else constants_from (is_constant_behind b y.sign) ys) ≡ (is_main y.sign || has_main ys)) [
-      | true ↦ λ e. ap (λ (h : Bool). is_main y.sign || h) (from_main (is_constant_behind b y.sign) ys)
-      | false ↦ λ e. from_main (is_constant_behind b y.sign) ys ∙ sym (ap (λ (s : Sign). is_main s || has_main ys) (left_out b y.sign e).1)
+pub from_main : (kind : NameKind) (before : List Item) → has_main (constants_from kind before) ≡ has_main before
+from_main kind [] = refl
+from_main kind (y ∷ ys) =
+    elim (is_constant kind || not (is_name y.sign)) as (λ t. (is_constant kind || not (is_name y.sign)) ≡ t → has_main (if t then y ∷ constants_from (kind_behind kind y.sign) ys else constants_from (kind_behind kind y.sign) ys) ≡ (is_main y.sign || has_main ys)) [
+      | true ↦ λ e. ap (λ (h : Bool). is_main y.sign || h) (from_main (kind_behind kind y.sign) ys)
+      | false ↦ λ e. from_main (kind_behind kind y.sign) ys ∙ sym (ap (λ (s : Sign). is_main s || has_main ys) (left_out (is_constant kind) y.sign e).1)
     ] refl
 
-pub from_sections : (truths : List Bool) (ss : List Section) (b : Bool) (before : List Item) → sections_behind truths ss (constants_from b before) ≡ sections_behind truths ss before
-from_sections truths ss b [] = refl
-from_sections truths ss b (y ∷ ys) =
-    elim (b || not (is_name y.sign)) as (λ t. (b || not (is_name y.sign)) ≡ t → sections_behind truths ss (if t then y ∷ constants_from (is_constant_behind b y.sign) ys else constants_from (is_constant_behind b y.sign) ys) ≡ sections_behind truths (sections_after truths ss (directive_of y.sign)) ys) [
-      | true ↦ λ e. from_sections truths (sections_after truths ss (directive_of y.sign)) (is_constant_behind b y.sign) ys
-      | false ↦ λ e. from_sections truths ss (is_constant_behind b y.sign) ys ∙ sym (ap (λ (s : Sign). sections_behind truths (sections_after truths ss (directive_of s)) ys) (left_out b y.sign e).1)
+pub from_sections : (truths : List Bool) (ss : List Section) (kind : NameKind) (before : List Item) → sections_behind truths ss (constants_from kind before) ≡ sections_behind truths ss before
+from_sections truths ss kind [] = refl
+from_sections truths ss kind (y ∷ ys) =
+    elim (is_constant kind || not (is_name y.sign)) as (λ t. (is_constant kind || not (is_name y.sign)) ≡ t → sections_behind truths ss (if t then y ∷ constants_from (kind_behind kind y.sign) ys else constants_from (kind_behind kind y.sign) ys) ≡ sections_behind truths (sections_after truths ss (directive_of y.sign)) ys) [
+      | true ↦ λ e. from_sections truths (sections_after truths ss (directive_of y.sign)) (kind_behind kind y.sign) ys
+      | false ↦ λ e. from_sections truths ss (kind_behind kind y.sign) ys ∙ sym (ap (λ (s : Sign). sections_behind truths (sections_after truths ss (directive_of s)) ys) (left_out (is_constant kind) y.sign e).1)
     ] refl
 
 -- ---- an item more
@@ -98,26 +90,29 @@ nothing_more before x ds n h truths y = elim (is_main x.sign) as (λ b. is_main 
   | false ↦ λ e. h truths y ∙ ap (is_among y) (sym ((still_other before x e n.no_name).kept truths))
 ] refl
 
--- a name, where a declaration with `const` or `enum` goes on or not
-name_more : (before : List Item) (p : Place) (n : ℕ) (ds : List Declaration) (groups : List Group) (constant main : Bool) → has_main before ≡ main → ((truths : List Bool) → sections truths groups ≡ sections_behind truths [] before) → Tells ds before
-    → Tells (with_constant ds (constant && not main) groups (signs.Name n)) (before ++ constants_from constant (at p (signs.Name n) ∷ []))
-name_more before p n ds groups true true m same h truths y = h truths y ∙ ap (is_among y) (sym ((still_behind before (at p (signs.Name n)) m).kept truths))
-name_more before p n ds groups true false m same h truths y = one_more before p n ds groups m same h truths y
-name_more before p n ds groups false main m same h truths y = h truths y ∙ ap (λ (ys : List Item). is_among y (declared_at truths ys)) (sym (append-nil before))
+-- a name, a constant's or not
+name_more : (before : List Item) (p : Place) (n : ℕ) (ds : List Declaration) (groups : List Group) (kind : NameKind) (main : Bool) → has_main before ≡ main → ((truths : List Bool) → sections truths groups ≡ sections_behind truths [] before) → Tells ds before
+    → Tells (with_constant ds (is_constant kind && not main) groups (signs.Name n)) (before ++ constants_from kind (at p (signs.Name n) ∷ []))
+name_more before p n ds groups kinds.Constant true m same h truths y = h truths y ∙ ap (is_among y) (sym ((still_behind before (at p (signs.Name n)) m).kept truths))
+name_more before p n ds groups kinds.Constant false m same h truths y = one_more before p n ds groups m same h truths y
+name_more before p n ds groups kinds.Defined true m same h truths y = h truths y ∙ ap (is_among y) (sym ((still_behind before (at p (signs.Name n)) m).kept truths))
+name_more before p n ds groups kinds.Defined false m same h truths y = one_more before p n ds groups m same h truths y
+name_more before p n ds groups kinds.Variable main m same h truths y = h truths y ∙ ap (λ (ys : List Item). is_among y (declared_at truths ys)) (sym (append-nil before))
 
-pub kept_in : (b : Bool) (x : Item) → is_name x.sign ≡ false → constants_from b (x ∷ []) ≡ x ∷ []
-kept_in true x e = refl
-kept_in false x e = ap (λ (t : Bool). if not t then x ∷ [] else []) e
+pub kept_in : (kind : NameKind) (x : Item) (xs : List Item) → is_name x.sign ≡ false → constants_from kind (x ∷ xs) ≡ x ∷ constants_from (kind_behind kind x.sign) xs
+kept_in kinds.Constant x xs e = refl
+kept_in kinds.Defined x xs e = refl
+kept_in kinds.Variable x xs e = ap (λ (t : Bool). if not t then x ∷ constants_from (kind_behind kinds.Variable x.sign) xs else constants_from (kind_behind kinds.Variable x.sign) xs) e
 
-item_more : (before : List Item) (x : Item) (ds : List Declaration) (groups : List Group) (constant main : Bool) → has_main before ≡ main → ((truths : List Bool) → sections truths groups ≡ sections_behind truths [] before) → Tells ds before
-    → Tells (with_constant ds (constant && not main) groups x.sign) (before ++ constants_from constant (x ∷ []))
-item_more before x ds groups constant main m same h = elim (name_or_nothing x.sign) [
-  | inl e ↦ subst (λ (y : Item). Tells (with_constant ds (constant && not main) groups y.sign) (before ++ constants_from constant (y ∷ [])))
-      (ap (λ (s : Sign). at x.place s) (sym e.1)) (name_more before x.place e.0 ds groups constant main m same h)
+item_more : (before : List Item) (x : Item) (ds : List Declaration) (groups : List Group) (kind : NameKind) (main : Bool) → has_main before ≡ main → ((truths : List Bool) → sections truths groups ≡ sections_behind truths [] before) → Tells ds before
+    → Tells (with_constant ds (is_constant kind && not main) groups x.sign) (before ++ constants_from kind (x ∷ []))
+item_more before x ds groups kind main m same h = elim (name_or_nothing x.sign) [
+  | inl e ↦ subst (λ (y : Item). Tells (with_constant ds (is_constant kind && not main) groups y.sign) (before ++ constants_from kind (y ∷ [])))
+      (ap (λ (s : Sign). at x.place s) (sym e.1)) (name_more before x.place e.0 ds groups kind main m same h)
   | inr n ↦ λ truths y.
-      ap (λ (es : List Declaration). is_declared truths es y) (n.adds_none ds (constant && not main) groups)
+      ap (λ (es : List Declaration). is_declared truths es y) (n.adds_none ds (is_constant kind && not main) groups)
       ∙ nothing_more before x ds n h truths y
-      ∙ ap (λ (ys : List Item). is_among y (declared_at truths (before ++ ys))) (sym (kept_in constant x n.other))
+      ∙ ap (λ (ys : List Item). is_among y (declared_at truths (before ++ ys))) (sym (kept_in kind x [] n.other))
 ]
 
 -- whether the name is a constant's, as the code asks
@@ -127,21 +122,21 @@ is_asked a b c e h = h ∙ sym (ap (λ (t : Bool). t && not b) e)
 pub is_not_asked : (a b c : Bool) → a ≡ false → c ≡ a → c ≡ (a && not b)
 is_not_asked a b c e h = h ∙ e ∙ sym (ap (λ (t : Bool). t && not b) e)
 
-pub held_more : (before : List Item) (x : Item) (old new : Constants) (seen : Seen) → IsSeen before seen → AreHeld before old → new.last ≡ Some x → new.goes_on ≡ is_constant_behind old.goes_on x.sign
-    → new.declarations.items ≡ with_constant old.declarations.items (old.goes_on && not seen.in_main) seen.groups x.sign → AreHeld (before ++ x ∷ []) new
-held_more before x old new seen k h last goes_on declarations =
-    let more : Tells (with_constant old.declarations.items (is_constant_after false before && not (has_main before)) seen.groups x.sign) (of_constants before ++ constants_from (is_constant_after false before) (x ∷ [])) =
-    item_more (of_constants before) x old.declarations.items seen.groups (is_constant_after false before) (has_main before) (from_main false before)
-    (λ truths. k.groups truths ∙ sym (from_sections truths [] false before)) h.declarations in
+pub held_more : (before : List Item) (x : Item) (old new : Constants) (seen : Seen) (constant : Bool) → IsSeen before seen → AreHeld before old → IsTrack (before ++ x ∷ []) new.track → constant ≡ is_constant (kind_after kinds.Variable before)
+    → new.declarations.items ≡ with_constant old.declarations.items (constant && not seen.in_main) seen.groups x.sign → AreHeld (before ++ x ∷ []) new
+held_more before x old new seen constant k h track is declarations =
+    let kind : NameKind = kind_after kinds.Variable before in
+    let more : Tells (with_constant old.declarations.items (is_constant kind && not (has_main before)) seen.groups x.sign) (of_constants before ++ constants_from kind (x ∷ [])) =
+    item_more (of_constants before) x old.declarations.items seen.groups kind (has_main before) (from_main kinds.Variable before)
+    (λ truths. k.groups truths ∙ sym (from_sections truths [] kinds.Variable before)) h.declarations in
     record {
-      last = last ∙ sym (last_more None before x);
-      goes_on = goes_on ∙ ap (λ (b : Bool). is_constant_behind b x.sign) h.goes_on ∙ sym (after_more false before x);
+      track = track;
       declarations = λ truths y.
           ap (λ (ds : List Declaration). is_declared truths ds y)
-          (declarations ∙ ap (λ (b : Bool). with_constant old.declarations.items (b && not seen.in_main) seen.groups x.sign) h.goes_on
-          ∙ ap (λ (b : Bool). with_constant old.declarations.items (is_constant_after false before && not b) seen.groups x.sign) k.main)
+          (declarations ∙ ap (λ (b : Bool). with_constant old.declarations.items (b && not seen.in_main) seen.groups x.sign) is
+          ∙ ap (λ (b : Bool). with_constant old.declarations.items (is_constant kind && not b) seen.groups x.sign) k.main)
           ∙ more truths y
-          ∙ ap (λ (ys : List Item). is_among y (declared_at truths ys)) (sym (from_more false before x));
+          ∙ ap (λ (ys : List Item). is_among y (declared_at truths ys)) (sym (from_more kinds.Variable before x));
     }
 
 -- ---- what an item changes
@@ -149,8 +144,8 @@ held_more before x old new seen k h last goes_on declarations =
 met_same : (context : NameContext) (before : List Item) (seen : Seen) (constants : Constants) (x : ℕ) → IsSeen before seen → AreHeld before constants → (values : List ℤ)
     → judging.is_met_constant context seen.groups constants.declarations.items x values ≡ is_met_constant context before x values
 met_same context before seen constants x k h values =
-    ap (λ (ss : List Section). all_kept ss && is_declared (truths_at context values) constants.declarations.items x) (k.groups (truths_at context values))
-    ∙ ap (λ (b : Bool). is_kept (truths_at context values) before && b) (h.declarations (truths_at context values) x)
+    ap (λ (ss : List Section). all_kept ss && (is_value context x || is_declared (truths_at context values) constants.declarations.items x)) (k.groups (truths_at context values))
+    ∙ ap (λ (b : Bool). is_kept (truths_at context values) before && (is_value context x || b)) (h.declarations (truths_at context values) x)
 
 or_first : (a b : Bool) → (a || b) ≡ false → a ≡ false
 or_first true b e = absurd cc
@@ -160,12 +155,12 @@ or_second : (a b : Bool) → (a || b) ≡ false → b ≡ false
 or_second true b e = absurd cc
 or_second false b e = e
 
-none_declared : (truths : List Bool) (ds : List Declaration) (x : ℕ) → has_one ds x ≡ false → is_declared truths ds x ≡ false
+pub none_declared : (truths : List Bool) (ds : List Declaration) (x : ℕ) → has_one ds x ≡ false → is_declared truths ds x ≡ false
 none_declared truths [] x e = refl
 none_declared truths (d ∷ ds) x e =
     ap (λ (b : Bool). (b && are_kept truths d.groups) || is_declared truths ds x) (or_first (nat_eq x d.name) (has_one ds x) e) ∙ none_declared truths ds x (or_second (nat_eq x d.name) (has_one ds x) e)
 
-and_none : (a b : Bool) → b ≡ false → (a && b) ≡ false
+pub and_none : (a b : Bool) → b ≡ false → (a && b) ≡ false
 and_none true b e = e
 and_none false b e = refl
 
@@ -177,48 +172,46 @@ pub unchanged : (context : NameContext) (before : List Item) (seen : Seen) (x : 
 unchanged context before seen x k e = record { code = None; fault_is = before_main context before x None (sym k.main ∙ e) refl; is = refl }
 
 -- behind `main`, by the name that is changed
-changed_so : (context : NameContext) (before : List Item) (seen : Seen) (constants : Constants) (x : Item) (change : Option (ℕ × Place)) (code : Option FileCode) → IsSeen before seen → AreHeld before constants → seen.in_main ≡ true → changed_behind constants.last x ≡ change
+changed_so : (context : NameContext) (before : List Item) (seen : Seen) (x : Item) (change : Option (ℕ × Place)) (code : Option FileCode) → IsSeen before seen → seen.in_main ≡ true → changed_at before x ≡ change
     → IsChangeOf context before change code → IsChangeFault context before x code
-changed_so context before seen constants x change code k h main e c =
-    let here : changed_at before x ≡ change = ap (λ (last : Option Item). changed_behind last x) (sym h.last) ∙ e in
+changed_so context before seen x change code k main e c =
     subst (λ (b : Bool). IsEither b (IsChangeOf context before (changed_at before x) code) (code ≡ None)) (sym (sym k.main ∙ main))
-    (subst (λ (o : Option (ℕ × Place)). IsChangeOf context before o code) (sym here) c)
+    (subst (λ (o : Option (ℕ × Place)). IsChangeOf context before o code) (sym e) c)
 
-pub changes_nothing : (context : NameContext) (before : List Item) (seen : Seen) (constants : Constants) (x : Item) → IsSeen before seen → AreHeld before constants → seen.in_main ≡ true → changed_behind constants.last x ≡ None → IsChange context before x None
-changes_nothing context before seen constants x k h main e = record { code = None; fault_is = changed_so context before seen constants x None None k h main e refl; is = refl }
+pub changes_nothing : (context : NameContext) (before : List Item) (seen : Seen) (x : Item) → IsSeen before seen → seen.in_main ≡ true → changed_at before x ≡ None → IsChange context before x None
+changes_nothing context before seen x k main e = record { code = None; fault_is = changed_so context before seen x None None k main e refl; is = refl }
 
-pub changes_variable : (context : NameContext) (before : List Item) (seen : Seen) (constants : Constants) (x : Item) (change : ℕ × Place) → IsSeen before seen → AreHeld before constants → seen.in_main ≡ true → changed_behind constants.last x ≡ Some change
-    → has_one constants.declarations.items change.0 ≡ false → IsChange context before x None
-changes_variable context before seen constants x change k h main e none = record {
+pub changes_variable : (context : NameContext) (before : List Item) (seen : Seen) (constants : Constants) (x : Item) (change : ℕ × Place) → IsSeen before seen → AreHeld before constants → seen.in_main ≡ true → changed_at before x ≡ Some change
+    → is_value context change.0 ≡ false → has_one constants.declarations.items change.0 ≡ false → IsChange context before x None
+changes_variable context before seen constants x change k h main e other none = record {
   code = None;
-  fault_is = changed_so context before seen constants x (Some change) None k h main e (record {
+  fault_is = changed_so context before seen x (Some change) None k main e (record {
     found = None;
-    finds = λ values valid. and_none (is_kept (truths_at context values) before) (is_among change.0 (constants_at (truths_at context values) before))
-        (sym (h.declarations (truths_at context values) change.0) ∙ none_declared (truths_at context values) constants.declarations.items change.0 none);
+    finds = λ values valid. and_none (is_kept (truths_at context values) before) (is_value context change.0 || is_among change.0 (constants_at (truths_at context values) before))
+        (ap (λ (b : Bool). b || is_among change.0 (constants_at (truths_at context values) before)) other
+        ∙ sym (h.declarations (truths_at context values) change.0) ∙ none_declared (truths_at context values) constants.declarations.items change.0 none);
     fault_is = refl;
   });
   is = refl;
 }
 
-changes_name : (context : NameContext) (before : List Item) (seen : Seen) (constants : Constants) (x : Item) (change : ℕ × Place) (found : Option Config) (code : Option FileCode) → IsSeen before seen → AreHeld before constants → seen.in_main ≡ true → changed_behind constants.last x ≡ Some change
+changes_name : (context : NameContext) (before : List Item) (seen : Seen) (constants : Constants) (x : Item) (change : ℕ × Place) (found : Option Config) (code : Option FileCode) → IsSeen before seen → AreHeld before constants → seen.in_main ≡ true → changed_at before x ≡ Some change
     → Finds context.model (judging.is_met_constant context seen.groups constants.declarations.items change.0) found → code ≡ code_with (λ example. ChangedConstant) None found → IsChangeFault context before x code
-changes_name context before seen constants x change found code k h main e finds is = changed_so context before seen constants x (Some change) code k h main e (record {
+changes_name context before seen constants x change found code k h main e finds is = changed_so context before seen x (Some change) code k main e (record {
   found = found;
   finds = found_same context.model (judging.is_met_constant context seen.groups constants.declarations.items change.0) (is_met_constant context before change.0) (met_same context before seen constants change.0 k h) found finds;
   fault_is = is;
 })
 
-pub changes_constant : (context : NameContext) (before : List Item) (seen : Seen) (constants : Constants) (x : Item) (change : ℕ × Place) (config : Config) → IsSeen before seen → AreHeld before constants → seen.in_main ≡ true → changed_behind constants.last x ≡ Some change
+pub changes_constant : (context : NameContext) (before : List Item) (seen : Seen) (constants : Constants) (x : Item) (change : ℕ × Place) (config : Config) → IsSeen before seen → AreHeld before constants → seen.in_main ≡ true → changed_at before x ≡ Some change
     → Finds context.model (judging.is_met_constant context seen.groups constants.declarations.items change.0) (Some config) → IsChange context before x (Some (ChangedConstant, change.1))
-changes_constant context before seen constants x change config k h main e finds =
-    let here : changed_at before x ≡ Some change = ap (λ (last : Option Item). changed_behind last x) (sym h.last) ∙ e in
-    record {
-      code = Some ChangedConstant;
-      fault_is = changes_name context before seen constants x change (Some config) (Some ChangedConstant) k h main e finds refl;
-      is = ap (λ (o : Option (ℕ × Place)). Some (ChangedConstant, place_or o x.place)) (sym here);
-    }
+changes_constant context before seen constants x change config k h main e finds = record {
+  code = Some ChangedConstant;
+  fault_is = changes_name context before seen constants x change (Some config) (Some ChangedConstant) k h main e finds refl;
+  is = ap (λ (o : Option (ℕ × Place)). Some (ChangedConstant, place_or o x.place)) (sym e);
+}
 
-pub changes_elsewhere : (context : NameContext) (before : List Item) (seen : Seen) (constants : Constants) (x : Item) (change : ℕ × Place) → IsSeen before seen → AreHeld before constants → seen.in_main ≡ true → changed_behind constants.last x ≡ Some change
+pub changes_elsewhere : (context : NameContext) (before : List Item) (seen : Seen) (constants : Constants) (x : Item) (change : ℕ × Place) → IsSeen before seen → AreHeld before constants → seen.in_main ≡ true → changed_at before x ≡ Some change
     → Finds context.model (judging.is_met_constant context seen.groups constants.declarations.items change.0) None → IsChange context before x None
 changes_elsewhere context before seen constants x change k h main e finds = record {
   code = None;

@@ -2,8 +2,15 @@ pub mod Alike
 pub mod Answering
 pub mod Asked
 pub mod Begun
+pub mod Calling
+pub mod Declared
 pub mod Declaring
+pub mod KindsBehind
+pub mod Meeting
 pub mod Opened
 pub mod Plain
+pub mod PlainFunctions
 pub mod Walking
+pub mod Features
+pub mod FunctionsBehind
 pub mod Holding

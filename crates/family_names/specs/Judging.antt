@@ -1,5 +1,5 @@
 -- What judging the names of items one by one answers.
-use Rattle.std.specs.Prelude.{◌≡◌, ℕ, ℤ, Bool, true, false, not, ◌&&◌, List, [], ◌∷◌, ◌++◌, Option, None, Some, option_map}
+use Rattle.std.specs.Prelude.{◌≡◌, ℕ, ℤ, Bool, true, false, not, ◌&&◌, ◌||◌, List, [], ◌∷◌, ◌++◌, length, Option, None, Some, option_map, if◌then◌else◌}
 use Rattle.fam_outer.specs.declared.faults.Place.{Place}
 use Rattle.fam_outer.specs.declared.faults.FileCode.{FileCode}
 use Rattle.fam_outer.specs.declared.faults.FileCode.TheVariants.{Undeclared, Twice, FeatureInCode}
@@ -7,24 +7,55 @@ use Rattle.cpp_conditions.specs.Validity.{plain, IsValid}
 use Rattle.c_grammar.specs.declared.items.Item.{Item}
 use Rattle.c_grammar.specs.declared.items.Sign.{Sign}
 use Rattle.c_grammar.specs.declared.items.Sign.TheVariants as signs
-use Rattle.c_grammar.specs.Constants.{is_constant_after, last_from}
+use Rattle.c_grammar.specs.Constants.{IsTrack}
 use Rattle.c_grammar.specs.Grammar.{at}
 use Rattle.family_names.specs.declared.declarations.Declaration.{Declaration}
 use Rattle.family_names.specs.declared.constants.Constants.{Constants}
 use Rattle.family_names.specs.declared.faults.Seen.{Seen}
+use Rattle.family_names.specs.declared.functions.Functions.{Functions}
+use Rattle.family_names.specs.declared.values.Used.{Used}
 use Rattle.family_names.specs.declared.groups.Group.{Group}
 use Rattle.family_names.specs.declared.faults.Question.{Question}
 use Rattle.family_names.specs.declared.faults.Question.TheVariants as questions
-use Rattle.family_names.specs.Declarations.{is_declared}
+use Rattle.family_names.specs.Declarations.{is_declared, has_one}
+use Rattle.family_names.specs.Functions.{functions_by, functions_at, callable_by, callable_at}
 use Rattle.family_names.specs.Groups.{sections, are_kept}
-use Rattle.family_names.specs.Names.{NameContext, truths_at, has_main, declared_by, declared_at, constants_at, is_among, with_number, each_once, sections_behind, is_feature, new_name_fault, IsWithFirst, IsEither, IsNameFault, IsChangeFault, changed_place}
+use Rattle.family_names.specs.Names.{NameContext, truths_at, has_main, declared_by, declared_at, constants_at, constants_of, variables_of, values_of, test_count, is_among, with_number, each_once, sections_behind, is_feature, is_value, value_fault, full_fault, function_fault, IsWithFirst, IsEither, IsNameFault, IsChangeFault, changed_place}
+
+-- the declarations tell of each number whether it is among these, and whether it is among those that are kept
+pub record Tells (declarations : List Declaration) (numbers : List ℕ) (kept : List Bool → List ℕ) : Type 0 where
+  pub any : (x : ℕ) → has_one declarations x ≡ is_among x numbers
+  pub kept_is : (truths : List Bool) (x : ℕ) → is_declared truths declarations x ≡ is_among x (kept truths)
+
+-- the declarations of functions with `void`, or those with a value
+abbrev pub functions_in : Bool → Functions → List Declaration
+functions_in true functions = functions.voids.items
+functions_in false functions = functions.values.items
+
+-- those of the functions that may be called: with a value where one is wanted, and else all
+abbrev pub callable_in : Bool → Functions → List Declaration
+callable_in true functions = functions.values.items
+callable_in false functions = functions.all.items
+
+-- what is known of functions behind these items
+pub record AreFunctions (before : List Item) (functions : Functions) : Type 0 where
+  pub kinds : (void : Bool) → Tells (functions_in void functions) (functions_by void before) (λ truths. functions_at truths void before)
+  pub all : Tells functions.all.items (callable_by false before) (λ truths. callable_at truths false before)
 
 -- what is known behind these items
 pub record IsSeen (before : List Item) (seen : Seen) : Type 0 where
   pub groups : (truths : List Bool) → sections truths seen.groups ≡ sections_behind truths [] before
   pub main : seen.in_main ≡ has_main before
   pub names : seen.names.items ≡ each_once [] (declared_by before)
+  pub constants : seen.constants.items ≡ constants_of before
+  pub variables : seen.variables.items ≡ variables_of before
   pub declarations : (truths : List Bool) (x : ℕ) → is_declared truths seen.declarations.items x ≡ is_among x (declared_at truths before)
+  pub functions : AreFunctions before seen.functions
+
+-- what is known of features behind these items
+pub record AreUsed (context : NameContext) (before : List Item) (used : Used) : Type 0 where
+  pub names : used.names.items ≡ values_of context before
+  pub tests : used.tests ≡ test_count context used.names.items
 
 -- where these are kept at a valid configuration, a declaration of the same name is
 abbrev pub AreSettled : NameContext → List Declaration → List Declaration → Type 0
@@ -35,60 +66,104 @@ AreSettled context declarations settled =
 abbrev pub is_undeclared : NameContext → List Declaration → ℕ → List ℤ → Bool
 is_undeclared context declarations x values = not (is_declared (truths_at context values) declarations x)
 
--- the name that stands here is kept, and no declaration of it
-abbrev pub is_missed : NameContext → Seen → ℕ → List ℤ → Bool
-is_missed context seen x values = are_kept (truths_at context values) seen.groups && not (is_declared (truths_at context values) seen.declarations.items x)
+-- the name that stands in these groups is kept, and no declaration of it
+abbrev pub is_missed : NameContext → List Group → List Declaration → ℕ → List ℤ → Bool
+is_missed context groups declarations x values = are_kept (truths_at context values) groups && not (is_declared (truths_at context values) declarations x)
 
--- the name that stands here is kept, and a declaration of it
-abbrev pub is_met_again : NameContext → Seen → ℕ → List ℤ → Bool
-is_met_again context seen x values = are_kept (truths_at context values) seen.groups && is_declared (truths_at context values) seen.declarations.items x
+-- the name that stands in these groups is kept, and a declaration of it
+abbrev pub is_met_again : NameContext → List Group → List Declaration → ℕ → List ℤ → Bool
+is_met_again context groups declarations x values = are_kept (truths_at context values) groups && is_declared (truths_at context values) declarations x
 
 -- the answer to the question is yes
-abbrev pub is_so : NameContext → Seen → Question → ℕ → List ℤ → Bool
-is_so context seen questions.Undeclared = is_undeclared context seen.declarations.items
-is_so context seen questions.Missed = is_missed context seen
-is_so context seen questions.MetAgain = is_met_again context seen
+abbrev pub is_so : NameContext → List Group → List Declaration → Question → ℕ → List ℤ → Bool
+is_so context groups declarations questions.Undeclared = is_undeclared context declarations
+is_so context groups declarations questions.Missed = is_missed context groups declarations
+is_so context groups declarations questions.MetAgain = is_met_again context groups declarations
 
 -- the fault of a name that is used and declared
 pub record Misses (context : NameContext) (seen : Seen) (settled : List Declaration) (x : ℕ) (fault : Option FileCode) : Type 0 where
-  pub fault_is : IsWithFirst context.model (is_missed context seen x) Undeclared None fault
+  pub fault_is : IsWithFirst context.model (is_missed context seen.groups seen.declarations.items x) Undeclared None fault
   pub settled_is : AreSettled context seen.declarations.items settled
 
+-- the fault of a feature that is used as a value; without one it is among those that are used
+pub record UsesValue (context : NameContext) (constants : ℕ) (old : Used) (x : ℕ) (new : Used) (fault : Option FileCode) : Type 0 where
+  pub fault_is : fault ≡ value_fault context old.names.items constants x
+  pub names : fault ≡ None → new.names.items ≡ with_number old.names.items x
+  pub tests : fault ≡ None → new.tests ≡ test_count context new.names.items
+
+-- the fault of another name that is used
+abbrev pub IsOtherFault : NameContext → Seen → ℕ → Option FileCode → Type 0
+IsOtherFault context seen x fault =
+    IsEither (is_feature context x) (fault ≡ Some FeatureInCode)
+    (IsEither (is_among x seen.names.items) (IsWithFirst context.model (is_missed context seen.groups seen.declarations.items x) Undeclared None fault) (fault ≡ Some (Undeclared None)))
+
 -- the fault of a name that is used
-pub record Uses (context : NameContext) (seen : Seen) (settled : List Declaration) (x : ℕ) (fault : Option FileCode) : Type 0 where
-  pub fault_is : IsEither (is_feature context x) (fault ≡ Some FeatureInCode)
-      (IsEither (is_among x seen.names.items) (IsWithFirst context.model (is_missed context seen x) Undeclared None fault) (fault ≡ Some (Undeclared None)))
+pub record Uses (context : NameContext) (seen : Seen) (old : Used) (settled : List Declaration) (x : ℕ) (new : Used) (fault : Option FileCode) : Type 0 where
+  pub fault_is : IsEither (is_value context x) (UsesValue context (length seen.constants.items) old x new fault) (IsOtherFault context seen x fault × (new ≡ old))
   pub settled_is : AreSettled context seen.declarations.items settled
 
 -- a name with a declaration that is kept is among those that are declared
 abbrev pub AreNamed : Seen → Type 0
 AreNamed seen = (truths : List Bool) (x : ℕ) → is_declared truths seen.declarations.items x ≡ true → is_among x seen.names.items ≡ true
 
-abbrev pub IsAgain : NameContext → Seen → ℕ → Option FileCode → Type 0
-IsAgain context seen x fault = IsWithFirst context.model (is_met_again context seen x) Twice (new_name_fault context seen.names.items x) fault
+-- the fault of a declaration whose name no declaration before it has at the same configuration: of a constant's or a variable's
+abbrev pub new_fault : NameContext → Seen → Bool → ℕ → Option FileCode
+new_fault context seen constant x =
+    if is_feature context x then Some FeatureInCode
+    else (if is_among x seen.names.items then None else full_fault constant (length seen.constants.items) (length seen.variables.items))
 
--- the name is declared where the others are
-pub record Adds (old : Seen) (x : ℕ) (new : Seen) : Type 0 where
+abbrev pub IsAgain : NameContext → Seen → Bool → ℕ → Option FileCode → Type 0
+IsAgain context seen constant x fault = IsWithFirst context.model (is_met_again context seen.groups seen.declarations.items x) Twice (new_fault context seen constant x) fault
+
+-- a name behind those of a kind, where it is of that kind and not among the names of both
+abbrev pub with_kind : Bool → List ℕ → List ℕ → ℕ → List ℕ
+with_kind kind names others x = if kind && not (is_among x names) then others ++ x ∷ [] else others
+
+-- the name is declared where the others are, as a constant's or a variable's
+pub record Adds (old : Seen) (constant : Bool) (x : ℕ) (new : Seen) : Type 0 where
   pub groups : new.groups ≡ old.groups
   pub main : new.in_main ≡ old.in_main
   pub names : new.names.items ≡ with_number old.names.items x
+  pub constants : new.constants.items ≡ with_kind constant old.names.items old.constants.items x
+  pub variables : new.variables.items ≡ with_kind (not constant) old.names.items old.variables.items x
   pub declarations : new.declarations.items ≡ old.declarations.items ++ record { name = x; groups = old.groups } ∷ []
+  pub functions : new.functions ≡ old.functions
 
 -- the fault of a name that is declared; without one it is added
-pub record Declares (context : NameContext) (old : Seen) (x : ℕ) (new : Seen) (fault : Option FileCode) : Type 0 where
-  pub fault_is : IsAgain context old x fault
-  pub added : fault ≡ None → Adds old x new
+pub record Declares (context : NameContext) (old : Seen) (constant : Bool) (x : ℕ) (new : Seen) (fault : Option FileCode) : Type 0 where
+  pub fault_is : IsAgain context old constant x fault
+  pub added : fault ≡ None → Adds old constant x new
+
+-- the fault of a call in these groups, where a value is wanted or not
+abbrev pub IsCall : NameContext → List Group → Functions → Bool → ℕ → Option FileCode → Type 0
+IsCall context groups functions wants k fault =
+    IsEither (has_one (callable_in wants functions) k) (IsWithFirst context.model (is_missed context groups (callable_in wants functions) k) Undeclared None fault) (fault ≡ Some (Undeclared None))
+
+-- the fault of a function that is declared in these groups
+abbrev pub IsUnlike : NameContext → List Group → Functions → Bool → ℕ → Option FileCode → Type 0
+IsUnlike context groups functions void k fault = IsWithFirst context.model (is_met_again context groups (functions_in (not void) functions) k) Twice (function_fault context k) fault
+
+-- the function is declared in these groups
+pub record AddsFunction (old : Functions) (groups : List Group) (void : Bool) (k : ℕ) (new : Functions) : Type 0 where
+  pub like : functions_in void new ≡ functions_in void old ++ record { name = k; groups = groups } ∷ []
+  pub unlike : functions_in (not void) new ≡ functions_in (not void) old
+  pub all : new.all.items ≡ old.all.items ++ record { name = k; groups = groups } ∷ []
+
+-- the fault of a function that is declared; without one it is added
+pub record DeclaresFunction (context : NameContext) (groups : List Group) (old : Functions) (void : Bool) (k : ℕ) (new : Functions) (fault : Option FileCode) : Type 0 where
+  pub fault_is : IsUnlike context groups old void k fault
+  pub added : fault ≡ None → AddsFunction old groups void k new
 
 -- the fault of an item behind these; without one it is seen too
-pub record Judges (context : NameContext) (before : List Item) (sign : Sign) (seen : Seen) (settled : List Declaration) (fault : Option FileCode) : Type 0 where
+pub record Judges (context : NameContext) (before : List Item) (sign : Sign) (seen : Seen) (used : Used) (settled : List Declaration) (fault : Option FileCode) : Type 0 where
   pub fault_is : IsNameFault context before sign fault
   pub seen_is : fault ≡ None → (p : Place) → IsSeen (before ++ at p sign ∷ []) seen
+  pub used_is : fault ≡ None → (p : Place) → AreUsed context (before ++ at p sign ∷ []) used
   pub settled_is : fault ≡ None → AreSettled context seen.declarations.items settled
 
 -- what is known of constants behind these items
 pub record AreHeld (before : List Item) (constants : Constants) : Type 0 where
-  pub last : constants.last ≡ last_from None before
-  pub goes_on : constants.goes_on ≡ is_constant_after false before
+  pub track : IsTrack before constants.track
   pub declarations : (truths : List Bool) (x : ℕ) → is_declared truths constants.declarations.items x ≡ is_among x (constants_at truths before)
 
 -- the declarations, and one more in these groups where the sign is a name and it is a constant's
@@ -96,9 +171,9 @@ abbrev pub with_constant : List Declaration → Bool → List Group → Sign →
 with_constant declarations true groups (signs.Name x) = declarations ++ record { name = x; groups = groups } ∷ []
 with_constant declarations _ groups _ = declarations
 
--- what stands in these groups is kept, and one of these declarations of the name
+-- what stands in these groups is kept, and one of these declarations of the name; or the name is that of a value
 abbrev pub is_met_constant : NameContext → List Group → List Declaration → ℕ → List ℤ → Bool
-is_met_constant context groups declarations x values = are_kept (truths_at context values) groups && is_declared (truths_at context values) declarations x
+is_met_constant context groups declarations x values = are_kept (truths_at context values) groups && (is_value context x || is_declared (truths_at context values) declarations x)
 
 -- the fault of what an item changes behind these, at its place
 pub record IsChange (context : NameContext) (before : List Item) (x : Item) (fault : Option (FileCode × Place)) : Type 0 where

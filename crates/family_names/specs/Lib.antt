@@ -1,4 +1,6 @@
+pub mod AroundMain
 pub mod Declarations
+pub mod Functions
 pub mod Groups
 pub mod Judging
 pub mod Laws

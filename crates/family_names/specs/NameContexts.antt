@@ -8,7 +8,7 @@ use Rattle.family_names.specs.declared.name_context.NameContext as rust
 use Rattle.family_names.specs.Names.{NameContext}
 
 abbrev pub plain : rust.NameContext → NameContext
-plain s = record { model = s.model.now; atoms = s.atoms.now; conditions = s.conditions.now; names = s.names.now }
+plain s = record { model = s.model.now; atoms = s.atoms.now; conditions = s.conditions.now; names = s.names.now; functions = s.functions.now }
 
 -- atoms are well formed over the features, and conditions have numbers of the atoms
 pub record IsFit (context : NameContext) : Type 0 where

@@ -1,14 +1,17 @@
 -- The names that the items of a file with groups declare, and the first fault of a name (ISO/IEC 9899:2011, 6.5.1 and 6.7).
 -- Before `main` each name is that of a declaration, and behind it each name is used. A valid configuration gives each
--- condition a truth, and keeps the items that stand in kept groups.
-use Rattle.std.specs.Prelude.{◌≡◌, ℕ, ℤ, nat_eq, nat_le, Bool, true, false, not, ◌&&◌, List, [], ◌∷◌, ◌++◌, length, map, slice_get, Option, Some, None, if◌then◌else◌}
-use Rattle.std.specs.List.{list_any}
+-- condition a truth, and keeps the items that stand in kept groups. The name of an integer feature may be used behind `main`:
+-- it is that of a variable which begins with the feature's value, and is never changed. A function is declared before `main`
+-- and called behind it (6.5.2.2 and 6.7.6.3).
+use Rattle.std.specs.Prelude.{◌≡◌, ℕ, ◌+◌, ℤ, ◌-ℤ◌, unsigned_abs, nat_eq, nat_le, nat_lt, Bool, true, false, not, ◌&&◌, ◌||◌, List, [], ◌∷◌, ◌++◌, length, map, slice_get, Option, Some, None, if◌then◌else◌}
+use Rattle.std.specs.List.{list_any, filter, sum_by}
 use Rattle.std.specs.Str.{bytes_eq}
 use Rattle.fam_outer.specs.declared.faults.Place.{Place}
 use Rattle.fam_outer.specs.declared.faults.FileCode.{FileCode}
-use Rattle.fam_outer.specs.declared.faults.FileCode.TheVariants.{Undeclared, Twice, FeatureInCode, TooManyVariables, ChangedConstant}
+use Rattle.fam_outer.specs.declared.faults.FileCode.TheVariants.{Undeclared, Twice, FeatureInCode, TooManyVariables, TooManyValueTests, ChangedConstant, TooManyConstants}
 use Rattle.linear_atoms.specs.declared.atoms.Atom.{Atom}
 use Rattle.linear_atoms.specs.declared.atoms.Config.{Config}
+use Rattle.linear_atoms.specs.declared.atoms.Feature.{Feature}
 use Rattle.cpp_conditions.specs.declared.formulas.Formula.{Formula}
 use Rattle.cpp_conditions.specs.declared.models.Model.{Model}
 use Rattle.cpp_conditions.specs.Numbering.{vector_at}
@@ -19,24 +22,16 @@ use Rattle.cpp_groups.specs.Kept.{all_kept, sections_after}
 use Rattle.c_grammar.specs.declared.items.Item.{Item}
 use Rattle.c_grammar.specs.declared.items.Sign.{Sign}
 use Rattle.c_grammar.specs.declared.items.Sign.TheVariants as signs
-use Rattle.c_grammar.specs.Constants.{of_constants, changed_at}
+use Rattle.c_grammar.specs.declared.constants.NameKind.TheVariants as kinds
+use Rattle.c_grammar.specs.Constants.{is_constant, kind_after, of_constants, changed_at}
+use Rattle.c_grammar.specs.Kinds.{is_declared_constant}
+use Rattle.c_grammar.specs.Functions.{is_void, is_equals, stands_behind}
 use Rattle.c_grammar.specs.Kept.{directive_of, kept}
 use Rattle.atom_solver.specs.Solutions.{Finds}
+use Rattle.family_names.specs.Functions.{functions_at, callable_by, callable_at}
+pub use Rattle.family_names.specs.AroundMain.{is_main, has_main, until_main, behind_main}
 
 -- ---- declared names
-
-abbrev pub is_main : Sign → Bool
-is_main signs.Main = true
-is_main _ = false
-
--- `main` stands among the items
-abbrev pub has_main : List Item → Bool
-has_main items = list_any (λ x. is_main x.sign) items
-
--- the items before `main`
-abbrev pub until_main : List Item → List Item
-until_main [] = []
-until_main (x ∷ xs) = if is_main x.sign then [] else x ∷ until_main xs
 
 -- the number of a name
 abbrev pub name_of : Sign → List ℕ
@@ -72,6 +67,15 @@ abbrev pub each_once : List ℕ → List ℕ → List ℕ
 each_once seen [] = seen
 each_once seen (x ∷ xs) = each_once (with_number seen x) xs
 
+-- ---- kinds of declared names
+
+-- the names that the items declare, each once: those whose first declaration is a constant's, and those of variables
+abbrev pub constants_of : List Item → List ℕ
+constants_of items = filter (is_declared_constant items) (each_once [] (declared_by items))
+
+abbrev pub variables_of : List Item → List ℕ
+variables_of items = filter (λ x. not (is_declared_constant items x)) (each_once [] (declared_by items))
+
 -- ---- kept items
 
 -- the sections that are open behind these items
@@ -85,12 +89,14 @@ is_kept truths before = all_kept (sections_behind truths [] before)
 
 -- ---- configurations
 
--- what the items of a file are judged by: a model, the atoms and the conditions of the file's groups, and its names
+-- what the items of a file are judged by: a model, the atoms and the conditions of the file's groups, its names, and the words of
+-- its functions
 pub record NameContext : Type 0 where
   pub model : Model
   pub atoms : List Atom
   pub conditions : List Formula
   pub names : List (List ℕ)
+  pub functions : List (List ℕ)
 
 -- the truths of the conditions, by those of the atoms
 abbrev pub truths_on : List Formula → List Bool → List Bool
@@ -99,6 +105,58 @@ truths_on conditions vector = map (λ f. true_on vector (formula f)) conditions
 -- the truths of the conditions at these values of the features
 abbrev pub truths_at : NameContext → List ℤ → List Bool
 truths_at context values = truths_on context.conditions (vector_at context.atoms values)
+
+-- ---- features in code
+
+-- the name is a feature's
+abbrev pub is_feature_name : Model → Option (List ℕ) → Bool
+is_feature_name model None = false
+is_feature_name model (Some name) = list_any (λ f. bytes_eq f.name name) model.features
+
+abbrev pub is_feature : NameContext → ℕ → Bool
+is_feature context x = is_feature_name context.model (slice_get context.names x)
+
+-- the word of the function is a feature's name
+abbrev pub is_feature_function : NameContext → ℕ → Bool
+is_feature_function context k = is_feature_name context.model (slice_get context.functions k)
+
+-- the feature with the name, if there is one
+abbrev pub feature_in : List Feature → List ℕ → Option Feature
+feature_in [] name = None
+feature_in (f ∷ fs) name = if bytes_eq f.name name then Some f else feature_in fs name
+
+abbrev pub named_feature : Model → Option (List ℕ) → Option Feature
+named_feature model None = None
+named_feature model (Some name) = feature_in model.features name
+
+abbrev pub feature_of : NameContext → ℕ → Option Feature
+feature_of context x = named_feature context.model (slice_get context.names x)
+
+abbrev pub is_integer : Option Feature → Bool
+is_integer None = false
+is_integer (Some f) = not f.boolean
+
+-- the name is an integer feature's, which code may use as a value
+abbrev pub is_value : NameContext → ℕ → Bool
+is_value context x = is_integer (feature_of context x)
+
+-- how many tests tell the value of the feature: high less low
+abbrev pub width : Feature → ℕ
+width f = unsigned_abs (f.high -ℤ f.low)
+
+abbrev pub width_or_none : Option Feature → ℕ
+width_or_none None = 0
+width_or_none (Some f) = width f
+
+-- how many tests tell the values of the features with these names
+abbrev pub test_count : NameContext → List ℕ → ℕ
+test_count context numbers = sum_by (λ x. width_or_none (feature_of context x)) numbers
+
+-- the names of the features that the items use as values, each once
+abbrev pub values_of : NameContext → List Item → List ℕ
+values_of context items = each_once [] (filter (is_value context) (names_of (behind_main items)))
+
+-- ---- what a configuration keeps
 
 -- the name behind these items is kept, and no declaration of it
 abbrev pub is_missed : NameContext → List Item → ℕ → List ℤ → Bool
@@ -110,10 +168,21 @@ abbrev pub is_met_again : NameContext → List Item → ℕ → List ℤ → Boo
 is_met_again context before x values =
     is_kept (truths_at context values) before && is_among x (declared_at (truths_at context values) before)
 
--- what stands behind these items is kept, and a declaration of the name as a constant
+-- what stands behind these items is kept, and a declaration of the name as a constant; or the name is that of a value
 abbrev pub is_met_constant : NameContext → List Item → ℕ → List ℤ → Bool
 is_met_constant context before x values =
-    is_kept (truths_at context values) before && is_among x (constants_at (truths_at context values) before)
+    is_kept (truths_at context values) before && (is_value context x || is_among x (constants_at (truths_at context values) before))
+
+-- the function behind these items is kept, and a declaration of it with another result: with a value where it stands behind `void`,
+-- and else with `void`
+abbrev pub is_met_unlike : NameContext → List Item → ℕ → List ℤ → Bool
+is_met_unlike context before k values =
+    is_kept (truths_at context values) before && is_among k (functions_at (truths_at context values) (not (stands_behind is_void before)) before)
+
+-- the function behind these items is kept, and no declaration of it with what is wanted: a value where it stands behind `=`
+abbrev pub is_uncallable : NameContext → List Item → ℕ → List ℤ → Bool
+is_uncallable context before k values =
+    is_kept (truths_at context values) before && not (is_among k (callable_at (truths_at context values) (stands_behind is_equals before) before))
 
 -- ---- faults
 
@@ -128,43 +197,68 @@ pub record IsWithFirst (model : Model) (holds : List ℤ → Bool) (code : Optio
   pub finds : Finds model holds found
   pub fault_is : fault ≡ code_with code other found
 
--- the name is a feature's
-abbrev pub is_feature_name : Model → Option (List ℕ) → Bool
-is_feature_name model None = false
-is_feature_name model (Some name) = list_any (λ f. bytes_eq f.name name) model.features
-
-abbrev pub is_feature : NameContext → ℕ → Bool
-is_feature context x = is_feature_name context.model (slice_get context.names x)
-
 -- the first where this is true, else the second
 abbrev pub IsEither : Bool → Type 0 → Type 0 → Type 0
 IsEither true First Second = First
 IsEither false First Second = Second
 
--- where a name is used: it is a feature's, or it has no declaration, or no declaration of it is kept at some configuration
+-- where a feature is used as a value, these are used before it, and so many constants are declared: at its first use the tests are
+-- more than 256 with its own, or it is the 17th of them together
+abbrev pub value_fault : NameContext → List ℕ → ℕ → ℕ → Option FileCode
+value_fault context used constants x =
+    if is_among x used then None
+    else (if nat_lt 256 (test_count context (used ++ x ∷ [])) then Some TooManyValueTests
+    else (if nat_le 16 (constants + length used) then Some TooManyConstants else None))
+
+-- where a name is used: it is an integer feature's, or a Boolean one's, or it has no declaration, or no declaration of it is kept
+-- at some configuration
 abbrev pub IsUseFault : NameContext → List Item → ℕ → Option FileCode → Type 0
 IsUseFault context before x fault =
-    IsEither (is_feature context x) (fault ≡ Some FeatureInCode)
-    (IsEither (is_among x (declared_by before)) (IsWithFirst context.model (is_missed context before x) Undeclared None fault) (fault ≡ Some (Undeclared None)))
+    IsEither (is_value context x) (fault ≡ value_fault context (values_of context before) (length (constants_of before)) x)
+    (IsEither (is_feature context x) (fault ≡ Some FeatureInCode)
+    (IsEither (is_among x (declared_by before)) (IsWithFirst context.model (is_missed context before x) Undeclared None fault) (fault ≡ Some (Undeclared None))))
 
--- a name is a feature's, or it is the 17th, where these are declared before it
-abbrev pub new_name_fault : NameContext → List ℕ → ℕ → Option FileCode
-new_name_fault context declared x =
+-- one more name of this kind, where so many constants or variables are declared
+abbrev pub full_fault : Bool → ℕ → ℕ → Option FileCode
+full_fault true constants variables = if nat_le 16 constants then Some TooManyConstants else None
+full_fault false constants variables = if nat_le 16 variables then Some TooManyVariables else None
+
+-- a name is a feature's, or it is new and the 17th of its kind
+abbrev pub new_name_fault : NameContext → List Item → ℕ → Option FileCode
+new_name_fault context before x =
     if is_feature context x then Some FeatureInCode
-    else (if not (is_among x declared) && nat_le 16 (length declared) then Some TooManyVariables else None)
+    else (if is_among x (declared_by before) then None
+    else full_fault (is_constant (kind_after kinds.Variable before)) (length (constants_of before)) (length (variables_of before)))
 
 -- where a name is declared: an earlier declaration of it is kept too at some configuration, or it is a feature's or the 17th
 abbrev pub IsDeclarationFault : NameContext → List Item → ℕ → Option FileCode → Type 0
 IsDeclarationFault context before x fault =
-    IsWithFirst context.model (is_met_again context before x) Twice (new_name_fault context (each_once [] (declared_by before)) x) fault
+    IsWithFirst context.model (is_met_again context before x) Twice (new_name_fault context before x) fault
+
+-- a function whose word is a feature's name
+abbrev pub function_fault : NameContext → ℕ → Option FileCode
+function_fault context k = if is_feature_function context k then Some FeatureInCode else None
+
+-- where a function is declared: an earlier declaration of it with another result is kept too at some configuration, or its word is a
+-- feature's name; it may be declared twice with the same result (6.7)
+abbrev pub IsPrototypeFault : NameContext → List Item → ℕ → Option FileCode → Type 0
+IsPrototypeFault context before k fault = IsWithFirst context.model (is_met_unlike context before k) Twice (function_fault context k) fault
+
+-- where a function is called: it has no declaration with what is wanted, or at some configuration none of them is kept
+abbrev pub IsCallFault : NameContext → List Item → ℕ → Option FileCode → Type 0
+IsCallFault context before k fault =
+    IsEither (is_among k (callable_by (stands_behind is_equals before) before)) (IsWithFirst context.model (is_uncallable context before k) Undeclared None fault) (fault ≡ Some (Undeclared None))
 
 -- the fault of an item behind these
 abbrev pub IsNameFault : NameContext → List Item → Sign → Option FileCode → Type 0
 IsNameFault context before (signs.Name x) fault =
     IsEither (has_main before) (IsUseFault context before x fault) (IsDeclarationFault context before x fault)
+IsNameFault context before (signs.Function k) fault =
+    IsEither (has_main before) (IsCallFault context before k fault) (IsPrototypeFault context before k fault)
 IsNameFault context before _ fault = fault ≡ None
 
--- where a name is changed: at some configuration it is kept, and a declaration of it as a constant; whichever is not told
+-- where a name is changed: at some configuration it is kept, and it is a value's or a declaration of it as a constant is kept;
+-- whichever is not told
 abbrev pub IsChangeOf : NameContext → List Item → Option (ℕ × Place) → Option FileCode → Type 0
 IsChangeOf context before None fault = fault ≡ None
 IsChangeOf context before (Some change) fault = IsWithFirst context.model (is_met_constant context before change.0) (λ example. ChangedConstant) None fault

@@ -7,44 +7,30 @@ ghost use Rattle.cpp_conditions.specs.Propositions.{IsBelow, true_on};
 ghost use Rattle.cpp_conditions.specs.View.{formula};
 ghost use Rattle.atom_solver.specs.Solutions.{Finds};
 ghost use Rattle.c_grammar.specs.declared.items.Item as items;
-ghost use Rattle.family_names.specs.Declarations.{has_one};
 ghost use Rattle.family_names.specs.NameContexts.{plain, IsFit};
 ghost use Rattle.family_names.specs.Judging as judging;
 
-use crate::declarations::{Declaration, declaring};
+use crate::declarations::{Declaration, declaring, has_one};
 use crate::faults::Seen;
 use crate::groups::Groups;
 use crate::name_context::NameContext;
 use crate::questions::keeping;
-use c_grammar::{Item, Sign, changed_behind, is_constant_behind};
+use c_grammar::{Item, Sign, Track};
 use cpp_conditions::Formula;
 use cpp_conditions::formulas::both;
 use fam_outer::{FileCode, NoMemory, Place};
 use linear_atoms::Config;
 use std::alloc::Global;
 
-/// What is known of constants behind some items: the last item, whether a declaration with `const` or `enum` goes on, and
-/// the declarations of constants.
+/// What is known of constants behind some items: what they tell of the next one, and the declarations of constants.
 #[derive(Drop)]
 pub(crate) struct Constants {
-    pub(crate) last: Option<Item>,
-    pub(crate) goes_on: bool,
+    pub(crate) track: Track,
     pub(crate) declarations: Vec<Declaration>,
 }
 
-/// Whether one of the declarations has the name.
-fn has_one(declarations: &[Declaration], name: u32) -> bool
-    ensures { result ≡ has_one declarations.now name }
-{
-    for declaration in declarations {
-        if name == declaration.name {
-            return true;
-        }
-    }
-    false
-}
-
-/// That what stands in these groups is kept, and one of the declarations of the name.
+/// That what stands in these groups is kept, and one of the declarations of the name, where it is not a value's.
+#[tactic(auto, using(crate::proofs::Meeting::kept_value, crate::proofs::Meeting::kept_other))]
 fn meeting(
     alloc: Global,
     context: &NameContext<'_>,
@@ -58,12 +44,16 @@ fn meeting(
         ≡ true_on (vector_at context.now.atoms.now values) (formula made)) }
     ensures below { IfOk result (λ made. IsBelow (length context.now.atoms.now) (formula made)) }
 {
-    let declared = declaring(alloc, context.conditions, declarations, name)?;
     let kept = keeping(alloc, context.conditions, groups)?;
+    if context.is_value(name) {
+        return Ok(kept);
+    }
+    let declared = declaring(alloc, context.conditions, declarations, name)?;
     both(alloc, kept, declared)
 }
 
-/// The least valid configuration that keeps what stands in these groups, and one of the declarations of the name.
+/// The least valid configuration that keeps what stands in these groups, and one of the declarations of the name, where it is
+/// not a value's.
 fn first_met(
     alloc: Global,
     context: &NameContext<'_>,
@@ -79,7 +69,8 @@ fn first_met(
     context.model.least_where(alloc, context.atoms, &wanted)
 }
 
-/// The fault of what an item changes, together with the one before it: nothing is asked where no constant has the name.
+/// The fault of what an item changes, together with the one before it: nothing is asked where no constant has the name, and
+/// it is no value's.
 pub(crate) fn change_fault(
     alloc: Global,
     context: &NameContext<'_>,
@@ -95,10 +86,10 @@ pub(crate) fn change_fault(
     if !seen.in_main {
         return Ok(None);
     }
-    let Some((name, place)) = changed_behind(constants.last, item) else {
+    let Some((name, place)) = constants.track.change(item) else {
         return Ok(None);
     };
-    if !has_one(&constants.declarations, name) {
+    if !context.is_value(name) && !has_one(&constants.declarations, name) {
         return Ok(None);
     }
     match first_met(alloc, context, &seen.groups, &constants.declarations, name)? {
@@ -134,20 +125,19 @@ impl Constants {
         ensures { judging.AreHeld [] result }
     {
         Constants {
-            last: None,
-            goes_on: false,
+            track: Track::new(),
             declarations: Vec::new(alloc),
         }
     }
 
-    /// Goes on behind an item, behind others of which this is seen: a name that is declared with `const` or `enum` is a
-    /// constant's.
+    /// Goes on behind an item, behind others of which this is seen: a name that is declared with `const` or `enum`, or by
+    /// `#define`, is a constant's.
     pub(crate) fn follow(&mut self, alloc: Global, seen: &Seen, item: Item) -> Result<(), NoMemory>
         ensures { (before : List items.Item) → judging.IsSeen before seen.now
             → judging.AreHeld before self.old
             → OnOk result (judging.AreHeld (before ++ item ∷ []) self.new) }
     {
-        let is_constant = self.goes_on && !seen.in_main;
+        let is_constant = self.track.is_constant() && !seen.in_main;
         declare_constant(
             alloc,
             &mut self.declarations,
@@ -155,8 +145,7 @@ impl Constants {
             &seen.groups,
             item.sign,
         )?;
-        self.last = Some(item);
-        self.goes_on = is_constant_behind(self.goes_on, item.sign);
+        self.track.follow(item);
         Ok(())
     }
 }

@@ -7,7 +7,7 @@ ghost use Rattle.cpp_conditions.specs.Propositions.{IsBelow, true_on};
 ghost use Rattle.cpp_conditions.specs.View.{formula};
 ghost use Rattle.family_names.specs.Groups.{are_kept};
 ghost use Rattle.family_names.specs.Names.{truths_on};
-ghost use Rattle.family_names.specs.Declarations.{is_kept, is_declared};
+ghost use Rattle.family_names.specs.Declarations.{is_kept, is_declared, has_one};
 
 use crate::groups::{Groups, cut_last};
 use crate::questions::keeping;
@@ -80,6 +80,18 @@ pub(crate) fn declaring(
             one_of(alloc, left, right)
         }
     }
+}
+
+/// Whether one of the declarations has the name.
+pub(crate) fn has_one(declarations: &[Declaration], name: u32) -> bool
+    ensures { result ≡ has_one declarations.now name }
+{
+    for declaration in declarations {
+        if name == declaration.name {
+            return true;
+        }
+    }
+    false
 }
 
 /// Whether a declaration of the name stands in the outermost of these groups, so that it is kept wherever what stands in

@@ -1,37 +1,42 @@
 //! The fault of a name, by what is known of the items before it.
 #![tactic(auto)]
 
-ghost use Rattle.std.specs.Prelude.{◌≡◌, ℤ, true, false, ◌&&◌, List, length, IfOk, OnOk};
+ghost use Rattle.std.specs.Prelude.{◌≡◌, ℤ, true, false, not, ◌&&◌, List, length, IfOk, OnOk};
 ghost use Rattle.cpp_conditions.specs.Numbering.{vector_at};
 ghost use Rattle.cpp_conditions.specs.Propositions.{IsBelow, true_on};
 ghost use Rattle.cpp_conditions.specs.View.{formula};
 ghost use Rattle.atom_solver.specs.Solutions.{Finds};
-ghost use Rattle.family_names.specs.Names.{is_among, with_number, new_name_fault};
+ghost use Rattle.family_names.specs.Names.{is_among, with_number, full_fault, test_count};
 ghost use Rattle.family_names.specs.NameContexts.{plain, IsFit};
 ghost use Rattle.family_names.specs.Judging as judging;
 
 use crate::declarations::{Declaration, declaring, is_clear};
+use crate::functions::Functions;
 use crate::groups::Groups;
 use crate::name_context::NameContext;
 use crate::questions::keeping;
+use crate::values::{Used, use_value};
 use cpp_conditions::Formula;
 use cpp_conditions::formulas::{both, negation};
-use fam_outer::{FileCode, MOST_NAMES, NoMemory};
+use fam_outer::{FileCode, MOST_CONSTANTS, MOST_NAMES, NoMemory};
 use linear_atoms::Config;
 use std::alloc::Global;
 
 /// What is known behind some items: the groups that stand there, whether `main` is among the items, the names that they
-/// declare, each once, and their declarations.
+/// declare, each once, those of constants and those of variables, and their declarations, and those of functions.
 #[derive(Drop)]
 pub(crate) struct Seen {
     pub(crate) groups: Groups,
     pub(crate) in_main: bool,
     pub(crate) names: Vec<u32>,
+    pub(crate) constants: Vec<u32>,
+    pub(crate) variables: Vec<u32>,
     pub(crate) declarations: Vec<Declaration>,
+    pub(crate) functions: Functions,
 }
 
 /// Whether a number is among these.
-fn contains(numbers: &[u32], number: u32) -> bool
+pub(crate) fn contains(numbers: &[u32], number: u32) -> bool
     ensures { result ≡ is_among number numbers.now }
 {
     for other in numbers {
@@ -44,7 +49,7 @@ fn contains(numbers: &[u32], number: u32) -> bool
 
 /// What is asked of a valid configuration about a name, and the declarations of it before the place where it stands.
 #[derive(Clone, Copy)]
-enum Question {
+pub(crate) enum Question {
     /// Whether it keeps no declaration of the name, wherever the name stands.
     Undeclared,
     /// Whether it keeps the name which stands here, and no declaration of it.
@@ -57,33 +62,51 @@ enum Question {
 fn asking(
     alloc: Global,
     context: &NameContext<'_>,
-    seen: &Seen,
+    groups: &Groups,
+    declarations: &[Declaration],
     question: Question,
     name: u32,
 ) -> Result<Formula, NoMemory>
     requires { IsFit (plain context.now) }
     ensures truth { IfOk result (λ made. (values : List ℤ)
-        → judging.is_so (plain context.now) seen.now question name values
+        → judging.is_so (plain context.now) groups.now declarations.now question name values
         ≡ true_on (vector_at context.now.atoms.now values) (formula made)) }
     ensures below { IfOk result (λ made. IsBelow (length context.now.atoms.now) (formula made)) }
 {
-    let declared = declaring(alloc, context.conditions, &seen.declarations, name)?;
+    let declared = declaring(alloc, context.conditions, declarations, name)?;
     match question {
         Question::Undeclared => negation(alloc, declared),
         Question::Missed => {
             let none = negation(alloc, declared)?;
-            let kept = keeping(alloc, context.conditions, &seen.groups)?;
+            let kept = keeping(alloc, context.conditions, groups)?;
             both(alloc, kept, none)
         }
         Question::MetAgain => {
-            let kept = keeping(alloc, context.conditions, &seen.groups)?;
+            let kept = keeping(alloc, context.conditions, groups)?;
             both(alloc, kept, declared)
         }
     }
 }
 
 /// The least valid configuration of which the answer to a question is yes.
-fn first_so(
+pub(crate) fn first_so(
+    alloc: Global,
+    context: &NameContext<'_>,
+    groups: &Groups,
+    declarations: &[Declaration],
+    question: Question,
+    name: u32,
+) -> Result<Option<Config>, NoMemory>
+    requires { IsFit (plain context.now) }
+    ensures { IfOk result (λ found. Finds context.now.model.now
+        (judging.is_so (plain context.now) groups.now declarations.now question name) found) }
+{
+    let wanted = asking(alloc, context, groups, declarations, question, name)?;
+    context.model.least_where(alloc, context.atoms, &wanted)
+}
+
+/// The same of a name that stands here, and of the declarations of names before it.
+fn first_of_name(
     alloc: Global,
     context: &NameContext<'_>,
     seen: &Seen,
@@ -92,10 +115,16 @@ fn first_so(
 ) -> Result<Option<Config>, NoMemory>
     requires { IsFit (plain context.now) }
     ensures { IfOk result (λ found. Finds context.now.model.now
-        (judging.is_so (plain context.now) seen.now question name) found) }
+        (judging.is_so (plain context.now) seen.now.groups seen.now.declarations.items question name) found) }
 {
-    let wanted = asking(alloc, context, seen, question, name)?;
-    context.model.least_where(alloc, context.atoms, &wanted)
+    first_so(
+        alloc,
+        context,
+        &seen.groups,
+        &seen.declarations,
+        question,
+        name,
+    )
 }
 
 /// Whether the name is settled, in whatever groups.
@@ -120,13 +149,13 @@ fn missing_fault(
         return Ok(None);
     }
     if !has_settled(settled, name)
-        && first_so(alloc, context, seen, Question::Undeclared, name)?.is_none()
+        && first_of_name(alloc, context, seen, Question::Undeclared, name)?.is_none()
     {
         let groups = Groups::new(alloc);
         settled.push(Declaration { name, groups })?;
         return Ok(None);
     }
-    match first_so(alloc, context, seen, Question::Missed, name)? {
+    match first_of_name(alloc, context, seen, Question::Missed, name)? {
         Some(config) => Ok(Some(FileCode::Undeclared(Some(config.values)))),
         None => {
             let groups = seen.groups.copy(alloc)?;
@@ -141,13 +170,18 @@ pub(crate) fn use_fault(
     alloc: Global,
     context: &NameContext<'_>,
     seen: &Seen,
+    used: &mut Used,
     settled: &mut Vec<Declaration>,
     name: u32,
 ) -> Result<Option<FileCode>, NoMemory>
     requires { IsFit (plain context.now) }
-    ensures { judging.AreSettled (plain context.now) seen.now.declarations.items settled.old.items
-        → IfOk result (λ fault. judging.Uses (plain context.now) seen.now settled.new.items name fault) }
+    ensures { used.old.tests ≡ test_count (plain context.now) used.old.names.items
+        → judging.AreSettled (plain context.now) seen.now.declarations.items settled.old.items
+        → IfOk result (λ fault. judging.Uses (plain context.now) seen.now used.old settled.new.items name used.new fault) }
 {
+    if context.is_value(name) {
+        return use_value(context, seen.constants.len(), used, name);
+    }
     if context.is_feature(name) {
         return Ok(Some(FileCode::FeatureInCode));
     }
@@ -157,17 +191,40 @@ pub(crate) fn use_fault(
     missing_fault(alloc, context, seen, settled, name)
 }
 
-/// The fault of a declaration whose name no declaration before it has at the same configuration.
-fn new_name_fault(context: &NameContext<'_>, names: &[u32], name: u32) -> Option<FileCode>
-    ensures { result ≡ new_name_fault (plain context.now) names.now name }
+/// The fault of one more name of a kind, where so many constants and variables are declared.
+fn full_fault(is_constant: bool, constants: usize, variables: usize) -> Option<FileCode>
+    ensures { result ≡ full_fault is_constant constants variables }
+{
+    if is_constant {
+        if constants >= MOST_CONSTANTS {
+            Some(FileCode::TooManyConstants)
+        } else {
+            None
+        }
+    } else if variables >= MOST_NAMES {
+        Some(FileCode::TooManyVariables)
+    } else {
+        None
+    }
+}
+
+/// The fault of a declaration, as a constant or a variable, whose name no declaration before it has at the same
+/// configuration.
+fn new_name_fault(
+    context: &NameContext<'_>,
+    seen: &Seen,
+    is_constant: bool,
+    name: u32,
+) -> Option<FileCode>
+    ensures { result ≡ judging.new_fault (plain context.now) seen.now is_constant name }
 {
     if context.is_feature(name) {
         return Some(FileCode::FeatureInCode);
     }
-    if !contains(names, name) && names.len() >= MOST_NAMES {
-        return Some(FileCode::TooManyVariables);
+    if contains(&seen.names, name) {
+        return None;
     }
-    None
+    full_fault(is_constant, seen.constants.len(), seen.variables.len())
 }
 
 /// The fault of a declaration.
@@ -175,18 +232,19 @@ fn declaration_fault(
     alloc: Global,
     context: &NameContext<'_>,
     seen: &Seen,
+    is_constant: bool,
     name: u32,
 ) -> Result<Option<FileCode>, NoMemory>
     requires { IsFit (plain context.now) }
     ensures { judging.AreNamed seen.now
-        → IfOk result (λ fault. judging.IsAgain (plain context.now) seen.now name fault) }
+        → IfOk result (λ fault. judging.IsAgain (plain context.now) seen.now is_constant name fault) }
 {
     if !contains(&seen.names, name) {
-        return Ok(new_name_fault(context, &seen.names, name));
+        return Ok(new_name_fault(context, seen, is_constant, name));
     }
-    match first_so(alloc, context, seen, Question::MetAgain, name)? {
+    match first_of_name(alloc, context, seen, Question::MetAgain, name)? {
         Some(config) => Ok(Some(FileCode::Twice(Some(config.values)))),
-        None => Ok(new_name_fault(context, &seen.names, name)),
+        None => Ok(new_name_fault(context, seen, is_constant, name)),
     }
 }
 
@@ -200,30 +258,48 @@ fn add_name(names: &mut Vec<u32>, name: u32) -> Result<(), NoMemory>
     Ok(())
 }
 
-/// Adds a declaration in the groups that stand here.
-fn add(alloc: Global, seen: &mut Seen, name: u32) -> Result<(), NoMemory>
-    ensures { OnOk result (judging.Adds seen.old name seen.new) }
+/// Adds a number behind those of a kind, if it is of that kind and not among the names of both.
+fn add_to_kind(
+    names: &[u32],
+    others: &mut Vec<u32>,
+    is_of_kind: bool,
+    name: u32,
+) -> Result<(), NoMemory>
+    ensures { OnOk result (others.new.items ≡ judging.with_kind is_of_kind names.now others.old.items name) }
+{
+    if is_of_kind && !contains(names, name) {
+        others.push(name)?;
+    }
+    Ok(())
+}
+
+/// Adds a declaration, as a constant or a variable, in the groups that stand here.
+fn add(alloc: Global, seen: &mut Seen, is_constant: bool, name: u32) -> Result<(), NoMemory>
+    ensures { OnOk result (judging.Adds seen.old is_constant name seen.new) }
 {
     let groups = seen.groups.copy(alloc)?;
+    add_to_kind(&seen.names, &mut seen.constants, is_constant, name)?;
+    add_to_kind(&seen.names, &mut seen.variables, !is_constant, name)?;
     add_name(&mut seen.names, name)?;
     seen.declarations.push(Declaration { name, groups })?;
     Ok(())
 }
 
-/// The fault of a declaration; without one it is added.
+/// The fault of a declaration, as a constant or a variable; without one it is added.
 pub(crate) fn declare(
     alloc: Global,
     context: &NameContext<'_>,
     seen: &mut Seen,
+    is_constant: bool,
     name: u32,
 ) -> Result<Option<FileCode>, NoMemory>
     requires { IsFit (plain context.now) }
     ensures { judging.AreNamed seen.old
-        → IfOk result (λ fault. judging.Declares (plain context.now) seen.old name seen.new fault) }
+        → IfOk result (λ fault. judging.Declares (plain context.now) seen.old is_constant name seen.new fault) }
 {
-    let fault = declaration_fault(alloc, context, seen, name)?;
+    let fault = declaration_fault(alloc, context, seen, is_constant, name)?;
     if fault.is_none() {
-        add(alloc, seen, name)?;
+        add(alloc, seen, is_constant, name)?;
     }
     Ok(fault)
 }

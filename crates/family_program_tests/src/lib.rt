@@ -18,3 +18,5 @@ mod memory_tests;
 mod merged_tests;
 #[cfg(test)]
 mod page_tests;
+#[cfg(test)]
+mod value_tests;

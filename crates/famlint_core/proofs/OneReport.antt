@@ -13,6 +13,7 @@ use Rattle.linear_atoms.specs.declared.atoms.Literal.{Literal}
 use Rattle.linear_atoms.specs.declared.regions.Regions.{Regions}
 use Rattle.linear_atoms.specs.Atoms.{AreLiterals, IsWithin}
 use Rattle.cpp_conditions.specs.Grammar.{ReadsAs}
+use Rattle.cpp_conditions.specs.Macros.{no_macros}
 use Rattle.cpp_conditions.specs.Propositions.{Proposition, true_at}
 use Rattle.cpp_conditions.specs.Validity.{Plain, plain}
 use Rattle.cpp_conditions.proofs.Within.{valid_parts}
@@ -77,7 +78,7 @@ RegionsSpell = (regions : Regions) (features : List Feature) (literals : List Li
 abbrev pub RegionsMean : Type 0
 RegionsMean = (unknown : Unknown) (regions : Regions) (features : List Feature) (literals : List Literal) (p : Proposition Atom) (values : List ℤ)
     → AreNamed features → AreDistinct features → HaveSwitches features
-    → AreLiterals (length features) literals → ReadsAs unknown features (region_text regions features literals) (Ok p)
+    → AreLiterals (length features) literals → ReadsAs (no_macros unknown) features (region_text regions features literals) (Ok p)
     → IsWithin features values → true_at values p ≡ all_hold literals values
 
 pub are_conditions : RegionsSpell → RegionsMean → RegionsAreConditions

@@ -17,7 +17,8 @@ use Rattle.c_tree.specs.View.{whole}
 use Rattle.certificate_format.specs.declared.literals.Piece.{Piece}
 use Rattle.certificate_format.specs.Regions.{piece_of}
 use Rattle.c_parser.specs.declared.family.Family.{Family}
-use Rattle.c_parser.specs.FamilyReading.{IsFamilyOf}
+use Rattle.feature_values.specs.Values.{uses_of, tests_of}
+use Rattle.c_parser.specs.FamilyReading.{IsFamilyOf, uses_in}
 use Rattle.c_parser.specs.Variants.{AreSameFamily}
 use Rattle.c_parser.proofs.KeptTexts.{TextsAreReadOnce, same_blanked}
 use Rattle.lifted_analysis.specs.Promises.{truths_of}
@@ -53,17 +54,24 @@ record AreSameConditions (f g : Family) : Type 0 where
   truths : (v : List Bool) → truths_of f.conditions v ≡ truths_of g.conditions v
 
 -- the atoms are those of the constraints and of the conditions of the text, and the formulas have their numbers
-same_conditions : TextsAreReadOnce → (dialect : Dialect) (a b : Model) (bytes : List ℕ) (f g : Family) → plain a ≡ plain b → IsFamilyOf dialect a bytes f → IsFamilyOf dialect b bytes g → AreSameConditions f g
-same_conditions once dialect a b bytes f g e o p =
-    let blanked = same_blanked bytes o.are.items.blanked p.are.items.blanked o.are.items.without_comments p.are.items.without_comments in
-    let read : TextIsRead dialect (plain b) p.are.items.blanked (Ok o.are.told) =
-    subst (λ (m : Plain). TextIsRead dialect m p.are.items.blanked (Ok o.are.told)) e (subst (λ (z : List ℕ). TextIsRead dialect (plain a) z (Ok o.are.told)) blanked o.are.items.read) in
-    let told : o.are.told ≡ p.are.told = same_lines o.are.told p.are.told (once dialect (plain b) p.are.items.blanked (Ok o.are.told) (Ok p.are.told) read p.are.items.read) in
-    let conditions : List (Proposition Atom) = p.are.told.conditions in
+same_conditions : TextsAreReadOnce → (dialect : Dialect) (a b : Model) (bytes : List ℕ) (f g : Family) → plain a ≡ plain b → whole f.code ≡ whole g.code → IsFamilyOf dialect a bytes f → IsFamilyOf dialect b bytes g → AreSameConditions f g
+same_conditions once dialect a b bytes f g e same o p =
+    let h = o.accepted.are in
+    let i = p.accepted.are in
+    let blanked = same_blanked bytes h.items.blanked i.items.blanked h.items.without_comments i.items.without_comments in
+    let read : TextIsRead dialect (plain b) i.items.blanked (Ok h.told) =
+    subst (λ (m : Plain). TextIsRead dialect m i.items.blanked (Ok h.told)) e (subst (λ (z : List ℕ). TextIsRead dialect (plain a) z (Ok h.told)) blanked h.items.read) in
+    let told : h.told ≡ i.told = same_lines h.told i.told (once dialect (plain b) i.items.blanked (Ok h.told) (Ok i.told) read i.items.read) in
+    let names : o.spelled.names ≡ p.spelled.names = ap (λ (w : Whole). w.names) (sym o.code ∙ same ∙ p.code) in
+    let tests : tests_of a.features (uses_in a o.spelled) ≡ tests_of b.features (uses_in b p.spelled) =
+    ap (λ (m : Plain). tests_of m.features (uses_of m.features o.spelled.names)) e ∙ ap (λ (ns : List (List ℕ)). tests_of b.features (uses_of b.features ns)) names in
+    let conditions : List (Proposition Atom) = i.told.conditions ++ tests_of b.features (uses_in b p.spelled) in
+    let together : h.told.conditions ++ tests_of a.features (uses_in a o.spelled) ≡ i.told.conditions ++ tests_of b.features (uses_in b p.spelled) =
+    ap (λ (t : Told). t.conditions ++ tests_of a.features (uses_in a o.spelled)) told ∙ ap (λ (ps : List (Proposition Atom)). i.told.conditions ++ ps) tests in
     let mine : AreConditionsOf (plain b) conditions f.atoms f.conditions =
-    subst (λ (t : Told). AreConditionsOf (plain b) t.conditions f.atoms f.conditions) told
-    (subst (λ (m : Plain). AreConditionsOf m o.are.told.conditions f.atoms f.conditions) e o.are.conditions) in
-    let yours : AreConditionsOf (plain b) conditions g.atoms g.conditions = p.are.conditions in
+    subst (λ (ps : List (Proposition Atom)). AreConditionsOf (plain b) ps f.atoms f.conditions) together
+    (subst (λ (m : Plain). AreConditionsOf m (h.told.conditions ++ tests_of a.features (uses_in a o.spelled)) f.atoms f.conditions) e o.conditions) in
+    let yours : AreConditionsOf (plain b) conditions g.atoms g.conditions = p.conditions in
     let atoms : f.atoms ≡ g.atoms = one_list ((plain b).constraints ++ conditions) f.atoms g.atoms mine.atoms_are yours.atoms_are in
     let numbered : AreNumbered g.atoms conditions f.conditions = subst (λ (xs : List Atom). AreNumbered xs conditions f.conditions) atoms mine.numbered in
     let formulas : map formula f.conditions ≡ map formula g.conditions = one_numbering g.atoms yours.atoms_are.rising conditions f.conditions g.conditions numbered yours.numbered in
@@ -80,7 +88,7 @@ pub are_same_by : VariantLaws → TextsAreReadOnce → (dialect : Dialect) (byte
     → IsFamilyOf dialect k.model bytes k.family → IsFamilyOf dialect l.model bytes l.family → AreSameLines k l
 are_same_by laws once dialect bytes k l e text h i =
     let family : AreSameFamily k.family l.family = laws.families dialect k.model l.model bytes k.family l.family e h i in
-    let conditions : AreSameConditions k.family l.family = same_conditions once dialect k.model l.model bytes k.family l.family e h i in
+    let conditions : AreSameConditions k.family l.family = same_conditions once dialect k.model l.model bytes k.family l.family e family.code h i in
     record { model = e; code = family.code; text = text; atoms = conditions.atoms; rising = conditions.rising; truths = conditions.truths }
 
 pub are_same : VariantLaws → TextsAreReadOnce → (dialect : Dialect) (m f : List ℕ) (k l : ProductLine) → IsProductLine dialect m f k → IsProductLine dialect m f l → AreSameLines k l

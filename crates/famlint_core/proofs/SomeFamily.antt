@@ -37,6 +37,8 @@ use Rattle.famlint_loads.specs.declared.product_line.ProductLine.{ProductLine}
 use Rattle.famlint_loads.specs.Contents.{Contents}
 use Rattle.famlint_loads.specs.Loads.{IsFamily}
 use Rattle.famlint_programs.specs.AnalysisOptions.{options_of}
+use Rattle.feature_values.specs.Values.{tests_of}
+use Rattle.c_parser.specs.FamilyReading.{uses_in}
 use Rattle.famlint_programs.specs.ProgramAnswers.{meaning_of}
 use Rattle.famlint_families.specs.FamilyAnswers.{AnswersFamily, AnswersPage}
 use Rattle.famlint_families.specs.FamilyReports.{IsAlarmTreeOf, IsLeafTree, AreAlarmsOf, AreInvariantsOf, AreLoopsOf, IsFamilyDone, family_status, sizes_text}
@@ -54,7 +56,7 @@ among_front atoms (c ∷ cs) ps h = (h.0, among_front atoms cs ps h.1)
 
 -- the atoms of a family are among others those of the model's constraints
 pub have_constraints : (l : ProductLine) (dialect : Dialect) (bytes : List ℕ) → IsFamily dialect l.model bytes (Ok l.family) → AreAllAmong l.family.atoms (plain l.model).constraints
-have_constraints l dialect bytes h = among_front l.family.atoms (plain l.model).constraints h.are.told.conditions h.are.conditions.atoms_are.all
+have_constraints l dialect bytes h = among_front l.family.atoms (plain l.model).constraints (h.accepted.are.told.conditions ++ tests_of l.model.features (uses_in l.model h.spelled)) h.conditions.atoms_are.all
 
 -- ---- trees
 

@@ -73,9 +73,10 @@ some_text : (dialect : Dialect) (m f : List ℕ) (l : ProductLine) → IsProduct
 some_text dialect m f l h values =
     let family : IsFamilyOf l.dialect l.model l.text l.family =
     subst (λ (d : Dialect). IsFamilyOf d l.model l.text l.family) (sym h.dialect_is) (subst (λ (b : List ℕ). IsFamilyOf dialect l.model b l.family) (sym h.text) h.family) in
-    let items = family.are.items in
-    let text = preprocessed (truths_at values family.are.told.conditions) family.are.told.lines items.blanked in
-    (text, record { blanked = items.blanked; told = family.are.told; without_comments = items.without_comments; read = items.read; is = refl })
+    let are = family.accepted.are in
+    let items = are.items in
+    let text = preprocessed (truths_at values are.told.conditions) are.told.lines items.blanked in
+    (text, record { blanked = items.blanked; told = are.told; without_comments = items.without_comments; read = items.read; is = refl })
 
 -- the program of the variant of each valid configuration
 pub some_program : AnswerLaws → (dialect : Dialect) (m f : List ℕ) (l : ProductLine) → IsProductLine dialect m f l → (values : List ℤ) → IsValid (plain l.model) values → (p : Whole) × IsProgramAt l values p

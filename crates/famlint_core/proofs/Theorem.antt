@@ -233,15 +233,26 @@ record IsSafeAdvice (analysis : Analysis) (s : Selected) (text : List ℕ) : Typ
   text_is : text ≡ advice_text s.line.model.features (Some advice)
   good : IsGoodAdvice (meaning_of analysis.domain) (options_of analysis (whole s.line.family.code)) s.line s.config.values advice
 
+-- an advice that is found
+record HasAdvice (found : Option nearest.Advice) : Type 0 where
+  advice : nearest.Advice
+  is : found ≡ Some advice
+
+has_advice : (found : Option nearest.Advice) → 0 ≡ advice_status found → HasAdvice found
+has_advice (Some advice) zero = record { advice = advice; is = refl }
+has_advice None zero = absurd cc
+
 safe_advice : (analysis : Analysis) (t s : Selected) → AreSame t s → (text : List ℕ) (found : Option nearest.Advice) → 0 ≡ advice_status found
     → text ≡ advice_text t.line.model.features found
     → IsGood (meaning_of analysis.domain) (options_of analysis (whole t.line.family.code)) t.line t.config.values found → IsSafeAdvice analysis s text
-safe_advice analysis t s e text (Some advice) zero text_is good = record {
-  advice = advice;
-  text_is = text_is ∙ ap (λ (m : Plain). advice_text m.features (Some advice)) e.line.model;
-  good = good_moved (meaning_of analysis.domain) analysis t.line s.line e.line t.config.values s.config.values e.values advice good;
-}
-safe_advice analysis t s e text None zero text_is good = cc
+safe_advice analysis t s e text found zero text_is good =
+    let h = has_advice found zero in
+    record {
+      advice = h.advice;
+      text_is = text_is ∙ ap (advice_text t.line.model.features) h.is ∙ ap (λ (m : Plain). advice_text m.features (Some h.advice)) e.line.model;
+      good = good_moved (meaning_of analysis.domain) analysis t.line s.line e.line t.config.values s.config.values e.values h.advice
+          (subst (IsGood (meaning_of analysis.domain) (options_of analysis (whole t.line.family.code)) t.line t.config.values) h.is good);
+    }
 
 pub advice_is_safe : VariantLaws → AdviceIsSafe
 advice_is_safe laws model file dialect settings analysis told text (t, line, tells) s is =

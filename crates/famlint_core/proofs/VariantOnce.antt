@@ -23,7 +23,8 @@ use Rattle.c_tree.specs.Tree.{Whole}
 use Rattle.c_tree.specs.View.{whole}
 use Rattle.c_parser.specs.declared.family.Family.{Family}
 use Rattle.c_parser.specs.Reading.{IsPlainReadOver}
-use Rattle.c_parser.specs.Variants.{names_in, AreSameFamily, FamiliesAreNotRefused, FamiliesAreReadOnce, FamiliesAreRefusedOnce}
+use Rattle.c_parser.specs.Functions.{functions_of_bytes}
+use Rattle.c_parser.specs.Variants.{names_in, given_of, given_at, AreSameFamily, FamiliesAreNotRefused, FamiliesAreReadOnce, FamiliesAreRefusedOnce}
 use Rattle.famlint_loads.specs.declared.fault.Done.{Done}
 use Rattle.famlint_loads.specs.declared.fault.Fault.{Fault}
 use Rattle.famlint_loads.specs.declared.fault.Fault.TheVariants as fault
@@ -195,7 +196,10 @@ pub program_moved : (k l : ProductLine) → AreAlike k l → (values : List ℤ)
 program_moved k l e values p h = record {
   text = h.text;
   preprocessed = variant_moved k l e values h.text h.preprocessed;
-  read = subst (λ (w : Whole). IsPlainReadOver Assert w.names h.text (Ok p)) e.code h.read;
+  read =
+      subst (λ (b : List ℕ). IsPlainReadOver Assert (given_of l.model.features (functions_of_bytes b) (names_in l.family) values) h.text (Ok p)) e.text
+      (subst (λ (w : Whole). IsPlainReadOver Assert (given_of l.model.features (functions_of_bytes k.text) w.names values) h.text (Ok p)) e.code
+      (subst (λ (m : Plain). IsPlainReadOver Assert (given_of m.features (functions_of_bytes k.text) (names_in k.family) values) h.text (Ok p)) e.model h.read));
 }
 
 one_text : VariantLaws → (l : ProductLine) (values : List ℤ) (x y : List ℕ) → IsVariant l.dialect (plain l.model) values l.text x → IsVariant l.dialect (plain l.model) values l.text y → x ≡ y
@@ -211,7 +215,7 @@ pub one_program : VariantLaws → (l : ProductLine) (values : List ℤ) (p q : W
 one_program laws l values p q h k =
     let text : h.text ≡ k.text = one_text laws l values h.text k.text h.preprocessed k.preprocessed in
     same_read p q
-    (laws.programs Assert (names_in l.family) k.text (Ok p) (Ok q) (subst (λ (b : List ℕ). IsPlainReadOver Assert (names_in l.family) b (Ok p)) text h.read) k.read)
+    (laws.programs Assert (given_at l.model (functions_of_bytes l.text) l.family values) k.text (Ok p) (Ok q) (subst (λ (b : List ℕ). IsPlainReadOver Assert (given_at l.model (functions_of_bytes l.text) l.family values) b (Ok p)) text h.read) k.read)
 
 -- ---- what is done
 

@@ -26,6 +26,7 @@ use Rattle.c_tree.specs.View.{whole}
 use Rattle.linear_atoms.specs.declared.atoms.Atom.{Atom}
 use Rattle.linear_atoms.specs.declared.regions.Regions.{Regions}
 use Rattle.cpp_conditions.specs.Grammar.{ReadsAs}
+use Rattle.cpp_conditions.specs.Macros.{no_macros}
 use Rattle.cpp_conditions.specs.Numbering.{vector_at}
 use Rattle.cpp_conditions.specs.Propositions.{Proposition, true_at}
 use Rattle.cpp_conditions.specs.Validity.{plain, IsValid}
@@ -111,7 +112,7 @@ RegionsAreConditions =
     → (regions : Regions) (alarm : FamilyAlarm) → IsShown l.model.features alarm
     → SpellsRegion regions l.model.features alarm.region.literals
     × ((unknown : Unknown) (condition : Proposition Atom) (values : List ℤ)
-    → ReadsAs unknown l.model.features (region_text regions l.model.features alarm.region.literals) (Ok condition)
+    → ReadsAs (no_macros unknown) l.model.features (region_text regions l.model.features alarm.region.literals) (Ok condition)
     → IsValid (plain l.model) values → true_at values condition ≡ all_hold alarm.region.literals values)
 
 -- ---- pages

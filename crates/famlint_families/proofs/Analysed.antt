@@ -43,14 +43,14 @@ more_tests m n le (Not p) h = more_tests m n le p h
 more_tests m n le (And p q) h = (more_tests m n le p h.0, more_tests m n le q h.1)
 more_tests m n le (Or p q) h = (more_tests m n le p h.0, more_tests m n le q h.1)
 
--- all numbers are below the count of atoms, and so below 64
+-- all numbers are below the count of atoms, and so below 320
 pub below_count : (l : ProductLine) → IsUsableLine l → (p : Formula) → IsBelow (length l.family.atoms) (formula p) → AreBelow (length l.family.atoms) l.family.conditions p
 below_count l u p h = record { each = u.family.below; last = h }
 
-pub below_most : (l : ProductLine) → IsUsableLine l → (p : Formula) → IsBelow (length l.family.atoms) (formula p) → AreBelow 64 l.family.conditions p
+pub below_most : (l : ProductLine) → IsUsableLine l → (p : Formula) → IsBelow (length l.family.atoms) (formula p) → AreBelow 320 l.family.conditions p
 below_most l u p h = record {
-  each = λ k d lt. more_tests (length l.family.atoms) 64 u.family.few (formula (slice_index_or l.family.conditions k d)) (u.family.below k d lt);
-  last = more_tests (length l.family.atoms) 64 u.family.few (formula p) h;
+  each = λ k d lt. more_tests (length l.family.atoms) 320 u.family.few (formula (slice_index_or l.family.conditions k d)) (u.family.below k d lt);
+  last = more_tests (length l.family.atoms) 320 u.family.few (formula p) h;
 }
 
 -- ---- the trees

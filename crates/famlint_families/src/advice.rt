@@ -42,8 +42,8 @@ fn trees_of(alloc: Global, alarms: &[AlarmTree]) -> Result<Vec<Tree<bool>>, NoMe
     ensures tests { IfOk result (λ made. (count : ℕ)
         → All (λ (t : AlarmTree). TestsBelow count (tree.plain t.tree)) alarms.now
         → All (λ (t : Tree Bool). TestsBelow count (tree.plain t)) made.items) }
-    ensures numbered { IfOk result (λ made. All (λ (t : AlarmTree). IsNumberedTree 0 64 (tree.numbered t.tree)) alarms.now
-        → All (λ (t : Tree Bool). IsNumberedTree 0 64 (tree.numbered t)) made.items) }
+    ensures numbered { IfOk result (λ made. All (λ (t : AlarmTree). IsNumberedTree 0 320 (tree.numbered t.tree)) alarms.now
+        → All (λ (t : Tree Bool). IsNumberedTree 0 320 (tree.numbered t)) made.items) }
 {
     let mut trees = Vec::new(alloc);
     for alarm in alarms {

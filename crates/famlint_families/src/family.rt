@@ -54,7 +54,7 @@ pub(crate) fn found_in<L: Leaf>(
     ensures found { IfOk result (λ f. IsFound L.value L.meaning options.now regions line.now f) }
     ensures tested { IfOk result (λ f. AreTested line.now f) }
     ensures numbered { regions ≡ Paths → IfOk result
-        (λ f. All (λ (a : AlarmTree). IsNumberedTree 0 64 (numbered a.tree)) f.alarms.items) }
+        (λ f. All (λ (a : AlarmTree). IsNumberedTree 0 320 (numbered a.tree)) f.alarms.items) }
 {
     let family = &line.family;
     let plausible = plausible(alloc, &line.model, family.atoms.items())?;

@@ -51,6 +51,7 @@ condition_code condition.TooLarge = codes "C3"
 condition_code condition.ReservedName = codes "C4"
 condition_code condition.TooDeep = codes "C5"
 condition_code condition.UnknownName = codes "C6"
+condition_code condition.DefinedName = codes "C7"
 
 -- a line that ends with a number
 abbrev pub numbered : List ℕ → ℕ → List ℕ
@@ -93,7 +94,9 @@ file_code code.TooManyVariables = codes "F17"
 file_code code.GroupInsideStatement = codes "F19"
 file_code code.TooLong = codes "F20"
 file_code code.GroupHere = codes "F21"
+file_code code.TooManyValueTests = codes "F22"
 file_code code.ChangedConstant = codes "F23"
+file_code code.TooManyConstants = codes "F24"
 
 -- behind it, the code of a condition's fault
 abbrev pub condition_part : FileCode → List ℕ

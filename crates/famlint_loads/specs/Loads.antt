@@ -134,6 +134,6 @@ IsFamilyFile dialect model bytes (Err fault) = IsFamily dialect model bytes (Err
 pub record IsUsableFamily (count : ℕ) (family : Family) : Type 0 where
   pub program : IsProgram (whole family.code)
   pub conditioned : IsConditioned (length family.conditions) (whole family.code)
-  pub few : length family.atoms ≤ 64
+  pub few : length family.atoms ≤ 320
   pub atoms : AreAtoms count family.atoms
   pub below : All (λ c. IsBelow (length family.atoms) (formula c)) family.conditions

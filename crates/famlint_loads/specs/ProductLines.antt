@@ -8,7 +8,8 @@ use Rattle.cpp_conditions.specs.Validity.{plain}
 use Rattle.c_tree.specs.Tree.{Whole}
 use Rattle.c_parser.specs.FamilyReading.{IsFamilyOf}
 use Rattle.c_parser.specs.Reading.{IsPlainReadOver}
-use Rattle.c_parser.specs.Variants.{names_in}
+use Rattle.c_parser.specs.Functions.{functions_of_bytes}
+use Rattle.c_parser.specs.Variants.{given_at}
 use Rattle.variant_projector.specs.Variant.{IsVariant}
 use Rattle.famlint_loads.specs.declared.fault.Failure.{Failure}
 use Rattle.famlint_loads.specs.declared.fault.Fault.{Fault}
@@ -56,9 +57,9 @@ pub record IsUsableLine (l : ProductLine) : Type 0 where
 
 -- ---- the program of a variant
 
--- the program of the variant of a configuration: what its preprocessed text is read as, over the names of the family; it has no
--- include
+-- the program of the variant of a configuration: what its preprocessed text is read as, over the functions and the names of the family and
+-- with its values of the features among these; it has no include
 pub record IsProgramAt (l : ProductLine) (values : List ℤ) (p : Whole) : Type 0 where
   pub text : List ℕ
   pub preprocessed : IsVariant l.dialect (plain l.model) values l.text text
-  pub read : IsPlainReadOver Assert (names_in l.family) text (Ok p)
+  pub read : IsPlainReadOver Assert (given_at l.model (functions_of_bytes l.text) l.family values) text (Ok p)

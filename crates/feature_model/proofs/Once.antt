@@ -6,6 +6,7 @@ use Rattle.linear_atoms.specs.declared.atoms.Atom.{Atom}
 use Rattle.linear_atoms.specs.declared.atoms.Feature.{Feature}
 use Rattle.cpp_conditions.specs.Distinct.{HaveFewAtoms, HaveMoreAtoms}
 use Rattle.cpp_conditions.specs.Grammar.{ReadsAs}
+use Rattle.cpp_conditions.specs.Macros.{Macros, no_macros}
 use Rattle.cpp_conditions.specs.Propositions.{Proposition}
 use Rattle.cpp_conditions.specs.Validity.{Plain}
 use Rattle.feature_model.specs.declared.faults.ModelFault.{ModelFault}
@@ -15,16 +16,16 @@ use Rattle.feature_model.specs.Models.{Says, Ends, IsReadAs, untold, said}
 use Rattle.feature_model.specs.Stages.{Told, told_of, ◌>>=◌}
 
 abbrev pub OneReading : Type 0
-OneReading = (unknown : Unknown) (features : List Feature) (bytes : List ℕ) (r s : Result (Proposition Atom) ConditionFault) → ReadsAs unknown features bytes r → ReadsAs unknown features bytes s → r ≡ s
+OneReading = (macros : Macros) (features : List Feature) (bytes : List ℕ) (r s : Result (Proposition Atom) ConditionFault) → ReadsAs macros features bytes r → ReadsAs macros features bytes s → r ≡ s
 
 -- texts are read in one way
 one_list : (u : OneReading) (unknown : Unknown) (features : List Feature) (n : ℕ) (texts : List (List ℕ)) (r s : Result (List (Proposition Atom)) ModelFault) → AreRead unknown features n texts r → AreRead unknown features n texts s → r ≡ s
 one_list u unknown features _ _ _ _ (none n) (none m) = refl
-one_list u unknown features _ _ _ _ (refused n text texts f h) (refused m other others g k) = let e = u unknown features text (Err f) (Err g) h k in let same : f ≡ g = cc in cc
-one_list u unknown features _ _ _ _ (refused n text texts f h) (first m other others q more k b) = let e = u unknown features text (Err f) (Ok q) h k in absurd cc
-one_list u unknown features _ _ _ _ (first n text texts p rest h a) (refused m other others g k) = let e = u unknown features text (Ok p) (Err g) h k in absurd cc
+one_list u unknown features _ _ _ _ (refused n text texts f h) (refused m other others g k) = let e = u (no_macros unknown) features text (Err f) (Err g) h k in let same : f ≡ g = cc in cc
+one_list u unknown features _ _ _ _ (refused n text texts f h) (first m other others q more k b) = let e = u (no_macros unknown) features text (Err f) (Ok q) h k in absurd cc
+one_list u unknown features _ _ _ _ (first n text texts p rest h a) (refused m other others g k) = let e = u (no_macros unknown) features text (Ok p) (Err g) h k in absurd cc
 one_list u unknown features _ _ _ _ (first n text texts p rest h a) (first m other others q more k b) =
-    let e = u unknown features text (Ok p) (Ok q) h k in
+    let e = u (no_macros unknown) features text (Ok p) (Ok q) h k in
     let same : p ≡ q = cc in
     ap (λ x. x >>= λ ps. Ok (p ∷ ps)) (one_list u unknown features (n + 1) texts rest more a b) ∙ ap (λ y. more >>= λ ps. Ok (y ∷ ps)) same
 

@@ -8,6 +8,7 @@ use Rattle.cpp_conditions.specs.declared.conditions.Condition.{Condition}
 use Rattle.cpp_conditions.specs.declared.reading.ConditionRefusal.{ConditionRefusal}
 use Rattle.cpp_conditions.specs.declared.reading.ConditionRefusal.TheVariants as conditions
 use Rattle.cpp_conditions.specs.Grammar.{ReadsAs}
+use Rattle.cpp_conditions.specs.Macros.{no_macros}
 use Rattle.cpp_conditions.specs.Propositions.{Proposition}
 use Rattle.cpp_conditions.specs.View.{proposition}
 use Rattle.feature_model.specs.declared.faults.ModelFault.{ModelFault}
@@ -19,8 +20,8 @@ use Rattle.feature_model.specs.Stages.{◌>>=◌}
 -- the texts are read as these constraints, or the first that is refused has this fault and its number, counted from n
 pub data AreRead (unknown : Unknown) (features : List Feature) : ℕ → List (List ℕ) → Result (List (Proposition Atom)) ModelFault → Type 0 where
   none : (n : ℕ) → AreRead unknown features n [] (Ok [])
-  refused : (n : ℕ) (text : List ℕ) (texts : List (List ℕ)) (fault : ConditionFault) → ReadsAs unknown features text (Err fault) → AreRead unknown features n (text ∷ texts) (Err (faults.Constraint n fault))
-  first : (n : ℕ) (text : List ℕ) (texts : List (List ℕ)) (p : Proposition Atom) (others : Result (List (Proposition Atom)) ModelFault) → ReadsAs unknown features text (Ok p) → AreRead unknown features (n + 1) texts others
+  refused : (n : ℕ) (text : List ℕ) (texts : List (List ℕ)) (fault : ConditionFault) → ReadsAs (no_macros unknown) features text (Err fault) → AreRead unknown features n (text ∷ texts) (Err (faults.Constraint n fault))
+  first : (n : ℕ) (text : List ℕ) (texts : List (List ℕ)) (p : Proposition Atom) (others : Result (List (Proposition Atom)) ModelFault) → ReadsAs (no_macros unknown) features text (Ok p) → AreRead unknown features (n + 1) texts others
       → AreRead unknown features n (text ∷ texts) (others >>= λ ps. Ok (p ∷ ps))
 
 -- ---- what the code answers

@@ -9,7 +9,7 @@ ghost use Rattle.cpp_conditions.specs.View.{proposition};
 ghost use Rattle.feature_model.specs.Constraints as constraints;
 
 use crate::faults::{ModelFault, ModelRefusal};
-use cpp_conditions::{Condition, ConditionRefusal, distinct_atoms, read_condition};
+use cpp_conditions::{Condition, ConditionRefusal, distinct_atoms, no_macros, read_condition};
 use fam_outer::{MOST_ATOMS, NoMemory, Text, Unknown};
 use linear_atoms::Feature;
 use linear_atoms::slices::cut;
@@ -45,7 +45,7 @@ pub(crate) fn add_constraints(
     let Some((text, behind)) = cut(texts) else {
         return Ok(());
     };
-    match read_condition(alloc, unknown, features, text.bytes()) {
+    match read_condition(alloc, no_macros(unknown), features, text.bytes()) {
         Ok(condition) => made.push(condition)?,
         Err(refusal) => return Err(numbered(number, refusal)),
     }

@@ -7,7 +7,7 @@ ghost use Rattle.cpp_conditions.specs.View.{proposition};
 
 use cpp_conditions::{
     Condition, ConditionRefusal, Conditions, Features, Formula, Model, add_atoms, distinct_atoms,
-    formulas, is_valid, number, read_condition,
+    formulas, is_valid, no_macros, number, read_condition,
 };
 use fam_outer::{ConditionFault, MOST_VALUE, Text, Unknown, Values};
 use linear_atoms::{Atom, Config, Feature, Linear, Literal, Normal};
@@ -70,7 +70,7 @@ fn two_conditions(alloc: Global) -> Result<Vec<Condition>, Fail> {
     let features = both_features(alloc)?;
     let mut list = Vec::new(alloc);
     for bytes in [b"N >= 3 || A".as_slice(), b"N < 1 && A".as_slice()] {
-        match read_condition(alloc, Unknown::Zero, features.items(), bytes) {
+        match read_condition(alloc, no_macros(Unknown::Zero), features.items(), bytes) {
             Ok(condition) => list.push(condition)?,
             Err(_) => return Err("a condition is wanted")?,
         }
@@ -189,7 +189,7 @@ fn truths(alloc: Global, condition: &Condition, switch: i64) -> Result<u8, Fail>
 
 fn read(alloc: Global, unknown: Unknown, bytes: &[u8]) -> Result<Answer, Fail> {
     let features = both_features(alloc)?;
-    match read_condition(alloc, unknown, features.items(), bytes) {
+    match read_condition(alloc, no_macros(unknown), features.items(), bytes) {
         Ok(condition) => {
             let off = truths(alloc, &condition, 0)?;
             let on = truths(alloc, &condition, 1)?;
@@ -293,10 +293,15 @@ fn integer_constants_are_refused(rt: HostRuntime) -> Result<(), Fail> {
 fn conditions_have_normal_forms(rt: HostRuntime) -> Result<(), Fail> {
     let alloc = rt.alloc();
     let features = both_features(alloc)?;
-    let decided = read_condition(alloc, Unknown::Zero, features.items(), b"N >= 8");
+    let decided = read_condition(alloc, no_macros(Unknown::Zero), features.items(), b"N >= 8");
     assert!(rt; matches!(decided, Ok(Condition::Const(false))));
     let least = at_least(alloc, 0, -3)?;
-    match read_condition(alloc, Unknown::Zero, features.items(), b"3 - N > 0") {
+    match read_condition(
+        alloc,
+        no_macros(Unknown::Zero),
+        features.items(),
+        b"3 - N > 0",
+    ) {
         Ok(Condition::Not(inner)) => match &*inner {
             Condition::Test(atom) => assert!(rt; *atom == least),
             _ => panic!(rt; "no test"),

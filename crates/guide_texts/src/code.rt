@@ -2,9 +2,9 @@
 #![tactic(auto)]
 
 ghost use Rattle.std.specs.Prelude.{◌≡◌};
-ghost use Rattle.guide_texts.specs.Codes.{told, first_of, code_of, code_text};
+ghost use Rattle.guide_texts.specs.Codes.{told, first_of, file_code, other_code, code_of, code_text};
 
-use crate::code_texts::CODES;
+use crate::code_texts::{FILE_CODES, OTHER_CODES};
 use std::marker::Model;
 
 /// A code of a refusal, or a status.
@@ -37,13 +37,32 @@ fn among(rows: &[(&'static str, &'static str)], name: &str) -> Option<Code>
     None
 }
 
+/// The code of a file with the name.
+#[tactic(auto, unfolding(crate::specs::Codes::file_code))]
+fn of_file(name: &str) -> Option<Code>
+    ensures { result ≡ file_code name.now }
+{
+    among(&FILE_CODES, name)
+}
+
+/// Another code with the name, or the status.
+#[tactic(auto, unfolding(crate::specs::Codes::other_code))]
+fn of_others(name: &str) -> Option<Code>
+    ensures { result ≡ other_code name.now }
+{
+    among(&OTHER_CODES, name)
+}
+
 impl Code {
     /// The code with the name, or none.
     #[tactic(auto, unfolding(crate::specs::Codes::code_of))]
     pub fn of(name: &str) -> Option<Code>
         ensures { result ≡ code_of name.now }
     {
-        among(&CODES, name)
+        match of_file(name) {
+            Some(code) => Some(code),
+            None => of_others(name),
+        }
     }
 
     /// What it means, and what to do.

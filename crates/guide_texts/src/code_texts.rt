@@ -1,8 +1,8 @@
 //! What each code means, and each status: written by `tools/guide-texts` from docs/CODES.md and docs/GUIDE.md.
 #![tactic(auto)]
 
-/// The codes and the statuses, each with its text.
-pub const CODES: [(&str, &str); 56] = [
+/// The codes of files, each with its text.
+pub const FILE_CODES: [(&str, &str); 23] = [
     (
         "F20",
         "F20: A file is refused.\nCause: more than 1,048,576 bytes; at 1:1.\nWhat to do: cut the file.\n",
@@ -21,7 +21,7 @@ pub const CODES: [(&str, &str); 56] = [
     ),
     (
         "F4",
-        "F4: A file is refused.\nCause: a directive that is none of `if`, `ifdef`, `ifndef`, `elif`, `else`,\n`endif`, and no `include` of exactly `<assert.h>` (under `--includes=skip`, of\nanything); or text behind `else` or `endif`; at `#`.\nWhat to do: write the number; leave out other includes, or take\n`--includes=skip`.\n",
+        "F4: A file is refused.\nCause: a directive that is none of `if`, `ifdef`, `ifndef`, `elif`, `else`,\n`endif`, no `define` of a name and one number (`3`, `-3`, `(3)`, `(-3)`), and no\n`include` of exactly `<assert.h>` (under `--includes=skip`, of anything); or\ntext behind `else` or `endif`; or a `define` of a reserved word, of `defined` or\nof `NDEBUG`; at `#`.\nWhat to do: write the number; leave out other includes, or take\n`--includes=skip`.\n",
     ),
     (
         "F21",
@@ -53,11 +53,15 @@ pub const CODES: [(&str, &str); 56] = [
     ),
     (
         "F17",
-        "F17: A file is refused.\nCause: the first declaration of the 17th name; at the name.\nWhat to do: cut the program into parts.\n",
+        "F17: A file is refused.\nCause: the first declaration of the 17th variable; at its name.\nWhat to do: cut the program into parts.\n",
     ),
     (
         "F23",
-        "F23: A file is refused.\nCause: a constant that is assigned, raised, lowered or read from input; at its\nname. Or: a name that some valid configuration keeps changed, together with a\ndeclaration of it with `const` or `enum`; no configuration is told.\nWhat to do: declare it without `const` or `enum`, or leave out the statement.\nOr: the statement within a group in which it is a variable.\n",
+        "F23: A file is refused.\nCause: a constant that is assigned, raised, lowered or read from input; at its\nname. Or: a name that some valid configuration keeps changed, together with a\ndeclaration of it as a constant; or a feature that some valid configuration\nkeeps changed; no configuration is told.\nWhat to do: declare it without `const`, `enum` or `#define`, or leave out the\nstatement. Or: the statement within a group in which it is a variable; of a\nfeature, a variable of its own.\n",
+    ),
+    (
+        "F24",
+        "F24: A file is refused.\nCause: the first declaration of the 17th constant; at its name. Or: the first\nuse in code of a number feature that is the 17th of the constants and of the\nfeatures that stand in code; at it.\nWhat to do: write the number where it is used, or cut the program into parts.\nOr: write the numbers of constants where they are used.\n",
     ),
     (
         "F5",
@@ -85,8 +89,16 @@ pub const CODES: [(&str, &str); 56] = [
     ),
     (
         "F15",
-        "F15: A file is refused.\nCause: a feature's name as a name in code; at it.\nWhat to do: set a variable within groups: `#if SIZE >= 8`.\n",
+        "F15: A file is refused.\nCause: the name of a switch in code, or a feature's name that is declared; at\nit.\nWhat to do: groups in place of `if`: `#ifdef FAST`; another name.\n",
     ),
+    (
+        "F22",
+        "F22: A file is refused.\nCause: the first use in code of a number feature whose tests, one for each value\nabove its least, are more than 256 together with those of the features that\nstand in code before it; at it.\nWhat to do: a narrower range in the model; or a variable that groups set, as\n`#if SIDE >= 8`.\n",
+    ),
+];
+
+/// The other codes and the statuses, each with its text.
+pub const OTHER_CODES: [(&str, &str); 36] = [
     (
         "M8",
         "M8: A model is refused.\nCause: more than 65,536 bytes.\nWhat to do: a smaller model.\n",
@@ -177,7 +189,11 @@ pub const CODES: [(&str, &str); 56] = [
     ),
     (
         "C6",
-        "C6: A condition is refused, of a model (M7) or of a file (F8).\nCause: under `--unknown=refuse`, a name that is no feature of the model, under\n`defined`, `#ifdef` and `#ifndef` too.\nWhat to do: the feature's name as the model has it; where the name is meant to\nbe unknown, `--unknown=zero`.\n",
+        "C6: A condition is refused, of a model (M7) or of a file (F8).\nCause: under `--unknown=refuse`, a name that is no feature of the model, and in\na file that no `#define` of it has, under `defined`, `#ifdef` and `#ifndef` too.\nWhat to do: the feature's name as the model has it; where the name is meant to\nbe unknown, `--unknown=zero`.\n",
+    ),
+    (
+        "C7",
+        "C7: A condition is refused, of a model (M7) or of a file (F8).\nCause: a name for which a `#define` stands above in the file, in whatever group;\nunder `defined`, `#ifdef` and `#ifndef` too.\nWhat to do: write the number.\n",
     ),
     (
         "C2",

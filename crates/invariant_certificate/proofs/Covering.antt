@@ -29,11 +29,11 @@ module _ {E : Type 0} (made : Result (Tree Bool) E) (tree region : Plain Bool) (
         | inr w ↦ test_below count k region (tree_below count listed region f is) w
       ]))
 
-pub numbered_in_forest : {E : Type 0} (made : Result (Tree Bool) E) (forest : List (Plain Bool)) → IfOk made (λ r. IsTreeIn 0 64 forest (numbered r)) → IfOk made (λ r. IsNumberedTree 0 64 (numbered r))
-numbered_in_forest made forest = IfOk-weaker made (λ r. IsTreeIn 0 64 forest (numbered r)) (λ r. IsNumberedTree 0 64 (numbered r)) (λ r h. numbered_tree 0 64 forest (numbered r) h)
+pub numbered_in_forest : {E : Type 0} (made : Result (Tree Bool) E) (forest : List (Plain Bool)) → IfOk made (λ r. IsTreeIn 0 320 forest (numbered r)) → IfOk made (λ r. IsNumberedTree 0 320 (numbered r))
+numbered_in_forest made forest = IfOk-weaker made (λ r. IsTreeIn 0 320 forest (numbered r)) (λ r. IsNumberedTree 0 320 (numbered r)) (λ r h. numbered_tree 0 320 forest (numbered r) h)
 
 -- a single leaf is numbered
-pub leaf_numbered : {E : Type 0} (made : Result (Tree Bool) E) (b : Bool) → IfOk made (λ t. numbered t ≡ kept 0 b) → IfOk made (λ t. IsNumberedTree 0 64 (numbered t))
+pub leaf_numbered : {E : Type 0} (made : Result (Tree Bool) E) (b : Bool) → IfOk made (λ t. numbered t ≡ kept 0 b) → IfOk made (λ t. IsNumberedTree 0 320 (numbered t))
 leaf_numbered made b =
-    IfOk-weaker made (λ t. numbered t ≡ kept 0 b) (λ t. IsNumberedTree 0 64 (numbered t))
-    (λ t e. record { reduced = subst (λ n. IsReducedFrom 0 (erase n)) (sym e) tt; small = subst (λ n. TestsBelow 64 (erase n)) (sym e) tt; numbered = numbered_leaf (numbered t) 0 b e })
+    IfOk-weaker made (λ t. numbered t ≡ kept 0 b) (λ t. IsNumberedTree 0 320 (numbered t))
+    (λ t e. record { reduced = subst (λ n. IsReducedFrom 0 (erase n)) (sym e) tt; small = subst (λ n. TestsBelow 320 (erase n)) (sym e) tt; numbered = numbered_leaf (numbered t) 0 b e })

@@ -46,11 +46,11 @@ fn judged<L: Leaf>(
     lines: &[AlarmLine],
 ) -> Result<Verdict, NoMemory>
     requires atoms { AreAtoms (length prepared.now.features) atoms.now }
-    requires few { length atoms.now ≤ 64 }
+    requires few { length atoms.now ≤ 320 }
     requires loops { All (λ (l : LoopTree). TestsBelow (length atoms.now) (tree.plain l.tree)) found.now.loops.items }
     requires alarms { All (λ (a : AlarmTree). TestsBelow (length atoms.now) (tree.plain a.tree)) found.now.alarms.items }
-    requires loops_numbered { All (λ (l : LoopTree). IsNumberedTree 0 64 (tree.numbered l.tree)) found.now.loops.items }
-    requires alarms_numbered { All (λ (a : AlarmTree). IsNumberedTree 0 64 (tree.numbered a.tree)) found.now.alarms.items }
+    requires loops_numbered { All (λ (l : LoopTree). IsNumberedTree 0 320 (tree.numbered l.tree)) found.now.loops.items }
+    requires alarms_numbered { All (λ (a : AlarmTree). IsNumberedTree 0 320 (tree.numbered a.tree)) found.now.alarms.items }
     requires lines { All (λ (l : AlarmLine). IsBelow (length atoms.now) (formula l.region)) lines.now }
     ensures { IfOk result (λ verdict. IsJudged prepared.now atoms.now lines.now
         found.now.loops.items found.now.alarms.items verdict) }
@@ -75,7 +75,7 @@ fn judged<L: Leaf>(
 /// where all are inductive, the first place and then kind that are not listed at some valid configuration; with the least such
 /// configuration. The only refusal is want of memory.
 ///
-/// Numbers of regions and of conditions are below the number of atoms, of which there are at most 64. The bounds of a loop line, if
+/// Numbers of regions and of conditions are below the number of atoms, of which there are at most 320. The bounds of a loop line, if
 /// it has any, are one range for each variable, within `int`.
 pub fn check<L: Leaf>(
     alloc: Global,
@@ -91,7 +91,7 @@ pub fn check<L: Leaf>(
     requires conditioned { IsConditioned (length conditions.now) (whole code.now) }
     requires among { AreAllAmong atoms.now (plain model.now).constraints }
     requires atoms { AreAtoms (length model.now.features) atoms.now }
-    requires few { length atoms.now ≤ 64 }
+    requires few { length atoms.now ≤ 320 }
     requires below { All (λ (c : Formula). IsBelow (length atoms.now) (formula c)) conditions.now }
     requires regions { AreRegionsBelow (length atoms.now) certificate.now.loops.items }
     requires bounds { All (λ (l : LoopLine). AreVariableBounds (length code.now.names) l.bounds) certificate.now.loops.items }

@@ -131,13 +131,13 @@ fn quiet_or_listed<K: Ledger>(
     requires name { blank.name ≡ K.name }
     requires parts { blank.parts ≡ K.parts }
     requires some { 0 < K.parts }
-    requires tree { IsNumberedTree 0 64 (numbered tree.now) }
-    requires listed { IsBelow 64 (formula listed.now) }
+    requires tree { IsNumberedTree 0 320 (numbered tree.now) }
+    requires listed { IsBelow 320 (formula listed.now) }
     ensures truth { IfOk result (λ t. (v : List Bool) → leaf_of (plain t) v
         ≡ (not (leaf_of (plain tree.now) v) || true_on v (formula listed.now))) }
     ensures tests { IfOk result (λ t. (count : ℕ) → TestsBelow count (plain tree.now)
         → IsBelow count (formula listed.now) → TestsBelow count (plain t)) }
-    ensures numbered { IfOk result (λ t. IsNumberedTree 0 64 (numbered t)) }
+    ensures numbered { IfOk result (λ t. IsNumberedTree 0 320 (numbered t)) }
 {
     let mut steps = Steps::<K>::new(blank);
     let mut regions = Forest::new(alloc);
@@ -159,14 +159,14 @@ pub(crate) fn covered(
     alarm: &AlarmTree,
     lines: &[AlarmLine],
 ) -> Result<Tree<bool>, NoMemory>
-    requires tree { IsNumberedTree 0 64 (numbered alarm.now.tree) }
-    requires lines { All (λ (l : AlarmLine). IsBelow 64 (formula l.region)) lines.now }
+    requires tree { IsNumberedTree 0 320 (numbered alarm.now.tree) }
+    requires lines { All (λ (l : AlarmLine). IsBelow 320 (formula l.region)) lines.now }
     ensures truth { IfOk result (λ t. (v : List Bool) → leaf_of (plain t) v
         ≡ (not (leaf_of (plain alarm.now.tree) v) || is_listed lines.now (alarm.now.place, alarm.now.kind) v)) }
     ensures tests { IfOk result (λ t. (count : ℕ) → TestsBelow count (plain alarm.now.tree)
         → All (λ (l : AlarmLine). IsBelow count (formula l.region)) lines.now
         → TestsBelow count (plain t)) }
-    ensures numbered { IfOk result (λ t. IsNumberedTree 0 64 (numbered t)) }
+    ensures numbered { IfOk result (λ t. IsNumberedTree 0 320 (numbered t)) }
 {
     if is_never(&alarm.tree) {
         return Tree::leaf(alloc, true);

@@ -27,7 +27,7 @@ pub(crate) fn first_unsettled(
 ) -> Result<Option<(Place, Config)>, NoMemory>
     requires atoms { AreAtoms (length prepared.now.features) atoms.now }
     requires tests { All (λ (l : LoopTree). TestsBelow (length atoms.now) (plain l.tree)) loops.now }
-    requires trees { All (λ (l : LoopTree). IsNumberedTree 0 64 (numbered l.tree)) loops.now }
+    requires trees { All (λ (l : LoopTree). IsNumberedTree 0 320 (numbered l.tree)) loops.now }
     ensures { IfOk result (λ found. MatchOption found
         (AllHold prepared.now (loop_holds atoms.now) loops.now)
         (λ x. IsFirstLoop prepared.now atoms.now loops.now x.0 x.1.values)) }

@@ -37,9 +37,9 @@ pub(crate) fn first_unlisted(
     lines: &[AlarmLine],
 ) -> Result<Option<UnlistedStop>, NoMemory>
     requires atoms { AreAtoms (length prepared.now.features) atoms.now }
-    requires few { length atoms.now ≤ 64 }
+    requires few { length atoms.now ≤ 320 }
     requires tests { All (λ (a : AlarmTree). TestsBelow (length atoms.now) (plain a.tree)) alarms.now }
-    requires trees { All (λ (a : AlarmTree). IsNumberedTree 0 64 (numbered a.tree)) alarms.now }
+    requires trees { All (λ (a : AlarmTree). IsNumberedTree 0 320 (numbered a.tree)) alarms.now }
     requires lines { All (λ (l : AlarmLine). IsBelow (length atoms.now) (formula l.region)) lines.now }
     ensures { IfOk result (λ found. MatchOption found
         (AllHold prepared.now (stop_holds atoms.now lines.now) alarms.now)

@@ -6,11 +6,14 @@ use Rattle.fam_outer.specs.declared.faults.Place.{Place}
 use Rattle.c_tree.specs.declared.tree.Expr.{Expr}
 use Rattle.c_tree.specs.declared.tree.Stmt.{Stmt}
 use Rattle.c_tree.specs.declared.tree.Stmt.TheVariants as variant
-use Rattle.c_tree.specs.declared.tree.Stmt.TheViews.{outs-Input, outs-If, outs-While, outs-Block, outs-Cond}
-use Rattle.c_tree.specs.Tree.{Code, Input, If, While, Block, Cond}
+use Rattle.c_tree.specs.declared.tree.Stmt.TheViews.{outs-Skip, outs-Input, outs-If, outs-While, outs-Block, outs-Cond}
+use Rattle.c_tree.specs.Tree.{Code, Skip, Input, If, While, Block, Cond}
 use Rattle.c_tree.specs.View.{front, code, term}
 use Rattle.c_tree.proofs.Views.{front_out}
 use Rattle.c_tree.proofs.Listed.{code-push}
+
+pub front_Skip : (place : Place) (rest : Code) → front (variant.Skip place) rest ≡ Skip place rest
+front_Skip place rest = rw (front_out, outs-Skip) refl
 
 pub front_Input : (place : Place) (x : ℕ) (rest : Code) → front (variant.Input place x) rest ≡ Input place x rest
 front_Input place x rest = rw (front_out, outs-Input) refl
@@ -27,4 +30,4 @@ front_Block place body rest = rw (front_out, outs-Block) refl
 pub front_Cond : (number : ℕ) (p q : Vec Stmt Global) (rest : Code) → front (variant.Cond number p q) rest ≡ Cond number (code p.items) (code q.items) rest
 front_Cond number p q rest = rw (front_out, outs-Cond) refl
 
-pub ruleset holding = (front_Input, front_If, front_While, front_Block, front_Cond, code-push)
+pub ruleset holding = (front_Skip, front_Input, front_If, front_While, front_Block, front_Cond, code-push)

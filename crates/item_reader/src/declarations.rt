@@ -18,7 +18,7 @@ use std::alloc::Global;
 const GREATEST: i64 = 2147483647;
 
 /// The declarators with one more, under the guards of the groups around it.
-fn with_declared(
+pub(crate) fn with_declared(
     alloc: Global,
     sections: &Sections,
     declared: Vec<Declared>,

@@ -39,7 +39,7 @@ pub(crate) fn expected(alloc: Global, purpose: Purpose) -> ReadingState
     }
 }
 
-/// `input` in place of an expression.
+/// The name of a function in place of an expression.
 fn input_of(mut frames: Vec<Frame>, purpose: Purpose) -> Option<ReadingState>
     ensures { option_map as_state result ≡ machine.input_of (as_frames frames.items) (as_purpose purpose) }
 {
@@ -49,7 +49,8 @@ fn input_of(mut frames: Vec<Frame>, purpose: Purpose) -> Option<ReadingState>
     }
 }
 
-/// `input` as the whole expression.
+/// The name of a function, whose call is the whole expression.
+#[tactic(auto, using(crate::proofs::Holding::holding))]
 fn input_for(purpose: Purpose) -> Option<ReadingState>
     ensures { option_map as_state result ≡ machine.input_of [] (as_purpose purpose) }
 {
@@ -58,10 +59,9 @@ fn input_for(purpose: Purpose) -> Option<ReadingState>
             place,
             target,
             outer,
-        } => Some(ReadingState::InputOpens {
-            place,
-            target,
+        } => Some(ReadingState::CallOpens {
             outer,
+            statement: Stmt::Input { place, target },
         }),
         Purpose::ToUpdate { .. }
         | Purpose::ToAssert { .. }
@@ -92,7 +92,7 @@ pub(crate) fn want(
         Sign::Open => waiting(frames, Frame::Paren, purpose),
         Sign::Bang => waiting(frames, Frame::Pre(Prefix::Inverse), purpose),
         Sign::Oper(op) => prefixed(frames, purpose, op),
-        Sign::Input => Ok(input_of(frames, purpose)),
+        Sign::Input | Sign::Function(_) => Ok(input_of(frames, purpose)),
         _ => Ok(None),
     }
 }

@@ -6,6 +6,7 @@ ghost use Rattle.c_grammar.specs.Grammar as grammar;
 ghost use Rattle.c_grammar.specs.Machine as machine;
 ghost use Rattle.item_reader.specs.Views.{as_leading, as_qualifier, as_sections, as_state, as_words, is_second_word};
 
+use crate::marks::{at_function, at_void_function};
 use crate::states::{Aim, Leading, Qualifier, ReadingState, Sections, TypeWords};
 use c_grammar::Sign;
 use c_tree::Declared;
@@ -48,6 +49,33 @@ pub(crate) fn behind_static(
     }
 }
 
+/// Behind `extern`: `void`, or the first word of a type.
+pub(crate) fn behind_extern(
+    sections: Sections,
+    declared: Vec<Declared>,
+    sign: Sign,
+) -> Option<ReadingState>
+    ensures { option_map as_state result ≡ machine.behind_extern (as_sections sections) declared.items sign }
+{
+    match sign {
+        Sign::Void => Some(ReadingState::AfterVoidType { sections, declared }),
+        other => first_word(Leading::ExternWord, sections, declared, other),
+    }
+}
+
+/// Behind `void`: the name of a function other than `input`, whose value is an `int`.
+pub(crate) fn behind_void(
+    sections: Sections,
+    declared: Vec<Declared>,
+    sign: Sign,
+) -> Option<ReadingState>
+    ensures { option_map as_state result ≡ machine.at_void_function
+        (machine.Parameters (machine.ToPrototype (as_sections sections) declared.items)) sign }
+{
+    let aim = Aim::ToPrototype { sections, declared };
+    at_void_function(ReadingState::Parameters { aim }, sign)
+}
+
 /// Behind `enum`: its brace. The first constant is 0.
 pub(crate) fn after_enum(
     sections: Sections,
@@ -62,16 +90,6 @@ pub(crate) fn after_enum(
             sections,
             declared,
         }),
-        _ => None,
-    }
-}
-
-/// The state, where the sign is `input`.
-fn at_input(next: ReadingState, sign: Sign) -> Option<ReadingState>
-    ensures { option_map as_state result ≡ machine.at_input (as_state next) sign }
-{
-    match sign {
-        Sign::Input => Some(next),
         _ => None,
     }
 }
@@ -143,7 +161,7 @@ fn naming(sections: Sections, declared: Vec<Declared>, sign: Sign) -> Option<Rea
             sections,
             declared,
         }),
-        Sign::Input => Some(ReadingState::Parameters {
+        Sign::Input | Sign::Function(_) => Some(ReadingState::Parameters {
             aim: Aim::ToPrototype { sections, declared },
         }),
         Sign::Main => main_of(sections, declared),
@@ -167,7 +185,7 @@ fn behind_type(
         Leading::ConstWord => declaring(Qualifier::Constant, sections, declared, sign),
         Leading::ExternWord => {
             let aim = Aim::ToPrototype { sections, declared };
-            at_input(ReadingState::Parameters { aim }, sign)
+            at_function(ReadingState::Parameters { aim }, sign)
         }
     }
 }

@@ -2,6 +2,7 @@
 #![tactic(auto)]
 
 mod declarations;
+mod definitions;
 mod endings;
 mod expressions;
 mod files;

@@ -37,3 +37,33 @@ pub(crate) fn at_semicolon(next: ReadingState, sign: Sign) -> Option<ReadingStat
         _ => None,
     }
 }
+
+/// The state behind `void`.
+pub(crate) fn at_void(next: ReadingState, sign: Sign) -> Option<ReadingState>
+    ensures { option_map as_state result ≡ machine.at_void (as_state next) sign }
+{
+    match sign {
+        Sign::Void => Some(next),
+        _ => None,
+    }
+}
+
+/// The state behind the name of a function.
+pub(crate) fn at_function(next: ReadingState, sign: Sign) -> Option<ReadingState>
+    ensures { option_map as_state result ≡ machine.at_function (as_state next) sign }
+{
+    match sign {
+        Sign::Input | Sign::Function(_) => Some(next),
+        _ => None,
+    }
+}
+
+/// The state behind the name of a function other than `input`.
+pub(crate) fn at_void_function(next: ReadingState, sign: Sign) -> Option<ReadingState>
+    ensures { option_map as_state result ≡ machine.at_void_function (as_state next) sign }
+{
+    match sign {
+        Sign::Function(_) => Some(next),
+        _ => None,
+    }
+}

@@ -20,7 +20,7 @@ pub(crate) fn in_parameters(aim: Aim, sign: Sign) -> Option<ReadingState>
     }
 }
 
-/// Behind the parentheses: a semicolon for `input`, and a brace for `main`.
+/// Behind the parentheses: a semicolon for a function outside, and a brace for `main`.
 pub(crate) fn after_parameters(alloc: Global, aim: Aim, sign: Sign) -> Option<ReadingState>
     ensures { option_map as_state result ≡ machine.after_parameters (as_aim aim) sign }
 {

@@ -20,8 +20,8 @@ use std::alloc::Global;
 /// The program that a list of items spells within the limits, over these names.
 ///
 /// An item is a token or a group directive (`#if`, `#elif`, `#else`, `#endif`) of a C file, and the grammar is that of
-/// `c_grammar`: declarations of `int` variables, which may stand in groups, and then `main` (ISO/IEC 9899:2011, 6.5 to
-/// 6.10.1). Without groups the program is plain, and a variable starts with the value of its last declarator, else with
+/// `c_grammar`: declarations of `int` variables and of functions outside, which may stand in groups, and then `main`
+/// (ISO/IEC 9899:2011, 6.5 to 6.10.1). Without groups the program is plain, and a variable starts with the value of its last declarator, else with
 /// 0. With groups each group of statements is a `Cond`, and each declarator is kept with the guards of the groups around
 /// it.
 ///

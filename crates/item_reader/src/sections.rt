@@ -151,6 +151,8 @@ pub(crate) fn outside(
         Sign::Extern => Ok(Some(ReadingState::AfterExtern { sections, declared })),
         Sign::Const => Ok(Some(ReadingState::AfterConst { sections, declared })),
         Sign::Enum => Ok(Some(ReadingState::AfterEnum { sections, declared })),
+        Sign::Define => Ok(Some(ReadingState::AfterDefine { sections, declared })),
+        Sign::Void => Ok(Some(ReadingState::AfterVoidType { sections, declared })),
         Sign::GroupIf(number) => section_start(alloc, number, sections, declared),
         Sign::GroupElif(number) => next_condition(number, sections, declared),
         Sign::GroupElse => last_section(sections, declared),

@@ -2,11 +2,11 @@
 #![tactic(auto)]
 
 ghost use Rattle.std.specs.Prelude.{◌≡◌, [], Some, option_map};
-ghost use Rattle.c_tree.specs.Tree.{Done};
+ghost use Rattle.c_tree.specs.Tree.{Done, Skip};
 ghost use Rattle.c_tree.specs.View.{front};
 ghost use Rattle.c_grammar.specs.Grammar as grammar;
 ghost use Rattle.c_grammar.specs.Machine as machine;
-ghost use Rattle.item_reader.specs.Views.{Moves, as_count, as_stack, as_state, as_update};
+ghost use Rattle.item_reader.specs.Views.{Moves, as_count, as_purpose, as_stack, as_state, as_update};
 
 use crate::expressions::{expected, updated};
 use crate::groups::{group_end, last_part, next_part, opened};
@@ -66,6 +66,35 @@ fn block_in(alloc: Global, outer: Stack, place: Place) -> Result<Option<ReadingS
     Ok(Some(ReadingState::Ready { outer }))
 }
 
+/// A call whose value is dropped.
+fn called(outer: Stack, place: Place) -> Option<ReadingState>
+    ensures { option_map as_state result ≡ Some (machine.CallOpens (as_stack outer) (Skip place Done)) }
+{
+    Some(ReadingState::CallOpens {
+        outer,
+        statement: Stmt::Skip { place },
+    })
+}
+
+/// `++` or `--`: the name of a variable comes.
+fn counts(place: Place, count: Count, outer: Stack) -> Option<ReadingState>
+    ensures { option_map as_state result
+        ≡ Some (machine.Counting place (as_count count) (as_stack outer)) }
+{
+    Some(ReadingState::Counting {
+        place,
+        count,
+        outer,
+    })
+}
+
+/// The word of a statement with an expression in parentheses.
+fn opens(purpose: Purpose) -> Option<ReadingState>
+    ensures { option_map as_state result ≡ Some (machine.Opens (as_purpose purpose)) }
+{
+    Some(ReadingState::Opens { purpose })
+}
+
 /// What a sign leads to where a statement may begin.
 pub(crate) fn begin(
     alloc: Global,
@@ -85,27 +114,15 @@ pub(crate) fn begin(
             outer,
             statement: Stmt::Skip { place },
         })),
-        Sign::PlusPlus => Ok(Some(ReadingState::Counting {
-            place,
-            count: Count::Raise,
-            outer,
-        })),
-        Sign::MinusMinus => Ok(Some(ReadingState::Counting {
-            place,
-            count: Count::Lower,
-            outer,
-        })),
+        Sign::Input | Sign::Function(_) => Ok(called(outer, place)),
+        Sign::Open => Ok(Some(ReadingState::VoidComes { place, outer })),
+        Sign::PlusPlus => Ok(counts(place, Count::Raise, outer)),
+        Sign::MinusMinus => Ok(counts(place, Count::Lower, outer)),
         Sign::LeftBrace => block_in(alloc, outer, place),
         Sign::RightBrace => Ok(braced(alloc, outer, place)),
-        Sign::Assert => Ok(Some(ReadingState::Opens {
-            purpose: Purpose::ToAssert { place, outer },
-        })),
-        Sign::If => Ok(Some(ReadingState::Opens {
-            purpose: Purpose::ToChoose { place, outer },
-        })),
-        Sign::While => Ok(Some(ReadingState::Opens {
-            purpose: Purpose::ToLoop { place, outer },
-        })),
+        Sign::Assert => Ok(opens(Purpose::ToAssert { place, outer })),
+        Sign::If => Ok(opens(Purpose::ToChoose { place, outer })),
+        Sign::While => Ok(opens(Purpose::ToLoop { place, outer })),
         Sign::Return => Ok(returned(outer, place)),
         Sign::GroupIf(number) => opened(alloc, number, outer),
         Sign::GroupElif(number) => next_part(alloc, number, outer),

@@ -210,6 +210,11 @@ pub(crate) enum ReadingState {
         sections: Sections,
         declared: Vec<Declared>,
     },
+    /// Behind `void` before the name of a function.
+    AfterVoidType {
+        sections: Sections,
+        declared: Vec<Declared>,
+    },
     /// Behind a word of a type.
     AfterType {
         leading: Leading,
@@ -256,6 +261,39 @@ pub(crate) enum ReadingState {
         declared: Vec<Declared>,
     },
     Enumerated {
+        sections: Sections,
+        declared: Vec<Declared>,
+    },
+    /// Behind `#define`.
+    AfterDefine {
+        sections: Sections,
+        declared: Vec<Declared>,
+    },
+    /// Behind the name of a definition, and behind a `-` there.
+    Defining {
+        name: u32,
+        sections: Sections,
+        declared: Vec<Declared>,
+    },
+    NegativeDefining {
+        name: u32,
+        sections: Sections,
+        declared: Vec<Declared>,
+    },
+    /// In the parentheses of a definition: before its number, behind a `-`, and behind the number.
+    Enclosing {
+        name: u32,
+        sections: Sections,
+        declared: Vec<Declared>,
+    },
+    NegativeEnclosing {
+        name: u32,
+        sections: Sections,
+        declared: Vec<Declared>,
+    },
+    Enclosed {
+        name: u32,
+        value: i64,
         sections: Sections,
         declared: Vec<Declared>,
     },
@@ -308,16 +346,28 @@ pub(crate) enum ReadingState {
     Opens {
         purpose: Purpose,
     },
-    /// Behind `input`, and behind its parenthesis.
-    InputOpens {
+    /// Behind the parenthesis at the front of a statement, behind `void` in it, and behind both parentheses: a call comes,
+    /// whose value is dropped.
+    VoidComes {
         place: Place,
-        target: u32,
         outer: Stack,
     },
-    InputCloses {
+    VoidCloses {
         place: Place,
-        target: u32,
         outer: Stack,
+    },
+    CallComes {
+        place: Place,
+        outer: Stack,
+    },
+    /// Behind the name of a function that is called, and behind its parenthesis. The call makes this statement.
+    CallOpens {
+        outer: Stack,
+        statement: Stmt,
+    },
+    CallCloses {
+        outer: Stack,
+        statement: Stmt,
     },
     /// The semicolon of a statement comes.
     Finishing {

@@ -9,10 +9,15 @@ ghost use Rattle.item_reader.specs.Stages.{stage};
 ghost use Rattle.item_reader.specs.Views.{as_stack, as_state, Moves};
 
 use crate::declarations::{is_bare, listing, negating, started, starting};
+use crate::definitions::{
+    after_define, defining, enclosed, enclosing, negative_defining, negative_enclosing,
+};
 use crate::endings::{closing, over, returning};
 use crate::expressions::{expected, have, want};
-use crate::heads::{after_enum, after_type, behind_static, declaring, first_word};
-use crate::marks::{at_close, at_open, at_semicolon};
+use crate::heads::{
+    after_enum, after_type, behind_extern, behind_static, behind_void, declaring, first_word,
+};
+use crate::marks::{at_close, at_function, at_open, at_semicolon, at_void};
 use crate::parameters::{after_parameters, in_parameters};
 use crate::sections::outside;
 use crate::statements::{begin, counting, named, on};
@@ -38,12 +43,15 @@ pub(crate) fn step(
             Ok(behind_static(sections, declared, sign))
         }
         ReadingState::AfterExtern { sections, declared } => {
-            Ok(first_word(Leading::ExternWord, sections, declared, sign))
+            Ok(behind_extern(sections, declared, sign))
         }
         ReadingState::AfterConst { sections, declared } => {
             Ok(first_word(Leading::ConstWord, sections, declared, sign))
         }
         ReadingState::AfterEnum { sections, declared } => Ok(after_enum(sections, declared, sign)),
+        ReadingState::AfterVoidType { sections, declared } => {
+            Ok(behind_void(sections, declared, sign))
+        }
         ReadingState::AfterType {
             leading,
             words,
@@ -104,6 +112,51 @@ fn step_declarator(
         ReadingState::Enumerated { sections, declared } => {
             Ok(at_semicolon(ReadingState::Outside { sections, declared }, sign))
         }
+        other => step_definition(alloc, other, place, sign),
+    }
+}
+
+/// The step of a state from a definition on.
+fn step_definition(
+    alloc: Global,
+    state: ReadingState,
+    place: Place,
+    sign: Sign,
+) -> Result<Option<ReadingState>, NoMemory>
+    requires unsigned { IsUnsigned sign }
+    requires stage { 2 ≤ stage (as_state state) }
+    ensures { Moves result (machine.step (as_state state) place sign) }
+{
+    match state {
+        ReadingState::AfterDefine { sections, declared } => {
+            Ok(after_define(sections, declared, sign))
+        }
+        ReadingState::Defining {
+            name,
+            sections,
+            declared,
+        } => defining(alloc, name, sections, declared, sign),
+        ReadingState::NegativeDefining {
+            name,
+            sections,
+            declared,
+        } => negative_defining(alloc, name, sections, declared, sign),
+        ReadingState::Enclosing {
+            name,
+            sections,
+            declared,
+        } => Ok(enclosing(name, sections, declared, sign)),
+        ReadingState::NegativeEnclosing {
+            name,
+            sections,
+            declared,
+        } => Ok(negative_enclosing(name, sections, declared, sign)),
+        ReadingState::Enclosed {
+            name,
+            value,
+            sections,
+            declared,
+        } => enclosed(alloc, name, value, sections, declared, sign),
         other => step_statement(alloc, other, place, sign),
     }
 }
@@ -115,7 +168,7 @@ fn step_statement(
     place: Place,
     sign: Sign,
 ) -> Result<Option<ReadingState>, NoMemory>
-    requires { 2 ≤ stage (as_state state) }
+    requires { 3 ≤ stage (as_state state) }
     ensures { Moves result (machine.step (as_state state) place sign) }
 {
     match state {
@@ -145,7 +198,7 @@ fn step_operand(
     place: Place,
     sign: Sign,
 ) -> Result<Option<ReadingState>, NoMemory>
-    requires { 3 ≤ stage (as_state state) }
+    requires { 4 ≤ stage (as_state state) }
     ensures { Moves result (machine.step (as_state state) place sign) }
 {
     match state {
@@ -159,45 +212,56 @@ fn step_operand(
             let next = expected(alloc, purpose);
             Ok(at_open(next, sign))
         }
-        ReadingState::InputOpens {
-            place,
-            target,
-            outer,
-        } => Ok(at_open(
-            ReadingState::InputCloses {
-                place,
-                target,
-                outer,
-            },
-            sign,
-        )),
-        ReadingState::InputCloses {
-            place,
-            target,
-            outer,
-        } => Ok(input_closes(place, target, outer, sign)),
+        other => step_call(alloc, other, place, sign),
+    }
+}
+
+/// The step of a state from a call on.
+fn step_call(
+    alloc: Global,
+    state: ReadingState,
+    place: Place,
+    sign: Sign,
+) -> Result<Option<ReadingState>, NoMemory>
+    requires { 5 ≤ stage (as_state state) }
+    ensures { Moves result (machine.step (as_state state) place sign) }
+{
+    match state {
+        ReadingState::VoidComes { place, outer } => {
+            Ok(at_void(ReadingState::VoidCloses { place, outer }, sign))
+        }
+        ReadingState::VoidCloses { place, outer } => {
+            Ok(at_close(ReadingState::CallComes { place, outer }, sign))
+        }
+        ReadingState::CallComes { place, outer } => Ok(call_comes(place, outer, sign)),
+        ReadingState::CallOpens { outer, statement } => {
+            Ok(at_open(ReadingState::CallCloses { outer, statement }, sign))
+        }
+        ReadingState::CallCloses { outer, statement } => {
+            Ok(at_close(ReadingState::Finishing { outer, statement }, sign))
+        }
         other => step_edge(alloc, other, place, sign),
     }
 }
 
-/// The closing parenthesis of `input`.
+/// The name of a function comes, whose call does nothing else.
 #[tactic(auto, using(crate::proofs::Holding::holding))]
-fn input_closes(place: Place, target: u32, outer: Stack, sign: Sign) -> Option<ReadingState>
+fn call_comes(place: Place, outer: Stack, sign: Sign) -> Option<ReadingState>
     ensures { option_map as_state result
-        ≡ machine.at_close (machine.Finishing (as_stack outer) (tree.Input place target tree.Done)) sign }
+        ≡ machine.at_function (machine.CallOpens (as_stack outer) (tree.Skip place tree.Done)) sign }
 {
-    let statement = Stmt::Input { place, target };
-    at_close(ReadingState::Finishing { outer, statement }, sign)
+    let statement = Stmt::Skip { place };
+    at_function(ReadingState::CallOpens { outer, statement }, sign)
 }
 
-/// The step of a state in the parentheses of a function, or at the end of a file.
+/// The step of a state in the parentheses of a function that is declared, or at the end of a file.
 fn step_edge(
     alloc: Global,
     state: ReadingState,
     place: Place,
     sign: Sign,
 ) -> Result<Option<ReadingState>, NoMemory>
-    requires { 4 ≤ stage (as_state state) }
+    requires { 6 ≤ stage (as_state state) }
     ensures { Moves result (machine.step (as_state state) place sign) }
 {
     match state {

@@ -22,11 +22,11 @@ truths_same [] (t ∷ ts) v h = absurd h
 truths_same (c ∷ cs) [] v h = absurd h
 truths_same (c ∷ cs) (t ∷ ts) v h = ap (λ (b : Bool). b ∷ truths_in ts v) (h.0.truth v) ∙ ap (λ l. true_on v (formula c) ∷ l) (truths_same cs ts v h.2)
 
-pub numbered_each : (cs : List Formula) (ts : List (Tree Bool)) (i : ℕ) (t : Tree Bool) → AreTreesOf cs ts → slice_get ts i ≡ Some t → IsNumberedTree 0 64 (numbered t)
+pub numbered_each : (cs : List Formula) (ts : List (Tree Bool)) (i : ℕ) (t : Tree Bool) → AreTreesOf cs ts → slice_get ts i ≡ Some t → IsNumberedTree 0 320 (numbered t)
 numbered_each [] [] i t h e = cc
 numbered_each [] (u ∷ ts) i t h e = absurd h
 numbered_each (c ∷ cs) [] i t h e = absurd h
-numbered_each (c ∷ cs) (u ∷ ts) zero t h e = let f : u ≡ t = cc in subst (λ x. IsNumberedTree 0 64 (numbered x)) f h.1
+numbered_each (c ∷ cs) (u ∷ ts) zero t h e = let f : u ≡ t = cc in subst (λ x. IsNumberedTree 0 320 (numbered x)) f h.1
 numbered_each (c ∷ cs) (u ∷ ts) (suc i) t h e = numbered_each cs ts i t h.2 e
 
 pub tests_each : (cs : List Formula) (ts : List (Tree Bool)) (k : ℕ) → AreTreesOf cs ts → HasTestIn k ts → HasNumberIn k cs
@@ -36,7 +36,7 @@ tests_each (c ∷ cs) [] k h w = absurd h
 tests_each (c ∷ cs) (u ∷ ts) k h (inl w) = inl (h.0.tests k w)
 tests_each (c ∷ cs) (u ∷ ts) k h (inr w) = inr (tests_each cs ts k h.2 w)
 
-trees_push : (cs : List Formula) (ts : List (Tree Bool)) (c : Formula) (t : Tree Bool) → AreTreesOf cs ts → IsTreeOf (formula c) (plain t) → IsNumberedTree 0 64 (numbered t) → AreTreesOf (cs ++ c ∷ []) (ts ++ t ∷ [])
+trees_push : (cs : List Formula) (ts : List (Tree Bool)) (c : Formula) (t : Tree Bool) → AreTreesOf cs ts → IsTreeOf (formula c) (plain t) → IsNumberedTree 0 320 (numbered t) → AreTreesOf (cs ++ c ∷ []) (ts ++ t ∷ [])
 trees_push [] [] c t h k n = (k, n, tt)
 trees_push [] (u ∷ ts) c t h k n = absurd h
 trees_push (d ∷ cs) [] c t h k n = absurd h
@@ -44,7 +44,7 @@ trees_push (d ∷ cs) (u ∷ ts) c t h k n = (h.0, h.1, trees_push cs ts c t h.2
 
 -- one more condition of a list
 pub trees_more : (cs : List Formula) (i : ℕ) (c : Formula) (ts us : List (Tree Bool)) (t : Tree Bool) → i < length cs → c ≡ get_or cs i c → us ≡ ts ++ t ∷ []
-    → AreTreesOf (take i cs) ts → IsTreeOf (formula c) (plain t) → IsNumberedTree 0 64 (numbered t) → AreTreesOf (take (i + 1) cs) us
+    → AreTreesOf (take i cs) ts → IsTreeOf (formula c) (plain t) → IsNumberedTree 0 320 (numbered t) → AreTreesOf (take (i + 1) cs) us
 trees_more cs i c ts us t l e f h k n =
     subst (λ x. AreTreesOf x us) (sym (take_more cs i c l ∙ ap (λ x. take i cs ++ x ∷ []) (sym e))) (subst (AreTreesOf (take i cs ++ c ∷ [])) (sym f) (trees_push (take i cs) ts c t h k n))
 

@@ -65,12 +65,12 @@ turns_in-append (x ∷ xs) ys =
     ap (λ l. turn_of x.place x.leaf x.turn ++ l) (turns_in-append xs ys) ∙ sym (append_assoc (turn_of x.place x.leaf x.turn) (turns_in xs) (turns_in ys))
 
 pub state_reduced : {L : Type 0} (value : L → LeafValue) (family : FamilyContext) (forest : List (Plain L)) (t : Numbered L) → IsState value family forest t → IsReducedTree family t
-state_reduced value family forest t s = record { tree = numbered_tree 0 64 forest t s.tree; tests = s.tests }
+state_reduced value family forest t s = record { tree = numbered_tree 0 320 forest t s.tree; tests = s.tests }
 
 -- a tree of truths that is made of a state leaf by leaf
 pub stops_reduced : {L E : Type 0} (made : Result (Tree Bool) E) (value : L → LeafValue) (family : FamilyContext) (forest : List (Plain L)) (truths : List (Plain Bool)) (t : Numbered L)
-    → IsState value family forest t → IfOk made (λ r. TestsAreOf (erase t) (plain r)) → IfOk made (λ r. IsTreeIn 0 64 truths (numbered r)) → IfOk made (λ r. IsReducedTree family (numbered r))
-stops_reduced (Ok r) value family forest truths t s q own = record { tree = numbered_tree 0 64 truths (numbered r) own; tests = λ k h. s.tests k (q.each k h) }
+    → IsState value family forest t → IfOk made (λ r. TestsAreOf (erase t) (plain r)) → IfOk made (λ r. IsTreeIn 0 320 truths (numbered r)) → IfOk made (λ r. IsReducedTree family (numbered r))
+stops_reduced (Ok r) value family forest truths t s q own = record { tree = numbered_tree 0 320 truths (numbered r) own; tests = λ k h. s.tests k (q.each k h) }
 stops_reduced (Err e) value family forest truths t s q own = tt
 
 module _ {L : Type 0} (value : L → LeafValue) (M : LeafMeaning) (family : FamilyContext) where

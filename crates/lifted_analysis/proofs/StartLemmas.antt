@@ -30,10 +30,10 @@ use Rattle.lifted_analysis.specs.States.{IsState, IsTruth, truths_in}
 module _ (family : FamilyContext) where
   pub tree_made : {A B C : Type 0} (P : A → B → C → Type 0) (op : A → B → C) (f : List Bool → A) (g : List Bool → B) (forest : List (Plain C)) (t : Tree A) (u : Tree B) (r : Tree C)
       → ((a : A) (b : B) (c : C) → P a b c → c ≡ op a b) → IsTreeAt family f t → IsTreeAt family g u
-      → IsUnified P (plain t) (plain u) (plain r) → TestsAreOfEither (plain t) (plain u) (plain r) → IsTreeIn 0 64 forest (numbered r)
+      → IsUnified P (plain t) (plain u) (plain r) → TestsAreOfEither (plain t) (plain u) (plain r) → IsTreeIn 0 320 forest (numbered r)
       → IsTreeAt family (λ v. op (f v) (g v)) r
   tree_made P op f g forest t u r says h k m q own = record {
-    tree = numbered_tree 0 64 forest (numbered r) own;
+    tree = numbered_tree 0 320 forest (numbered r) own;
     tests = λ j w. elim (q.each j w) [ inl x ↦ h.tests j x | inr y ↦ k.tests j y ];
     at_each = λ v. says (leaf_of (plain t) v) (leaf_of (plain u) v) (leaf_of (plain r) v) (m.at_each v) ∙ (ap (λ a. op a (leaf_of (plain u) v)) (h.at_each v) ∙ ap (op (f v)) (k.at_each v));
   }
@@ -41,10 +41,10 @@ module _ (family : FamilyContext) where
   -- of one tree
   pub tree_mapped : {A B E : Type 0} (made : Result (Tree B) E) (P : A → B → Type 0) (op : A → B) (f : List Bool → A) (forest : List (Plain B)) (t : Tree A)
       → ((a : A) (b : B) → P a b → b ≡ op a) → IsTreeAt family f t
-      → IfOk made (λ r. IsMapped P (plain t) (plain r)) → IfOk made (λ r. TestsAreOf (plain t) (plain r)) → IfOk made (λ r. IsTreeIn 0 64 forest (numbered r))
+      → IfOk made (λ r. IsMapped P (plain t) (plain r)) → IfOk made (λ r. TestsAreOf (plain t) (plain r)) → IfOk made (λ r. IsTreeIn 0 320 forest (numbered r))
       → IfOk made (λ r. IsTreeAt family (λ v. op (f v)) r)
   tree_mapped (Ok r) P op f forest t says h m q own = record {
-    tree = numbered_tree 0 64 forest (numbered r) own;
+    tree = numbered_tree 0 320 forest (numbered r) own;
     tests = λ k w. h.tests k (q.each k w);
     at_each = λ v. says (leaf_of (plain t) v) (leaf_of (plain r) v) (m.at_each v) ∙ ap op (h.at_each v);
   }
@@ -59,9 +59,9 @@ module _ (family : FamilyContext) where
   no_test : {A : Type 0} (t : Plain A) (x : A) (k : ℕ) → t ≡ leaf x → HasTest k t → ⊥
   no_test t x k e h = subst (HasTest k) e h
 
-  pub leaf_tree : {A : Type 0} (forest : List (Plain A)) (t : Tree A) (x : A) → plain t ≡ leaf x → IsTreeIn 0 64 forest (numbered t) → IsTreeAt family (λ v. x) t
+  pub leaf_tree : {A : Type 0} (forest : List (Plain A)) (t : Tree A) (x : A) → plain t ≡ leaf x → IsTreeIn 0 320 forest (numbered t) → IsTreeAt family (λ v. x) t
   leaf_tree forest t x e own = record {
-    tree = numbered_tree 0 64 forest (numbered t) own;
+    tree = numbered_tree 0 320 forest (numbered t) own;
     tests = λ k h. absurd (no_test (plain t) x k e h);
     at_each = λ v. ap (λ u. leaf_of u v) e;
   }
@@ -81,7 +81,7 @@ module _ (family : FamilyContext) where
   pub start_fits : (start : List ℤ) (declared : List Declared) (t : Tree Beginning) → IsTreeAt family (begins_at family start declared) t
       → length start ≡ family.variables → All IsInt start → All (IsDeclaredOf family.variables) declared → (x : Beginning) → HasLeaf x (plain t) → IsBeginningOf family.variables x
   start_fits start declared t h n ints ds x w =
-      let r = reached 64 (plain t) x h.tree.reduced h.tree.small w in
+      let r = reached 320 (plain t) x h.tree.reduced h.tree.small w in
       let ts = truths_in family.choices.now r.0 in
       subst (IsBeginningOf family.variables) (sym (h.at_each r.0) ∙ r.2)
       (fits_where (leaf_of (plain family.plausible.now) r.0) (projected_start ts declared start) (length-start ts declared 0 start ∙ n) (ints-start ts declared family.variables 0 start ds ints))
@@ -136,7 +136,7 @@ module _ {L : Type 0} (value : L → LeafValue) (M : LeafMeaning) (laws : LeafLa
   -- the tree of their leaves
   pub begun : {E : Type 0} (made : Result (Tree L) E) (start : List ℤ) (declared : List Declared) (t : Tree Beginning) (P : Beginning → L → Type 0) (forest : List (Plain L)) → ((a : Beginning) (b : L) → P a b → value b ≡ leaf_with M family.variables a)
       → IsTreeAt family (begins_at family start declared) t → length start ≡ family.variables → All IsInt start → All (IsDeclaredOf family.variables) declared
-      → IfOk made (λ r. LeavesComeFrom P (plain t) (plain r)) → IfOk made (λ r. TestsAreOf (plain t) (plain r)) → IfOk made (λ r. IsTreeIn 0 64 forest (numbered r)) → IfOk made (λ r. IsState value family forest (numbered r))
+      → IfOk made (λ r. LeavesComeFrom P (plain t) (plain r)) → IfOk made (λ r. TestsAreOf (plain t) (plain r)) → IfOk made (λ r. IsTreeIn 0 320 forest (numbered r)) → IfOk made (λ r. IsState value family forest (numbered r))
   begun (Ok r) start declared t P forest says h n ints ds l q own = record {
     tree = own;
     tests = λ k w. h.tests k (q.each k w);

@@ -61,13 +61,13 @@ kept_is false b x e = ap (λ (c : Bool). if c then nothing_of x.variables else x
 
 module _ {L : Type 0} (value : L → LeafValue) (family : FamilyContext) where
   pub state_stays : (before after : List (Plain L)) (t : Numbered L) → Keeps before after → IsState value family before t → IsState value family after t
-  state_stays before after t k s = record { tree = tree_stays 0 64 before after t k s.tree; tests = s.tests; leaves = s.leaves }
+  state_stays before after t k s = record { tree = tree_stays 0 320 before after t k s.tree; tests = s.tests; leaves = s.leaves }
 
   pub state_as : (forest : List (Plain L)) (t u : Numbered L) → u ≡ t → IsState value family forest t → IsState value family forest u
   state_as forest t u e s = subst (IsState value family forest) (sym e) s
 
-  pub state_numbered : (forest : List (Plain L)) (t : Numbered L) → IsState value family forest t → IsNumberedTree 0 64 t
-  state_numbered forest t s = numbered_tree 0 64 forest t s.tree
+  pub state_numbered : (forest : List (Plain L)) (t : Numbered L) → IsState value family forest t → IsNumberedTree 0 320 t
+  state_numbered forest t s = numbered_tree 0 320 forest t s.tree
 
   pub state_sized : (forest : List (Plain L)) (t : Numbered L) → IsState value family forest t → IsSized value family t
   state_sized forest t s = record { tree = state_numbered forest t s; tests = s.tests; leaves = s.leaves }
@@ -78,7 +78,7 @@ module _ {L : Type 0} (value : L → LeafValue) (family : FamilyContext) where
   pub lifted_made : {E : Type 0} (made : Result (Tree L) E) (P : L → L → Type 0) (f : LeafValue → LeafValue) (before after : List (Plain L)) (t : Numbered L)
       → ((a b : L) → P a b → (value b ≡ f (value a)) × ((value b).variables ≡ (value a).variables))
       → IsState value family before t → IfOk made (λ r. IsMapped P (erase t) (plain r)) → IfOk made (λ r. LeavesComeFrom P (erase t) (plain r))
-      → IfOk made (λ r. TestsAreOf (erase t) (plain r)) → IfOk made (λ r. IsTreeIn 0 64 after (numbered r)) → Keeps before after
+      → IfOk made (λ r. TestsAreOf (erase t) (plain r)) → IfOk made (λ r. IsTreeIn 0 320 after (numbered r)) → Keeps before after
       → IfOk made (λ r. IsLifted value family before after (λ v. f) (erase t) (numbered r))
   lifted_made (Ok r) P f before after t says s m l q own k = record {
     state = record { tree = own; tests = λ j w. s.tests j (q.each j w); leaves = λ y w. let x = l.each y w in (says x.0 y x.2).1 ∙ s.leaves x.0 x.1 };
@@ -91,7 +91,7 @@ module _ {L : Type 0} (value : L → LeafValue) (family : FamilyContext) where
       → ((a b c : L) → P a b c → (value c ≡ f (value a) (value b)) × ((value c).variables ≡ (value a).variables))
       → IsState value family before t → IsState value family before u
       → IfOk made (λ r. IsUnified P (erase t) (erase u) (plain r)) → IfOk made (λ r. LeavesComeFromBoth P (erase t) (erase u) (plain r))
-      → IfOk made (λ r. TestsAreOfEither (erase t) (erase u) (plain r)) → IfOk made (λ r. IsTreeIn 0 64 after (numbered r)) → Keeps before after
+      → IfOk made (λ r. TestsAreOfEither (erase t) (erase u) (plain r)) → IfOk made (λ r. IsTreeIn 0 320 after (numbered r)) → Keeps before after
       → IfOk made (λ r. IsJoint value family before after (λ v. f) (erase t) (erase u) (numbered r))
   joint_made (Ok r) P f before after t u says s z m l q own k = record {
     state = record {
@@ -108,7 +108,7 @@ module _ {L : Type 0} (value : L → LeafValue) (family : FamilyContext) where
       → ((b : Bool) (x y : L) → P b x y → (value y ≡ f b (value x)) × ((value y).variables ≡ (value x).variables))
       → IsTruth family c → IsState value family before t
       → IfOk made (λ r. IsUnified P (erase c) (erase t) (plain r)) → IfOk made (λ r. LeavesComeFromBoth P (erase c) (erase t) (plain r))
-      → IfOk made (λ r. TestsAreOfEither (erase c) (erase t) (plain r)) → IfOk made (λ r. IsTreeIn 0 64 after (numbered r)) → Keeps before after
+      → IfOk made (λ r. TestsAreOfEither (erase c) (erase t) (plain r)) → IfOk made (λ r. IsTreeIn 0 320 after (numbered r)) → Keeps before after
       → IfOk made (λ r. IsLifted value family before after (λ v. f (leaf_of (erase c) v)) (erase t) (numbered r))
   kept_made (Ok r) P f before after c t says h s m l q own k = record {
     state = record {
@@ -123,19 +123,19 @@ module _ {L : Type 0} (value : L → LeafValue) (family : FamilyContext) where
 
   pub truth_made : {E : Type 0} (made : Result (Tree Bool) E) (after : List (Plain Bool)) (t u : Numbered L)
       → IsSized value family t → IsSized value family u
-      → IfOk made (λ r. TestsAreOfEither (erase t) (erase u) (plain r)) → IfOk made (λ r. IsTreeIn 0 64 after (numbered r))
+      → IfOk made (λ r. TestsAreOfEither (erase t) (erase u) (plain r)) → IfOk made (λ r. IsTreeIn 0 320 after (numbered r))
       → IfOk made (λ r. IsTruth family (numbered r))
   truth_made (Ok r) after t u s z q own = record {
-    tree = numbered_tree 0 64 after (numbered r) own;
+    tree = numbered_tree 0 320 after (numbered r) own;
     tests = λ j w. elim (q.each j w) [ inl x ↦ s.tests j x | inr y ↦ z.tests j y ];
   }
   truth_made (Err e) after t u s z q own = tt
 
   -- where two truths are as they should be
   pub truths_made : {E : Type 0} (made : Result (Tree Bool) E) (after : List (Plain Bool)) (t u : Numbered Bool) → IsTruth family t → IsTruth family u
-      → IfOk made (λ r. TestsAreOfEither (erase t) (erase u) (plain r)) → IfOk made (λ r. IsTreeIn 0 64 after (numbered r)) → IfOk made (λ r. IsTruth family (numbered r))
+      → IfOk made (λ r. TestsAreOfEither (erase t) (erase u) (plain r)) → IfOk made (λ r. IsTreeIn 0 320 after (numbered r)) → IfOk made (λ r. IsTruth family (numbered r))
   truths_made (Ok r) after t u s z q own = record {
-    tree = numbered_tree 0 64 after (numbered r) own;
+    tree = numbered_tree 0 320 after (numbered r) own;
     tests = λ j w. elim (q.each j w) [ inl x ↦ s.tests j x | inr y ↦ z.tests j y ];
   }
   truths_made (Err e) after t u s z q own = tt

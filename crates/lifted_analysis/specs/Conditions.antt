@@ -12,7 +12,7 @@ use Rattle.lifted_analysis.specs.declared.conditions.FamilyTrees.{FamilyTrees}
 -- each tree is the numbered tree of the formula at its place, and there are as many
 abbrev pub AreTreesOf : List Formula → List (Tree Bool) → Type 0
 AreTreesOf [] [] = Unit {0}
-AreTreesOf (c ∷ cs) (t ∷ ts) = IsTreeOf (formula c) (plain t) × IsNumberedTree 0 64 (numbered t) × AreTreesOf cs ts
+AreTreesOf (c ∷ cs) (t ∷ ts) = IsTreeOf (formula c) (plain t) × IsNumberedTree 0 320 (numbered t) × AreTreesOf cs ts
 AreTreesOf [] (t ∷ ts) = ⊥
 AreTreesOf (c ∷ cs) [] = ⊥
 
@@ -20,5 +20,5 @@ AreTreesOf (c ∷ cs) [] = ⊥
 pub record AreFamilyTrees (cs : List Formula) (pl : Formula) (t : FamilyTrees) : Type 0 where
   pub choices : AreTreesOf cs t.choices.items
   pub plausible : IsTreeOf (formula pl) (plain t.plausible)
-  pub tree : IsNumberedTree 0 64 (numbered t.plausible)
+  pub tree : IsNumberedTree 0 320 (numbered t.plausible)
   pub never : (x : ℕ) × (numbered t.never ≡ kept x false)

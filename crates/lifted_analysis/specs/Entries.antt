@@ -117,7 +117,7 @@ AreSized {L} value family ts = All (λ (t : TurnTree L). IsSizedTurn value famil
 
 -- a reduced tree with numbers, whose tests are the family's
 pub record IsReducedTree {L : Type 0} (family : FamilyContext) (t : Numbered L) : Type 0 where
-  pub tree : IsNumberedTree 0 64 t
+  pub tree : IsNumberedTree 0 320 t
   pub tests : (k : ℕ) → HasTest k (erase t) → IsTest family k
 
 abbrev pub AreReduced : {L : Type 0} → FamilyContext → List (PlaceTree L) → Type 0

@@ -55,8 +55,8 @@ pub record AreFindings {L : Type 0} (value : L → LeafValue) (M : LeafMeaning) 
   pub trees : (m : ℕ) → AreBelow m conditions plausible → All (λ (x : PlaceTree L). IsTreeOf m (leaf_at M o p conditions plausible x.place) (valued value (plain x.tree))) f.places.items
   pub kinds : map (λ (a : AlarmTree). (a.place, a.kind)) f.alarms.items ≡ by_kind (program_places p)
   pub alarms : (m : ℕ) → AreBelow m conditions plausible → All (λ (a : AlarmTree). IsTreeOf m (stop_at M o p conditions plausible (a.place, a.kind)) (plain a.tree)) f.alarms.items
-  pub places_numbered : All (λ (x : PlaceTree L). IsNumberedTree 0 64 (numbered x.tree)) f.places.items
-  pub alarms_numbered : All (λ (a : AlarmTree). IsNumberedTree 0 64 (numbered a.tree)) f.alarms.items
+  pub places_numbered : All (λ (x : PlaceTree L). IsNumberedTree 0 320 (numbered x.tree)) f.places.items
+  pub alarms_numbered : All (λ (a : AlarmTree). IsNumberedTree 0 320 (numbered a.tree)) f.alarms.items
   pub reduced : All (λ (x : PlaceTree L). IsReduced (plain x.tree)) f.places.items
   pub below : (m : ℕ) → AreBelow m conditions plausible → All (λ (x : PlaceTree L). TestsBelow m (plain x.tree)) f.places.items
   pub tests : All (λ (x : PlaceTree L). (k : ℕ) → HasTest k (plain x.tree) → Occurs conditions plausible k) f.places.items

@@ -58,5 +58,5 @@ pub record ArePassFindings {L : Type 0} (value : L → LeafValue) (M : LeafMeani
   pub alarms : (m : ℕ) → AreBelow m conditions plausible → AreRegionsBelow m lines → All (λ (a : AlarmTree). IsTreeOf m (pass_stop_at M mode p conditions plausible lines (a.place, a.kind)) (plain a.tree)) f.alarms.items
   pub loops : map (λ (l : LoopTree). l.place) f.loops.items ≡ loop_places p.body
   pub inductive : (m : ℕ) → AreBelow m conditions plausible → AreRegionsBelow m lines → All (λ (l : LoopTree). IsTreeOf m (inductive_at M mode p conditions plausible lines l.place) (plain l.tree)) f.loops.items
-  pub alarms_numbered : All (λ (a : AlarmTree). IsNumberedTree 0 64 (numbered a.tree)) f.alarms.items
-  pub loops_numbered : All (λ (l : LoopTree). IsNumberedTree 0 64 (numbered l.tree)) f.loops.items
+  pub alarms_numbered : All (λ (a : AlarmTree). IsNumberedTree 0 320 (numbered a.tree)) f.alarms.items
+  pub loops_numbered : All (λ (l : LoopTree). IsNumberedTree 0 320 (numbered l.tree)) f.loops.items

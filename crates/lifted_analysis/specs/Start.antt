@@ -16,7 +16,7 @@ use Rattle.lifted_analysis.specs.States.{IsTest, truths_in}
 
 -- a numbered tree whose tests are the family's, and which has at every vector the value of f
 pub record IsTreeAt {A : Type 0} (family : FamilyContext) (f : List Bool → A) (t : Tree A) : Type 0 where
-  pub tree : IsNumberedTree 0 64 (numbered t)
+  pub tree : IsNumberedTree 0 320 (numbered t)
   pub tests : (k : ℕ) → HasTest k (plain t) → IsTest family k
   pub at_each : (v : List Bool) → leaf_of (plain t) v ≡ f v
 

@@ -32,29 +32,29 @@ abbrev pub IsTest : FamilyContext → ℕ → Type 0
 IsTest family k = HasTest k (plain family.plausible.now) ⊎ (HasTestIn k family.choices.now ⊎ HasRegionNumber k family.lines.now)
 
 -- at most 48 variables, trees of conditions that are reduced and numbered, the tree that is false everywhere, and lines whose
--- numbers are below 64, with bounds for all variables
+-- numbers are below 320, with bounds for all variables
 pub record IsFamily (family : FamilyContext) : Type 0 where
   pub few : family.variables ≤ 48
   pub never : (x : ℕ) × (numbered family.never.now ≡ kept x false)
-  pub regions : AreRegionsBelow 64 family.lines.now
+  pub regions : AreRegionsBelow 320 family.lines.now
   pub bounds : All (λ (l : LoopLine). AreVariableBounds family.variables l.bounds) family.lines.now
-  pub choices : (i : ℕ) (c : Tree Bool) → slice_get family.choices.now i ≡ Some c → IsNumberedTree 0 64 (numbered c)
+  pub choices : (i : ℕ) (c : Tree Bool) → slice_get family.choices.now i ≡ Some c → IsNumberedTree 0 320 (numbered c)
 
 -- a tree of truths whose tests are the family's
 pub record IsTruth (family : FamilyContext) (t : Numbered Bool) : Type 0 where
-  pub tree : IsNumberedTree 0 64 t
+  pub tree : IsNumberedTree 0 320 t
   pub tests : (k : ℕ) → HasTest k (erase t) → IsTest family k
 
 module _ {L : Type 0} (value : L → LeafValue) (family : FamilyContext) where
   -- a reduced tree of the forest whose tests are the family's, and whose leaves are over its variables
   pub record IsState (forest : List (Plain L)) (t : Numbered L) : Type 0 where
-    pub tree : IsTreeIn 0 64 forest t
+    pub tree : IsTreeIn 0 320 forest t
     pub tests : (k : ℕ) → HasTest k (erase t) → IsTest family k
     pub leaves : (x : L) → HasLeaf x (erase t) → (value x).variables ≡ family.variables
 
   -- the same of any forest
   pub record IsSized (t : Numbered L) : Type 0 where
-    pub tree : IsNumberedTree 0 64 t
+    pub tree : IsNumberedTree 0 320 t
     pub tests : (k : ℕ) → HasTest k (erase t) → IsTest family k
     pub leaves : (x : L) → HasLeaf x (erase t) → (value x).variables ≡ family.variables
 

@@ -128,7 +128,7 @@ fn findings_in<L: Leaf, K: Ledger>(
     options: &Options,
 ) -> Result<FamilyFindings<L>, NoMemory>
     requires program { IsProgram (whole code.now) }
-    requires below { AreBelow 64 conditions.now plausible.now }
+    requires below { AreBelow 320 conditions.now plausible.now }
     ensures { IfOk result (λ f. AreFindings L.value L.meaning options.now
         (whole code.now) conditions.now plausible.now f) }
 {
@@ -163,7 +163,7 @@ fn analyse_counted<L: Leaf, K: Ledger>(
     requires parts { blank.parts ≡ K.parts }
     requires some { 0 < K.parts }
     requires program { IsProgram (whole code.now) }
-    requires below { AreBelow 64 conditions.now plausible.now }
+    requires below { AreBelow 320 conditions.now plausible.now }
     ensures { IfOk result (λ f. AreFindings L.value L.meaning options.now
         (whole code.now) conditions.now plausible.now f) }
 {
@@ -174,7 +174,7 @@ fn analyse_counted<L: Leaf, K: Ledger>(
 /// The analysis of all variants of a family at once.
 ///
 /// A vector has a truth for each numbered test of the conditions, of which `conditions` has one formula each, and of
-/// `plausible`; all numbers are below 64. The program of a vector is the family's, projected by the truths of the conditions
+/// `plausible`; all numbers are below 320. The program of a vector is the family's, projected by the truths of the conditions
 /// there. Its analysis begins with the leaf of its start values, or with Nothing where `plausible` is false.
 ///
 /// The places are those of the family in the order of the text, that of the closing brace of `main` last. The tree of a place
@@ -193,7 +193,7 @@ pub fn analyse_family<L: Leaf>(
 ) -> Result<FamilyFindings<L>, NoMemory>
     requires program { IsProgram (whole code.now) }
     requires conditioned { IsConditioned (length conditions.now) (whole code.now) }
-    requires below { AreBelow 64 conditions.now plausible.now }
+    requires below { AreBelow 320 conditions.now plausible.now }
     ensures places { IfOk result (λ f. map (λ p. p.place) f.places.items ≡ program_places (whole code.now)) }
     ensures trees { IfOk result (λ f. (m : ℕ) → AreBelow m conditions.now plausible.now
         → All (λ p. IsTreeOf m (leaf_at L.meaning options.now
@@ -205,9 +205,9 @@ pub fn analyse_family<L: Leaf>(
         → All (λ (a : AlarmTree). IsTreeOf m
         (stop_at L.meaning options.now (whole code.now) conditions.now plausible.now (a.place, a.kind))
         (plain a.tree)) f.alarms.items) }
-    ensures places_numbered { IfOk result (λ f. All (λ p. IsNumberedTree 0 64 (numbered p.tree)) f.places.items) }
+    ensures places_numbered { IfOk result (λ f. All (λ p. IsNumberedTree 0 320 (numbered p.tree)) f.places.items) }
     ensures alarms_numbered { IfOk result
-        (λ f. All (λ (a : AlarmTree). IsNumberedTree 0 64 (numbered a.tree)) f.alarms.items) }
+        (λ f. All (λ (a : AlarmTree). IsNumberedTree 0 320 (numbered a.tree)) f.alarms.items) }
     ensures reduced { IfOk result (λ f. All (λ p. IsReduced (plain p.tree)) f.places.items) }
     ensures below { IfOk result (λ f. (m : ℕ) → AreBelow m conditions.now plausible.now
         → All (λ p. TestsBelow m (plain p.tree)) f.places.items) }

@@ -29,7 +29,7 @@ fn condition_trees<L: Leaf, K: Ledger>(
     tables: &mut Tables<L, K>,
     conditions: &[Formula],
 ) -> Result<Vec<Tree<bool>>, NoMemory>
-    requires { All (λ (c : Formula). IsBelow 64 (formula c)) conditions.now }
+    requires { All (λ (c : Formula). IsBelow 320 (formula c)) conditions.now }
     ensures { IfOk result (λ trees. AreTreesOf conditions.now trees.items) }
 {
     let alloc = tables.alloc;
@@ -47,7 +47,7 @@ pub(crate) fn family_trees<L: Leaf, K: Ledger>(
     conditions: &[Formula],
     plausible: &Formula,
 ) -> Result<FamilyTrees, NoMemory>
-    requires { AreBelow 64 conditions.now plausible.now }
+    requires { AreBelow 320 conditions.now plausible.now }
     ensures { IfOk result (AreFamilyTrees conditions.now plausible.now) }
 {
     let alloc = tables.alloc;

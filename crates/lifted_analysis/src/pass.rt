@@ -74,8 +74,8 @@ fn pass_in<L: Leaf, K: Ledger>(
     lines: &[LoopLine],
 ) -> Result<PassFindings<L>, NoMemory>
     requires program { IsProgram (whole code.now) }
-    requires below { AreBelow 64 conditions.now plausible.now }
-    requires regions { AreRegionsBelow 64 lines.now }
+    requires below { AreBelow 320 conditions.now plausible.now }
+    requires regions { AreRegionsBelow 320 lines.now }
     requires bounds { All (λ (l : LoopLine). AreVariableBounds (length code.now.names) l.bounds) lines.now }
     ensures { IfOk result (λ f. ArePassFindings L.value L.meaning mode
         (whole code.now) conditions.now plausible.now lines.now f) }
@@ -120,8 +120,8 @@ fn pass_counted<L: Leaf, K: Ledger>(
     requires parts { blank.parts ≡ K.parts }
     requires some { 0 < K.parts }
     requires program { IsProgram (whole code.now) }
-    requires below { AreBelow 64 conditions.now plausible.now }
-    requires regions { AreRegionsBelow 64 lines.now }
+    requires below { AreBelow 320 conditions.now plausible.now }
+    requires regions { AreRegionsBelow 320 lines.now }
     requires bounds { All (λ (l : LoopLine). AreVariableBounds (length code.now.names) l.bounds) lines.now }
     ensures { IfOk result (λ f. ArePassFindings L.value L.meaning mode
         (whole code.now) conditions.now plausible.now lines.now f) }
@@ -153,8 +153,8 @@ pub fn pass_family<L: Leaf>(
 ) -> Result<PassFindings<L>, NoMemory>
     requires program { IsProgram (whole code.now) }
     requires conditioned { IsConditioned (length conditions.now) (whole code.now) }
-    requires below { AreBelow 64 conditions.now plausible.now }
-    requires regions { AreRegionsBelow 64 lines.now }
+    requires below { AreBelow 320 conditions.now plausible.now }
+    requires regions { AreRegionsBelow 320 lines.now }
     requires bounds { All (λ (l : LoopLine). AreVariableBounds (length code.now.names) l.bounds) lines.now }
     ensures places { IfOk result (λ f. map (λ p. p.place) f.places.items ≡ program_places (whole code.now)) }
     ensures trees { IfOk result (λ f. (m : ℕ) → AreBelow m conditions.now plausible.now
@@ -176,9 +176,9 @@ pub fn pass_family<L: Leaf>(
         (whole code.now) conditions.now plausible.now lines.now l.place)
         (plain l.tree)) f.loops.items) }
     ensures alarms_numbered { IfOk result
-        (λ f. All (λ (a : AlarmTree). IsNumberedTree 0 64 (numbered a.tree)) f.alarms.items) }
+        (λ f. All (λ (a : AlarmTree). IsNumberedTree 0 320 (numbered a.tree)) f.alarms.items) }
     ensures loops_numbered { IfOk result
-        (λ f. All (λ (l : LoopTree). IsNumberedTree 0 64 (numbered l.tree)) f.loops.items) }
+        (λ f. All (λ (l : LoopTree). IsNumberedTree 0 320 (numbered l.tree)) f.loops.items) }
     ensures runs { (v : List Bool)
         → AreInductive L.meaning (turns_at_vector L.meaning mode
         (whole code.now) conditions.now plausible.now lines.now v)

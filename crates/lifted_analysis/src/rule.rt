@@ -65,7 +65,7 @@ fn region_tree<L: Leaf, K: Ledger>(
 ) -> Result<Tree<L>, NoMemory>
     requires start { IsState L.value family.now tables.old.leaves (numbered start.now) }
     requires elsewhere { IsState L.value family.now tables.old.leaves (numbered elsewhere.now) }
-    requires region { IsBelow 64 (formula line.now.region) }
+    requires region { IsBelow 320 (formula line.now.region) }
     requires tests { (k : ℕ) → HasNumber k (formula line.now.region) → IsTest family.now k }
     requires bounds { AreVariableBounds family.now.variables line.now.bounds }
     ensures { IfOk result (λ r. IsJoint L.value family.now tables.old.leaves tables.new.leaves

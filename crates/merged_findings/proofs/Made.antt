@@ -12,10 +12,10 @@ use Rattle.merged_findings.specs.Restricting.{IsRestrictedTo}
 use Rattle.merged_findings.proofs.Restricting.{restricted_is}
 
 -- a tree with equal leaves everywhere is the same
-pub same_mapped : {A E : Type 0} (made : Result (Tree A) E) (P : A → A → Type 0) (t : Tree A) (forest : List (Plain A)) → ((a b : A) → P a b → b ≡ a) → IsNumberedTree 0 64 (numbered t)
-    → IfOk made (λ r. IsMapped P (plain t) (plain r)) → IfOk made (λ r. IsTreeIn 0 64 forest (numbered r)) → IfOk made (λ r. plain r ≡ plain t)
+pub same_mapped : {A E : Type 0} (made : Result (Tree A) E) (P : A → A → Type 0) (t : Tree A) (forest : List (Plain A)) → ((a b : A) → P a b → b ≡ a) → IsNumberedTree 0 320 (numbered t)
+    → IfOk made (λ r. IsMapped P (plain t) (plain r)) → IfOk made (λ r. IsTreeIn 0 320 forest (numbered r)) → IfOk made (λ r. plain r ≡ plain t)
 same_mapped (Ok r) P t forest same h mapped own =
-    same_from_agreeing (plain r) (plain t) 64 own.reduced h.reduced own.small h.small (λ v long. same (leaf_of (plain t) v) (leaf_of (plain r) v) (mapped.at_each v))
+    same_from_agreeing (plain r) (plain t) 320 own.reduced h.reduced own.small h.small (λ v long. same (leaf_of (plain t) v) (leaf_of (plain r) v) (mapped.at_each v))
 same_mapped (Err e) P t forest same h mapped own = tt
 
 -- what the function answers is so by the relation

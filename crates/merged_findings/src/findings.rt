@@ -34,8 +34,8 @@ fn merged_places<L: Leaf, K: Ledger>(
     care: &Tree<bool>,
     places: &[PlaceTree<L>],
 ) -> Result<Vec<PlaceTree<L>>, NoMemory>
-    requires care { IsTreeIn 0 64 tables.old.cares (numbered care.now) }
-    requires trees { All (λ p. IsNumberedTree 0 64 (numbered p.tree)) places.now }
+    requires care { IsTreeIn 0 320 tables.old.cares (numbered care.now) }
+    requires trees { All (λ p. IsNumberedTree 0 320 (numbered p.tree)) places.now }
     ensures merged { IfOk result (λ made. ArePairs (IsMergedPlace (plain care.now)) places.now made.items) }
     ensures cares { Keeps tables.old.cares tables.new.cares }
 {
@@ -56,8 +56,8 @@ fn merged_alarms<L: Leaf, K: Ledger>(
     care: &Tree<bool>,
     alarms: &[AlarmTree],
 ) -> Result<Vec<AlarmTree>, NoMemory>
-    requires care { IsTreeIn 0 64 tables.old.cares (numbered care.now) }
-    requires trees { All (λ (a : AlarmTree). IsNumberedTree 0 64 (numbered a.tree)) alarms.now }
+    requires care { IsTreeIn 0 320 tables.old.cares (numbered care.now) }
+    requires trees { All (λ (a : AlarmTree). IsNumberedTree 0 320 (numbered a.tree)) alarms.now }
     ensures merged { IfOk result (λ made. ArePairs (IsMergedAlarm (plain care.now)) alarms.now made.items) }
     ensures cares { Keeps tables.old.cares tables.new.cares }
 {
@@ -79,9 +79,9 @@ fn merged_in<L: Leaf, K: Ledger>(
     findings: &FamilyFindings<L>,
     plausible: &Formula,
 ) -> Result<FamilyFindings<L>, NoMemory>
-    requires below { IsBelow 64 (formula plausible.now) }
-    requires places { All (λ p. IsNumberedTree 0 64 (numbered p.tree)) findings.now.places.items }
-    requires alarms { All (λ (a : AlarmTree). IsNumberedTree 0 64 (numbered a.tree)) findings.now.alarms.items }
+    requires below { IsBelow 320 (formula plausible.now) }
+    requires places { All (λ p. IsNumberedTree 0 320 (numbered p.tree)) findings.now.places.items }
+    requires alarms { All (λ (a : AlarmTree). IsNumberedTree 0 320 (numbered a.tree)) findings.now.alarms.items }
     ensures { IfOk result (λ made. AreMerged (formula plausible.now) findings.now made) }
 {
     let alloc = tables.alloc;
@@ -101,9 +101,9 @@ fn merged_counted<L: Leaf, K: Ledger>(
     requires name { blank.name ≡ K.name }
     requires parts { blank.parts ≡ K.parts }
     requires some { 0 < K.parts }
-    requires below { IsBelow 64 (formula plausible.now) }
-    requires places { All (λ p. IsNumberedTree 0 64 (numbered p.tree)) findings.now.places.items }
-    requires alarms { All (λ (a : AlarmTree). IsNumberedTree 0 64 (numbered a.tree)) findings.now.alarms.items }
+    requires below { IsBelow 320 (formula plausible.now) }
+    requires places { All (λ p. IsNumberedTree 0 320 (numbered p.tree)) findings.now.places.items }
+    requires alarms { All (λ (a : AlarmTree). IsNumberedTree 0 320 (numbered a.tree)) findings.now.alarms.items }
     ensures { IfOk result (λ made. AreMerged (formula plausible.now) findings.now made) }
 {
     let mut tables = Tables::<L, K>::new(alloc, blank);
@@ -115,16 +115,16 @@ fn merged_counted<L: Leaf, K: Ledger>(
 ///
 /// Each tree of a place and each alarm tree stays where it is in its list, and each of its tests and leaves is one that it had. At each
 /// vector that is plausible it leads where it did; at others it may lead to any leaf that it had. The trees must have numbers, as those
-/// of `analyse_family` have, and the numbers of `plausible` be below 64. Only the pairs of a tree's nodes and of the trees that sides
+/// of `analyse_family` have, and the numbers of `plausible` be below 320. Only the pairs of a tree's nodes and of the trees that sides
 /// and unions of `plausible` come to are looked at, each once. The only refusal is want of memory.
 pub fn merged_findings<L: Leaf>(
     alloc: Global,
     findings: &FamilyFindings<L>,
     plausible: &Formula,
 ) -> Result<FamilyFindings<L>, NoMemory>
-    requires below { IsBelow 64 (formula plausible.now) }
-    requires places { All (λ p. IsNumberedTree 0 64 (numbered p.tree)) findings.now.places.items }
-    requires alarms { All (λ (a : AlarmTree). IsNumberedTree 0 64 (numbered a.tree)) findings.now.alarms.items }
+    requires below { IsBelow 320 (formula plausible.now) }
+    requires places { All (λ p. IsNumberedTree 0 320 (numbered p.tree)) findings.now.places.items }
+    requires alarms { All (λ (a : AlarmTree). IsNumberedTree 0 320 (numbered a.tree)) findings.now.alarms.items }
     ensures place_keys { IfOk result (λ made. map (λ p. p.place) made.places.items
         ≡ map (λ p. p.place) findings.now.places.items) }
     ensures alarm_keys { IfOk result (λ made. map {B = Place × Kind} (λ (a : AlarmTree). (a.place, a.kind)) made.alarms.items

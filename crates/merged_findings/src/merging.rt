@@ -47,9 +47,9 @@ fn own_leaves<L: Leaf, K: Ledger>(
     tables: &mut Tables<L, K>,
     t: &Tree<L>,
 ) -> Result<Tree<L>, NoMemory>
-    requires { IsNumberedTree 0 64 (numbered t.now) }
+    requires { IsNumberedTree 0 320 (numbered t.now) }
     ensures same { IfOk result (λ r. plain r ≡ plain t.now) }
-    ensures own { IfOk result (λ r. IsTreeIn 0 64 tables.new.leaves (numbered r)) }
+    ensures own { IfOk result (λ r. IsTreeIn 0 320 tables.new.leaves (numbered r)) }
     ensures cares { tables.new.cares ≡ tables.old.cares }
 {
     equality_is_exact::<L>();
@@ -65,9 +65,9 @@ fn own_truths<L: Leaf, K: Ledger>(
     tables: &mut Tables<L, K>,
     t: &Tree<bool>,
 ) -> Result<Tree<bool>, NoMemory>
-    requires { IsNumberedTree 0 64 (numbered t.now) }
+    requires { IsNumberedTree 0 320 (numbered t.now) }
     ensures same { IfOk result (λ r. plain r ≡ plain t.now) }
-    ensures own { IfOk result (λ r. IsTreeIn 0 64 tables.new.truths (numbered r)) }
+    ensures own { IfOk result (λ r. IsTreeIn 0 320 tables.new.truths (numbered r)) }
     ensures cares { tables.new.cares ≡ tables.old.cares }
 {
     let alloc = tables.alloc;
@@ -83,8 +83,8 @@ pub(crate) fn merged_leaves<L: Leaf, K: Ledger>(
     care: &Tree<bool>,
     t: &Tree<L>,
 ) -> Result<Tree<L>, NoMemory>
-    requires care { IsTreeIn 0 64 tables.old.cares (numbered care.now) }
-    requires tree { IsNumberedTree 0 64 (numbered t.now) }
+    requires care { IsTreeIn 0 320 tables.old.cares (numbered care.now) }
+    requires tree { IsNumberedTree 0 320 (numbered t.now) }
     ensures merged { IfOk result (λ r. IsRestrictedTo (plain t.now) (plain care.now) (plain r)) }
     ensures cares { Keeps tables.old.cares tables.new.cares }
 {
@@ -107,8 +107,8 @@ pub(crate) fn merged_truths<L: Leaf, K: Ledger>(
     care: &Tree<bool>,
     t: &Tree<bool>,
 ) -> Result<Tree<bool>, NoMemory>
-    requires care { IsTreeIn 0 64 tables.old.cares (numbered care.now) }
-    requires tree { IsNumberedTree 0 64 (numbered t.now) }
+    requires care { IsTreeIn 0 320 tables.old.cares (numbered care.now) }
+    requires tree { IsNumberedTree 0 320 (numbered t.now) }
     ensures merged { IfOk result (λ r. IsRestrictedTo (plain t.now) (plain care.now) (plain r)) }
     ensures cares { Keeps tables.old.cares tables.new.cares }
 {

@@ -55,7 +55,7 @@ fn codes_of_files_without_groups(rt: HostRuntime) -> Result<(), Fail> {
             "file: F3 at 1:1\n",
         ),
         (
-            "#define LIMIT 100\nint main(void) { }\n",
+            "#define LIMIT (99 + 1)\nint main(void) { }\n",
             "file: F4 at 1:1\n",
         ),
         (
@@ -75,6 +75,10 @@ fn codes_of_files_without_groups(rt: HostRuntime) -> Result<(), Fail> {
         (
             "int a, b, c, d, e, f, g, h, i, j, k, l, m, n, o, p, q;\nint main(void) { }\n",
             "file: F17 at 1:53\n",
+        ),
+        (
+            "enum { A, B, C, D, E, F, G, H, I, J, K, L, M, N, O, P, Q };\nint main(void) { }\n",
+            "file: F24 at 1:56\n",
         ),
     ];
     for (file, told) in rows {

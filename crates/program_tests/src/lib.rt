@@ -3,6 +3,8 @@
 #![tactic(auto)]
 
 #[cfg(test)]
+mod call_tests;
+#[cfg(test)]
 mod code_tests;
 #[cfg(test)]
 mod dialect_tests;

@@ -1,12 +1,13 @@
 -- Conditions have their atoms, which are few or more.
-use Rattle.std.proofs.Common.{◌≡◌, ℕ, suc, ◌⊎◌, inl, inr, List, [], ◌∷◌, length, Option, Some, None, refl}
+use Rattle.std.proofs.Common.{◌≡◌, ℕ, zero, suc, ◌+◌, ◌≤◌, ◌⊎◌, inl, inr, List, [], ◌∷◌, length, Option, Some, None, refl, arith}
 use Rattle.std.proofs.lemmas.Bool.{cases_lt}
+use Rattle.std.proofs.lemmas.List.Edits.{length-insert}
 use Rattle.std.specs.List.{insert}
 use Rattle.std.specs.declared.cmp.Ordering.{Ordering}
 use Rattle.std.specs.declared.cmp.Ordering.TheVariants.{Less, Equal, Greater}
 use Rattle.linear_atoms.specs.declared.atoms.Atom.{Atom}
 use Rattle.linear_atoms.specs.Rising.{atom_order}
-use Rattle.cpp_conditions.specs.Distinct.{Occurs, OccursIn, AreAtomsOf, HaveFewAtoms, HaveMoreAtoms, Grows, IsPlace}
+use Rattle.cpp_conditions.specs.Distinct.{Occurs, OccursIn, AreAtomsOf, HaveFewAtoms, HaveMoreAtoms, Grows, IsGap, IsPlace}
 use Rattle.cpp_conditions.specs.Numbering.{IsAmong, AreAmong, AreAllAmong}
 use Rattle.cpp_conditions.specs.Propositions.{Proposition, Const, Test, Not, And, Or}
 use Rattle.cpp_conditions.proofs.Collected.{grows_put, is_put, place_first, place_taken, grows_none, grows_on, among_more, collected}
@@ -19,20 +20,31 @@ place_by a b bs Less e (Some n, h) = (Some (suc n), (e, h))
 place_by a b bs Equal e x = (None, place_taken a b (b ∷ bs) bs refl e)
 place_by a b bs Greater e x = (Some 0, place_first a b (b ∷ bs) bs refl e)
 
-place : (a : Atom) (bs : List Atom) → (n : Option ℕ) × IsPlace a bs n
+pub place : (a : Atom) (bs : List Atom) → (n : Option ℕ) × IsPlace a bs n
 place a [] = (Some 0, refl)
 place a (b ∷ bs) = place_by a b bs (atom_order b a) refl (place a bs)
 
 -- ---- one more atom
 
-record WithOne (a : Atom) (old : List Atom) : Type 0 where
-  new : List Atom
-  grows : Grows (λ (b : Atom). a ≡ b) old new
-  among : IsAmong a new
+gap_within : (a : Atom) (bs : List Atom) (n : ℕ) → IsGap a bs n → n ≤ length bs
+gap_within a [] n h = omega (arith, h)
+gap_within a (b ∷ bs) zero h = omega arith
+gap_within a (b ∷ bs) (suc n) h = omega (arith, gap_within a bs n h.1)
 
-with_one : (a : Atom) (old : List Atom) (n : Option ℕ) → IsPlace a old n → WithOne a old
-with_one a old None h = record { new = old; grows = grows_none (λ (b : Atom). a ≡ b) old; among = h }
-with_one a old (Some n) h = record { new = insert old n a; grows = grows_put a old (insert old n a) n h refl; among = is_put a old (insert old n a) n refl }
+pub record WithOne (a : Atom) (old : List Atom) : Type 0 where
+  pub new : List Atom
+  pub grows : Grows (λ (b : Atom). a ≡ b) old new
+  pub among : IsAmong a new
+  pub few : length new ≤ length old + 1
+
+pub with_one : (a : Atom) (old : List Atom) (n : Option ℕ) → IsPlace a old n → WithOne a old
+with_one a old None h = record { new = old; grows = grows_none (λ (b : Atom). a ≡ b) old; among = h; few = omega arith }
+with_one a old (Some n) h = record {
+  new = insert old n a;
+  grows = grows_put a old (insert old n a) n h refl;
+  among = is_put a old (insert old n a) n refl;
+  few = omega (arith, length-insert old n a (gap_within a old n h));
+}
 
 -- ---- those of a condition
 

@@ -16,9 +16,9 @@ use Rattle.c_tree.specs.Project.{guard_holds, guards_hold}
 use Rattle.c_grammar.specs.declared.items.Item.{Item}
 use Rattle.c_grammar.specs.declared.items.Sign.{Sign}
 use Rattle.c_grammar.specs.declared.items.Sign.TheVariants as signs
-use Rattle.c_grammar.specs.Grammar.{at, Optional, absent, present, Typed, int, int32, signed, signed_int, int_signed, Qualifier, Qualified, unqualified, const_before, const_behind, Begins, only_type, then_type, enumeration, Declarator, bare, positive, negative, counted, Ending, variables_end, constants_end, enumeration_end, comma_end, with_true, with_false, declared, Part, Outer, Vars, Later, Declares, nothing, variables, prototype, section, last_var, next_var, end_part, else_part, elif_part, Main, main, File, Forms, file, is_group}
+use Rattle.c_grammar.specs.Grammar.{at, Callable, of_input, of_function, Optional, absent, present, Typed, int, int32, signed, signed_int, int_signed, Qualifier, Qualified, unqualified, const_before, const_behind, Begins, only_type, then_type, enumeration, Declarator, bare, positive, negative, counted, Ending, variables_end, constants_end, enumeration_end, comma_end, Defines, defined, negative_defined, enclosed, negative_enclosed, with_true, with_false, declared, Part, Outer, Vars, Later, Declares, nothing, variables, prototype, void_prototype, definition, section, last_var, next_var, end_part, else_part, elif_part, Main, main, File, Forms, file, is_group}
 use Rattle.c_grammar.specs.Kept.{directive_of, kept_from, kept}
-use Rattle.c_grammar.proofs.Preprocess.{seeks}
+use Rattle.c_grammar.proofs.Guards.{seeks}
 use Rattle.family_names.specs.Names.{is_main, has_main, until_main, name_of, names_of, declared_by}
 use Rattle.c_parser.specs.Names as alone
 use Rattle.c_parser.specs.Names.{targets}
@@ -104,6 +104,15 @@ ending_silent (constants_end p) = (refl, refl, refl, refl, tt)
 ending_silent (enumeration_end last p q) = (refl, refl, refl, refl, (refl, refl, refl, refl, tt))
 ending_silent (comma_end last p q r) = (refl, refl, refl, refl, (refl, refl, refl, refl, (refl, refl, refl, refl, tt)))
 
+pub outer_silent : {us : List Item} → Optional signs.Extern us → IsSilent us
+outer_silent (absent _) = tt
+outer_silent (present p _) = (refl, refl, refl, refl, tt)
+
+-- the name of a function is no name of the program
+pub callable_silent : {f : Sign} (q r : Place) → Callable f → IsSilent (at q f ∷ at r signs.Open ∷ [])
+callable_silent q r of_input = (refl, refl, refl, refl, (refl, refl, refl, refl, tt))
+callable_silent q r (of_function k) = (refl, refl, refl, refl, (refl, refl, refl, refl, tt))
+
 pub void_silent : {us : List Item} → Optional signs.Void us → IsSilent us
 void_silent (absent _) = tt
 void_silent (present p _) = (refl, refl, refl, refl, tt)
@@ -160,6 +169,25 @@ declarator_first t secs w (negative p q r s x n) =
     name_first t secs p x (at q signs.Equals ∷ at r (signs.Oper Sub) ∷ at s (signs.Number n) ∷ w)
     ∙ ap (λ (ns : List ℕ). cond (all_kept secs) (x ∷ []) [] ++ ns) (silent t secs (at q signs.Equals ∷ at r (signs.Oper Sub) ∷ at s (signs.Number n) ∷ []) w (refl, refl, refl, refl, (refl, refl, refl, refl, (refl, refl, refl, refl, tt))))
 
+-- a definition holds its name
+pub definition_first : {us : List Item} {x : ℕ} {n : ℤ} (t : List Bool) (secs : List Section) (w : List Item) → Defines us x n → names_of (kept_from t secs (us ++ w)) ≡ cond (all_kept secs) (x ∷ []) [] ++ names_of (kept_from t secs w)
+definition_first t secs w (defined p q r x n) =
+    silent t secs (at p signs.Define ∷ []) (at q (signs.Name x) ∷ at r (signs.Number n) ∷ w) (refl, refl, refl, refl, tt)
+    ∙ name_first t secs q x (at r (signs.Number n) ∷ w)
+    ∙ ap (λ (ns : List ℕ). cond (all_kept secs) (x ∷ []) [] ++ ns) (silent t secs (at r (signs.Number n) ∷ []) w (refl, refl, refl, refl, tt))
+definition_first t secs w (negative_defined p q r s x n) =
+    silent t secs (at p signs.Define ∷ []) (at q (signs.Name x) ∷ at r (signs.Oper Sub) ∷ at s (signs.Number n) ∷ w) (refl, refl, refl, refl, tt)
+    ∙ name_first t secs q x (at r (signs.Oper Sub) ∷ at s (signs.Number n) ∷ w)
+    ∙ ap (λ (ns : List ℕ). cond (all_kept secs) (x ∷ []) [] ++ ns) (silent t secs (at r (signs.Oper Sub) ∷ at s (signs.Number n) ∷ []) w (refl, refl, refl, refl, (refl, refl, refl, refl, tt)))
+definition_first t secs w (enclosed p q r s z x n) =
+    silent t secs (at p signs.Define ∷ []) (at q (signs.Name x) ∷ at r signs.Open ∷ at s (signs.Number n) ∷ at z signs.Close ∷ w) (refl, refl, refl, refl, tt)
+    ∙ name_first t secs q x (at r signs.Open ∷ at s (signs.Number n) ∷ at z signs.Close ∷ w)
+    ∙ ap (λ (ns : List ℕ). cond (all_kept secs) (x ∷ []) [] ++ ns) (silent t secs (at r signs.Open ∷ at s (signs.Number n) ∷ at z signs.Close ∷ []) w (refl, refl, refl, refl, (refl, refl, refl, refl, (refl, refl, refl, refl, tt))))
+definition_first t secs w (negative_enclosed p q r s z u x n) =
+    silent t secs (at p signs.Define ∷ []) (at q (signs.Name x) ∷ at r signs.Open ∷ at s (signs.Oper Sub) ∷ at z (signs.Number n) ∷ at u signs.Close ∷ w) (refl, refl, refl, refl, tt)
+    ∙ name_first t secs q x (at r signs.Open ∷ at s (signs.Oper Sub) ∷ at z (signs.Number n) ∷ at u signs.Close ∷ w)
+    ∙ ap (λ (ns : List ℕ). cond (all_kept secs) (x ∷ []) [] ++ ns) (silent t secs (at r signs.Open ∷ at s (signs.Oper Sub) ∷ at z (signs.Number n) ∷ at u signs.Close ∷ []) w (refl, refl, refl, refl, (refl, refl, refl, refl, (refl, refl, refl, refl, (refl, refl, refl, refl, tt)))))
+
 -- ---- declarations
 
 abbrev pub HoldsAt : List Bool → Part → List Item → List Declared → Type 0
@@ -171,7 +199,7 @@ HoldsAt t (Later gs) us ds = (sec : Section) (secs : List Section) → guards_ho
 pub both_held : (t : List Bool) (ds es : List Declared) (ns : List ℕ) → targets (holding t ds) ++ (targets (holding t es) ++ ns) ≡ targets (holding t (ds ++ es)) ++ ns
 both_held t ds es ns = sym (append_assoc (targets (holding t ds)) (targets (holding t es)) ns) ∙ ap (λ (ms : List ℕ). ms ++ ns) (sym (held_both t ds es))
 
-one_held : (t : List Bool) (x : ℕ) (n : ℤ) (gs : List Guard) (ds : List Declared) (secs : List Section) (ns : List ℕ) → guards_hold t gs ≡ all_kept secs → cond (all_kept secs) (x ∷ []) [] ++ (targets (holding t ds) ++ ns) ≡ targets (holding t (declared x n gs ∷ ds)) ++ ns
+pub one_held : (t : List Bool) (x : ℕ) (n : ℤ) (gs : List Guard) (ds : List Declared) (secs : List Section) (ns : List ℕ) → guards_hold t gs ≡ all_kept secs → cond (all_kept secs) (x ∷ []) [] ++ (targets (holding t ds) ++ ns) ≡ targets (holding t (declared x n gs ∷ ds)) ++ ns
 one_held t x n gs ds secs ns h =
     sym (append_assoc (cond (all_kept secs) (x ∷ []) []) (targets (holding t ds)) ns) ∙ ap (λ (ms : List ℕ). ms ++ ns) (held_first t x n gs ds (all_kept secs) h)
 
@@ -184,15 +212,29 @@ holds t (variables gs {us} {vs} {ws} {ds} {es} o v d) = λ secs h w.
     ∙ holds t v secs h (ws ++ w)
     ∙ ap (λ (ns : List ℕ). targets (holding t ds) ++ ns) (holds t d secs h w)
     ∙ both_held t ds es (names_of (kept_from t secs w))
-holds t (prototype q r s z gs {us} {vs} {ws} {es} o v d) = λ secs h w.
+holds t (prototype q r s z gs {f} {us} {vs} {ws} {es} o c v d) = λ secs h w.
     let tail : List Item = at s signs.Close ∷ at z signs.Semicolon ∷ ws in
-    ap (λ (y : List Item). names_of (kept_from t secs y)) (append_assoc us (at q signs.Input ∷ at r signs.Open ∷ (vs ++ tail)) w)
-    ∙ silent t secs us (at q signs.Input ∷ at r signs.Open ∷ ((vs ++ tail) ++ w)) (extern_silent o)
-    ∙ silent t secs (at q signs.Input ∷ at r signs.Open ∷ []) ((vs ++ tail) ++ w) (refl, refl, refl, refl, (refl, refl, refl, refl, tt))
+    ap (λ (y : List Item). names_of (kept_from t secs y)) (append_assoc us (at q f ∷ at r signs.Open ∷ (vs ++ tail)) w)
+    ∙ silent t secs us (at q f ∷ at r signs.Open ∷ ((vs ++ tail) ++ w)) (extern_silent o)
+    ∙ silent t secs (at q f ∷ at r signs.Open ∷ []) ((vs ++ tail) ++ w) (callable_silent q r c)
     ∙ ap (λ (y : List Item). names_of (kept_from t secs y)) (append_assoc vs tail w)
     ∙ silent t secs vs (tail ++ w) (void_silent v)
     ∙ silent t secs (at s signs.Close ∷ at z signs.Semicolon ∷ []) (ws ++ w) (refl, refl, refl, refl, (refl, refl, refl, refl, tt))
     ∙ holds t d secs h w
+holds t (void_prototype p q r s z k gs {us} {vs} {ws} {es} o v d) = λ secs h w.
+    let tail : List Item = at s signs.Close ∷ at z signs.Semicolon ∷ ws in
+    ap (λ (y : List Item). names_of (kept_from t secs y)) (append_assoc us (at p signs.Void ∷ at q (signs.Function k) ∷ at r signs.Open ∷ (vs ++ tail)) w)
+    ∙ silent t secs us (at p signs.Void ∷ at q (signs.Function k) ∷ at r signs.Open ∷ ((vs ++ tail) ++ w)) (outer_silent o)
+    ∙ silent t secs (at p signs.Void ∷ at q (signs.Function k) ∷ at r signs.Open ∷ []) ((vs ++ tail) ++ w) (refl, refl, refl, refl, (refl, refl, refl, refl, (refl, refl, refl, refl, tt)))
+    ∙ ap (λ (y : List Item). names_of (kept_from t secs y)) (append_assoc vs tail w)
+    ∙ silent t secs vs (tail ++ w) (void_silent v)
+    ∙ silent t secs (at s signs.Close ∷ at z signs.Semicolon ∷ []) (ws ++ w) (refl, refl, refl, refl, (refl, refl, refl, refl, tt))
+    ∙ holds t d secs h w
+holds t (definition gs {us} {ws} {es} {x} {n} o d) = λ secs h w.
+    ap (λ (y : List Item). names_of (kept_from t secs y)) (append_assoc us ws w)
+    ∙ definition_first t secs (ws ++ w) o
+    ∙ ap (λ (ns : List ℕ). cond (all_kept secs) (x ∷ []) [] ++ ns) (holds t d secs h w)
+    ∙ one_held t x n gs es secs (names_of (kept_from t secs w)) h
 holds t (section p n gs {us} {vs} {ws} {cs} {ds} {es} a b d) = λ secs h w.
     let inner = next_group Seeking (truth t n) in
     let is : (us ++ (vs ++ ws)) ++ w ≡ us ++ (vs ++ (ws ++ w)) = simp append_assoc in
@@ -234,17 +276,31 @@ declarator_until w (positive p q r x n) = refl
 declarator_until w (negative p q r s x n) = refl
 declarator_until w (counted p x last lt) = refl
 
+definition_until : {us : List Item} {x : ℕ} {n : ℤ} (w : List Item) → Defines us x n → until_main (us ++ w) ≡ us ++ until_main w
+definition_until w (defined p q r x n) = refl
+definition_until w (negative_defined p q r s x n) = refl
+definition_until w (enclosed p q r s t x n) = refl
+definition_until w (negative_enclosed p q r s t u x n) = refl
+
 until_both : (us vs w : List Item) → until_main (us ++ (vs ++ w)) ≡ us ++ until_main (vs ++ w) → until_main (vs ++ w) ≡ vs ++ until_main w → until_main ((us ++ vs) ++ w) ≡ (us ++ vs) ++ until_main w
 until_both us vs w h k = ap until_main (append_assoc us vs w) ∙ h ∙ ap (λ (y : List Item). us ++ y) k ∙ sym (append_assoc us vs (until_main w))
 
 pub no_main : {part : Part} {us : List Item} {ds : List Declared} → Declares part us ds → (w : List Item) → until_main (us ++ w) ≡ us ++ until_main w
 no_main (nothing gs) w = refl
 no_main (variables gs {us} {vs} {ws} o v d) w = until_both us (vs ++ ws) w (silent_until us ((vs ++ ws) ++ w) (static_silent o)) (until_both vs ws w (no_main v (ws ++ w)) (no_main d w))
-no_main (prototype q r s t gs {us} {vs} {ws} o v d) w =
+no_main (prototype q r s t gs {f} {us} {vs} {ws} o c v d) w =
     let tail : List Item = at s signs.Close ∷ at t signs.Semicolon ∷ ws in
-    until_both us (at q signs.Input ∷ at r signs.Open ∷ (vs ++ tail)) w (silent_until us (at q signs.Input ∷ at r signs.Open ∷ ((vs ++ tail) ++ w)) (extern_silent o))
-    (ap (λ (y : List Item). at q signs.Input ∷ at r signs.Open ∷ y) (until_both vs tail w (silent_until vs (tail ++ w) (void_silent v))
+    until_both us (at q f ∷ at r signs.Open ∷ (vs ++ tail)) w (silent_until us (at q f ∷ at r signs.Open ∷ ((vs ++ tail) ++ w)) (extern_silent o))
+    (silent_until (at q f ∷ at r signs.Open ∷ []) ((vs ++ tail) ++ w) (callable_silent q r c)
+    ∙ ap (λ (y : List Item). at q f ∷ at r signs.Open ∷ y) (until_both vs tail w (silent_until vs (tail ++ w) (void_silent v))
     (ap (λ (y : List Item). at s signs.Close ∷ at t signs.Semicolon ∷ y) (no_main d w))))
+no_main (void_prototype p q r s t k gs {us} {vs} {ws} o v d) w =
+    let tail : List Item = at s signs.Close ∷ at t signs.Semicolon ∷ ws in
+    let front : List Item = at p signs.Void ∷ at q (signs.Function k) ∷ at r signs.Open ∷ [] in
+    until_both us (at p signs.Void ∷ at q (signs.Function k) ∷ at r signs.Open ∷ (vs ++ tail)) w (silent_until us (at p signs.Void ∷ at q (signs.Function k) ∷ at r signs.Open ∷ ((vs ++ tail) ++ w)) (outer_silent o))
+    (ap (λ (y : List Item). front ++ y) (until_both vs tail w (silent_until vs (tail ++ w) (void_silent v))
+    (ap (λ (y : List Item). at s signs.Close ∷ at t signs.Semicolon ∷ y) (no_main d w))))
+no_main (definition gs {us} {ws} o d) w = until_both us ws w (definition_until (ws ++ w) o) (no_main d w)
 no_main (section p n gs {us} {vs} {ws} a b d) w =
     ap (λ (y : List Item). at p (signs.GroupIf n) ∷ y) (until_both us (vs ++ ws) w (no_main a ((vs ++ ws) ++ w)) (until_both vs ws w (no_main b (ws ++ w)) (no_main d w)))
 no_main (last_var gs {us} {vs} d o) w = until_both us vs w (declarator_until (vs ++ w) d) (silent_until vs w (ending_silent o))

@@ -1,5 +1,5 @@
--- The names that stand in declarations with `const` or `enum` are the targets of the constants that the grammar finds.
-use Rattle.std.proofs.Common.{◌≡◌, ℕ, Bool, true, false, not, ◌||◌, List, [], ◌∷◌, ◌++◌, refl, sym, ap, ◌∙◌, append_assoc, append-nil}
+-- The names that stand in declarations with `const` or `enum`, or behind `#define`, are the targets of the constants that the grammar finds.
+use Rattle.std.proofs.Common.{◌≡◌, ℕ, Bool, true, false, not, ◌||◌, cond, List, [], ◌∷◌, ◌++◌, refl, sym, ap, ◌∙◌, append_assoc, append-nil}
 use Rattle.std.specs.Prelude.{ℤ, if◌then◌else◌}
 use Rattle.fam_outer.specs.declared.faults.Place.{Place}
 use Rattle.cpp_groups.specs.declared.section.Section.{Section}
@@ -10,82 +10,95 @@ use Rattle.c_tree.specs.declared.lists.Guard.{Guard}
 use Rattle.c_tree.specs.declared.tree.Op.TheVariants.{Sub}
 use Rattle.c_tree.specs.Tree.{Code}
 use Rattle.c_tree.specs.Project.{guards_hold}
+use Rattle.c_grammar.specs.declared.constants.NameKind.{NameKind}
+use Rattle.c_grammar.specs.declared.constants.NameKind.TheVariants as kinds
 use Rattle.c_grammar.specs.declared.items.Item.{Item}
+use Rattle.c_grammar.specs.declared.items.Sign.{Sign}
 use Rattle.c_grammar.specs.declared.items.Sign.TheVariants as signs
-use Rattle.c_grammar.specs.Constants.{is_name, is_constant_behind, constants_from}
-use Rattle.c_grammar.specs.Grammar.{at, Optional, absent, present, Typed, int, int32, signed, signed_int, int_signed, Qualifier, Unqualified, Constant, Counted, Qualified, unqualified, const_before, const_behind, Begins, only_type, then_type, enumeration, Declarator, bare, positive, negative, counted, Ending, variables_end, constants_end, enumeration_end, comma_end, Part, Outer, Vars, Later, Declares, nothing, variables, prototype, section, last_var, next_var, end_part, else_part, elif_part, Main, main, file}
+use Rattle.c_grammar.specs.Constants.{is_name, is_constant, kind_behind, constants_from}
+use Rattle.c_grammar.specs.Grammar.{at, Callable, of_input, of_function, Optional, absent, present, Typed, int, int32, signed, signed_int, int_signed, Qualifier, Unqualified, Constant, Counted, Qualified, unqualified, const_before, const_behind, Begins, only_type, then_type, enumeration, Declarator, bare, positive, negative, counted, Ending, variables_end, constants_end, enumeration_end, comma_end, Defines, defined, negative_defined, enclosed, negative_enclosed, Part, Outer, Vars, Later, Declares, nothing, variables, prototype, void_prototype, definition, section, last_var, next_var, end_part, else_part, elif_part, Main, main, file}
 use Rattle.c_grammar.specs.Kept.{kept_from, kept}
-use Rattle.c_grammar.proofs.Preprocess.{seeks}
+use Rattle.c_grammar.proofs.Guards.{seeks}
 use Rattle.family_names.specs.Names.{is_main, until_main, names_of}
-use Rattle.family_names.proofs.Holding.{left_out}
+use Rattle.family_names.proofs.Holding.{left_out, kept_in}
 use Rattle.c_parser.specs.Names.{targets}
 use Rattle.reading_laws.specs.Declaring.{holding, of_kind, constants_in, KeptConstantsHold}
-use Rattle.reading_laws.proofs.Declared.{IsSilent, silent, silent_both, typed_silent, static_silent, extern_silent, void_silent, in_true, in_false, else_matches, both_held, holds, no_main}
+use Rattle.reading_laws.proofs.Declared.{IsSilent, silent, silent_both, typed_silent, static_silent, extern_silent, outer_silent, callable_silent, void_silent, in_true, in_false, else_matches, both_held, definition_first, one_held, holds, no_main}
 
-abbrev is_constant : Qualifier → Bool
-is_constant Unqualified = false
-is_constant Constant = true
-is_constant (Counted last) = true
+-- what the names of declarators are
+abbrev kind_of : Qualifier → NameKind
+kind_of Unqualified = kinds.Variable
+kind_of Constant = kinds.Constant
+kind_of (Counted last) = kinds.Constant
 
 -- ---- items that are no names stay
 
-type_all : {us : List Item} (b : Bool) (w : List Item) → Typed us → constants_from b (us ++ w) ≡ us ++ constants_from b w
-type_all true w (int p) = refl
-type_all true w (int32 p) = refl
-type_all true w (signed p) = refl
-type_all true w (signed_int p q) = refl
-type_all true w (int_signed p q) = refl
-type_all false w (int p) = refl
-type_all false w (int32 p) = refl
-type_all false w (signed p) = refl
-type_all false w (signed_int p q) = refl
-type_all false w (int_signed p q) = refl
+type_all : {us : List Item} (kind : NameKind) (w : List Item) → Typed us → constants_from kind (us ++ w) ≡ us ++ constants_from kind w
+type_all kind w (int p) = kept_in kind (at p signs.Int) w refl
+type_all kind w (int32 p) = kept_in kind (at p signs.Int32) w refl
+type_all kind w (signed p) = kept_in kind (at p signs.Signed) w refl
+type_all kind w (signed_int p q) = kept_in kind (at p signs.Signed) (at q signs.Int ∷ w) refl ∙ ap (λ (y : List Item). at p signs.Signed ∷ y) (kept_in kind (at q signs.Int) w refl)
+type_all kind w (int_signed p q) = kept_in kind (at p signs.Int) (at q signs.Signed ∷ w) refl ∙ ap (λ (y : List Item). at p signs.Int ∷ y) (kept_in kind (at q signs.Signed) w refl)
 
-qualified_all : {us : List Item} {kind : Qualifier} (w : List Item) → Qualified kind us → constants_from false (us ++ w) ≡ us ++ constants_from (is_constant kind) w
-qualified_all w (unqualified y) = type_all false w y
-qualified_all w (const_before p y) = ap (λ (y : List Item). at p signs.Const ∷ y) (type_all true w y)
+qualified_all : {us : List Item} {kind : Qualifier} (w : List Item) → Qualified kind us → constants_from kinds.Variable (us ++ w) ≡ us ++ constants_from (kind_of kind) w
+qualified_all w (unqualified y) = type_all kinds.Variable w y
+qualified_all w (const_before p y) = ap (λ (y : List Item). at p signs.Const ∷ y) (type_all kinds.Constant w y)
 qualified_all w (const_behind p {us} y) =
-    ap (constants_from false) (append_assoc us (at p signs.Const ∷ []) w) ∙ type_all false (at p signs.Const ∷ w) y ∙ sym (append_assoc us (at p signs.Const ∷ []) (constants_from true w))
+    ap (constants_from kinds.Variable) (append_assoc us (at p signs.Const ∷ []) w) ∙ type_all kinds.Variable (at p signs.Const ∷ w) y ∙ sym (append_assoc us (at p signs.Const ∷ []) (constants_from kinds.Constant w))
 
-static_all : {us : List Item} {kind : Qualifier} (w : List Item) → Begins signs.Static kind us → constants_from false (us ++ w) ≡ us ++ constants_from (is_constant kind) w
+static_all : {us : List Item} {kind : Qualifier} (w : List Item) → Begins signs.Static kind us → constants_from kinds.Variable (us ++ w) ≡ us ++ constants_from (kind_of kind) w
 static_all w (only_type s y) = qualified_all w y
 static_all w (then_type p s y) = ap (λ (y : List Item). at p signs.Static ∷ y) (qualified_all w y)
 static_all w (enumeration p q s) = refl
 
-extern_all : {us : List Item} (w : List Item) → Begins signs.Extern Unqualified us → constants_from false (us ++ w) ≡ us ++ constants_from false w
+extern_all : {us : List Item} (w : List Item) → Begins signs.Extern Unqualified us → constants_from kinds.Variable (us ++ w) ≡ us ++ constants_from kinds.Variable w
 extern_all w (only_type s y) = qualified_all w y
 extern_all w (then_type p s y) = ap (λ (y : List Item). at p signs.Extern ∷ y) (qualified_all w y)
 
-void_all : {us : List Item} (w : List Item) → Optional signs.Void us → constants_from false (us ++ w) ≡ us ++ constants_from false w
+void_all : {us : List Item} (w : List Item) → Optional signs.Void us → constants_from kinds.Variable (us ++ w) ≡ us ++ constants_from kinds.Variable w
 void_all w (absent s) = refl
 void_all w (present p s) = refl
 
+outer_all : {us : List Item} (w : List Item) → Optional signs.Extern us → constants_from kinds.Variable (us ++ w) ≡ us ++ constants_from kinds.Variable w
+outer_all w (absent _) = refl
+outer_all w (present p _) = refl
+
+callable_all : {f : Sign} (q r : Place) (w : List Item) → Callable f → constants_from kinds.Variable (at q f ∷ at r signs.Open ∷ w) ≡ at q f ∷ at r signs.Open ∷ constants_from kinds.Variable w
+callable_all q r w of_input = refl
+callable_all q r w (of_function k) = refl
+
 -- ---- declarators: those of constants stay, and of variables no name does
 
-constant_all : {us : List Item} {x : ℕ} {n : ℤ} {kind : Qualifier} (w : List Item) → Declarator kind us x n → constants_from true (us ++ w) ≡ us ++ constants_from true w
+constant_all : {us : List Item} {x : ℕ} {n : ℤ} {kind : Qualifier} (w : List Item) → Declarator kind us x n → constants_from kinds.Constant (us ++ w) ≡ us ++ constants_from kinds.Constant w
 constant_all w (bare p x) = refl
 constant_all w (positive p q r x n) = refl
 constant_all w (negative p q r s x n) = refl
 constant_all w (counted p x last lt) = refl
 
-ending_all : {us : List Item} {kind : Qualifier} (w : List Item) → Ending kind us → constants_from true (us ++ w) ≡ us ++ constants_from false w
+ending_all : {us : List Item} {kind : Qualifier} (w : List Item) → Ending kind us → constants_from kinds.Constant (us ++ w) ≡ us ++ constants_from kinds.Variable w
 ending_all w (variables_end p) = refl
 ending_all w (constants_end p) = refl
 ending_all w (enumeration_end last p q) = refl
 ending_all w (comma_end last p q r) = refl
 
-constants_all : {gs : List Guard} {us : List Item} {ds : List Declared} {kind : Qualifier} (w : List Item) → Declares (Vars kind gs) us ds → constants_from true (us ++ w) ≡ us ++ constants_from false w
+constants_all : {gs : List Guard} {us : List Item} {ds : List Declared} {kind : Qualifier} (w : List Item) → Declares (Vars kind gs) us ds → constants_from kinds.Constant (us ++ w) ≡ us ++ constants_from kinds.Variable w
 constants_all w (last_var gs {us} {vs} d o) =
-    ap (constants_from true) (append_assoc us vs w) ∙ constant_all (vs ++ w) d ∙ ap (λ (y : List Item). us ++ y) (ending_all w o) ∙ sym (append_assoc us vs (constants_from false w))
+    ap (constants_from kinds.Constant) (append_assoc us vs w) ∙ constant_all (vs ++ w) d ∙ ap (λ (y : List Item). us ++ y) (ending_all w o) ∙ sym (append_assoc us vs (constants_from kinds.Variable w))
 constants_all w (next_var p gs {us} {vs} d v) =
-    ap (constants_from true) (append_assoc us (at p signs.Comma ∷ vs) w) ∙ constant_all (at p signs.Comma ∷ (vs ++ w)) d
-    ∙ ap (λ (y : List Item). us ++ at p signs.Comma ∷ y) (constants_all w v) ∙ sym (append_assoc us (at p signs.Comma ∷ vs) (constants_from false w))
+    ap (constants_from kinds.Constant) (append_assoc us (at p signs.Comma ∷ vs) w) ∙ constant_all (at p signs.Comma ∷ (vs ++ w)) d
+    ∙ ap (λ (y : List Item). us ++ at p signs.Comma ∷ y) (constants_all w v) ∙ sym (append_assoc us (at p signs.Comma ∷ vs) (constants_from kinds.Variable w))
+
+definition_all : {us : List Item} {x : ℕ} {n : ℤ} (w : List Item) → Defines us x n → constants_from kinds.Variable (us ++ w) ≡ us ++ constants_from kinds.Variable w
+definition_all w (defined p q r x n) = refl
+definition_all w (negative_defined p q r s x n) = refl
+definition_all w (enclosed p q r s t x n) = refl
+definition_all w (negative_enclosed p q r s t u x n) = refl
 
 -- the items that are left of these, which name nothing
 record Leaves (us : List Item) : Type 0 where
   rest : List Item
   is_silent : IsSilent rest
-  are : (w : List Item) → constants_from false (us ++ w) ≡ rest ++ constants_from false w
+  are : (w : List Item) → constants_from kinds.Variable (us ++ w) ≡ rest ++ constants_from kinds.Variable w
 
 variable_left : {us : List Item} {x : ℕ} {n : ℤ} → Declarator Unqualified us x n → Leaves us
 variable_left (bare p x) = record { rest = []; is_silent = tt; are = λ w. refl }
@@ -100,25 +113,25 @@ variables_left : {gs : List Guard} {us : List Item} {ds : List Declared} → Dec
 variables_left (last_var gs {us} d (variables_end p)) = let l = variable_left d in record {
   rest = l.rest ++ at p signs.Semicolon ∷ [];
   is_silent = silent_both l.rest (at p signs.Semicolon ∷ []) l.is_silent (refl, refl, refl, refl, tt);
-  are = λ w. ap (constants_from false) (append_assoc us (at p signs.Semicolon ∷ []) w) ∙ l.are (at p signs.Semicolon ∷ w) ∙ sym (append_assoc l.rest (at p signs.Semicolon ∷ []) (constants_from false w));
+  are = λ w. ap (constants_from kinds.Variable) (append_assoc us (at p signs.Semicolon ∷ []) w) ∙ l.are (at p signs.Semicolon ∷ w) ∙ sym (append_assoc l.rest (at p signs.Semicolon ∷ []) (constants_from kinds.Variable w));
 }
 variables_left (next_var p gs {us} {vs} d v) = let l = variable_left d in let m = variables_left v in record {
   rest = l.rest ++ at p signs.Comma ∷ m.rest;
   is_silent = silent_both l.rest (at p signs.Comma ∷ m.rest) l.is_silent (refl, refl, refl, refl, m.is_silent);
-  are = λ w. ap (constants_from false) (append_assoc us (at p signs.Comma ∷ vs) w) ∙ l.are (at p signs.Comma ∷ (vs ++ w))
-      ∙ ap (λ (y : List Item). l.rest ++ at p signs.Comma ∷ y) (m.are w) ∙ sym (append_assoc l.rest (at p signs.Comma ∷ m.rest) (constants_from false w));
+  are = λ w. ap (constants_from kinds.Variable) (append_assoc us (at p signs.Comma ∷ vs) w) ∙ l.are (at p signs.Comma ∷ (vs ++ w))
+      ∙ ap (λ (y : List Item). l.rest ++ at p signs.Comma ∷ y) (m.are w) ∙ sym (append_assoc l.rest (at p signs.Comma ∷ m.rest) (constants_from kinds.Variable w));
 }
 
 -- ---- declarations
 
 abbrev KeptAfter : List Bool → List Section → List Item → List ℕ
-KeptAfter t secs w = names_of (kept_from t secs (constants_from false w))
+KeptAfter t secs w = names_of (kept_from t secs (constants_from kinds.Variable w))
 
 vars_hold : {gs : List Guard} {us : List Item} {ds : List Declared} (t : List Bool) (kind : Qualifier) (secs : List Section) → guards_hold t gs ≡ all_kept secs → (w : List Item) → Declares (Vars kind gs) us ds
-    → names_of (kept_from t secs (constants_from (is_constant kind) (us ++ w))) ≡ targets (holding t (of_kind kind ds)) ++ KeptAfter t secs w
-vars_hold {us = us} t Unqualified secs h w v = let l = variables_left v in ap (λ (y : List Item). names_of (kept_from t secs y)) (l.are w) ∙ silent t secs l.rest (constants_from false w) l.is_silent
-vars_hold {us = us} t Constant secs h w v = ap (λ (y : List Item). names_of (kept_from t secs y)) (constants_all w v) ∙ holds t v secs h (constants_from false w)
-vars_hold {us = us} t (Counted last) secs h w v = ap (λ (y : List Item). names_of (kept_from t secs y)) (constants_all w v) ∙ holds t v secs h (constants_from false w)
+    → names_of (kept_from t secs (constants_from (kind_of kind) (us ++ w))) ≡ targets (holding t (of_kind kind ds)) ++ KeptAfter t secs w
+vars_hold {us = us} t Unqualified secs h w v = let l = variables_left v in ap (λ (y : List Item). names_of (kept_from t secs y)) (l.are w) ∙ silent t secs l.rest (constants_from kinds.Variable w) l.is_silent
+vars_hold {us = us} t Constant secs h w v = ap (λ (y : List Item). names_of (kept_from t secs y)) (constants_all w v) ∙ holds t v secs h (constants_from kinds.Variable w)
+vars_hold {us = us} t (Counted last) secs h w v = ap (λ (y : List Item). names_of (kept_from t secs y)) (constants_all w v) ∙ holds t v secs h (constants_from kinds.Variable w)
 
 abbrev ConstantsHold : List Bool → Part → List Item → List Declared → Type 0
 ConstantsHold t (Outer gs) us cs = (secs : List Section) → guards_hold t gs ≡ all_kept secs → (w : List Item) → KeptAfter t secs (us ++ w) ≡ targets (holding t cs) ++ KeptAfter t secs w
@@ -130,22 +143,40 @@ constants_hold t (nothing gs) = λ secs h w. refl
 constants_hold t (variables gs {us} {vs} {ws} {ds} {es} {kind} o v d) = λ secs h w.
     ap (KeptAfter t secs) (append_assoc us (vs ++ ws) w)
     ∙ ap (λ (y : List Item). names_of (kept_from t secs y)) (static_all ((vs ++ ws) ++ w) o)
-    ∙ silent t secs us (constants_from (is_constant kind) ((vs ++ ws) ++ w)) (static_silent o)
-    ∙ ap (λ (y : List Item). names_of (kept_from t secs (constants_from (is_constant kind) y))) (append_assoc vs ws w)
+    ∙ silent t secs us (constants_from (kind_of kind) ((vs ++ ws) ++ w)) (static_silent o)
+    ∙ ap (λ (y : List Item). names_of (kept_from t secs (constants_from (kind_of kind) y))) (append_assoc vs ws w)
     ∙ vars_hold t kind secs h (ws ++ w) v
     ∙ ap (λ (ns : List ℕ). targets (holding t (of_kind kind ds)) ++ ns) (constants_hold t d secs h w)
     ∙ both_held t (of_kind kind ds) (constants_in d) (KeptAfter t secs w)
-constants_hold t (prototype q r s z gs {us} {vs} {ws} {es} o v d) = λ secs h w.
+constants_hold t (prototype q r s z gs {f} {us} {vs} {ws} {es} o c v d) = λ secs h w.
     let tail : List Item = at s signs.Close ∷ at z signs.Semicolon ∷ ws in
-    ap (KeptAfter t secs) (append_assoc us (at q signs.Input ∷ at r signs.Open ∷ (vs ++ tail)) w)
-    ∙ ap (λ (y : List Item). names_of (kept_from t secs y)) (extern_all (at q signs.Input ∷ at r signs.Open ∷ ((vs ++ tail) ++ w)) o)
-    ∙ silent t secs us (at q signs.Input ∷ at r signs.Open ∷ constants_from false ((vs ++ tail) ++ w)) (extern_silent o)
-    ∙ silent t secs (at q signs.Input ∷ at r signs.Open ∷ []) (constants_from false ((vs ++ tail) ++ w)) (refl, refl, refl, refl, (refl, refl, refl, refl, tt))
+    ap (KeptAfter t secs) (append_assoc us (at q f ∷ at r signs.Open ∷ (vs ++ tail)) w)
+    ∙ ap (λ (y : List Item). names_of (kept_from t secs y)) (extern_all (at q f ∷ at r signs.Open ∷ ((vs ++ tail) ++ w)) o)
+    ∙ silent t secs us (constants_from kinds.Variable (at q f ∷ at r signs.Open ∷ ((vs ++ tail) ++ w))) (extern_silent o)
+    ∙ ap (λ (y : List Item). names_of (kept_from t secs y)) (callable_all q r ((vs ++ tail) ++ w) c)
+    ∙ silent t secs (at q f ∷ at r signs.Open ∷ []) (constants_from kinds.Variable ((vs ++ tail) ++ w)) (callable_silent q r c)
     ∙ ap (KeptAfter t secs) (append_assoc vs tail w)
     ∙ ap (λ (y : List Item). names_of (kept_from t secs y)) (void_all (tail ++ w) v)
-    ∙ silent t secs vs (constants_from false (tail ++ w)) (void_silent v)
-    ∙ silent t secs (at s signs.Close ∷ at z signs.Semicolon ∷ []) (constants_from false (ws ++ w)) (refl, refl, refl, refl, (refl, refl, refl, refl, tt))
+    ∙ silent t secs vs (constants_from kinds.Variable (tail ++ w)) (void_silent v)
+    ∙ silent t secs (at s signs.Close ∷ at z signs.Semicolon ∷ []) (constants_from kinds.Variable (ws ++ w)) (refl, refl, refl, refl, (refl, refl, refl, refl, tt))
     ∙ constants_hold t d secs h w
+constants_hold t (void_prototype p q r s z k gs {us} {vs} {ws} {es} o v d) = λ secs h w.
+    let tail : List Item = at s signs.Close ∷ at z signs.Semicolon ∷ ws in
+    ap (KeptAfter t secs) (append_assoc us (at p signs.Void ∷ at q (signs.Function k) ∷ at r signs.Open ∷ (vs ++ tail)) w)
+    ∙ ap (λ (y : List Item). names_of (kept_from t secs y)) (outer_all (at p signs.Void ∷ at q (signs.Function k) ∷ at r signs.Open ∷ ((vs ++ tail) ++ w)) o)
+    ∙ silent t secs us (at p signs.Void ∷ at q (signs.Function k) ∷ at r signs.Open ∷ constants_from kinds.Variable ((vs ++ tail) ++ w)) (outer_silent o)
+    ∙ silent t secs (at p signs.Void ∷ at q (signs.Function k) ∷ at r signs.Open ∷ []) (constants_from kinds.Variable ((vs ++ tail) ++ w)) (refl, refl, refl, refl, (refl, refl, refl, refl, (refl, refl, refl, refl, tt)))
+    ∙ ap (KeptAfter t secs) (append_assoc vs tail w)
+    ∙ ap (λ (y : List Item). names_of (kept_from t secs y)) (void_all (tail ++ w) v)
+    ∙ silent t secs vs (constants_from kinds.Variable (tail ++ w)) (void_silent v)
+    ∙ silent t secs (at s signs.Close ∷ at z signs.Semicolon ∷ []) (constants_from kinds.Variable (ws ++ w)) (refl, refl, refl, refl, (refl, refl, refl, refl, tt))
+    ∙ constants_hold t d secs h w
+constants_hold t (definition gs {us} {ws} {es} {x} {n} o d) = λ secs h w.
+    ap (KeptAfter t secs) (append_assoc us ws w)
+    ∙ ap (λ (y : List Item). names_of (kept_from t secs y)) (definition_all (ws ++ w) o)
+    ∙ definition_first t secs (constants_from kinds.Variable (ws ++ w)) o
+    ∙ ap (λ (ns : List ℕ). cond (all_kept secs) (x ∷ []) [] ++ ns) (constants_hold t d secs h w)
+    ∙ one_held t x n gs (constants_in d) secs (KeptAfter t secs w) h
 constants_hold t (section p n gs {us} {vs} {ws} a b d) = λ secs h w.
     let inner = next_group Seeking (truth t n) in
     let is : (us ++ (vs ++ ws)) ++ w ≡ us ++ (vs ++ (ws ++ w)) = simp append_assoc in
@@ -169,18 +200,18 @@ constants_hold t (elif_part p n gs {us} {vs} a b) = λ sec secs h w.
 
 -- ---- up to `main`
 
-until_constants : (b : Bool) (xs : List Item) → until_main (constants_from b xs) ≡ constants_from b (until_main xs)
-until_constants b [] = refl
-until_constants b (x ∷ xs) =
-    elim (b || not (is_name x.sign)) as (λ t. (b || not (is_name x.sign)) ≡ t → until_main (if t then x ∷ constants_from (is_constant_behind b x.sign) xs else constants_from (is_constant_behind b x.sign) xs) ≡ constants_from b (if is_main x.sign then [] else x ∷ until_main xs)) [
-      | true ↦ λ e. (elim (is_main x.sign) as (λ m. (if m then [] else x ∷ until_main (constants_from (is_constant_behind b x.sign) xs)) ≡ constants_from b (if m then [] else x ∷ until_main xs)) [
+until_constants : (kind : NameKind) (xs : List Item) → until_main (constants_from kind xs) ≡ constants_from kind (until_main xs)
+until_constants kind [] = refl
+until_constants kind (x ∷ xs) =
+    elim (is_constant kind || not (is_name x.sign)) as (λ t. (is_constant kind || not (is_name x.sign)) ≡ t → until_main (if t then x ∷ constants_from (kind_behind kind x.sign) xs else constants_from (kind_behind kind x.sign) xs) ≡ constants_from kind (if is_main x.sign then [] else x ∷ until_main xs)) [
+      | true ↦ λ e. (elim (is_main x.sign) as (λ m. (if m then [] else x ∷ until_main (constants_from (kind_behind kind x.sign) xs)) ≡ constants_from kind (if m then [] else x ∷ until_main xs)) [
         | true ↦ refl
-        | false ↦ ap (λ (ys : List Item). x ∷ ys) (until_constants (is_constant_behind b x.sign) xs)
-            ∙ ap (λ (t : Bool). if t then x ∷ constants_from (is_constant_behind b x.sign) (until_main xs) else constants_from (is_constant_behind b x.sign) (until_main xs)) (sym e)
+        | false ↦ ap (λ (ys : List Item). x ∷ ys) (until_constants (kind_behind kind x.sign) xs)
+            ∙ ap (λ (t : Bool). if t then x ∷ constants_from (kind_behind kind x.sign) (until_main xs) else constants_from (kind_behind kind x.sign) (until_main xs)) (sym e)
       ])
-      | false ↦ λ e. until_constants (is_constant_behind b x.sign) xs
-          ∙ ap (λ (t : Bool). if t then x ∷ constants_from (is_constant_behind b x.sign) (until_main xs) else constants_from (is_constant_behind b x.sign) (until_main xs)) (sym e)
-          ∙ ap (λ (m : Bool). constants_from b (if m then [] else x ∷ until_main xs)) (sym (ap is_main (left_out b x.sign e).1))
+      | false ↦ λ e. until_constants (kind_behind kind x.sign) xs
+          ∙ ap (λ (t : Bool). if t then x ∷ constants_from (kind_behind kind x.sign) (until_main xs) else constants_from (kind_behind kind x.sign) (until_main xs)) (sym e)
+          ∙ ap (λ (m : Bool). constants_from kind (if m then [] else x ∷ until_main xs)) (sym (ap is_main (left_out (is_constant kind) x.sign e).1))
     ] refl
 
 type_until : {us : List Item} (w : List Item) → Typed us → until_main (us ++ w) ≡ us ++ until_main w
@@ -193,12 +224,12 @@ type_until w (int_signed p q) = refl
 in_type : {us : List Item} {c : Code} {p : Place} (t : List Bool) → Main us c p → KeptAfter t [] (until_main us) ≡ []
 in_type t (main q r s u z {ts} {us} {vs} y o b) =
     ap (KeptAfter t []) (type_until (at q signs.Main ∷ at r signs.Open ∷ (us ++ at s signs.Close ∷ at u signs.LeftBrace ∷ vs)) y)
-    ∙ ap (λ (ys : List Item). names_of (kept t ys)) (type_all false [] y)
+    ∙ ap (λ (ys : List Item). names_of (kept t ys)) (type_all kinds.Variable [] y)
     ∙ silent t [] ts [] (typed_silent y)
 
 pub kept_constants_hold : KeptConstantsHold
 kept_constants_hold t _ _ (file {us} {vs} {ds} {c} {p} d m) =
-    ap (λ (ys : List Item). names_of (kept t ys)) (until_constants false (us ++ vs))
+    ap (λ (ys : List Item). names_of (kept t ys)) (until_constants kinds.Variable (us ++ vs))
     ∙ ap (KeptAfter t []) (no_main d vs)
     ∙ constants_hold t d [] refl (until_main vs)
     ∙ ap (λ (ns : List ℕ). targets (holding t (constants_in d)) ++ ns) (in_type t m) ∙ append-nil (targets (holding t (constants_in d)))

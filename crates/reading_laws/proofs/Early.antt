@@ -12,11 +12,15 @@ use Rattle.fam_outer.specs.Limits.{file_bytes}
 use Rattle.fam_outer.specs.Places.{place_at}
 use Rattle.fam_outer.specs.Results.{and_then}
 use Rattle.linear_atoms.specs.declared.atoms.Atom.{Atom}
+use Rattle.cpp_conditions.specs.Macros.{Macros}
 use Rattle.cpp_conditions.specs.Propositions.{Proposition}
 use Rattle.cpp_conditions.specs.Validity.{Plain}
 use Rattle.cpp_lines.specs.Code.{code_of}
 use Rattle.cpp_lines.specs.Comments.{comment_len, comment_left}
-use Rattle.cpp_lines.specs.Directives.{begins_directive, behind_hash, behind_word, word_of, is_gap_only, is_assert_header, directive_named, directive_of, checked, include_fault}
+use Rattle.cpp_lines.specs.Bytes.{behind_word, word_of, is_gap_only}
+use Rattle.cpp_lines.specs.Defined.{names_in, macros_behind}
+use Rattle.cpp_lines.specs.Definitions.{is_definition_text}
+use Rattle.cpp_lines.specs.Directives.{begins_directive, behind_hash, is_assert_header, directive_named, directive_of, checked, include_fault}
 use Rattle.cpp_lines.specs.Faults.{is_open, is_splice, touches_directive, comment_fault, fault_at, or_later, first_fault_from, first_fault, blanked_or, without_comments}
 use Rattle.cpp_lines.specs.Lines.{pieces}
 use Rattle.cpp_lines.specs.Nesting.{named_in, opened_by, later_fault, end_fault, directive_fault, line_fault}
@@ -28,6 +32,7 @@ use Rattle.c_tokens.specs.Reading as tokens
 use Rattle.c_tokens.specs.Reading.{tokens_of, IsReading}
 use Rattle.c_grammar.specs.declared.items.Item.{Item}
 use Rattle.c_parser.specs.FamilyItems.{HasEarlyFault}
+use Rattle.c_parser.specs.Functions.{own_functions}
 use Rattle.c_parser.specs.Items.{Listed, listed}
 use Rattle.c_parser.specs.Phases.{is_group_item, is_else_item, item_before, wrong_code}
 
@@ -112,6 +117,10 @@ include_other includes_of.Skip = tt
 abbrev WordOther : Includes → List Bool → List ℕ → List ℕ → Type 0
 WordOther includes opens word rest = IsOther (directive_fault includes opens (checked (directive_named word) rest))
 
+define_other : (includes : Includes) (opens : List Bool) (is_text : Bool) → IsOther (directive_fault includes opens (if is_text then directive_named (codes "define") else None))
+define_other includes opens true = tt
+define_other includes opens false = refl
+
 -- the names from `elif` on
 last_other : (includes : Includes) (opens : List Bool) (word rest : List ℕ) → bytes_eq word (codes "include") ≡ false → bytes_eq word (codes "if") ≡ false → bytes_eq word (codes "ifdef") ≡ false → bytes_eq word (codes "ifndef") ≡ false → WordOther includes opens word rest
 last_other includes opens word rest k1 k2 k3 k4 = elim (bytes_eq word (codes "elif")) as (λ b. bytes_eq word (codes "elif") ≡ b → WordOther includes opens word rest) [
@@ -126,7 +135,10 @@ last_other includes opens word rest k1 k2 k3 k4 = elim (bytes_eq word (codes "el
         | true ↦ λ g. rw (k1, k2, k3, k4, k5, k6, k7, g) (end_other opens)
         | false ↦ λ g. rw (k1, k2, k3, k4, k5, k6, k7, g) refl
       ] refl)
-      | false ↦ λ k7. rw (k1, k2, k3, k4, k5, k6, k7) refl
+      | false ↦ λ k7. (elim (bytes_eq word (codes "define")) as (λ b. bytes_eq word (codes "define") ≡ b → WordOther includes opens word rest) [
+        | true ↦ λ k8. rw (k1, k2, k3, k4, k5, k6, k7, k8) (define_other includes opens (is_definition_text rest))
+        | false ↦ λ k8. rw (k1, k2, k3, k4, k5, k6, k7, k8) refl
+      ] refl)
     ] refl)
   ] refl)
 ] refl
@@ -155,10 +167,10 @@ line_other includes opens line = elim (begins_directive line) as (λ b. IsOther 
   | false ↦ tt
 ]
 
-fault_other : (dialect : Dialect) (model : Plain) (opens : List Bool) (ps : List (Proposition Atom)) (line : List ℕ) (code : FileCode) → HasFault dialect model opens ps line code → is_of_name code ≡ false
-fault_other dialect model opens ps line code (sections.misplaced _ e) = subst IsOther e (line_other dialect.includes opens line)
-fault_other dialect model opens ps line _ (sections.refused text fault e c g) = refl
-fault_other dialect model opens ps line _ (sections.crowded text p e c g h) = refl
+fault_other : (dialect : Dialect) (macros : Macros) (model : Plain) (opens : List Bool) (ps : List (Proposition Atom)) (line : List ℕ) (code : FileCode) → HasFault dialect macros model opens ps line code → is_of_name code ≡ false
+fault_other dialect macros model opens ps line code (sections.misplaced _ e) = subst IsOther e (line_other dialect.includes opens line)
+fault_other dialect macros model opens ps line _ (sections.refused text fault e c g) = refl
+fault_other dialect macros model opens ps line _ (sections.crowded text p e c g h) = refl
 
 abbrev IsOtherIn : Result Told (FileCode × Place) → Type 0
 IsOtherIn (Ok told) = Unit {0}
@@ -168,12 +180,12 @@ front_other : (l : sections.Told) (r : Result Told (FileCode × Place)) → IsOt
 front_other l (Ok told) h = tt
 front_other l (Err fault) h = h
 
-lines_other : (dialect : Dialect) (model : Plain) (text : List ℕ) (opens : List Bool) (ps : List (Proposition Atom)) (start : ℕ) (lines : List (List ℕ)) (r : Result Told (FileCode × Place)) → AreRead dialect model text opens ps start lines r → IsOtherIn r
-lines_other dialect model text opens ps start [] r (sections.none o q s) = tt
-lines_other dialect model text opens ps start (line ∷ lines) r (sections.unclosed o q s l ls u) = refl
-lines_other dialect model text opens ps start (line ∷ lines) r (sections.faulty o q s l ls code u f) = fault_other dialect model opens ps line code f
-lines_other dialect model text opens ps start (line ∷ lines) r (sections.goes_on o q s l ls qs x u h k) =
-    front_other (record { lines = line_at (length ps) start (place_at text start) line ∷ []; conditions = qs }) x (lines_other dialect model text (opened_by (named_in line) opens) (ps ++ qs) (start + length line + 1) lines x k)
+lines_other : (dialect : Dialect) (model : Plain) (text : List ℕ) (above : List (List ℕ)) (opens : List Bool) (ps : List (Proposition Atom)) (start : ℕ) (lines : List (List ℕ)) (r : Result Told (FileCode × Place)) → AreRead dialect model text above opens ps start lines r → IsOtherIn r
+lines_other dialect model text above opens ps start [] r (sections.none o q s) = tt
+lines_other dialect model text above opens ps start (line ∷ lines) r (sections.unclosed o q s l ls u) = refl
+lines_other dialect model text above opens ps start (line ∷ lines) r (sections.faulty o q s l ls code u f) = fault_other dialect (macros_behind dialect.unknown text above) model opens ps line code f
+lines_other dialect model text above opens ps start (line ∷ lines) r (sections.goes_on o q s l ls qs x u h k) =
+    front_other (record { lines = line_at (length ps) start (place_at text start) line ∷ []; conditions = qs }) x (lines_other dialect model text (above ++ names_in line) (opened_by (named_in line) opens) (ps ++ qs) (start + length line + 1) lines x k)
 
 -- ---- tokens
 
@@ -192,9 +204,9 @@ listed_ok l = Ok l
 abbrev listed_err : FileCode × Place → Result Listed (FileCode × Place)
 listed_err fault = Err fault
 
-token_from : (code : List ℕ) (fault : FileCode × Place) (r : Result (List Token) (FileCode × Place)) → IsReading code r → and_then r (λ ts. listed_ok (listed [] code ts)) ≡ listed_err fault → is_of_name fault.0 ≡ false
-token_from code fault (Ok ts) h e = absurd cc
-token_from code fault (Err found) h e =
+token_from : (functions : List (List ℕ)) (code : List ℕ) (fault : FileCode × Place) (r : Result (List Token) (FileCode × Place)) → IsReading code r → and_then r (λ ts. listed_ok (listed functions [] code ts)) ≡ listed_err fault → is_of_name fault.0 ≡ false
+token_from functions code fault (Ok ts) h e = absurd cc
+token_from functions code fault (Err found) h e =
     let is : found ≡ fault = (let k : listed_err found ≡ listed_err fault = e in cc) in
     ap (λ (f : FileCode × Place). is_of_name f.0) (sym is) ∙ stray_other code h.1 found.0 h.3
 
@@ -202,8 +214,8 @@ token_from code fault (Err found) h e =
 
 pub early_other : TokensAreRead → (dialect : Dialect) (model : Plain) (bytes : List ℕ) (fault : FileCode × Place) → HasEarlyFault dialect model bytes fault → is_of_name fault.0 ≡ false
 early_other law dialect model bytes fault (inl e) = comments_other bytes fault e
-early_other law dialect model bytes fault (inr (inl h)) = lines_other dialect model h.blanked [] [] 0 (pieces h.blanked) (Err fault) h.read
-early_other law dialect model bytes fault (inr (inr h)) = token_from (code_of h.blanked) fault (tokens_of (code_of h.blanked)) (law (code_of h.blanked)) h.token
+early_other law dialect model bytes fault (inr (inl h)) = lines_other dialect model h.blanked [] [] [] 0 (pieces h.blanked) (Err fault) h.read
+early_other law dialect model bytes fault (inr (inr h)) = token_from (own_functions (code_of h.blanked)) (code_of h.blanked) fault (tokens_of (code_of h.blanked)) (law (code_of h.blanked)) h.token
 
 pub wrong_other : (items : List Item) (n : ℕ) → is_of_name (wrong_code items n) ≡ false
 wrong_other items n = elim (is_group_item (slice_get items n) || (is_else_item (slice_get items n) && is_group_item (item_before items n))) as (λ b. is_of_name (if b then file_codes.GroupInsideStatement else file_codes.Syntax) ≡ false) [ true ↦ refl | false ↦ refl ]

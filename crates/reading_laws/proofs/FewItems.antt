@@ -13,6 +13,7 @@ use Rattle.cpp_conditions.specs.Propositions.{Proposition}
 use Rattle.cpp_conditions.specs.Validity.{Plain}
 use Rattle.linear_atoms.specs.declared.atoms.Atom.{Atom}
 use Rattle.cpp_lines.specs.Code.{code_of}
+use Rattle.cpp_lines.specs.Defined.{names_in}
 use Rattle.cpp_lines.specs.Lines.{in_first, pieces}
 use Rattle.cpp_lines.specs.Nesting.{named_in, opened_by}
 use Rattle.cpp_lines.specs.Sections as sections
@@ -23,8 +24,10 @@ use Rattle.c_grammar.specs.declared.items.Item.{Item}
 use Rattle.c_grammar.specs.declared.items.Sign.{Sign}
 use Rattle.c_tokens.specs.declared.token.Token.{Token}
 use Rattle.c_tokens.specs.Reading.{tokens_of}
-use Rattle.c_parser.specs.FamilyItems.{HasItems, by_line, items_of_line, or_directive, group_sign, stands_in}
+use Rattle.c_parser.specs.FamilyItems.{HasItems, feature_names, by_line, items_of_line, or_directive, group_sign, stands_in}
+use Rattle.c_parser.specs.Functions.{own_functions}
 use Rattle.c_parser.specs.Items.{Listed, listed, item_over, names_from}
+use Rattle.c_parser.specs.Order.{arranged}
 use Rattle.c_parser.specs.Reading.{items_of_code}
 use Rattle.c_parser.proofs.Lexical.{TokenLaws, tokens_few}
 
@@ -50,11 +53,11 @@ one_line : (l : Line) (qs : List (Proposition Atom)) (n : ℕ) (r : Result Told 
 one_line l qs n (Ok told) h = omega (arith, h)
 one_line l qs n (Err fault) h = tt
 
-few_lines_from : (dialect : Dialect) (m : Plain) (text : List ℕ) (opens : List Bool) (ps : List (Proposition Atom)) (start : ℕ) (lines : List (List ℕ)) (r : Result Told (FileCode × Place)) → AreRead dialect m text opens ps start lines r → HasLines (length lines) r
-few_lines_from dialect m text opens ps start [] r (sections.none o q s) = le_refl 0
-few_lines_from dialect m text opens ps start (line ∷ lines) r (sections.unclosed o q s l ls u) = tt
-few_lines_from dialect m text opens ps start (line ∷ lines) r (sections.faulty o q s l ls code u f) = tt
-few_lines_from dialect m text opens ps start (line ∷ lines) r (sections.goes_on o q s l ls qs x u h k) = one_line _ qs (length lines) x (few_lines_from dialect m text (opened_by (named_in line) opens) (ps ++ qs) (start + length line + 1) lines x k)
+few_lines_from : (dialect : Dialect) (m : Plain) (text : List ℕ) (above : List (List ℕ)) (opens : List Bool) (ps : List (Proposition Atom)) (start : ℕ) (lines : List (List ℕ)) (r : Result Told (FileCode × Place)) → AreRead dialect m text above opens ps start lines r → HasLines (length lines) r
+few_lines_from dialect m text above opens ps start [] r (sections.none o q s) = le_refl 0
+few_lines_from dialect m text above opens ps start (line ∷ lines) r (sections.unclosed o q s l ls u) = tt
+few_lines_from dialect m text above opens ps start (line ∷ lines) r (sections.faulty o q s l ls code u f) = tt
+few_lines_from dialect m text above opens ps start (line ∷ lines) r (sections.goes_on o q s l ls qs x u h k) = one_line _ qs (length lines) x (few_lines_from dialect m text (above ++ names_in line) (opened_by (named_in line) opens) (ps ++ qs) (start + length line + 1) lines x k)
 
 -- ---- items
 
@@ -80,12 +83,12 @@ abbrev HasFew : ℕ → Result Listed (FileCode × Place) → Type 0
 HasFew n (Ok l) = length l.items ≤ n
 HasFew n (Err fault) = Unit {0}
 
-few_listed : (code : List ℕ) (n : ℕ) (x : Result (List Token) (FileCode × Place)) → ((ts : List Token) → x ≡ Ok ts → length ts ≤ n) → HasFew n (and_then x (λ ts. Ok (listed [] code ts)))
-few_listed code n (Ok ts) h = subst (λ (k : ℕ). k ≤ n) (sym (length-map ts (item_over (names_from code [] ts) code))) (h ts refl)
-few_listed code n (Err fault) h = tt
+few_listed : (functions given : List (List ℕ)) (code : List ℕ) (n : ℕ) (x : Result (List Token) (FileCode × Place)) → ((ts : List Token) → x ≡ Ok ts → length ts ≤ n) → HasFew n (and_then x (λ ts. Ok (listed functions given code ts)))
+few_listed functions given code n (Ok ts) h = subst (λ (k : ℕ). k ≤ n) (sym (length-map ts (item_over functions (names_from functions code given ts) code))) (h ts refl)
+few_listed functions given code n (Err fault) h = tt
 
-few_tokens : TokenLaws → (code : List ℕ) (l : Listed) → items_of_code [] code ≡ Ok l → length l.items ≤ length code
-few_tokens laws code l e = subst (HasFew (length code)) e (few_listed code (length code) (tokens_of code) (λ ts is. tokens_few laws code ts is))
+few_tokens : (functions : List (List ℕ)) → TokenLaws → (given : List (List ℕ)) (code : List ℕ) (l : Listed) → items_of_code functions given code ≡ Ok l → length l.items ≤ length code
+few_tokens functions laws given code l e = subst (HasFew (length code)) e (few_listed functions given code (length code) (tokens_of code) (λ ts is. tokens_few laws code ts is))
 
 -- ---- all items
 
@@ -99,9 +102,9 @@ pub few_items : TokenLaws → ((text : List ℕ) → length (code_of text) ≡ l
 few_items laws code_len dialect model bytes told l h =
     let b = is_blanked bytes h.blanked h.without_comments in
     let few : length h.blanked ≤ 1048576 = subst (λ (n : ℕ). n ≤ 1048576) (sym b.same_len) (ltb-false file_bytes (length bytes) b.short) in
-    let lines : length told.lines ≤ length (pieces h.blanked) = few_lines_from dialect model h.blanked [] [] 0 (pieces h.blanked) (Ok told) h.read in
+    let lines : length told.lines ≤ length (pieces h.blanked) = few_lines_from dialect model h.blanked [] [] [] 0 (pieces h.blanked) (Ok told) h.read in
     let all : length told.lines ≤ 1048577 = omega (arith, lines, few_pieces h.blanked, few) in
-    let tokens : length h.tokens.items ≤ length h.blanked = subst (λ (n : ℕ). length h.tokens.items ≤ n) (code_len h.blanked) (few_tokens laws (code_of h.blanked) h.tokens h.tokens_are) in
+    let tokens : length h.tokens.items ≤ length h.blanked = subst (λ (n : ℕ). length h.tokens.items ≤ n) (code_len h.blanked) (few_tokens (own_functions (code_of h.blanked)) laws (arranged (feature_names model) h.first) (code_of h.blanked) h.tokens h.tokens_are) in
     let some : suc (length h.tokens.items) ≤ 1048577 = omega (arith, tokens, few) in
     let items : length l.items ≤ length told.lines * suc (length h.tokens.items) = subst (λ (x : Listed). length x.items ≤ length told.lines * suc (length h.tokens.items)) (sym h.is) (few_by_line told.lines h.tokens.items) in
     let bound = product (length told.lines) (suc (length h.tokens.items)) all some in

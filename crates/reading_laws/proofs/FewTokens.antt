@@ -22,14 +22,14 @@ tokens_few : (text : List ℕ) (start : ℕ) (ts : List Token) (end : ℕ) → S
 tokens_few text start [] end h = omega (arith, h.order)
 tokens_few text start (t ∷ ts) end h = omega (arith, h.0.order, h.1.0.begins, tokens_few text t.end ts end h.1.1)
 
-items_by : (code : List ℕ) (l : Listed) (r : Result (List Token) (FileCode × Place)) → IsReading code r → and_then r (λ ts. Ok (listed [] code ts)) ≡ Ok l → length l.items ≤ length code
-items_by code l (Ok ts) h e =
-    let same : listed [] code ts ≡ l = cc in
-    subst (λ (x : Listed). length x.items ≤ length code) same (let n = length-map ts (item_over (names_from code [] ts) code) in omega (arith, n, tokens_few code 0 ts (length code) h))
-items_by code l (Err fault) h e = absurd cc
+items_by : (functions given : List (List ℕ)) (code : List ℕ) (l : Listed) (r : Result (List Token) (FileCode × Place)) → IsReading code r → and_then r (λ ts. Ok (listed functions given code ts)) ≡ Ok l → length l.items ≤ length code
+items_by functions given code l (Ok ts) h e =
+    let same : listed functions given code ts ≡ l = cc in
+    subst (λ (x : Listed). length x.items ≤ length code) same (let n = length-map ts (item_over functions (names_from functions code given ts) code) in omega (arith, n, tokens_few code 0 ts (length code) h))
+items_by functions given code l (Err fault) h e = absurd cc
 
-pub items_few : ((text : List ℕ) → IsReading text (tokens_of text)) → (code : List ℕ) (l : Listed) → items_of_code [] code ≡ Ok l → length l.items ≤ length code
-items_few read code l e = items_by code l (tokens_of code) (read code) e
+pub items_few : (functions : List (List ℕ)) → ((text : List ℕ) → IsReading text (tokens_of text)) → (given : List (List ℕ)) (code : List ℕ) (l : Listed) → items_of_code functions given code ≡ Ok l → length l.items ≤ length code
+items_few functions read given code l e = items_by functions given code l (tokens_of code) (read code) e
 
 -- ---- the length of the code
 

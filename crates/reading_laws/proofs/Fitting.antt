@@ -1,7 +1,6 @@
 -- A condition that bytes are read as is over the features, and their ranges decide none of its atoms.
 use Rattle.std.proofs.Common.{◌≡◌, ℕ, ◌<◌, pos, negsuc, Bool, true, false, ◌&&◌, if◌then◌else◌, List, length, Option, Some, None, Result, Ok, Err, refl}
 use Rattle.std.specs.Prelude.{IfOk}
-use Rattle.fam_outer.specs.declared.dialect.Unknown.{Unknown}
 use Rattle.fam_outer.specs.declared.faults.ConditionFault.{ConditionFault}
 use Rattle.fam_outer.specs.declared.faults.ConditionFault.TheVariants as faults
 use Rattle.linear_atoms.specs.declared.atoms.Atom.{Atom}
@@ -22,7 +21,8 @@ use Rattle.cpp_conditions.specs.declared.operators.Prefix.{Prefix}
 use Rattle.cpp_conditions.specs.declared.operators.Prefix.TheVariants.{Positive, Negative, Inverse}
 use Rattle.cpp_conditions.specs.Expressions.{Expression, Number, Name, IsDefined, Unary, Binary, found}
 use Rattle.cpp_conditions.specs.Forming.{IsOver, IsOverFeatures}
-use Rattle.cpp_conditions.specs.Grammar.{is_small_zero, is_small_truth, is_small_compared, are_small_forms, is_small_condition, has_reserved, unknown_refuses, judged_form, judged, ReadsAs, no_tokens, too_deep, no_condition, read}
+use Rattle.cpp_conditions.specs.Grammar.{is_small_zero, is_small_truth, is_small_compared, are_small_forms, is_small_condition, has_reserved, unknown_refuses, has_defined, judged_form, judged, ReadsAs, no_tokens, too_deep, no_condition, read}
+use Rattle.cpp_conditions.specs.Macros.{Macros}
 use Rattle.cpp_conditions.specs.Meaning.{is_linear, names_feature, name_form, defined_form, difference, form_before, form_between, form, kept, signed, test_of, at_least_zero, less_one, is_zero, compared, cond}
 use Rattle.cpp_conditions.specs.Propositions.{Proposition, Not, And, Or}
 use Rattle.cpp_conditions.proofs.Sizes.{and_left, and_right, and_true, over_constant, over_feature, over_by, over_sum, over_difference, found_below}
@@ -178,15 +178,16 @@ module _ (fs : List Feature) (ranges : AreRanges fs) where
   over_small e true s = over_cond e s
   over_small e false s = tt
 
-  over_judged : (unknown : Unknown) (e : Expression) → IfOk (judged unknown fs e) (IsOverFeatures fs)
-  over_judged unknown e =
-      over_fault (has_reserved e) faults.ReservedName (if unknown_refuses unknown fs e then Err faults.UnknownName else judged_form fs e)
-      (over_fault (unknown_refuses unknown fs e) faults.UnknownName (judged_form fs e)
+  over_judged : (macros : Macros) (e : Expression) → IfOk (judged macros fs e) (IsOverFeatures fs)
+  over_judged macros e =
+      over_fault (has_reserved e) faults.ReservedName (if unknown_refuses macros fs e then Err faults.UnknownName else (if has_defined macros.above e then Err faults.DefinedName else judged_form fs e))
+      (over_fault (unknown_refuses macros fs e) faults.UnknownName (if has_defined macros.above e then Err faults.DefinedName else judged_form fs e)
+      (over_fault (has_defined macros.above e) faults.DefinedName (judged_form fs e)
       (over_else (is_linear fs e) faults.NonLinear (if is_small_condition fs e then Ok (cond fs e) else Err faults.TooLarge)
-      (over_small e (is_small_condition fs e) refl)))
+      (over_small e (is_small_condition fs e) refl))))
 
-  pub over_read : (unknown : Unknown) (bytes : List ℕ) (r : Result (Proposition Atom) ConditionFault) → ReadsAs unknown fs bytes r → IfOk r (IsOverFeatures fs)
-  over_read unknown bytes _ (no_tokens n) = tt
-  over_read unknown bytes _ (too_deep ts s h) = tt
-  over_read unknown bytes _ (no_condition ts s h n) = tt
-  over_read unknown bytes _ (read ts e s h x) = over_judged unknown e
+  pub over_read : (macros : Macros) (bytes : List ℕ) (r : Result (Proposition Atom) ConditionFault) → ReadsAs macros fs bytes r → IfOk r (IsOverFeatures fs)
+  over_read macros bytes _ (no_tokens n) = tt
+  over_read macros bytes _ (too_deep ts s h) = tt
+  over_read macros bytes _ (no_condition ts s h n) = tt
+  over_read macros bytes _ (read ts e s h x) = over_judged macros e

@@ -19,8 +19,10 @@ use Rattle.c_grammar.specs.declared.items.Sign.TheVariants as signs
 use Rattle.c_grammar.specs.Grammar.{is_group, has_groups}
 use Rattle.c_grammar.specs.Kept.{directive_of}
 use Rattle.c_grammar.proofs.Keeping.{neither}
-use Rattle.c_parser.specs.FamilyItems.{group_sign, or_directive, stands_in, items_of_line, by_line}
+use Rattle.c_parser.specs.FamilyItems.{feature_names, group_sign, or_directive, stands_in, items_of_line, by_line}
+use Rattle.c_parser.specs.Functions.{own_functions}
 use Rattle.c_parser.specs.Items.{Listed, listed, names_from, items_over, lexeme_in}
+use Rattle.c_parser.specs.Order.{arranged}
 use Rattle.c_parser.specs.Reading.{items_of_code}
 use Rattle.c_parser.proofs.KeptItems.{sign_plain}
 use Rattle.reading_laws.specs.Sectioned.{Directives, Group, IsSectioned}
@@ -29,21 +31,21 @@ use Rattle.reading_laws.proofs.Walking.{AreNone, Fills, filled, text_closes}
 
 -- ---- tokens are no directives
 
-over_plain : (names : List (List ℕ)) (text : List ℕ) (ts : List Token) → has_groups (items_over names text ts) ≡ false
-over_plain names text [] = refl
-over_plain names text (t ∷ ts) = ap (λ (b : Bool). b || has_groups (items_over names text ts)) (sign_plain names t.kind (lexeme_in text t)) ∙ over_plain names text ts
+over_plain : (functions names : List (List ℕ)) (text : List ℕ) (ts : List Token) → has_groups (items_over functions names text ts) ≡ false
+over_plain functions names text [] = refl
+over_plain functions names text (t ∷ ts) = ap (λ (b : Bool). b || has_groups (items_over functions names text ts)) (sign_plain functions names t.kind (lexeme_in text t)) ∙ over_plain functions names text ts
 
 abbrev listed_ok : Listed → Result Listed (FileCode × Place)
 listed_ok l = Ok l
 
-plain_from : (code : List ℕ) (l : Listed) (r : Result (List Token) (FileCode × Place)) → and_then r (λ ts. listed_ok (listed [] code ts)) ≡ listed_ok l → has_groups l.items ≡ false
-plain_from code l (Ok ts) e =
-    let is : listed [] code ts ≡ l = (let k : listed_ok (listed [] code ts) ≡ listed_ok l = e in cc) in
-    subst (λ (k : Listed). has_groups k.items ≡ false) is (over_plain (names_from code [] ts) code ts)
-plain_from code l (Err fault) e = absurd cc
+plain_from : (functions given : List (List ℕ)) (code : List ℕ) (l : Listed) (r : Result (List Token) (FileCode × Place)) → and_then r (λ ts. listed_ok (listed functions given code ts)) ≡ listed_ok l → has_groups l.items ≡ false
+plain_from functions given code l (Ok ts) e =
+    let is : listed functions given code ts ≡ l = (let k : listed_ok (listed functions given code ts) ≡ listed_ok l = e in cc) in
+    subst (λ (k : Listed). has_groups k.items ≡ false) is (over_plain functions (names_from functions code given ts) code ts)
+plain_from functions given code l (Err fault) e = absurd cc
 
-pub code_plain : (code : List ℕ) (l : Listed) → items_of_code [] code ≡ Ok l → has_groups l.items ≡ false
-code_plain code l e = plain_from code l (tokens_of code) e
+code_plain : (functions given : List (List ℕ)) (code : List ℕ) (l : Listed) → items_of_code functions given code ≡ Ok l → has_groups l.items ≡ false
+code_plain functions given code l e = plain_from functions given code l (tokens_of code) e
 
 -- ---- what stands for a line
 
@@ -66,12 +68,11 @@ none_of_line n (x ∷ xs) h =
     ]
 
 line_fills : (kind : LineKind) (place : Place) (xs : List Item) → AreNone (item_groups xs) → Fills (group_of kind) (item_groups (or_directive (group_sign kind) place xs))
-line_fills kinds.Code place xs h = h
-line_fills kinds.Include place xs h = h
 line_fills (kinds.If n) place xs h = refl
 line_fills (kinds.Elif n) place xs h = refl
 line_fills kinds.Else place xs h = refl
 line_fills kinds.Endif place xs h = refl
+line_fills _ place xs h = h
 
 groups_both : (xs ys : List Item) → item_groups (xs ++ ys) ≡ item_groups xs ++ item_groups ys
 groups_both xs ys = map-append (λ (x : Item). directive_of x.sign) xs ys
@@ -83,7 +84,7 @@ line_by_line (l ∷ ls) xs =
 
 pub items_are_sectioned : ItemsAreSectioned
 items_are_sectioned dialect model bytes told l h =
-    let plain : has_groups h.tokens.items ≡ false = code_plain (code_of h.blanked) h.tokens h.tokens_are in
+    let plain : has_groups h.tokens.items ≡ false = code_plain (own_functions (code_of h.blanked)) (arranged (feature_names model) h.first) (code_of h.blanked) h.tokens h.tokens_are in
     let whole : IsSectioned Group (item_groups (by_line told.lines h.tokens.items)) =
     subst (IsSectioned Group) (line_by_line told.lines h.tokens.items)
     (text_closes (λ k. item_groups (items_of_line k h.tokens.items)) (λ k. line_fills k.kind k.place (filter (stands_in k.place.line) h.tokens.items) (none_of_line k.place.line h.tokens.items plain)) dialect model h.blanked told h.read) in

@@ -10,7 +10,7 @@ use Rattle.cpp_groups.specs.Kept.{truth, next_group, all_kept, sections_after}
 use Rattle.cpp_lines.specs.declared.line.Line.{Line}
 use Rattle.cpp_lines.specs.declared.line.LineKind.{LineKind}
 use Rattle.cpp_lines.specs.declared.line.LineKind.TheVariants as kinds
-use Rattle.cpp_lines.specs.Lines.{is_code}
+use Rattle.cpp_lines.specs.Lines.{stays as line_stays}
 use Rattle.cpp_lines.specs.Preprocessed.{group_of, kept_line, kept_lines}
 use Rattle.c_grammar.specs.declared.items.Item.{Item}
 use Rattle.c_grammar.specs.declared.items.Sign.{Sign}
@@ -168,9 +168,10 @@ kept_items_stay truths stay items h = items_from truths [] items ∙ ap (λ (bs 
 
 -- ---- lines
 
-line_same : (secs : List Section) (kind : LineKind) (p : List ℕ) → kept_line secs kind p ≡ cond (is_code kind && (is_none (group_of kind) && all_kept secs)) p []
+line_same : (secs : List Section) (kind : LineKind) (p : List ℕ) → kept_line secs kind p ≡ cond (line_stays kind && (is_none (group_of kind) && all_kept secs)) p []
 line_same secs kinds.Code p = refl
 line_same secs kinds.Include p = refl
+line_same secs kinds.Define p = refl
 line_same secs (kinds.If n) p = refl
 line_same secs (kinds.Elif n) p = refl
 line_same secs kinds.Else p = refl
@@ -182,7 +183,7 @@ lines_from t secs (l ∷ ls) [] = refl
 lines_from t secs (l ∷ ls) (p ∷ ps) =
     let next = sections_after t secs (group_of l.kind) in
     ap (λ (q : List ℕ). q ∷ kept_lines t next ls ps) (line_same secs l.kind p)
-    ∙ ap (λ (qs : List (List ℕ)). cond (is_code l.kind && (is_none (group_of l.kind) && all_kept secs)) p [] ∷ qs) (lines_from t next ls ps)
+    ∙ ap (λ (qs : List (List ℕ)). cond (line_stays l.kind && (is_none (group_of l.kind) && all_kept secs)) p [] ∷ qs) (lines_from t next ls ps)
 
 pub kept_lines_stay : KeptLinesStay
 kept_lines_stay truths stay lines ps h = lines_from truths [] lines ps ∙ ap (λ (bs : List Bool). staying_lines bs lines ps) (whole_stays truths (line_groups lines) stay h)

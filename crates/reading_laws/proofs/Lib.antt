@@ -3,9 +3,15 @@ pub mod Walking
 pub mod Items
 pub mod Variants
 pub mod Declared
+pub mod KnownNames
+pub mod Words
 pub mod Numbered
 pub mod KeptMain
 pub mod Early
+pub mod OtherFaults
+pub mod OutsideNames
+pub mod OutsideFaults
+pub mod Examples
 pub mod Shown
 pub mod DeclaredConstants
 pub mod Collecting
@@ -27,4 +33,5 @@ pub mod ModelReadings
 pub mod Given
 pub mod GivenOnce
 pub mod FewTokens
+pub mod FewTests
 pub mod ReadFamilies

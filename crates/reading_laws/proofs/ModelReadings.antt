@@ -9,6 +9,7 @@ use Rattle.linear_atoms.specs.Atoms.{AreRanges}
 use Rattle.cpp_conditions.specs.Distinct.{HaveFewAtoms, HaveMoreAtoms}
 use Rattle.cpp_conditions.specs.Forming.{IsOverFeatures}
 use Rattle.cpp_conditions.specs.Grammar.{ReadsAs}
+use Rattle.cpp_conditions.specs.Macros.{Macros, no_macros}
 use Rattle.cpp_conditions.specs.Propositions.{Proposition}
 use Rattle.cpp_conditions.specs.declared.models.Model.{Model}
 use Rattle.cpp_conditions.specs.Validity.{Plain, plain, IsValid, AreFit, AreOpen}
@@ -31,18 +32,18 @@ use Rattle.reading_laws.proofs.Telling.{IsTold, is_told, has_number}
 -- ---- the constraints
 
 abbrev pub ConditionsAreRead : Type 0
-ConditionsAreRead = (unknown : Unknown) (features : List Feature) (bytes : List ℕ) → (r : Result (Proposition Atom) ConditionFault) × ReadsAs unknown features bytes r
+ConditionsAreRead = (macros : Macros) (features : List Feature) (bytes : List ℕ) → (r : Result (Proposition Atom) ConditionFault) × ReadsAs macros features bytes r
 
 abbrev Listed : Unknown → List Feature → ℕ → List (List ℕ) → Type 0
 Listed unknown features n texts = (r : Result (List (Proposition Atom)) ModelFault) × AreRead unknown features n texts r
 
-listed_first : (unknown : Unknown) (features : List Feature) (n : ℕ) (text : List ℕ) (texts : List (List ℕ)) (r : Result (Proposition Atom) ConditionFault) → ReadsAs unknown features text r → Listed unknown features (n + 1) texts → Listed unknown features n (text ∷ texts)
+listed_first : (unknown : Unknown) (features : List Feature) (n : ℕ) (text : List ℕ) (texts : List (List ℕ)) (r : Result (Proposition Atom) ConditionFault) → ReadsAs (no_macros unknown) features text r → Listed unknown features (n + 1) texts → Listed unknown features n (text ∷ texts)
 listed_first unknown features n text texts (Ok p) h rest = (rest.0 >>= λ ps. Ok (p ∷ ps), first n text texts p rest.0 h rest.1)
 listed_first unknown features n text texts (Err fault) h rest = (Err (faults.Constraint n fault), refused n text texts fault h)
 
 listed : ConditionsAreRead → (unknown : Unknown) (features : List Feature) (n : ℕ) (texts : List (List ℕ)) → Listed unknown features n texts
 listed reads unknown features n [] = (Ok [], none n)
-listed reads unknown features n (text ∷ texts) = let h = reads unknown features text in listed_first unknown features n text texts h.0 h.1 (listed reads unknown features (n + 1) texts)
+listed reads unknown features n (text ∷ texts) = let h = reads (no_macros unknown) features text in listed_first unknown features n text texts h.0 h.1 (listed reads unknown features (n + 1) texts)
 
 over_more : (fs : List Feature) (p : Proposition Atom) (others : Result (List (Proposition Atom)) ModelFault) → IsOverFeatures fs p → IfOk others (AreOver fs) → IfOk (others >>= λ ps. Ok (p ∷ ps)) (AreOver fs)
 over_more fs p (Ok ps) o h = (o, h)
@@ -51,7 +52,7 @@ over_more fs p (Err fault) o h = tt
 over_all : (unknown : Unknown) (fs : List Feature) → AreRanges fs → (n : ℕ) (texts : List (List ℕ)) (r : Result (List (Proposition Atom)) ModelFault) → AreRead unknown fs n texts r → IfOk r (AreOver fs)
 over_all unknown fs ranges _ _ _ (none n) = tt
 over_all unknown fs ranges _ _ _ (refused n text texts fault h) = tt
-over_all unknown fs ranges _ _ _ (first n text texts p others h rest) = over_more fs p others (over_read fs ranges unknown text (Ok p) h) (over_all unknown fs ranges (n + 1) texts others rest)
+over_all unknown fs ranges _ _ _ (first n text texts p others h rest) = over_more fs p others (over_read fs ranges (no_macros unknown) text (Ok p) h) (over_all unknown fs ranges (n + 1) texts others rest)
 
 -- a fault of a constraint that counts so many texts from this number, or none
 abbrev Counts : ℕ → ℕ → Result (List (Proposition Atom)) ModelFault → Type 0

@@ -1,5 +1,5 @@
 -- Items have a first fault of a name, or none.
-use Rattle.std.proofs.Common.{◌≡◌, ℕ, ℤ, Bool, true, false, List, [], ◌∷◌, ◌++◌, Option, Some, None, refl}
+use Rattle.std.proofs.Common.{◌≡◌, ℕ, ℤ, Bool, true, false, List, [], ◌∷◌, ◌++◌, length, Option, Some, None, refl}
 use Rattle.fam_outer.specs.declared.faults.FileCode.{FileCode}
 use Rattle.fam_outer.specs.declared.faults.FileCode.TheVariants.{Undeclared, Twice, FeatureInCode, ChangedConstant}
 use Rattle.fam_outer.specs.declared.faults.Place.{Place}
@@ -8,7 +8,9 @@ use Rattle.c_grammar.specs.declared.items.Item.{Item}
 use Rattle.c_grammar.specs.declared.items.Sign.{Sign}
 use Rattle.c_grammar.specs.declared.items.Sign.TheVariants as signs
 use Rattle.c_grammar.specs.Constants.{changed_at}
-use Rattle.family_names.specs.Names.{NameContext, has_main, declared_by, is_among, each_once, is_missed, is_met_again, is_met_constant, is_feature, new_name_fault, code_with, changed_place, IsWithFirst, IsEither, IsUseFault, IsDeclarationFault, IsNameFault, IsChangeOf, IsChangeFault, IsThisOr, IsChangeOr, IsFaultFrom}
+use Rattle.c_grammar.specs.Functions.{is_equals, stands_behind}
+use Rattle.family_names.specs.Functions.{callable_by}
+use Rattle.family_names.specs.Names.{NameContext, has_main, declared_by, constants_of, values_of, is_among, is_missed, is_met_again, is_met_constant, is_met_unlike, is_uncallable, is_feature, is_value, value_fault, new_name_fault, function_fault, code_with, changed_place, IsWithFirst, IsEither, IsUseFault, IsDeclarationFault, IsCallFault, IsPrototypeFault, IsNameFault, IsChangeOf, IsChangeFault, IsThisOr, IsChangeOr, IsFaultFrom}
 use Rattle.reading_laws.specs.Answered.{FirstConfigurationsAreFound, NamesAreJudged}
 
 -- ---- one item
@@ -23,17 +25,31 @@ one_of false P Q x y = y
 
 use_answer : FirstConfigurationsAreFound → (context : NameContext) (before : List Item) (x : ℕ) → (fault : Option FileCode) × IsUseFault context before x fault
 use_answer law context before x =
-    one_of (is_feature context x) (λ (fault : Option FileCode). fault ≡ Some FeatureInCode)
+    let value : Option FileCode = value_fault context (values_of context before) (length (constants_of before)) x in
+    one_of (is_value context x) (λ (fault : Option FileCode). fault ≡ value_fault context (values_of context before) (length (constants_of before)) x)
+    (λ (fault : Option FileCode). IsEither (is_feature context x) (fault ≡ Some FeatureInCode) (IsEither (is_among x (declared_by before)) (IsWithFirst context.model (is_missed context before x) Undeclared None fault) (fault ≡ Some (Undeclared None))))
+    (value, refl)
+    (one_of (is_feature context x) (λ (fault : Option FileCode). fault ≡ Some FeatureInCode)
     (λ (fault : Option FileCode). IsEither (is_among x (declared_by before)) (IsWithFirst context.model (is_missed context before x) Undeclared None fault) (fault ≡ Some (Undeclared None))) (Some FeatureInCode, refl)
     (one_of (is_among x (declared_by before)) (λ (fault : Option FileCode). IsWithFirst context.model (is_missed context before x) Undeclared None fault) (λ (fault : Option FileCode). fault ≡ Some (Undeclared None))
-    (with_first law context.model (is_missed context before x) Undeclared None) (Some (Undeclared None), refl))
+    (with_first law context.model (is_missed context before x) Undeclared None) (Some (Undeclared None), refl)))
 
 declaration_answer : FirstConfigurationsAreFound → (context : NameContext) (before : List Item) (x : ℕ) → (fault : Option FileCode) × IsDeclarationFault context before x fault
-declaration_answer law context before x = with_first law context.model (is_met_again context before x) Twice (new_name_fault context (each_once [] (declared_by before)) x)
+declaration_answer law context before x = with_first law context.model (is_met_again context before x) Twice (new_name_fault context before x)
+
+call_answer : FirstConfigurationsAreFound → (context : NameContext) (before : List Item) (k : ℕ) → (fault : Option FileCode) × IsCallFault context before k fault
+call_answer law context before k =
+    one_of (is_among k (callable_by (stands_behind is_equals before) before)) (λ (fault : Option FileCode). IsWithFirst context.model (is_uncallable context before k) Undeclared None fault) (λ (fault : Option FileCode). fault ≡ Some (Undeclared None))
+    (with_first law context.model (is_uncallable context before k) Undeclared None) (Some (Undeclared None), refl)
+
+prototype_answer : FirstConfigurationsAreFound → (context : NameContext) (before : List Item) (k : ℕ) → (fault : Option FileCode) × IsPrototypeFault context before k fault
+prototype_answer law context before k = with_first law context.model (is_met_unlike context before k) Twice (function_fault context k)
 
 name_answer : FirstConfigurationsAreFound → (context : NameContext) (before : List Item) (sign : Sign) → (fault : Option FileCode) × IsNameFault context before sign fault
 name_answer law context before (signs.Name x) =
     one_of (has_main before) (λ (fault : Option FileCode). IsUseFault context before x fault) (λ (fault : Option FileCode). IsDeclarationFault context before x fault) (use_answer law context before x) (declaration_answer law context before x)
+name_answer law context before (signs.Function k) =
+    one_of (has_main before) (λ (fault : Option FileCode). IsCallFault context before k fault) (λ (fault : Option FileCode). IsPrototypeFault context before k fault) (call_answer law context before k) (prototype_answer law context before k)
 name_answer law context before _ = (None, refl)
 
 change_of : FirstConfigurationsAreFound → (context : NameContext) (before : List Item) (change : Option (ℕ × Place)) → (fault : Option FileCode) × IsChangeOf context before change fault

@@ -10,13 +10,17 @@ use Rattle.fam_outer.specs.declared.faults.FileCode.TheVariants.{Directive}
 use Rattle.fam_outer.specs.declared.faults.Place.{Place}
 use Rattle.fam_outer.specs.Places.{place_at}
 use Rattle.linear_atoms.specs.declared.atoms.Atom.{Atom}
+use Rattle.cpp_conditions.specs.Macros.{Macros}
 use Rattle.cpp_conditions.specs.Propositions.{Proposition}
 use Rattle.cpp_conditions.specs.Validity.{Plain}
 use Rattle.cpp_groups.specs.declared.directive.GroupDirective.{GroupDirective}
 use Rattle.cpp_groups.specs.declared.directive.GroupDirective.TheVariants.{If, Elif, Else, Endif}
 use Rattle.cpp_lines.specs.declared.line.Line.{Line}
 use Rattle.cpp_lines.specs.declared.line.LineKind.TheVariants as kinds
-use Rattle.cpp_lines.specs.Directives.{begins_directive, behind_hash, behind_word, word_of, is_gap_only, is_assert_header, directive_named, directive_of, checked}
+use Rattle.cpp_lines.specs.Bytes.{behind_word, word_of, is_gap_only}
+use Rattle.cpp_lines.specs.Defined.{names_in, macros_behind}
+use Rattle.cpp_lines.specs.Definitions.{is_definition_text}
+use Rattle.cpp_lines.specs.Directives.{begins_directive, behind_hash, is_assert_header, directive_named, directive_of, checked}
 use Rattle.cpp_lines.specs.Lines.{pieces}
 use Rattle.cpp_lines.specs.Nesting.{named_in, opens_section, ends_before, ends_of, opened_by, with_else, without_inner, later_fault, end_fault, directive_fault, line_fault}
 use Rattle.cpp_lines.specs.Preprocessed.{group_of}
@@ -112,6 +116,12 @@ include_does n opens m word rest k = elim (is_assert_header rest) as (λ b. is_a
   | false ↦ λ g. rw (k, g) (nothing_done refl refl refl)
 ] refl
 
+-- a definition opens and ends nothing
+define_does : (includes : Includes) (n : ℕ) (opens : List Bool) (m : ℕ) (is_text : Bool) → directive_fault includes opens (cond is_text (directive_named (codes "define")) None) ≡ None
+    → LineDoes n opens m (group_of (kind_of n (cond is_text (directive_named (codes "define")) None))) opens false m
+define_does includes n opens m true e = nothing_done refl refl refl
+define_does includes n opens m false e = absurd (never e)
+
 -- the names from `else` on
 last_does : (includes : Includes) (n : ℕ) (opens : List Bool) (m : ℕ) (word rest : List ℕ) → bytes_eq word (codes "include") ≡ false → bytes_eq word (codes "if") ≡ false → bytes_eq word (codes "ifdef") ≡ false → bytes_eq word (codes "ifndef") ≡ false
     → bytes_eq word (codes "elif") ≡ false → directive_fault includes opens (checked (directive_named word) rest) ≡ None → WordDoes n opens m word rest
@@ -125,7 +135,10 @@ last_does includes n opens m word rest k1 k2 k3 k4 k5 e = elim (bytes_eq word (c
       | true ↦ λ g. rw (k1, k2, k3, k4, k5, k6, k7, g) (ends_one refl (rw (k1, k2, k3, k4, k5, k6, k7, g) at e) refl refl)
       | false ↦ λ g. absurd (never (rw (k1, k2, k3, k4, k5, k6, k7, g) at e))
     ] refl)
-    | false ↦ λ k7. absurd (never (rw (k1, k2, k3, k4, k5, k6, k7) at e))
+    | false ↦ λ k7. (elim (bytes_eq word (codes "define")) as (λ b. bytes_eq word (codes "define") ≡ b → WordDoes n opens m word rest) [
+      | true ↦ λ k8. rw (k1, k2, k3, k4, k5, k6, k7, k8) (define_does includes n opens m (is_definition_text rest) (rw (k1, k2, k3, k4, k5, k6, k7, k8) at e))
+      | false ↦ λ k8. absurd (never (rw (k1, k2, k3, k4, k5, k6, k7, k8) at e))
+    ] refl)
   ] refl)
 ] refl
 
@@ -224,10 +237,10 @@ abbrev ClosesIn : (Line → Directives) → List Bool → Result Told (FileCode 
 ClosesIn fill opens (Ok told) = Closes opens (filled fill told.lines)
 ClosesIn fill opens (Err fault) = Unit {0}
 
-fine : (dialect : Dialect) (m : Plain) (opens : List Bool) (ps qs : List (Proposition Atom)) (line : List ℕ) → IsRead dialect m opens ps line qs → line_fault dialect.includes opens line ≡ None
-fine dialect m opens ps [] line (sections.untested f e) = f
-fine dialect m opens ps (q ∷ []) line (sections.tested text p f e h k) = f
-fine dialect m opens ps (q ∷ (_ ∷ _)) line x = elim x [ ]
+fine : (dialect : Dialect) (macros : Macros) (m : Plain) (opens : List Bool) (ps qs : List (Proposition Atom)) (line : List ℕ) → IsRead dialect macros m opens ps line qs → line_fault dialect.includes opens line ≡ None
+fine dialect macros m opens ps [] line (sections.untested f e) = f
+fine dialect macros m opens ps (q ∷ []) line (sections.tested text p f e h k) = f
+fine dialect macros m opens ps (q ∷ (_ ∷ _)) line x = elim x [ ]
 
 read_step : (fill : Line → Directives) → AreFilled fill → (includes : Includes) (opens : List Bool) (n start m : ℕ) (first : Place) (line : List ℕ) (qs : List (Proposition Atom)) (r : Result Told (FileCode × Place)) → line_fault includes opens line ≡ None
     → ClosesIn fill (opened_by (named_in line) opens) r → ClosesIn fill opens (in_front (line_at n start first line ∷ []) qs r)
@@ -240,17 +253,17 @@ none_open : (fill : Line → Directives) (opens : List Bool) → length opens �
 none_open fill [] h = nothing
 none_open fill (b ∷ opens) h = absurd (omega arith)
 
-closes : (fill : Line → Directives) → AreFilled fill → (dialect : Dialect) (m : Plain) (text : List ℕ) (opens : List Bool) (ps : List (Proposition Atom)) (start : ℕ) (lines : List (List ℕ)) (r : Result Told (FileCode × Place)) → length opens ≤ ends_of lines
-    → AreRead dialect m text opens ps start lines r → ClosesIn fill opens r
-closes fill are dialect m text opens ps start [] r le (sections.none o q s) = none_open fill opens le
-closes fill are dialect m text opens ps start (line ∷ lines) r le (sections.unclosed o q s l ls u) = tt
-closes fill are dialect m text opens ps start (line ∷ lines) r le (sections.faulty o q s l ls code u f) = tt
-closes fill are dialect m text opens ps start (line ∷ lines) r le (sections.goes_on o q s l ls qs x u h k) =
-    read_step fill are dialect.includes opens (length ps) start (ends_of lines) (place_at text start) line qs x (fine dialect m opens ps qs line h)
-    (closes fill are dialect m text (opened_by (named_in line) opens) (ps ++ qs) (start + length line + 1) lines x (ends_left (length ps) opens (ends_of lines) (group_of (line_at (length ps) start (place_at text start) line).kind) (opened_by (named_in line) opens) (opens_section (named_in line)) (ends_before (named_in line) (ends_of lines)) (line_does dialect.includes (length ps) opens (ends_of lines) line (fine dialect m opens ps qs line h)) u le) k)
+closes : (fill : Line → Directives) → AreFilled fill → (dialect : Dialect) (m : Plain) (text : List ℕ) (above : List (List ℕ)) (opens : List Bool) (ps : List (Proposition Atom)) (start : ℕ) (lines : List (List ℕ)) (r : Result Told (FileCode × Place)) → length opens ≤ ends_of lines
+    → AreRead dialect m text above opens ps start lines r → ClosesIn fill opens r
+closes fill are dialect m text above opens ps start [] r le (sections.none o q s) = none_open fill opens le
+closes fill are dialect m text above opens ps start (line ∷ lines) r le (sections.unclosed o q s l ls u) = tt
+closes fill are dialect m text above opens ps start (line ∷ lines) r le (sections.faulty o q s l ls code u f) = tt
+closes fill are dialect m text above opens ps start (line ∷ lines) r le (sections.goes_on o q s l ls qs x u h k) =
+    read_step fill are dialect.includes opens (length ps) start (ends_of lines) (place_at text start) line qs x (fine dialect (macros_behind dialect.unknown text above) m opens ps qs line h)
+    (closes fill are dialect m text (above ++ names_in line) (opened_by (named_in line) opens) (ps ++ qs) (start + length line + 1) lines x (ends_left (length ps) opens (ends_of lines) (group_of (line_at (length ps) start (place_at text start) line).kind) (opened_by (named_in line) opens) (opens_section (named_in line)) (ends_before (named_in line) (ends_of lines)) (line_does dialect.includes (length ps) opens (ends_of lines) line (fine dialect (macros_behind dialect.unknown text above) m opens ps qs line h)) u le) k)
 
 pub text_closes : (fill : Line → Directives) → AreFilled fill → (dialect : Dialect) (m : Plain) (text : List ℕ) (told : Told) → TextIsRead dialect m text (Ok told) → IsSectioned Group (filled fill told.lines)
-text_closes fill are dialect m text told h = closes fill are dialect m text [] [] 0 (pieces text) (Ok told) (omega arith) h
+text_closes fill are dialect m text told h = closes fill are dialect m text [] [] [] 0 (pieces text) (Ok told) (omega arith) h
 
 -- ---- the lines themselves
 

@@ -22,7 +22,7 @@ pub record IsReadFamily (dialect : Dialect) (model : Model) (bytes : List ℕ) (
   pub spelled : IsFamilyOf dialect model bytes f
   pub program : IsProgram (whole f.code)
   pub conditioned : IsConditioned (length f.conditions) (whole f.code)
-  pub few : length f.atoms ≤ 64
+  pub few : length f.atoms ≤ 320
   pub atoms : AreAtoms (length model.features) f.atoms
   pub below : All (λ c. IsBelow (length f.atoms) (formula c)) f.conditions
 

@@ -5,7 +5,7 @@ use Rattle.linear_atoms.specs.declared.atoms.Atom.{Atom}
 use Rattle.cpp_conditions.specs.Propositions.{Proposition}
 use Rattle.cpp_conditions.specs.Validity.{Plain}
 use Rattle.cpp_lines.specs.declared.line.Line.{Line}
-use Rattle.cpp_lines.specs.Lines.{is_code, pieces}
+use Rattle.cpp_lines.specs.Lines.{stays as line_stays, pieces}
 use Rattle.cpp_lines.specs.Preprocessed.{group_of, kept_lines, with_newlines}
 use Rattle.cpp_lines.specs.Sections.{Told, TextIsRead}
 use Rattle.cpp_lines.specs.Whole.{blanked_file, IsPreprocessed}
@@ -28,12 +28,12 @@ staying_items [] items = []
 staying_items (b ∷ bs) [] = []
 staying_items (b ∷ bs) (x ∷ xs) = if b then x ∷ staying_items bs xs else staying_items bs xs
 
--- the pieces of the lines of code that stay, and an empty one for each other line
+-- the pieces of the lines of code, and of definitions, that stay, and an empty one for each other line
 abbrev pub staying_lines : List Bool → List Line → List (List ℕ) → List (List ℕ)
 staying_lines [] lines ps = []
 staying_lines (b ∷ bs) [] ps = []
 staying_lines (b ∷ bs) (l ∷ ls) [] = []
-staying_lines (b ∷ bs) (l ∷ ls) (p ∷ ps) = (if is_code l.kind && b then p else []) ∷ staying_lines bs ls ps
+staying_lines (b ∷ bs) (l ∷ ls) (p ∷ ps) = (if line_stays l.kind && b then p else []) ∷ staying_lines bs ls ps
 
 -- ---- the laws
 

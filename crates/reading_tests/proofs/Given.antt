@@ -31,7 +31,7 @@ listed_here = record {
       ∷ at (spot 18) (signs.Name 1) ∷ at (spot 19) signs.Equals ∷ at (spot 20) (signs.Number (pos 1)) ∷ at (spot 21) signs.Semicolon ∷ at (spot 22) signs.RightBrace ∷ [];
 }
 
-items_are : items_of Assert given text ≡ Ok listed_here
+items_are : items_of Assert [] given text ≡ Ok listed_here
 unfolding items_of code_of_file plain_lines_of code_of first_fault tokens_of
 items_are = refl
 
@@ -48,5 +48,5 @@ below x h = elim (nat_eq x 1) as (λ b. nat_eq x 1 ≡ b → (b || false) ≡ tr
 ] refl h
 
 -- each name that the text declares is given
-pub among : DeclaresAmong Assert given text
-among l is = subst (λ (m : Listed). AreAmong given m.items) (same listed_here l (items_of Assert given text) items_are is) below
+pub among : DeclaresAmong Assert [] given text
+among l is = subst (λ (m : Listed). AreAmong given m.items) (same listed_here l (items_of Assert [] given text) items_are is) below

@@ -20,7 +20,7 @@ fn enumerations_have_their_values(rt: HostRuntime) -> Result<(), Fail> {
         // each begins at 0, and a name may be the greatest `int`
         (
             "enum{a=2147483646,b};int x=1;enum{c};\nint main(void) { x = b; }",
-            "Program { names: Names { list: [Text { bytes: [97] }, Text { bytes: [98] }, Text { bytes: [120] }, Text { bytes: [99] }] }, start: Values { list: [2147483646, 2147483647, 1, 0] }, declared: Declarations { list: [] }, body: [Assign { place: Place { line: 2, column: 18 }, target: 2, value: Var(1) }], end: Place { line: 2, column: 25 } }",
+            "Program { names: Names { list: [Text { bytes: [120] }, Text { bytes: [97] }, Text { bytes: [98] }, Text { bytes: [99] }] }, start: Values { list: [1, 2147483646, 2147483647, 0] }, declared: Declarations { list: [] }, body: [Assign { place: Place { line: 2, column: 18 }, target: 0, value: Var(2) }], end: Place { line: 2, column: 25 } }",
         ),
     ];
     for (file, wanted) in cases {
@@ -95,7 +95,7 @@ fn names_of_enumerations(rt: HostRuntime) -> Result<(), Fail> {
         ),
         (
             b"enum{k0,k1,k2,k3,k4,k5,k6,k7,k8,k9,k10,k11,k12,k13,k14,k15,k16};\nint main(void) { }",
-            "TooManyVariables",
+            "TooManyConstants",
             1,
             60,
         ),

@@ -206,7 +206,7 @@ fn names_are_refused(rt: HostRuntime) -> Result<(), Fail> {
         ),
         (
             MIXED,
-            b"int x;\nint main(void) {\n#if A\nx = N;\n#endif\n}",
+            b"int x;\nint main(void) {\n#if A\nx = B;\n#endif\n}",
             "FeatureInCode",
             4,
             5,

@@ -258,6 +258,7 @@ fn given_names(rt: HostRuntime) -> Result<(), Fail> {
     match read_plain_with(
         rt.alloc(),
         Includes::Assert,
+        &[],
         names.items(),
         b"int x;int main(){x=1;}",
     ) {

@@ -4,6 +4,8 @@
 #[cfg(test)]
 mod constants;
 #[cfg(test)]
+mod definitions;
+#[cfg(test)]
 mod enumerations;
 #[cfg(test)]
 mod families;
@@ -13,6 +15,8 @@ mod family_limits;
 mod family_reading;
 #[cfg(test)]
 mod family_refusals;
+#[cfg(test)]
+mod feature_names;
 #[cfg(test)]
 mod files;
 #[cfg(test)]

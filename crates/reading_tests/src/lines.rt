@@ -102,7 +102,7 @@ fn read(
 ) -> Result<(Lines, Text), FileRefusal> {
     assert!(rt; text.len() <= 1_048_576);
     let lines = plain_lines(alloc, includes, text)?;
-    let code = code_text(alloc, text, lines.items())?;
+    let code = code_text(alloc, text)?;
     Ok((lines, code))
 }
 
@@ -180,6 +180,58 @@ fn directives_are_refused(rt: HostRuntime) {
     for (text, wanted) in cases {
         let found = lined(&rt, rt.alloc(), text).map_err(|r| refusal(&r));
         assert_eq!(rt; found.map(|_| 0), Err(wanted));
+    }
+}
+
+#[test]
+fn definitions_are_lines(rt: HostRuntime) -> Result<(), FileRefusal> {
+    let text = b"#define K 3\n # define  K_2\t( -0x1F )\r\nint x\x01;\n#define C '\\n'";
+    let wanted = [
+        line(LineKind::Define, 0, 11, 1, 1),
+        line(LineKind::Define, 12, 37, 2, 2),
+        line(LineKind::Code, 38, 45, 3, 1),
+        line(LineKind::Define, 46, 60, 4, 1),
+    ];
+    let (lines, code) = read(&rt, rt.alloc(), Includes::Assert, text)?;
+    assert_eq!(rt; lines.items(), wanted.as_slice());
+    assert_eq!(rt;
+        code.bytes(),
+        b"\x01       K 3\n \x01         K_2\t( -0x1F )\r\nint x\x02;\n\x01       C '\\n'".as_slice()
+    );
+    Ok(())
+}
+
+#[test]
+fn definitions_are_refused(rt: HostRuntime) {
+    let cases: [&[u8]; 24] = [
+        b"#define",
+        b"#define K",
+        b"#define K(3)",
+        b"#define K (3",
+        b"#define K -(3)",
+        b"#define K ((3))",
+        b"#define K (3) 4",
+        b"#define K --3",
+        b"#define K +3",
+        b"#define K 3u",
+        b"#define K 08",
+        b"#define K 0x",
+        b"#define K 2147483648",
+        b"#define K ''",
+        b"#define K-3",
+        b"#define K'a'",
+        b"#define K X",
+        b"#define 3 3",
+        b"#define __K 3",
+        b"#define int 3",
+        b"#define int32_t 3",
+        b"#define main 3",
+        b"#define defined 3",
+        b"#define NDEBUG 3",
+    ];
+    for text in cases {
+        let found = lined(&rt, rt.alloc(), text).map_err(|r| refusal(&r));
+        assert_eq!(rt; found.map(|_| 0), Err((4, 1, 1)));
     }
 }
 

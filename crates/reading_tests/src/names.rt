@@ -124,6 +124,7 @@ fn fault(alloc: Global, file: &[u8]) -> Result<Option<(FileCode, Place)>, Fail> 
         atoms: &atoms,
         conditions: &conditions,
         names: &names,
+        functions: &[],
     };
     Ok(first_name_fault(alloc, &context, &items)?)
 }

@@ -23,6 +23,10 @@ fn statements_are_short_for_others(rt: HostRuntime) -> Result<(), Fail> {
             "int x, y;\nint main(void) { if (x) ++y; else --\ny; }",
             "Program { names: Names { list: [Text { bytes: [120] }, Text { bytes: [121] }] }, start: Values { list: [0, 0] }, declared: Declarations { list: [] }, body: [If { place: Place { line: 2, column: 18 }, test: Var(0), yes: [Assign { place: Place { line: 2, column: 25 }, target: 1, value: Binary(Add, Var(1), Number(1)) }], no: [Assign { place: Place { line: 2, column: 35 }, target: 1, value: Binary(Sub, Var(1), Number(1)) }] }], end: Place { line: 3, column: 4 } }",
         ),
+        (
+            "int main(void) { input(); (void)input(); }",
+            "Program { names: Names { list: [] }, start: Values { list: [] }, declared: Declarations { list: [] }, body: [Skip { place: Place { line: 1, column: 18 } }, Skip { place: Place { line: 1, column: 27 } }], end: Place { line: 1, column: 42 } }",
+        ),
     ];
     for (file, wanted) in cases {
         accepts(&rt, rt.alloc(), file, wanted)?;
@@ -54,7 +58,7 @@ fn types_have_several_words(rt: HostRuntime) -> Result<(), Fail> {
 
 #[test]
 fn other_forms_are_refused(rt: HostRuntime) -> Result<(), Fail> {
-    let cases: [(&[u8], &str, u32, u32); 25] = [
+    let cases: [(&[u8], &str, u32, u32); 31] = [
         (b"int x;\nint main(void) { ++x++; }", "Syntax", 2, 21),
         (b"int x;\nint main(void) { ++++x; }", "Syntax", 2, 20),
         (b"int x;\nint main(void) { ++(x); }", "Syntax", 2, 20),
@@ -85,6 +89,17 @@ fn other_forms_are_refused(rt: HostRuntime) -> Result<(), Fail> {
         (b"int int32_t;\nint main(void) { }", "Syntax", 1, 5),
         (b"int main(void) { int32_t x; }", "Syntax", 1, 18),
         (b"unsigned x;\nint main(void) { }", "Syntax", 1, 1),
+        (
+            b"int x;\nint main(void) { x = (void)input(); }",
+            "Syntax",
+            2,
+            23,
+        ),
+        (b"int main(void) { input; }", "Syntax", 1, 23),
+        (b"int main(void) { (input)(); }", "Syntax", 1, 19),
+        (b"int main(void) { input(1); }", "Syntax", 1, 24),
+        (b"int x;\nint main(void) { (void)x; }", "Syntax", 2, 24),
+        (b"void input(void);\nint main(void) { }", "Syntax", 1, 6),
     ];
     for (file, wanted, line, column) in cases {
         refuses(&rt, rt.alloc(), file, wanted, line, column)?;
@@ -130,7 +145,7 @@ fn groups_stand_around_them(rt: HostRuntime) -> Result<(), Fail> {
             1,
         ),
         (b"int main(void) {\n--A;\n}", "FeatureInCode", 2, 3),
-        (b"int main(void) {\nN *= 2;\n}", "FeatureInCode", 2, 1),
+        (b"int main(void) {\nN *= 2;\n}", "ChangedConstant", 2, 1),
         (
             b"#if A\nint x;\n#endif\nint main(void) {\n++x;\n}",
             "Undeclared(Some(Values { list: [0, 0, 0] }))",

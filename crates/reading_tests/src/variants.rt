@@ -17,7 +17,7 @@ ghost use Rattle.variant_projector.specs.Variant.{IsVariant};
 use crate::family_limits::{QUEUE, front};
 use crate::family_reading::{SWITCH, model, skipping, usual};
 use c_parser::variants::{family_names_are_few, variants_are_projections};
-use c_parser::{Family, read_family, read_plain_with};
+use c_parser::{Family, functions_of, read_family, read_plain_with};
 use c_tree::project;
 use cpp_conditions::Model;
 use fam_outer::{Dialect, Includes, Text};
@@ -99,9 +99,11 @@ fn variant(
     family_names_are_few();
     variants_are_projections();
     let text = text(alloc, dialect, model, file, config)?;
+    let functions = functions_of(alloc, file)?;
     match read_plain_with(
         alloc,
         Includes::Assert,
+        functions.items(),
         family.code.names.items(),
         text.bytes(),
     ) {

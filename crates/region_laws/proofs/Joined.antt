@@ -13,11 +13,12 @@ use Rattle.linear_atoms.specs.declared.atoms.Literal.{Literal}
 use Rattle.linear_atoms.specs.declared.regions.Regions.{Regions}
 use Rattle.linear_atoms.specs.Atoms.{AreLiterals, IsAtom, IsWithin}
 use Rattle.cpp_conditions.specs.Expressions.{Expression, between, bit, is_nonzero}
-use Rattle.cpp_conditions.specs.Grammar.{CSpells, ReadsAs, Spells, has_reserved, has_unknown, unknown_refuses, is_small_condition, judged, no_tokens, too_deep, no_condition, read}
+use Rattle.cpp_conditions.specs.Grammar.{CSpells, ReadsAs, Spells, has_reserved, has_unknown, has_defined, unknown_refuses, is_small_condition, judged, no_tokens, too_deep, no_condition, read}
+use Rattle.cpp_conditions.specs.Macros.{no_macros}
 use Rattle.cpp_conditions.specs.Meaning.{is_linear, cond}
 use Rattle.cpp_conditions.specs.Propositions.{Proposition, true_at}
 use Rattle.cpp_conditions.proofs.Lexemes.{one_list}
-use Rattle.cpp_conditions.proofs.Once.{has_value, spelled_once}
+use Rattle.cpp_conditions.proofs.Once.{has_value, nothing_defined, spelled_once}
 use Rattle.atom_solver.specs.Solutions.{all_hold}
 use Rattle.alarm_report.specs.Pieces.{Piece, Single, Value, pieces_of, piece_text}
 use Rattle.alarm_report.specs.Texts.{joined, region_text}
@@ -59,28 +60,30 @@ by_size true p fault e = absurd cc
 by_size false p fault e = inr (sym (err_is faults.TooLarge fault e))
 
 -- where all names are those of features, none refuses the expression
-none_refuses : (unknown : Unknown) (features : List Feature) (e : Expression) → has_unknown features e ≡ false → unknown_refuses unknown features e ≡ false
+none_refuses : (unknown : Unknown) (features : List Feature) (e : Expression) → has_unknown [] features e ≡ false → unknown_refuses (no_macros unknown) features e ≡ false
 none_refuses Zero features e known = refl
 none_refuses Refuse features e known = known
 
-judged_by_size : (unknown : Unknown) (features : List Feature) (e : Expression) (fault : ConditionFault) → has_reserved e ≡ false → has_unknown features e ≡ false → is_linear features e ≡ true → judged unknown features e ≡ Err fault → IsOfSize fault
+judged_by_size : (unknown : Unknown) (features : List Feature) (e : Expression) (fault : ConditionFault) → has_reserved e ≡ false → has_unknown [] features e ≡ false → is_linear features e ≡ true → judged (no_macros unknown) features e ≡ Err fault → IsOfSize fault
 judged_by_size unknown features e fault allowed known linear is =
     by_size (is_small_condition features e) (cond features e) fault
-    (sym (ap (λ b. Judged b (unknown_refuses unknown features e) (is_linear features e)) allowed ∙ ap (λ b. Judged false b (is_linear features e)) (none_refuses unknown features e known) ∙ ap (Judged false false) linear) ∙ is)
+    (sym (ap (λ b. Judged b (unknown_refuses (no_macros unknown) features e) (has_defined [] e) (is_linear features e)) allowed
+    ∙ ap (λ b. Judged false b (has_defined [] e) (is_linear features e)) (none_refuses unknown features e known)
+    ∙ ap (λ b. Judged false false b (is_linear features e)) (nothing_defined e) ∙ ap (Judged false false false) linear) ∙ is)
   where
-    Judged : Bool → Bool → Bool → Result (Proposition Atom) ConditionFault
-    Judged reserved strange linear =
+    Judged : Bool → Bool → Bool → Bool → Result (Proposition Atom) ConditionFault
+    Judged reserved strange defined linear =
         if reserved then Err faults.ReservedName
-        else (if strange then Err faults.UnknownName else (if linear then (if is_small_condition features e then Ok (cond features e) else Err faults.TooLarge) else Err faults.NonLinear))
+        else (if strange then Err faults.UnknownName else (if defined then Err faults.DefinedName else (if linear then (if is_small_condition features e then Ok (cond features e) else Err faults.TooLarge) else Err faults.NonLinear)))
 
-refused : (unknown : Unknown) (features : List Feature) (bytes : List ℕ) (e : Expression) (r : Result (Proposition Atom) ConditionFault) (fault : ConditionFault) → CSpells e bytes → has_reserved e ≡ false → has_unknown features e ≡ false → is_linear features e ≡ true
-    → ReadsAs unknown features bytes r → r ≡ Err fault → IsOfSize fault
+refused : (unknown : Unknown) (features : List Feature) (bytes : List ℕ) (e : Expression) (r : Result (Proposition Atom) ConditionFault) (fault : ConditionFault) → CSpells e bytes → has_reserved e ≡ false → has_unknown [] features e ≡ false → is_linear features e ≡ true
+    → ReadsAs (no_macros unknown) features bytes r → r ≡ Err fault → IsOfSize fault
 refused unknown features bytes e _ fault c allowed known linear (no_tokens none) is = absurd (none c.tokens c.read)
 refused unknown features bytes e _ fault c allowed known linear (too_deep ts s deep) is = inl (sym (err_is faults.TooDeep fault is))
 refused unknown features bytes e _ fault c allowed known linear (no_condition ts s few none) is = absurd (none e (subst (λ vs. Spells 6 vs e) (one_list c.read ts s) c.spells))
 refused unknown features bytes e _ fault c allowed known linear (read ts d s few spells) is =
     let same : d ≡ e = spelled_once bytes d e (record { tokens = ts; read = s; spells = spells }) c in
-    judged_by_size unknown features e fault allowed known linear (subst (λ x. judged unknown features x ≡ Err fault) same is)
+    judged_by_size unknown features e fault allowed known linear (subst (λ x. judged (no_macros unknown) features x ≡ Err fault) same is)
 
 module _ {features : List Feature} (named : AreNamed features) (distinct : AreDistinct features) (switches : HaveSwitches features) where
   told_piece : (p : Piece) → IsAtom (length features) (atom_of p) → IsTold features 4 false (piece_text features p) (λ values. bit (piece_holds p values))
@@ -111,18 +114,18 @@ module _ {features : List Feature} (named : AreNamed features) (distinct : AreDi
       (told_pieces (pieces_of regions features (l ∷ ls)) (some_pieces regions features l ls) (pieces_are regions (length features) features (l ∷ ls) are))
 
   -- what a region's text is read as is true exactly where all literals hold
-  pub read_truly : (unknown : Unknown) (regions : Regions) (ls : List Literal) (p : Proposition Atom) (values : List ℤ) → AreLiterals (length features) ls → ReadsAs unknown features (region_text regions features ls) (Ok p) → IsWithin features values
+  pub read_truly : (unknown : Unknown) (regions : Regions) (ls : List Literal) (p : Proposition Atom) (values : List ℤ) → AreLiterals (length features) ls → ReadsAs (no_macros unknown) features (region_text regions features ls) (Ok p) → IsWithin features values
       → true_at values p ≡ all_hold ls values
   read_truly unknown regions ls p values are r within =
       let t = told_region regions ls are in
-      has_value unknown features (region_text regions features ls) p r t.tree values (c_spells t) within ∙ ap is_nonzero (t.value_is values within) ∙ bit_told (all_hold ls values)
+      has_value (no_macros unknown) features (region_text regions features ls) p r t.tree values (c_spells t) within ∙ ap is_nonzero (t.value_is values within) ∙ bit_told (all_hold ls values)
 
   pub region_spelled : (regions : Regions) (ls : List Literal) → AreLiterals (length features) ls → SpellsRegion regions features ls
   region_spelled regions ls are =
       let t = told_region regions ls are in
       record { expression = t.tree; spelled = c_spells t; true_where = λ values within. ap is_nonzero (t.value_is values within) ∙ bit_told (all_hold ls values) }
 
-  pub refused_by_size : (unknown : Unknown) (regions : Regions) (ls : List Literal) (fault : ConditionFault) → AreLiterals (length features) ls → ReadsAs unknown features (region_text regions features ls) (Err fault) → IsOfSize fault
+  pub refused_by_size : (unknown : Unknown) (regions : Regions) (ls : List Literal) (fault : ConditionFault) → AreLiterals (length features) ls → ReadsAs (no_macros unknown) features (region_text regions features ls) (Err fault) → IsOfSize fault
   refused_by_size unknown regions ls fault are r =
       let t = told_region regions ls are in
       refused unknown features (region_text regions features ls) t.tree (Err fault) fault (c_spells t) t.allowed t.known t.linear r refl

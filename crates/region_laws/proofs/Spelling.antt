@@ -30,7 +30,7 @@ pub record IsTold (features : List Feature) (level : ℕ) (numeric : Bool) (text
   pub spells : Spells level tokens tree
   pub value_is : (values : List ℤ) → IsWithin features values → value features values tree ≡ of values
   pub allowed : has_reserved tree ≡ false
-  pub known : has_unknown features tree ≡ false
+  pub known : has_unknown [] features tree ≡ false
   pub linear : is_linear features tree ≡ true
   pub number : numeric ≡ true → is_truth tree ≡ false
 
@@ -202,7 +202,7 @@ told_both features op p q r gives mark a b f g m t u suits = record {
   spells = grammar.binary op t.spells u.spells;
   value_is = λ values within. ap (λ x. between op x (value features values u.tree)) (t.value_is values within) ∙ ap (between op (f values)) (u.value_is values within);
   allowed = neither (has_reserved t.tree) (has_reserved u.tree) t.allowed u.allowed;
-  known = neither (has_unknown features t.tree) (has_unknown features u.tree) t.known u.known;
+  known = neither (has_unknown [] features t.tree) (has_unknown [] features u.tree) t.known u.known;
   linear = all_three (is_linear features t.tree) (is_linear features u.tree) _ t.linear u.linear suits;
   number = gives;
 }

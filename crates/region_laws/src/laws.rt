@@ -10,6 +10,7 @@ ghost use Rattle.linear_atoms.specs.declared.atoms.Literal.{Literal};
 ghost use Rattle.linear_atoms.specs.declared.regions.Regions.{Regions};
 ghost use Rattle.linear_atoms.specs.Atoms.{AreLiterals, IsWithin};
 ghost use Rattle.cpp_conditions.specs.Grammar.{ReadsAs};
+ghost use Rattle.cpp_conditions.specs.Macros.{no_macros};
 ghost use Rattle.cpp_conditions.specs.Propositions.{Proposition, true_at};
 ghost use Rattle.atom_solver.specs.Solutions.{all_hold};
 ghost use Rattle.alarm_report.specs.Texts.{region_text};
@@ -29,7 +30,7 @@ pub fn region_texts_have_the_meaning_of_regions()
     ensures { (unknown : Unknown) (regions : Regions) (features : List Feature) (literals : List Literal)
         (p : Proposition Atom) (values : List ℤ)
         → AreNamed features → AreDistinct features → HaveSwitches features
-        → AreLiterals (length features) literals → ReadsAs unknown features (region_text regions features literals) (Ok p)
+        → AreLiterals (length features) literals → ReadsAs (no_macros unknown) features (region_text regions features literals) (Ok p)
         → IsWithin features values → true_at values p ≡ all_hold literals values }
 {}
 
@@ -40,5 +41,5 @@ pub fn region_texts_are_refused_by_size()
         (fault : ConditionFault)
         → AreNamed features → AreDistinct features → HaveSwitches features
         → AreLiterals (length features) literals
-        → ReadsAs unknown features (region_text regions features literals) (Err fault) → IsOfSize fault }
+        → ReadsAs (no_macros unknown) features (region_text regions features literals) (Err fault) → IsOfSize fault }
 {}

@@ -43,7 +43,7 @@ asked_below count wanted copied untrue asked e f h k = subst (IsBelow count) (sy
 
 -- one side is asked about as the whole is
 pub side_asked : (q : Question) (wanted side_wanted : Proposition ℕ) (tree side : Numbered Bool) (best found : Option Config) (test : ℕ) (truth : Bool) → IsAsked q wanted tree best → test < length q.atoms.now
-    → side_wanted ≡ with_test wanted test truth → ((count : ℕ) → TestsBelow count (erase tree) → TestsBelow count (erase side)) → IsNumberedTree 0 64 side → HasCount q found → IsAsked q side_wanted side found
+    → side_wanted ≡ with_test wanted test truth → ((count : ℕ) → TestsBelow count (erase tree) → TestsBelow count (erase side)) → IsNumberedTree 0 320 side → HasCount q found → IsAsked q side_wanted side found
 side_asked q wanted side_wanted tree side best found test truth a h e tests numbered count = record {
   atoms = a.atoms;
   wanted_below = subst (IsBelow (length q.atoms.now)) (sym e) (below_with (length q.atoms.now) wanted test truth h a.wanted_below);

@@ -33,5 +33,5 @@ module _ {E : Type 0} (made : Result (Tree Bool) E) (tree own : Plain Bool) wher
       IfOk-weaker made (λ r. (k : ℕ) → HasTest k (plain r) → HasTest k own) (λ r. (count : ℕ) → TestsBelow count tree → TestsBelow count (plain r))
       (λ r h count b. tests_below count (plain r) (λ k x. test_below count k tree b (of.each k (h k x))))
 
-pub numbered_as : {E : Type 0} (made : Result (Tree Bool) E) (forest : List (Plain Bool)) → IfOk made (λ r. IsTreeIn 0 64 forest (numbered r)) → IfOk made (λ r. IsNumberedTree 0 64 (numbered r))
-numbered_as made forest = IfOk-weaker made (λ r. IsTreeIn 0 64 forest (numbered r)) (λ r. IsNumberedTree 0 64 (numbered r)) (λ r h. numbered_tree 0 64 forest (numbered r) h)
+pub numbered_as : {E : Type 0} (made : Result (Tree Bool) E) (forest : List (Plain Bool)) → IfOk made (λ r. IsTreeIn 0 320 forest (numbered r)) → IfOk made (λ r. IsNumberedTree 0 320 (numbered r))
+numbered_as made forest = IfOk-weaker made (λ r. IsTreeIn 0 320 forest (numbered r)) (λ r. IsNumberedTree 0 320 (numbered r)) (λ r h. numbered_tree 0 320 forest (numbered r) h)

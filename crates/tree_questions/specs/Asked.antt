@@ -20,7 +20,7 @@ pub record IsAsked (q : Question) (wanted : Proposition ℕ) (tree : Numbered Bo
   pub atoms : AreAtoms (length q.prepared.now.features) q.atoms.now
   pub wanted_below : IsBelow (length q.atoms.now) wanted
   pub tests : TestsBelow (length q.atoms.now) (erase tree)
-  pub tree_numbered : IsNumberedTree 0 64 tree
+  pub tree_numbered : IsNumberedTree 0 320 tree
   pub count : HasCount q best
 
 -- it is before the best one, if there is one

@@ -64,11 +64,11 @@ fn is_earlier(atoms: &[Atom], test: u32, other: Option<u32>) -> bool
 }
 
 /// Of the marked tests one whose atom is before all others: it names the earliest feature, and has the least bound.
-fn first_marked(atoms: &[Atom], marks: &[bool; 64]) -> Option<u32>
-    ensures { IfSome result (λ test. (test < 64) × (test < length atoms.now)) }
+fn first_marked(atoms: &[Atom], marks: &[bool; 320]) -> Option<u32>
+    ensures { IfSome result (λ test. (test < 320) × (test < length atoms.now)) }
 {
     let mut first = None;
-    for test in 0u32..64 {
+    for test in 0u32..320 {
         if marks[test as usize] && is_earlier(atoms, test, first) {
             first = Some(test);
         }
@@ -85,13 +85,13 @@ pub(crate) fn next_test(
     atoms: &[Atom],
     tree: &Tree<bool>,
 ) -> Result<Option<u32>, NoMemory>
-    ensures { IfOk result (λ found. IfSome found (λ test. (test < 64) × (test < length atoms.now))) }
+    ensures { IfOk result (λ found. IfSome found (λ test. (test < 320) × (test < length atoms.now))) }
 {
     if paths_left(tree, FEW_PATHS) > 0 {
         return Ok(None);
     }
     let mut seen = IndexMap::new(alloc);
-    let mut marks = [false; 64];
+    let mut marks = [false; 320];
     mark_tests(tree, &mut seen, &mut marks)?;
     Ok(first_marked(atoms, &marks))
 }

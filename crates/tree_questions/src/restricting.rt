@@ -54,13 +54,13 @@ fn where_counted<K: Ledger>(
     requires name { blank.name ≡ K.name }
     requires parts { blank.parts ≡ K.parts }
     requires some { 0 < K.parts }
-    requires test { test < 64 }
-    requires tree { IsNumberedTree 0 64 (numbered tree.now) }
+    requires test { test < 320 }
+    requires tree { IsNumberedTree 0 320 (numbered tree.now) }
     ensures leads { IfOk result (λ r. (v : List Bool) → slice_index_or v test false ≡ truth
         → leaf_of (plain r) v ≡ leaf_of (plain tree.now) v) }
     ensures tests { IfOk result (λ r. (count : ℕ) → TestsBelow count (plain tree.now)
         → TestsBelow count (plain r)) }
-    ensures numbered { IfOk result (λ r. IsNumberedTree 0 64 (numbered r)) }
+    ensures numbered { IfOk result (λ r. IsNumberedTree 0 320 (numbered r)) }
 {
     let mut steps = Steps::<K>::new(blank);
     let mut forest = Forest::new(alloc);
@@ -81,13 +81,13 @@ pub(crate) fn where_test(
     test: u32,
     truth: bool,
 ) -> Result<Tree<bool>, NoMemory>
-    requires test { test < 64 }
-    requires tree { IsNumberedTree 0 64 (numbered tree.now) }
+    requires test { test < 320 }
+    requires tree { IsNumberedTree 0 320 (numbered tree.now) }
     ensures leads { IfOk result (λ r. (v : List Bool) → slice_index_or v test false ≡ truth
         → leaf_of (plain r) v ≡ leaf_of (plain tree.now) v) }
     ensures tests { IfOk result (λ r. (count : ℕ) → TestsBelow count (plain tree.now)
         → TestsBelow count (plain r)) }
-    ensures numbered { IfOk result (λ r. IsNumberedTree 0 64 (numbered r)) }
+    ensures numbered { IfOk result (λ r. IsNumberedTree 0 320 (numbered r)) }
 {
     where_counted::<Brand>(alloc, tree, test, truth, Blank::new(1))
 }

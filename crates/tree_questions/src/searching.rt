@@ -28,13 +28,10 @@ use atom_solver::Prepared;
 use cpp_conditions::Formula;
 use cpp_conditions::formulas::both;
 use decision_tree::Tree;
-use fam_outer::NoMemory;
+use fam_outer::{MOST_TESTS, NoMemory};
 use linear_atoms::{Atom, Config};
 use std::alloc::Global;
 use tree_unify::untrue;
-
-/// The most tests that trees have.
-const MOST_TESTS: u32 = 64;
 
 /// What all questions are asked of: a prepared model, and the atoms whose numbers are tests.
 #[derive(Clone, Copy)]
@@ -176,12 +173,12 @@ pub fn least_untrue_where(
     requires atoms { AreAtoms (length prepared.now.features) atoms.now }
     requires numbers { IsBelow (length atoms.now) (formula wanted.now) }
     requires tests { TestsBelow (length atoms.now) (plain tree.now) }
-    requires tree { IsNumberedTree 0 64 (numbered tree.now) }
+    requires tree { IsNumberedTree 0 320 (numbered tree.now) }
     ensures { IfOk result (λ found. Finds prepared.now
         (is_met atoms.now (formula wanted.now) (plain tree.now)) found) }
 {
     let question = Question { prepared, atoms };
-    search(alloc, &question, wanted, tree, None, MOST_TESTS)
+    search(alloc, &question, wanted, tree, None, MOST_TESTS as u32)
 }
 
 /// The least of the valid configurations at whose vectors a tree is false. It answers None exactly where there is none, and an
@@ -196,7 +193,7 @@ pub fn least_untrue(
 ) -> Result<Option<Config>, NoMemory>
     requires atoms { AreAtoms (length prepared.now.features) atoms.now }
     requires tests { TestsBelow (length atoms.now) (plain tree.now) }
-    requires tree { IsNumberedTree 0 64 (numbered tree.now) }
+    requires tree { IsNumberedTree 0 320 (numbered tree.now) }
     ensures { IfOk result (λ found. Finds prepared.now
         (λ (values : List ℤ). not (leaf_of (plain tree.now) (vector_at atoms.now values))) found) }
 {

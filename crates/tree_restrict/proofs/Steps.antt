@@ -33,10 +33,10 @@ module _ {L : Type 0} (eq : L → L → Bool) where
       IfOk-weaker shared (λ r. numbered r ≡ m) (λ r. IsAnswer eq forest cares t c (numbered r)) (λ r g. subst (IsAnswer eq forest cares t c) (sym g) a) h
 
   -- the answer is a tree in the forest, with the bounds of the tree
-  pub answer_tree : {forest other : List (Plain L)} {cares : List (Plain Bool)} {t : Numbered L} {c : Numbered Bool} {r : Numbered L} (first : ℕ) → ((a : L) → eq a a ≡ true) → IsAnswer eq forest cares t c r → IsTreeIn first 64 other t → IsTreeIn first 64 forest r
+  pub answer_tree : {forest other : List (Plain L)} {cares : List (Plain Bool)} {t : Numbered L} {c : Numbered Bool} {r : Numbered L} (first : ℕ) → ((a : L) → eq a a ≡ true) → IsAnswer eq forest cares t c r → IsTreeIn first 320 other t → IsTreeIn first 320 forest r
   answer_tree {forest} {other} {cares} {t} {c} {r} first self a h = record {
     reduced = subst (IsReducedFrom first) (sym a.restricts) (reduced_of eq self (erase t) (erase c) first h.reduced);
-    small = tests_below 64 (erase r) (λ k w. test_below 64 k (erase t) h.small (tests_of eq (erase t) (erase c) k (subst (HasTest k) a.restricts w)));
+    small = tests_below 320 (erase r) (λ k w. test_below 320 k (erase t) h.small (tests_of eq (erase t) (erase c) k (subst (HasTest k) a.restricts w)));
     own = a.own;
   }
 

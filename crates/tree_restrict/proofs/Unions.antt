@@ -27,43 +27,43 @@ module _ {L : Type 0} where
   raised (node j l h) m r from = (from j (inl refl), r.1, r.2, r.3)
 
   -- the children of a tree of a forest
-  pub low_tree : (first n k : ℕ) (forest : List (Plain L)) (low high : Numbered L) → IsTreeIn first 64 forest (branch n k low high) → IsTreeIn (k + 1) 64 forest low
+  pub low_tree : (first n k : ℕ) (forest : List (Plain L)) (low high : Numbered L) → IsTreeIn first 320 forest (branch n k low high) → IsTreeIn (k + 1) 320 forest low
   low_tree first n k forest low high h = record { reduced = h.reduced.2; small = h.small.1; own = record { listed = h.own.listed.1; distinct = h.own.distinct } }
 
-  pub high_tree : (first n k : ℕ) (forest : List (Plain L)) (low high : Numbered L) → IsTreeIn first 64 forest (branch n k low high) → IsTreeIn (k + 1) 64 forest high
+  pub high_tree : (first n k : ℕ) (forest : List (Plain L)) (low high : Numbered L) → IsTreeIn first 320 forest (branch n k low high) → IsTreeIn (k + 1) 320 forest high
   high_tree first n k forest low high h = record { reduced = h.reduced.3; small = h.small.2; own = record { listed = h.own.listed.2; distinct = h.own.distinct } }
 
-  pub lowered : (first : ℕ) (forest : List (Plain L)) (t : Numbered L) → IsTreeIn first 64 forest t → IsTreeIn 0 64 forest t
+  pub lowered : (first : ℕ) (forest : List (Plain L)) (t : Numbered L) → IsTreeIn first 320 forest t → IsTreeIn 0 320 forest t
   lowered first forest t h = record { reduced = lower_bound (erase t) first 0 (omega arith) h.reduced; small = h.small; own = h.own }
 
-  pub low_child : (first n k : ℕ) (forest : List (Plain L)) (t low high : Numbered L) → t ≡ branch n k low high → IsTreeIn first 64 forest t → IsTreeIn (k + 1) 64 forest low
-  low_child first n k forest t low high e h = low_tree first n k forest low high (subst (IsTreeIn first 64 forest) e h)
+  pub low_child : (first n k : ℕ) (forest : List (Plain L)) (t low high : Numbered L) → t ≡ branch n k low high → IsTreeIn first 320 forest t → IsTreeIn (k + 1) 320 forest low
+  low_child first n k forest t low high e h = low_tree first n k forest low high (subst (IsTreeIn first 320 forest) e h)
 
-  pub high_child : (first n k : ℕ) (forest : List (Plain L)) (t low high : Numbered L) → t ≡ branch n k low high → IsTreeIn first 64 forest t → IsTreeIn (k + 1) 64 forest high
-  high_child first n k forest t low high e h = high_tree first n k forest low high (subst (IsTreeIn first 64 forest) e h)
+  pub high_child : (first n k : ℕ) (forest : List (Plain L)) (t low high : Numbered L) → t ≡ branch n k low high → IsTreeIn first 320 forest t → IsTreeIn (k + 1) 320 forest high
+  high_child first n k forest t low high e h = high_tree first n k forest low high (subst (IsTreeIn first 320 forest) e h)
 
-  pub low_part : (first n k : ℕ) (forest : List (Plain L)) (t low high : Numbered L) → t ≡ branch n k low high → IsTreeIn first 64 forest t → IsTreeIn 0 64 forest low
-  low_part first n k forest t low high e h = lowered (k + 1) forest low (low_tree first n k forest low high (subst (IsTreeIn first 64 forest) e h))
+  pub low_part : (first n k : ℕ) (forest : List (Plain L)) (t low high : Numbered L) → t ≡ branch n k low high → IsTreeIn first 320 forest t → IsTreeIn 0 320 forest low
+  low_part first n k forest t low high e h = lowered (k + 1) forest low (low_tree first n k forest low high (subst (IsTreeIn first 320 forest) e h))
 
-  pub high_part : (first n k : ℕ) (forest : List (Plain L)) (t low high : Numbered L) → t ≡ branch n k low high → IsTreeIn first 64 forest t → IsTreeIn 0 64 forest high
-  high_part first n k forest t low high e h = lowered (k + 1) forest high (high_tree first n k forest low high (subst (IsTreeIn first 64 forest) e h))
+  pub high_part : (first n k : ℕ) (forest : List (Plain L)) (t low high : Numbered L) → t ≡ branch n k low high → IsTreeIn first 320 forest t → IsTreeIn 0 320 forest high
+  high_part first n k forest t low high e h = lowered (k + 1) forest high (high_tree first n k forest low high (subst (IsTreeIn first 320 forest) e h))
 
 true_or : (x y z : Bool) → z ≡ (x || y) → (z ≡ true) ↔ ((x ≡ true) ⊎ (y ≡ true))
 true_or true y z e = (λ _. inl refl, λ _. e)
 true_or false y z e = (λ t. inr (sym e ∙ t), λ w. elim w [ inl f ↦ absurd (true≢false (sym f)) | inr t ↦ e ∙ t ])
 
 -- the union, in terms of assignments
-pub union_alike : (p q u : Plain Bool) → TestsBelow 64 p → TestsBelow 64 q → TestsBelow 64 u → IsUnified (λ a b c. c ≡ (a || b)) p q u → Alike (u ∷ []) (p ∷ q ∷ [])
+pub union_alike : (p q u : Plain Bool) → TestsBelow 320 p → TestsBelow 320 q → TestsBelow 320 u → IsUnified (λ a b c. c ≡ (a || b)) p q u → Alike (u ∷ []) (p ∷ q ∷ [])
 union_alike p q u bp bq bu h f =
-    let v = map f (range_with_len 0 64) in
+    let v = map f (range_with_len 0 320) in
     let e : value_at u f ≡ (value_at p f || value_at q f) =
-    sym (leaf_of-assigned u 64 f bu) ∙ (h.at_each v ∙ (ap (λ x. x || leaf_of q v) (leaf_of-assigned p 64 f bp) ∙ ap (λ y. value_at p f || y) (leaf_of-assigned q 64 f bq))) in
+    sym (leaf_of-assigned u 320 f bu) ∙ (h.at_each v ∙ (ap (λ x. x || leaf_of q v) (leaf_of-assigned p 320 f bp) ∙ ap (λ y. value_at p f || y) (leaf_of-assigned q 320 f bq))) in
     let d = true_or (value_at p f) (value_at q f) (value_at u f) e in (
       λ w. elim w [ inl t ↦ elim (d.0 t) [ inl x ↦ inl x | inr y ↦ inr (inl y) ] | inr n ↦ absurd n ],
       λ w. elim w [ inl x ↦ inl (d.1 (inl x)) | inr (inl y) ↦ inl (d.1 (inr y)) | inr (inr n) ↦ absurd n ],
     )
 
-pub union_tree : (first : ℕ) (before after : List (Plain Bool)) (p q u : Numbered Bool) → IsTreeIn first 64 before p → IsTreeIn first 64 before q → TestsAreOfEither (erase p) (erase q) (erase u) → IsTreeIn 0 64 after u → IsTreeIn first 64 after u
+pub union_tree : (first : ℕ) (before after : List (Plain Bool)) (p q u : Numbered Bool) → IsTreeIn first 320 before p → IsTreeIn first 320 before q → TestsAreOfEither (erase p) (erase q) (erase u) → IsTreeIn 0 320 after u → IsTreeIn first 320 after u
 union_tree first before after p q u hp hq tests h = record {
   reduced = raised (erase u) first h.reduced (λ k w. elim (tests.each k w) [ inl x ↦ test_from (erase p) first k hp.reduced x | inr y ↦ test_from (erase q) first k hq.reduced y ]);
   small = h.small;
@@ -81,18 +81,18 @@ two_truths t = record { each = λ x w. either x }
     either true = (1, omega arith, refl)
 
 -- the measure falls
-pub first_from : (c : Plain Bool) (m : ℕ) → m ≤ 64 → IsReducedFrom m c → m ≤ first_of c
+pub first_from : (c : Plain Bool) (m : ℕ) → m ≤ 320 → IsReducedFrom m c → m ≤ first_of c
 first_from (leaf x) m h r = h
 first_from (node j p q) m h r = r.0
 
-pub fewer_union : (n j : ℕ) (c u p q : Plain Bool) → c ≡ node j p q → TestsBelow 64 c → IsReducedFrom (j + 1) u → n + (64 - first_of u) < n + (64 - first_of c)
+pub fewer_union : (n j : ℕ) (c u p q : Plain Bool) → c ≡ node j p q → TestsBelow 320 c → IsReducedFrom (j + 1) u → n + (320 - first_of u) < n + (320 - first_of c)
 fewer_union n j c u p q e b r =
-    let small : TestsBelow 64 (node j p q) = subst (TestsBelow 64) e b in
+    let small : TestsBelow 320 (node j p q) = subst (TestsBelow 320) e b in
     let at : first_of c ≡ j = ap first_of e in
     let more = first_from u (j + 1) (omega (arith, small.0)) r in
     omega (arith, small.0, at, more)
 
-first_side : (c : Plain Bool) (k : ℕ) (b : Bool) → TestsBelow 64 c → IsReduced c → first_of c ≤ first_of (side_of k b c)
+first_side : (c : Plain Bool) (k : ℕ) (b : Bool) → TestsBelow 320 c → IsReduced c → first_of c ≤ first_of (side_of k b c)
 first_side (leaf x) k b small r = omega arith
 first_side (node j p q) k b small r = by (j == k) b
   where
@@ -107,7 +107,7 @@ first_side (node j p q) k b small r = by (j == k) b
     by true false = low
     by false e = omega arith
 
-pub fewer_side : {L : Type 0} (t s l h : Plain L) (k : ℕ) (c d : Plain Bool) (b : Bool) → t ≡ node k l h → (s ≡ l) ⊎ (s ≡ h) → d ≡ side_of k b c → TestsBelow 64 c → IsReduced c → node_count s + (64 - first_of d) < node_count t + (64 - first_of c)
+pub fewer_side : {L : Type 0} (t s l h : Plain L) (k : ℕ) (c d : Plain Bool) (b : Bool) → t ≡ node k l h → (s ≡ l) ⊎ (s ≡ h) → d ≡ side_of k b c → TestsBelow 320 c → IsReduced c → node_count s + (320 - first_of d) < node_count t + (320 - first_of c)
 fewer_side t s l h k c d b et es ed small r =
     let more = first_side c k b small r in
     let at : first_of d ≡ first_of (side_of k b c) = ap first_of ed in

@@ -27,7 +27,7 @@ pub fn is_false(care: &Tree<bool>) -> bool
 pub fn side(care: &Tree<bool>, test: u32, value: bool) -> &Tree<bool>
     ensures side { plain result.now ≡ side_of test value (plain care.now) }
     ensures tree { (forest : List (Plain Bool))
-        → IsTreeIn 0 64 forest (numbered care.now) → IsTreeIn 0 64 forest (numbered result.now) }
+        → IsTreeIn 0 320 forest (numbered care.now) → IsTreeIn 0 320 forest (numbered result.now) }
 {
     match care {
         Tree::Node(node) if node.test == test => { if value { &node.yes } else { &node.no } }
@@ -44,12 +44,12 @@ pub fn union<K: Ledger>(
     yes: &Tree<bool>,
     steps: &mut Steps<K>,
 ) -> Result<Tree<bool>, NoMemory>
-    requires no { IsTreeIn 0 64 cares.old (numbered no.now) }
-    requires yes { IsTreeIn 0 64 cares.old (numbered yes.now) }
+    requires no { IsTreeIn 0 320 cares.old (numbered no.now) }
+    requires yes { IsTreeIn 0 320 cares.old (numbered yes.now) }
     ensures means { IfOk result (λ u. IsUnionOf (plain no.now) (plain yes.now) (plain u)) }
-    ensures tree { (first : ℕ) → IsTreeIn first 64 cares.old (numbered no.now)
-        → IsTreeIn first 64 cares.old (numbered yes.now)
-        → IfOk result (λ u. IsTreeIn first 64 cares.new (numbered u)) }
+    ensures tree { (first : ℕ) → IsTreeIn first 320 cares.old (numbered no.now)
+        → IsTreeIn first 320 cares.old (numbered yes.now)
+        → IfOk result (λ u. IsTreeIn first 320 cares.new (numbered u)) }
     ensures keeps { Keeps cares.old cares.new }
     ensures steps { steps.new ≤ steps.old + 4 }
 {

@@ -40,7 +40,7 @@ pub fn restricted_steps<L>()
         → IsExact eq → IsReduced t → restricted eq t (leaf b) ≡ t }
     ensures union { (eq : L → L → Bool) (k j : ℕ) (low high : Plain L) (p q u : Plain Bool)
         → j < k → IsReduced (node j p q) → IsReduced u
-        → TestsBelow 64 p → TestsBelow 64 q → TestsBelow 64 u
+        → TestsBelow 320 p → TestsBelow 320 q → TestsBelow 320 u
         → IsUnified (λ a b c. c ≡ (a || b)) p q u
         → restricted eq (node k low high) (node j p q) ≡ restricted eq (node k low high) u }
     ensures sides { (eq : L → L → Bool) (k j : ℕ) (low high : Plain L) (p q : Plain Bool)

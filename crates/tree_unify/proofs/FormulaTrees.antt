@@ -74,8 +74,8 @@ disjoined_made (Err i) P f p q t u e says w x m reduced tests = tt
 
 -- ---- in a forest
 
-pub reduced_in : {E L : Type 0} (made : Result (Tree L) E) (forest : List (Plain L)) → IfOk made (λ r. IsTreeIn 0 64 forest (numbered r)) → IfOk made (λ r. IsReduced (plain r))
-reduced_in made forest = IfOk-weaker made (λ r. IsTreeIn 0 64 forest (numbered r)) (λ r. IsReduced (plain r)) (λ r h. h.reduced)
+pub reduced_in : {E L : Type 0} (made : Result (Tree L) E) (forest : List (Plain L)) → IfOk made (λ r. IsTreeIn 0 320 forest (numbered r)) → IfOk made (λ r. IsReduced (plain r))
+reduced_in made forest = IfOk-weaker made (λ r. IsTreeIn 0 320 forest (numbered r)) (λ r. IsReduced (plain r)) (λ r h. h.reduced)
 
 -- two values are all leaves that a tree of truths may have
 pub all_truths : (t : Plain Bool) → HoldsLeaves (true ∷ (false ∷ [])) t

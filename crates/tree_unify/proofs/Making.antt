@@ -51,7 +51,7 @@ module _ {L : Type 0} where
       above : (test ≡ k → ⊥) → k + 1 ≤ test
       above ne = omega arith
 
-  first_above : (t : Plain L) (m k : ℕ) → IsReducedFrom m t → first_of t ≡ k → k < 64 → m ≤ k
+  first_above : (t : Plain L) (m k : ℕ) → IsReducedFrom m t → first_of t ≡ k → k < 320 → m ≤ k
   first_above (leaf x) m k r e h = absurd (omega arith)
   first_above (node test low high) m k r e h = omega (arith, r.0)
 
@@ -61,7 +61,7 @@ least_left a b k e = omega arith
 least_right : (a b k : ℕ) → k ≡ min a b → k ≤ b
 least_right a b k e = omega arith
 
-bound_of_two : {A B : Type 0} (t : Plain A) (u : Plain B) (m k : ℕ) → k ≡ min (first_of t) (first_of u) → k < 64 → IsReducedFrom m t → IsReducedFrom m u → m ≤ k
+bound_of_two : {A B : Type 0} (t : Plain A) (u : Plain B) (m k : ℕ) → k ≡ min (first_of t) (first_of u) → k < 320 → IsReducedFrom m t → IsReducedFrom m u → m ≤ k
 bound_of_two t u m k e lt ht hu = elim (pick (first_of t) (first_of u) k e) [ inl j ↦ first_above t m k ht j lt | inr j ↦ first_above u m k hu j lt ]
 
 leaf_pair : {A B : Type 0} {t : Numbered A} {u : Numbered B} (p : Pair) (m n : ℕ) (x : A) (y : B) → p.left ≡ m → p.right ≡ n → IsWithin (kept m x) t → IsWithin (kept n y) u → IsPairOfLeaves t u p
@@ -86,18 +86,18 @@ module _ {A B C : Type 0} {P : A → B → C → Type 0} where
       h.reduced (k + 1) (subst (IsReducedFrom (k + 1)) (sym f) (side_above t k value ht (least_left (first_of t) (first_of u) k e)))
       (subst (IsReducedFrom (k + 1)) (sym g) (side_above u k value hu (least_right (first_of t) (first_of u) k e)))
 
-  pub side_tree : {forest : List (Plain C)} (t : Plain A) (u : Plain B) (k : ℕ) (value : Bool) (s : Plain A) (w : Plain B) (r : Numbered C) → TestsBelow 64 t → TestsBelow 64 u → IsReduced t → IsReduced u → k ≡ min (first_of t) (first_of u) → s ≡ side_of k value t → w ≡ side_of k value u → IsMade P forest s w r → IsTreeIn (k + 1) 64 forest r
+  pub side_tree : {forest : List (Plain C)} (t : Plain A) (u : Plain B) (k : ℕ) (value : Bool) (s : Plain A) (w : Plain B) (r : Numbered C) → TestsBelow 320 t → TestsBelow 320 u → IsReduced t → IsReduced u → k ≡ min (first_of t) (first_of u) → s ≡ side_of k value t → w ≡ side_of k value u → IsMade P forest s w r → IsTreeIn (k + 1) 320 forest r
   side_tree t u k value s w r bt bu ht hu e f g h =
-      let bs : TestsBelow 64 s = subst (TestsBelow 64) (sym f) (small_side t 64 k value bt) in
-      let bw : TestsBelow 64 w = subst (TestsBelow 64) (sym g) (small_side u 64 k value bu) in
+      let bs : TestsBelow 320 s = subst (TestsBelow 320) (sym f) (small_side t 320 k value bt) in
+      let bw : TestsBelow 320 w = subst (TestsBelow 320) (sym g) (small_side u 320 k value bu) in
       record {
         reduced = side_made t u k value s w r ht hu e f g h;
-        small = tests_below 64 (erase r) (λ j x. elim (h.tests.each j x) [ inl y ↦ test_below 64 j s bs y | inr y ↦ test_below 64 j w bw y ]);
+        small = tests_below 320 (erase r) (λ j x. elim (h.tests.each j x) [ inl y ↦ test_below 320 j s bs y | inr y ↦ test_below 320 j w bw y ]);
         own = h.own;
       }
 
   -- the node that is made of the sides
-  pub made_node : {before middle after : List (Plain C)} (t s0 s1 : Plain A) (u w0 w1 : Plain B) (k : ℕ) (p q r : Numbered C) → k ≡ min (first_of t) (first_of u) → k < 64
+  pub made_node : {before middle after : List (Plain C)} (t s0 s1 : Plain A) (u w0 w1 : Plain B) (k : ℕ) (p q r : Numbered C) → k ≡ min (first_of t) (first_of u) → k < 320
       → s0 ≡ side_of k false t → s1 ≡ side_of k true t → w0 ≡ side_of k false u → w1 ≡ side_of k true u
       → IsReducedFrom (k + 1) (erase p) → IsReducedFrom (k + 1) (erase q)
       → IsMade P before s0 w0 p → IsMade P middle s1 w1 q → IsNodeOf k (erase p) (erase q) (erase r) → IsOf after r → IsMade P after t u r
@@ -167,7 +167,7 @@ module _ {A B C : Type 0} {P : A → B → C → Type 0} where
       IfOk-weaker shared (λ s. numbered s ≡ numbered r) (λ s. IsMade P forest (erase a) (erase b) (numbered s)) (λ s e. subst (IsMade P forest (erase a) (erase b)) (sym e) m)
 
   -- the same, of what a call answers
-  pub made_node_ok : {E : Type 0} {before middle : List (Plain C)} (after : List (Plain C)) (made : Result (Tree C) E) (t s0 s1 : Plain A) (u w0 w1 : Plain B) (k : ℕ) (p q : Numbered C) → k ≡ min (first_of t) (first_of u) → k < 64
+  pub made_node_ok : {E : Type 0} {before middle : List (Plain C)} (after : List (Plain C)) (made : Result (Tree C) E) (t s0 s1 : Plain A) (u w0 w1 : Plain B) (k : ℕ) (p q : Numbered C) → k ≡ min (first_of t) (first_of u) → k < 320
       → s0 ≡ side_of k false t → s1 ≡ side_of k true t → w0 ≡ side_of k false u → w1 ≡ side_of k true u
       → IsReduced t → IsReduced u → IsMade P before s0 w0 p → IsMade P middle s1 w1 q
       → IfOk made (λ r. IsNodeOf k (erase p) (erase q) (plain r)) → IfOk made (λ r. IsOf after (numbered r)) → IfOk made (λ r. IsMade P after t u (numbered r))
@@ -181,10 +181,10 @@ module _ {A B C : Type 0} {P : A → B → C → Type 0} where
   pub known_empty : (forest : List (Plain C)) (t : Numbered A) (u : Numbered B) (ls ns : List (Pair × Tree C)) → ls ≡ [] → ns ≡ [] → IsKnown P forest t u ls ns
   known_empty forest t u ls ns e f = record { of_leaves = memo_empty ls e; of_nodes = memo_empty ns f; tally = tally_empty ls e }
 
-leaves_come : {A B C : Type 0} {P : A → B → C → Type 0} (t : Plain A) (u : Plain B) (r : Plain C) → IsUnified P t u r → IsReduced r → TestsBelow 64 r → LeavesComeFromBoth P t u r
+leaves_come : {A B C : Type 0} {P : A → B → C → Type 0} (t : Plain A) (u : Plain B) (r : Plain C) → IsUnified P t u r → IsReduced r → TestsBelow 320 r → LeavesComeFromBoth P t u r
 leaves_come {P = P} t u r m reduced small = record {
   each = λ z w.
-      let v = reached 64 r z reduced small w in
+      let v = reached 320 r z reduced small w in
       (leaf_of t v.0, leaf_of u v.0, has_leaf_of t v.0, has_leaf_of u v.0, subst (P (leaf_of t v.0) (leaf_of u v.0)) v.2 (m.at_each v.0));
 }
 
@@ -199,21 +199,21 @@ module _ {A B C E : Type 0} (P : A → B → C → Type 0) (forest : List (Plain
   made_unified t u h = IfOk-weaker made (λ r. IsMade P forest t u (numbered r)) (λ r. IsUnified P t u (plain r)) (λ r m. m.unified) h
 
   -- a tree in the forest, as both operands are trees
-  pub made_tree : (t : Numbered A) (u : Numbered B) → IsNumberedTree 0 64 t → IsNumberedTree 0 64 u → MadeOf (erase t) (erase u) → IfOk made (λ r. IsTreeIn 0 64 forest (numbered r))
+  pub made_tree : (t : Numbered A) (u : Numbered B) → IsNumberedTree 0 320 t → IsNumberedTree 0 320 u → MadeOf (erase t) (erase u) → IfOk made (λ r. IsTreeIn 0 320 forest (numbered r))
   made_tree t u ht hu h =
-      IfOk-weaker made (λ r. IsMade P forest (erase t) (erase u) (numbered r)) (λ r. IsTreeIn 0 64 forest (numbered r))
+      IfOk-weaker made (λ r. IsMade P forest (erase t) (erase u) (numbered r)) (λ r. IsTreeIn 0 320 forest (numbered r))
       (λ r m. record {
         reduced = m.reduced 0 ht.reduced hu.reduced;
-        small = tests_below 64 (plain r) (λ k w. elim (m.tests.each k w) [ inl x ↦ test_below 64 k (erase t) ht.small x | inr y ↦ test_below 64 k (erase u) hu.small y ]);
+        small = tests_below 320 (plain r) (λ k w. elim (m.tests.each k w) [ inl x ↦ test_below 320 k (erase t) ht.small x | inr y ↦ test_below 320 k (erase u) hu.small y ]);
         own = m.own;
       }) h
 
   -- each leaf of it is reached by a vector, and so comes from those of the operands there
-  pub made_leaves : (t : Numbered A) (u : Numbered B) → IsNumberedTree 0 64 t → IsNumberedTree 0 64 u → MadeOf (erase t) (erase u) → IfOk made (λ r. LeavesComeFromBoth P (erase t) (erase u) (plain r))
+  pub made_leaves : (t : Numbered A) (u : Numbered B) → IsNumberedTree 0 320 t → IsNumberedTree 0 320 u → MadeOf (erase t) (erase u) → IfOk made (λ r. LeavesComeFromBoth P (erase t) (erase u) (plain r))
   made_leaves t u ht hu h =
       IfOk-weaker made (λ r. IsMade P forest (erase t) (erase u) (numbered r)) (λ r. LeavesComeFromBoth P (erase t) (erase u) (plain r))
       (λ r m. leaves_come (erase t) (erase u) (plain r) m.unified (m.reduced 0 ht.reduced hu.reduced)
-      (tests_below 64 (plain r) (λ k w. elim (m.tests.each k w) [ inl x ↦ test_below 64 k (erase t) ht.small x | inr y ↦ test_below 64 k (erase u) hu.small y ]))) h
+      (tests_below 320 (plain r) (λ k w. elim (m.tests.each k w) [ inl x ↦ test_below 320 k (erase t) ht.small x | inr y ↦ test_below 320 k (erase u) hu.small y ]))) h
 
   pub made_tests : (t : Plain A) (u : Plain B) → MadeOf t u → IfOk made (λ r. TestsAreOfEither t u (plain r))
   made_tests t u h = IfOk-weaker made (λ r. IsMade P forest t u (numbered r)) (λ r. TestsAreOfEither t u (plain r)) (λ r m. m.tests) h

@@ -61,7 +61,7 @@ module _ {A B : Type 0} (t : Numbered A) (u : Numbered B) where
     pub second : IsWithin w u
     pub fewer : node_count (erase s) + node_count (erase w) < node_count (erase t) + node_count (erase u)
 
-  pub sides : (k : ℕ) (value : Bool) (s : Numbered A) (w : Numbered B) → k ≡ min (first_of (erase t)) (first_of (erase u)) → k < 64
+  pub sides : (k : ℕ) (value : Bool) (s : Numbered A) (w : Numbered B) → k ≡ min (first_of (erase t)) (first_of (erase u)) → k < 320
       → IsWithin s t → IsWithin w u → erase s ≡ side_of k value (erase t) → erase w ≡ side_of k value (erase u) → AreSides s w
   sides k value s w e lt v x f g = record {
     first = v;

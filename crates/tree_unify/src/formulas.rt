@@ -21,9 +21,9 @@ use std::sync::ledger::Ledger;
 /// The forest's tree of a single test.
 #[tactic(auto, using(decision_tree::proofs::Numbers::stays, decision_tree::proofs::Numbers::keeps_both, decision_tree::proofs::Reduced::reduced_from))]
 fn test_in(forest: &mut Forest<bool>, number: u32) -> Result<Tree<bool>, NoMemory>
-    requires { number < 64 }
+    requires { number < 320 }
     ensures means { IfOk result (λ t. IsTreeOf (Test number) (plain t)) }
-    ensures tree { IfOk result (λ t. IsTreeIn 0 64 forest.new (numbered t)) }
+    ensures tree { IfOk result (λ t. IsTreeIn 0 320 forest.new (numbered t)) }
     ensures keeps { Keeps forest.old forest.new }
 {
     let no = forest.leaf(false)?;
@@ -32,7 +32,7 @@ fn test_in(forest: &mut Forest<bool>, number: u32) -> Result<Tree<bool>, NoMemor
 }
 
 /// The forest's tree that is true at exactly the vectors at which the formula is. Its tests are numbers of the formula,
-/// which must be below 64. There are at most four steps for each operator. It answers an error only for want of memory;
+/// which must be below 320. There are at most four steps for each operator. It answers an error only for want of memory;
 /// then too the forest has all that it had, and may have more.
 #[tactic(auto, using(decision_tree::proofs::Numbers::keeps_both, decision_tree::proofs::Numbers::numbered_in))]
 pub fn test_tree_in<K: Ledger>(
@@ -41,9 +41,9 @@ pub fn test_tree_in<K: Ledger>(
     f: &Formula,
     steps: &mut Steps<K>,
 ) -> Result<Tree<bool>, NoMemory>
-    requires { IsBelow 64 (formula f.now) }
+    requires { IsBelow 320 (formula f.now) }
     ensures means { IfOk result (λ t. IsTreeOf (formula f.now) (plain t)) }
-    ensures tree { IfOk result (λ t. IsTreeIn 0 64 forest.new (numbered t)) }
+    ensures tree { IfOk result (λ t. IsTreeIn 0 320 forest.new (numbered t)) }
     ensures keeps { Keeps forest.old forest.new }
     ensures steps { steps.new ≤ steps.old + 4 * operators (formula f.now) }
 {

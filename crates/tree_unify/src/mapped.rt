@@ -45,7 +45,7 @@ impl<A, B, F: Fn(&A) -> Result<B, NoMemory>> Operation<A, (), B> for OfFirst<'_,
 /// One call of the operation is one step, and there is at most one for each leaf value of `t`, at want of memory too. One call of
 /// `Forest::node` is one step of `nodes`, and there is at most one for each different subtree of `t`: none is taken apart twice.
 ///
-/// The operation must be callable at each leaf of `t`. The tree must be reduced, with tests below 64, and numbered; it may be of
+/// The operation must be callable at each leaf of `t`. The tree must be reduced, with tests below 320, and numbered; it may be of
 /// another forest. `==` of the new leaves must be equality of values. It answers an error only for want of memory; then too the
 /// forest has all that it had, and may have more.
 #[tactic(auto, using(crate::proofs::Within::numbered_leaf, decision_tree::proofs::Numbers::keeps_same))]
@@ -58,14 +58,14 @@ pub fn map_counted<A, B: Eq + Hash + Drop, K: Ledger, N: Ledger, F: Fn(&A) -> Re
     nodes: &mut Steps<N>,
 ) -> Result<Tree<B>, NoMemory>
     requires callable { IsCallableAt F.Fn f.now (plain t.now) }
-    requires t { IsNumberedTree 0 64 (numbered t.now) }
+    requires t { IsNumberedTree 0 320 (numbered t.now) }
     requires exact { IsExact B.eq }
     ensures mapped { IfOk result
         (λ r. IsMapped (λ a b. FnReturnsAt F.Fn f.now a (Ok b)) (plain t.now) (plain r)) }
     ensures leaves { IfOk result
         (λ r. LeavesComeFrom (λ a b. FnReturnsAt F.Fn f.now a (Ok b)) (plain t.now) (plain r)) }
     ensures tests { IfOk result (λ r. TestsAreOf (plain t.now) (plain r)) }
-    ensures tree { IfOk result (λ r. IsTreeIn 0 64 forest.new (numbered r)) }
+    ensures tree { IfOk result (λ r. IsTreeIn 0 320 forest.new (numbered r)) }
     ensures keeps { Keeps forest.old forest.new }
     ensures steps { (xs : List A) → HoldsLeaves xs (plain t.now)
         → steps.new ≤ steps.old + length xs }
@@ -89,14 +89,14 @@ fn map_blank<A, B: Eq + Hash + Drop, K: Ledger, N: Ledger, F: Fn(&A) -> Result<B
     requires parts { blank.parts ≡ N.parts }
     requires some { 0 < N.parts }
     requires callable { IsCallableAt F.Fn f.now (plain t.now) }
-    requires t { IsNumberedTree 0 64 (numbered t.now) }
+    requires t { IsNumberedTree 0 320 (numbered t.now) }
     requires exact { IsExact B.eq }
     ensures mapped { IfOk result
         (λ r. IsMapped (λ a b. FnReturnsAt F.Fn f.now a (Ok b)) (plain t.now) (plain r)) }
     ensures leaves { IfOk result
         (λ r. LeavesComeFrom (λ a b. FnReturnsAt F.Fn f.now a (Ok b)) (plain t.now) (plain r)) }
     ensures tests { IfOk result (λ r. TestsAreOf (plain t.now) (plain r)) }
-    ensures tree { IfOk result (λ r. IsTreeIn 0 64 forest.new (numbered r)) }
+    ensures tree { IfOk result (λ r. IsTreeIn 0 320 forest.new (numbered r)) }
     ensures keeps { Keeps forest.old forest.new }
     ensures steps { (xs : List A) → HoldsLeaves xs (plain t.now)
         → steps.new ≤ steps.old + length xs }
@@ -117,14 +117,14 @@ pub fn map_in<A, B: Eq + Hash + Drop, K: Ledger, F: Fn(&A) -> Result<B, NoMemory
     steps: &mut Steps<K>,
 ) -> Result<Tree<B>, NoMemory>
     requires callable { IsCallableAt F.Fn f.now (plain t.now) }
-    requires t { IsNumberedTree 0 64 (numbered t.now) }
+    requires t { IsNumberedTree 0 320 (numbered t.now) }
     requires exact { IsExact B.eq }
     ensures mapped { IfOk result
         (λ r. IsMapped (λ a b. FnReturnsAt F.Fn f.now a (Ok b)) (plain t.now) (plain r)) }
     ensures leaves { IfOk result
         (λ r. LeavesComeFrom (λ a b. FnReturnsAt F.Fn f.now a (Ok b)) (plain t.now) (plain r)) }
     ensures tests { IfOk result (λ r. TestsAreOf (plain t.now) (plain r)) }
-    ensures tree { IfOk result (λ r. IsTreeIn 0 64 forest.new (numbered r)) }
+    ensures tree { IfOk result (λ r. IsTreeIn 0 320 forest.new (numbered r)) }
     ensures keeps { Keeps forest.old forest.new }
     ensures steps { (xs : List A) → HoldsLeaves xs (plain t.now)
         → steps.new ≤ steps.old + length xs }

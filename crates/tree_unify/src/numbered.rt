@@ -123,9 +123,9 @@ fn note_node<C: Eq + Hash + Drop, N: Ledger>(
     entries: &mut IndexMap<Pair, Tree<C>>,
     nodes: &mut Steps<N>,
 ) -> Result<Tree<C>, NoMemory>
-    requires small { test < 64 }
-    requires no { IsTreeIn (test + 1) 64 forest.old (numbered no.now) }
-    requires yes { IsTreeIn (test + 1) 64 forest.old (numbered yes.now) }
+    requires small { test < 320 }
+    requires no { IsTreeIn (test + 1) 320 forest.old (numbered no.now) }
+    requires yes { IsTreeIn (test + 1) 320 forest.old (numbered yes.now) }
     ensures made { IfOk result (λ r. IsNodeOf test (plain no.now) (plain yes.now) (plain r)) }
     ensures own { IfOk result (λ r. IsOf forest.new (numbered r)) }
     ensures noted { IfOk result (λ r. IsNoted pair (numbered r)
@@ -157,8 +157,8 @@ fn unify_known<A, B, C: Eq + Hash + Drop, K: Ledger, N: Ledger, F: Operation<A, 
     requires u_numbered { IsNumbered (numbered whole.now.u.now) }
     requires t_within { IsWithin (numbered t.now) (numbered whole.now.t.now) }
     requires u_within { IsWithin (numbered u.now) (numbered whole.now.u.now) }
-    requires t_small { TestsBelow 64 (plain t.now) }
-    requires u_small { TestsBelow 64 (plain u.now) }
+    requires t_small { TestsBelow 320 (plain t.now) }
+    requires u_small { TestsBelow 320 (plain u.now) }
     requires t_reduced { IsReduced (plain t.now) }
     requires u_reduced { IsReduced (plain u.now) }
     requires exact { IsExact C.eq }
@@ -229,7 +229,7 @@ fn unify_known<A, B, C: Eq + Hash + Drop, K: Ledger, N: Ledger, F: Operation<A, 
 /// of memory too. One call of `Forest::node` is one step of `nodes`, and there is at most one for each different subtree of `t`
 /// with each of `u`: no pair is taken apart twice.
 ///
-/// The operation must take each leaf of `t` with each of `u`. Both trees must be reduced, with tests below 64, and numbered; they may
+/// The operation must take each leaf of `t` with each of `u`. Both trees must be reduced, with tests below 320, and numbered; they may
 /// be of other forests. `==` of the new leaves must be equality of values. It answers an error only for want of memory; then too the
 /// forest has all that it had, and may have more.
 #[tactic(auto, using(crate::proofs::Making::known_empty, crate::proofs::Walked::walked_empty, crate::proofs::Within::within_self))]
@@ -243,15 +243,15 @@ pub fn unify_counted<A, B, C: Eq + Hash + Drop, K: Ledger, N: Ledger, F: Operati
     nodes: &mut Steps<N>,
 ) -> Result<Tree<C>, NoMemory>
     requires takes { TakesLeaves (F.takes op.now) (plain t.now) (plain u.now) }
-    requires t { IsNumberedTree 0 64 (numbered t.now) }
-    requires u { IsNumberedTree 0 64 (numbered u.now) }
+    requires t { IsNumberedTree 0 320 (numbered t.now) }
+    requires u { IsNumberedTree 0 320 (numbered u.now) }
     requires exact { IsExact C.eq }
     ensures unified { IfOk result
         (λ r. IsUnified (F.gives op.now) (plain t.now) (plain u.now) (plain r)) }
     ensures leaves { IfOk result
         (λ r. LeavesComeFromBoth (F.gives op.now) (plain t.now) (plain u.now) (plain r)) }
     ensures tests { IfOk result (λ r. TestsAreOfEither (plain t.now) (plain u.now) (plain r)) }
-    ensures tree { IfOk result (λ r. IsTreeIn 0 64 forest.new (numbered r)) }
+    ensures tree { IfOk result (λ r. IsTreeIn 0 320 forest.new (numbered r)) }
     ensures keeps { Keeps forest.old forest.new }
     ensures steps { (xs : List A) (ys : List B)
         → HoldsLeaves xs (plain t.now) → HoldsLeaves ys (plain u.now)
@@ -290,15 +290,15 @@ fn unify_blank<A, B, C: Eq + Hash + Drop, K: Ledger, N: Ledger, F: Operation<A, 
     requires parts { blank.parts ≡ N.parts }
     requires some { 0 < N.parts }
     requires takes { TakesLeaves (F.takes op.now) (plain t.now) (plain u.now) }
-    requires t { IsNumberedTree 0 64 (numbered t.now) }
-    requires u { IsNumberedTree 0 64 (numbered u.now) }
+    requires t { IsNumberedTree 0 320 (numbered t.now) }
+    requires u { IsNumberedTree 0 320 (numbered u.now) }
     requires exact { IsExact C.eq }
     ensures unified { IfOk result
         (λ r. IsUnified (F.gives op.now) (plain t.now) (plain u.now) (plain r)) }
     ensures leaves { IfOk result
         (λ r. LeavesComeFromBoth (F.gives op.now) (plain t.now) (plain u.now) (plain r)) }
     ensures tests { IfOk result (λ r. TestsAreOfEither (plain t.now) (plain u.now) (plain r)) }
-    ensures tree { IfOk result (λ r. IsTreeIn 0 64 forest.new (numbered r)) }
+    ensures tree { IfOk result (λ r. IsTreeIn 0 320 forest.new (numbered r)) }
     ensures keeps { Keeps forest.old forest.new }
     ensures steps { (xs : List A) (ys : List B)
         → HoldsLeaves xs (plain t.now) → HoldsLeaves ys (plain u.now)
@@ -321,15 +321,15 @@ pub fn unify_in<A, B, C: Eq + Hash + Drop, K: Ledger, F: Operation<A, B, C>>(
     steps: &mut Steps<K>,
 ) -> Result<Tree<C>, NoMemory>
     requires takes { TakesLeaves (F.takes op.now) (plain t.now) (plain u.now) }
-    requires t { IsNumberedTree 0 64 (numbered t.now) }
-    requires u { IsNumberedTree 0 64 (numbered u.now) }
+    requires t { IsNumberedTree 0 320 (numbered t.now) }
+    requires u { IsNumberedTree 0 320 (numbered u.now) }
     requires exact { IsExact C.eq }
     ensures unified { IfOk result
         (λ r. IsUnified (F.gives op.now) (plain t.now) (plain u.now) (plain r)) }
     ensures leaves { IfOk result
         (λ r. LeavesComeFromBoth (F.gives op.now) (plain t.now) (plain u.now) (plain r)) }
     ensures tests { IfOk result (λ r. TestsAreOfEither (plain t.now) (plain u.now) (plain r)) }
-    ensures tree { IfOk result (λ r. IsTreeIn 0 64 forest.new (numbered r)) }
+    ensures tree { IfOk result (λ r. IsTreeIn 0 320 forest.new (numbered r)) }
     ensures keeps { Keeps forest.old forest.new }
     ensures steps { (xs : List A) (ys : List B)
         → HoldsLeaves xs (plain t.now) → HoldsLeaves ys (plain u.now)

@@ -13,12 +13,12 @@ pub fn value_of<L>(leaf: &Kept<L>) -> &L
     &leaf.value
 }
 
-/// The test at the root, or 64 at a leaf.
+/// The test at the root, or 320 at a leaf.
 pub fn first<L>(t: &Tree<L>) -> u32
     ensures { result ≡ first_of (plain t.now) }
 {
     match t {
-        Tree::Leaf(_) => 64,
+        Tree::Leaf(_) => 320,
         Tree::Node(node) => node.test,
     }
 }

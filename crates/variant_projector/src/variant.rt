@@ -16,9 +16,9 @@ use std::alloc::Global;
 
 /// The text of the variant of a file that a configuration selects.
 ///
-/// Its comments are blanked. A line stays as it is where it is no directive and each group around it is the kept one of
-/// its section: the first whose condition is true at the configuration, else that of `#else`. Every other line becomes
-/// empty. The newlines stay, and so do all places. Its refusals are those of `blanked_file` and then those of
+/// Its comments are blanked. A line stays as it is where it is code or the definition of a constant, and each group around
+/// it is the kept one of its section: the first whose condition is true at the configuration, else that of `#else`. Every
+/// other line becomes empty. The newlines stay, and so do all places. Its refusals are those of `blanked_file` and then those of
 /// `read_sections`. It answers `NoMemory` for want of memory.
 pub fn variant_text(
     alloc: Global,

@@ -1,6 +1,6 @@
 int count;
 int main(void)
 {
-    while (count < SIZE)
+    if (FAST)
         count++;
 }

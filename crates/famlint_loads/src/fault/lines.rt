@@ -21,6 +21,7 @@ fn condition_code(fault: ConditionFault) -> &'static str
         ConditionFault::ReservedName => "C4",
         ConditionFault::TooDeep => "C5",
         ConditionFault::UnknownName => "C6",
+        ConditionFault::DefinedName => "C7",
     }
 }
 
@@ -91,7 +92,9 @@ fn file_code(code: &FileCode) -> &'static str
         FileCode::GroupInsideStatement => "F19",
         FileCode::TooLong => "F20",
         FileCode::GroupHere => "F21",
+        FileCode::TooManyValueTests => "F22",
         FileCode::ChangedConstant => "F23",
+        FileCode::TooManyConstants => "F24",
     }
 }
 

@@ -8,5 +8,5 @@ abbrev pub invariant-loop-test : goal.invariant-loop-test
 invariant-loop-test l =
     record {
       count : length l.list.items ≡ l.test;
-      below : All (λ c. IsBelow 64 (formula c)) l.list.items;
+      below : All (λ c. IsBelow 320 (formula c)) l.list.items;
     }

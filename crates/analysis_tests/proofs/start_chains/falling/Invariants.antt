@@ -3,4 +3,4 @@ use Rattle.cpp_conditions.specs.View.{formula}
 use Rattle.analysis_tests.proofs.start_chains.falling.Given as goal
 
 abbrev pub invariant-loop-test : goal.invariant-loop-test
-invariant-loop-test l = IsBelow 64 (formula l.made)
+invariant-loop-test l = IsBelow 320 (formula l.made)

@@ -11,12 +11,12 @@ use Rattle.configuration_advice.proofs.costs.+unkept_in.Goals as goal
 
 pub unkept_in-requires : goal.unkept_in-requires
 unkept_in-requires g t c =
-    let below : All (λ (f : Formula). IsBelow 64 (formula f)) c.in-Some.behind.now = tail_below 64 c.args.kept.now c.in-Some.behind.now c.in-Some.first.now c.in-Some.ensures c.requires.below in
+    let below : All (λ (f : Formula). IsBelow 320 (formula f)) c.in-Some.behind.now = tail_below 320 c.args.kept.now c.in-Some.behind.now c.in-Some.first.now c.in-Some.ensures c.requires.below in
     let few : length c.in-Some.behind.now < too_many = tail_few c.args.kept.now c.in-Some.behind.now c.in-Some.first.now c.in-Some.ensures c.requires.few in
     search rules
 
 pub unify_in-requires-clause-u : goal.unify_in-requires-clause-u
-unify_in-requires-clause-u g t c = numbered_tree 0 64 _ (numbered c.in_ok-truth.truth) c.in_ok-truth.ensures.tree
+unify_in-requires-clause-u g t c = numbered_tree 0 320 _ (numbered c.in_ok-truth.truth) c.in_ok-truth.ensures.tree
 
 pub returns-clause-counts : goal.returns-clause-counts
 returns-clause-counts g t c =

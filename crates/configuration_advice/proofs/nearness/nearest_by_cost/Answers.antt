@@ -11,7 +11,7 @@ use Rattle.configuration_advice.proofs.Priced.{formulas_more, advised_by}
 use Rattle.configuration_advice.proofs.nearness.nearest_by_cost.Goals as goal
 
 pub cost-requires-clause-below : goal.cost-requires-clause-below
-cost-requires-clause-below c = formulas_more (length c.args.tests.now) 64 c.args.kept.now c.requires.few c.requires.kept
+cost-requires-clause-below c = formulas_more (length c.args.tests.now) 320 c.args.kept.now c.requires.few c.requires.kept
 
 pub cheapest-requires-clause-priced : goal.cheapest-requires-clause-priced
 cheapest-requires-clause-priced c = record {

@@ -28,7 +28,7 @@ pub returns-clause-kept : goal.returns-clause-kept
 returns-clause-kept c =
     let all : take c.loop-constraint.constraint-index c.items-constraint-items.result.now ≡ c.args.model.now.constraints =
     take_all c.loop-constraint.constraint-index c.items-constraint-items.result.now c.loop-constraint-test.false ∙ c.items-constraint-items.ensures in
-    let none : map proposition c.new-2.result.items ≡ [] = ap (map proposition) c.new-2.ensures.items in
+    let none : map proposition c.new-3.result.items ≡ [] = ap (map proposition) c.new-3.ensures.items in
     let are : AreAtomsOf (map proposition c.args.model.now.constraints) c.loop-constraint.atoms.items =
     subst (λ (cs : List Condition). AreAtomsOf (map proposition cs) c.loop-constraint.atoms.items) all c.loop-constraint.invariant in
     let one : c.requires.few.atoms ≡ c.loop-constraint.atoms.items = one_list (map proposition c.args.model.now.constraints) c.requires.few.atoms c.loop-constraint.atoms.items c.requires.few.are_atoms are in
@@ -36,5 +36,5 @@ returns-clause-kept c =
       atoms = subst (λ (ps : List (Proposition Atom)). AreAtomsOf ps c.loop-constraint.atoms.items) (sym (ap (λ (ps : List (Proposition Atom)). map proposition c.args.model.now.constraints ++ ps) none ∙ append-nil (map proposition c.args.model.now.constraints)))
           are;
       few = omega (arith, ap length one, c.requires.few.few);
-      fit = subst (AreFit (length c.args.model.now.features)) (sym c.new-2.ensures.items) tt;
+      fit = subst (AreFit (length c.args.model.now.features)) (sym c.new-3.ensures.items) tt;
     }

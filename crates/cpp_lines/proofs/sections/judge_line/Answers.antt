@@ -16,7 +16,7 @@ use Rattle.cpp_lines.specs.Taking as taking
 use Rattle.cpp_lines.proofs.sections.judge_line.Goals as goal
 
 refused : (dialect : Dialect) (m : Plain) (line : List ℕ) (text : Result (List ℕ) ConditionFault) (old : Reading) (code : FileCode) → line_fault dialect.includes (flags old.opens) line ≡ None → condition_in line ≡ Some text
-    → taking.IsConditionRefused dialect m text old code → sections.HasFault dialect m (flags old.opens) (taking.meant old) line code
+    → taking.IsConditionRefused dialect m text old code → sections.HasFault dialect (taking.macros_of dialect old) m (flags old.opens) (taking.meant old) line code
 refused dialect m line text old code f e (taking.unread fault h) = sections.refused text fault f e h
 refused dialect m line text old code f e (taking.crowded p h k) = sections.crowded text p f e h k
 

@@ -6,6 +6,7 @@ use Rattle.cpp_conditions.specs.Validity.{plain}
 use Rattle.cpp_lines.specs.Lines.{pieces}
 use Rattle.cpp_lines.specs.Nesting.{ends_of}
 use Rattle.cpp_lines.specs.Taking as taking
+use Rattle.cpp_lines.specs.Taking.{plain_names}
 use Rattle.cpp_lines.proofs.Faulting.{behind}
 use Rattle.cpp_lines.proofs.Listing.{behind_line, next_place}
 use Rattle.cpp_lines.proofs.Standing.{Stands, stands_on, fault_read, one_more_at_most, begun, ended}
@@ -14,7 +15,8 @@ use Rattle.cpp_lines.proofs.sections.read_lines.Goals as goal
 pub lines-init : goal.lines-init
 lines-init c =
     record {
-      stands = begun c.args.dialect (plain c.args.model.now) c.args.blanked.now c.in_ok-reading.reading (pieces c.args.blanked.now) c.in_ok-reading.ensures.nothing.lines c.in_ok-reading.ensures.nothing.conditions c.in_ok-reading.ensures.nothing.opens (λ r h. h);
+      stands = begun c.args.dialect (plain c.args.model.now) c.args.blanked.now c.in_ok-reading.reading (pieces c.args.blanked.now) c.in_ok-reading.ensures.nothing.lines c.in_ok-reading.ensures.nothing.conditions c.in_ok-reading.ensures.nothing.opens c.in_ok-reading.ensures.nothing.above
+          (ap (λ (v : _). plain_names v.items) c.in_ok-reading.ensures.defined ∙ c.in_ok-defined.ensures) (λ r h. h);
       kept = c.in_ok-reading.ensures.kept;
       count = omega (arith, ap length c.in_ok-reading.ensures.nothing.conditions);
       rest = refl;

@@ -25,7 +25,7 @@ pub returns-clause-lines : goal.returns-clause-lines
 unfolding AreLinesOf
 returns-clause-lines c =
     subst (λ (ls : List Line). AreLinesFrom 0 (pieces c.args.blanked.now) ls) (sym c.from_vec.ensures)
-    (lines_are c.args.dialect (plain c.args.model.now) c.args.blanked.now [] [] 0 (pieces c.args.blanked.now) (Ok (record { lines = c.in_ok-reading.reading.lines.items; conditions = meant c.in_ok-reading.reading })) c.in_ok-reading.ensures.read)
+    (lines_are c.args.dialect (plain c.args.model.now) c.args.blanked.now [] [] [] 0 (pieces c.args.blanked.now) (Ok (record { lines = c.in_ok-reading.reading.lines.items; conditions = meant c.in_ok-reading.reading })) c.in_ok-reading.ensures.read)
 
 pub returns-clause-atoms : goal.returns-clause-atoms
 returns-clause-atoms c =
@@ -35,7 +35,7 @@ returns-clause-atoms c =
 
 pub returns-clause-numbered : goal.returns-clause-numbered
 returns-clause-numbered c =
-    let all = numbers_are c.args.dialect (plain c.args.model.now) c.args.blanked.now [] [] 0 (pieces c.args.blanked.now) (Ok (record { lines = c.in_ok-reading.reading.lines.items; conditions = meant c.in_ok-reading.reading })) c.in_ok-reading.ensures.read in
+    let all = numbers_are c.args.dialect (plain c.args.model.now) c.args.blanked.now [] [] [] 0 (pieces c.args.blanked.now) (Ok (record { lines = c.in_ok-reading.reading.lines.items; conditions = meant c.in_ok-reading.reading })) c.in_ok-reading.ensures.read in
     let count : length c.from_vec-2.result ≡ length (meant c.in_ok-reading.reading) =
     ap length c.from_vec-2.ensures ∙ sym (same_count c.deref-2.result.now (map proposition c.deref.result.now) c.in_ok-conditions.conditions.items c.in_ok-conditions.ensures.numbered)
     ∙ ap (λ (cs : List Condition). length (map proposition cs)) c.deref.ensures.value in
@@ -44,5 +44,5 @@ returns-clause-numbered c =
 pub returns-clause-numbers : goal.returns-clause-numbers
 returns-clause-numbers c =
     subst (λ (ls : List Line). AreCounted 1 ls) (sym c.from_vec.ensures)
-    (counted c.args.dialect (plain c.args.model.now) c.args.blanked.now [] [] 0 c.args.blanked.now (pieces c.args.blanked.now) 1 (Ok (record { lines = c.in_ok-reading.reading.lines.items; conditions = meant c.in_ok-reading.reading })) refl refl refl
+    (counted c.args.dialect (plain c.args.model.now) c.args.blanked.now [] [] [] 0 c.args.blanked.now (pieces c.args.blanked.now) 1 (Ok (record { lines = c.in_ok-reading.reading.lines.items; conditions = meant c.in_ok-reading.reading })) refl refl refl
     c.in_ok-reading.ensures.read)

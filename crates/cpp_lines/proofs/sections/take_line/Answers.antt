@@ -4,6 +4,7 @@ use Rattle.fam_outer.specs.declared.faults.Place.{Place}
 use Rattle.cpp_conditions.specs.View.{proposition}
 use Rattle.cpp_lines.specs.declared.line.Line.{Line}
 use Rattle.cpp_lines.specs.declared.open_sections.Opens.{Opens}
+use Rattle.cpp_lines.specs.Defined.{names_in}
 use Rattle.cpp_lines.specs.Lines.{line_place}
 use Rattle.cpp_lines.specs.Nesting.{named_in, opened_by}
 use Rattle.cpp_lines.specs.Opens.{flags, first_after}
@@ -27,5 +28,9 @@ returns c =
         first = c.in_ok-follow.ensures.first
             ∙ ap (λ (p : Place). first_after (named_in c.args.line.now) p (flags c.judge_line-judged.new.reading.opens) c.judge_line-judged.new.reading.opens.first) c.line_place-place.ensures
             ∙ ap (λ (o : Opens). first_after (named_in c.args.line.now) (line_place c.args.first c.args.line.now) (flags o) o.first) c.judge_line-judged.ensures.opens;
+      };
+      named = record {
+        above = c.in_ok-add_name.ensures ∙ ap (λ (v : _). taking.plain_names v.items ++ names_in c.args.line.now) c.judge_line-judged.ensures.above;
+        defined = c.judge_line-judged.ensures.defined;
       };
     }

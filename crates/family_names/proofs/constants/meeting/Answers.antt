@@ -10,3 +10,6 @@ returns-clause-below c =
     let count = length c.args.context.now.atoms.now in
     IfOk-weaker c.both.result (λ made. formula made ≡ And (formula c.in_ok-kept.kept) (formula c.in_ok-declared.declared)) (λ made. IsBelow (length c.args.context.now.atoms.now) (formula made))
     (λ made e. below_both count made c.in_ok-kept.kept c.in_ok-declared.declared e (c.in_ok-kept.ensures.below count c.requires.conditions) (c.in_ok-declared.ensures.below count c.requires.conditions)) c.both.ensures
+
+pub returns-then-is_value-clause-below : goal.returns-then-is_value-clause-below
+returns-then-is_value-clause-below c = c.in_ok-kept.ensures.below (length c.args.context.now.atoms.now) c.requires.conditions

@@ -22,12 +22,12 @@ returns-then-is_clear c = λ settled. never_missed (plain c.args.context.now) c.
 
 pub returns-in_ok-push-in-None : goal.returns-in_ok-push-in-None
 returns-in_ok-push-in-None c = λ settled. settle (plain c.args.context.now) c.args.seen.now c.args.settled.now.items c.push-in-None.new.self.items c.args.name (record { name = c.args.name; groups = c.in_ok-groups-in-None.groups }) settled
-    (subst (Finds c.args.context.now.model.now (is_missed (plain c.args.context.now) c.args.seen.now c.args.name)) c.in-None.is c.in_ok-config.ensures)
+    (subst (Finds c.args.context.now.model.now (is_missed (plain c.args.context.now) c.args.seen.now.groups c.args.seen.now.declarations.items c.args.name)) c.in-None.is c.in_ok-config.ensures)
     c.in_ok-push-in-None.ensures.items refl c.in_ok-groups-in-None.ensures
 
 pub returns-then-is_none : goal.returns-then-is_none
 returns-then-is_none c = λ settled.
-    let none : is_none c.in_ok-first_so.field-0 ≡ true = answered_none c.in_ok-first_so.field-0 c.is_none.result c.is_none.ensures c.if-is_none.true in
+    let none : is_none c.in_ok-first_of_name.field-0 ≡ true = answered_none c.in_ok-first_of_name.field-0 c.is_none.result c.is_none.ensures c.if-is_none.true in
     settle_everywhere (plain c.args.context.now) c.args.seen.now c.args.settled.now.items c.push.new.self.items c.args.name
-    (record { name = c.args.name; groups = c.new-groups.result }) c.in_ok-first_so.field-0 settled c.in_ok-first_so.ensures
+    (record { name = c.args.name; groups = c.new-groups.result }) c.in_ok-first_of_name.field-0 settled c.in_ok-first_of_name.ensures
     none c.in_ok-push.ensures.items refl

@@ -22,9 +22,9 @@ nearest-requires-clause-tests g c =
 
 pub nearest-requires-clause-trees : goal.nearest-requires-clause-trees
 nearest-requires-clause-trees g c =
-    subst (All (λ (t : Tree Bool). IsNumberedTree 0 64 (numbered t))) (sym c.deref-2.ensures.value)
+    subst (All (λ (t : Tree Bool). IsNumberedTree 0 320 (numbered t))) (sym c.deref-2.ensures.value)
     (c.in_ok-trees.ensures.numbered
-    (subst (All (λ (t : AlarmTree). IsNumberedTree 0 64 (numbered t.tree))) (sym c.deref.ensures.value) (c.in_ok-findings.ensures.numbered refl)))
+    (subst (All (λ (t : AlarmTree). IsNumberedTree 0 320 (numbered t.tree))) (sym c.deref.ensures.value) (c.in_ok-findings.ensures.numbered refl)))
 
 pub returns-clause-good : goal.returns-clause-good
 returns-clause-good g c =

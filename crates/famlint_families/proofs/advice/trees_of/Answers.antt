@@ -16,6 +16,6 @@ returns-clause-tests c = λ count below. all_alike (λ t. TestsBelow count (eras
     below
 
 pub returns-clause-numbered : goal.returns-clause-numbered
-returns-clause-numbered c = λ all. all_alike (IsNumberedTree 0 64) c.loop-alarm.trees.items c.args.alarms.now
+returns-clause-numbered c = λ all. all_alike (IsNumberedTree 0 320) c.loop-alarm.trees.items c.args.alarms.now
     (c.loop-alarm.invariant ∙ ap numbered_trees (take_all c.loop-alarm.alarm-index c.args.alarms.now (omega (arith, c.loop-alarm-test.false))))
     all

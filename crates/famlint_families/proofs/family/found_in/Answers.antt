@@ -20,7 +20,7 @@ analyse_family-requires-clause-below g c =
     let l = c.args.line.now in
     let p = c.in_ok-plausible.plausible in
     let below : IsBelow (length l.family.atoms) (formula p) = subst (λ atoms. IsBelow (length atoms) (formula p)) c.items.ensures c.in_ok-plausible.ensures.below in
-    subst (λ cs. AreBelow 64 cs p) (sym c.items-conditions.ensures) (below_most l c.requires p below)
+    subst (λ cs. AreBelow 320 cs p) (sym c.items-conditions.ensures) (below_most l c.requires p below)
 
 pub merged_findings-requires-clause-below : goal.merged_findings-requires-clause-below
 merged_findings-requires-clause-below g c =

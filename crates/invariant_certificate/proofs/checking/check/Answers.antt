@@ -18,13 +18,13 @@ use Rattle.invariant_certificate.proofs.checking.check.Goals as goal
 
 pub pass_family-requires-clause-below : goal.pass_family-requires-clause-below
 pass_family-requires-clause-below g c =
-    more_below (length c.args.atoms.now) 64 c.requires.few c.args.conditions.now c.in_ok-plausible.plausible
+    more_below (length c.args.atoms.now) 320 c.requires.few c.args.conditions.now c.in_ok-plausible.plausible
     (record { each = c.requires.below; last = c.in_ok-plausible.ensures.below })
 
 pub pass_family-requires-clause-regions : goal.pass_family-requires-clause-regions
 pass_family-requires-clause-regions g c =
-    subst (AreRegionsBelow 64) (sym c.as_slice-loops.ensures.value)
-    (more_regions (length c.args.atoms.now) 64 c.requires.few c.args.certificate.now.loops.items c.requires.regions)
+    subst (AreRegionsBelow 320) (sym c.as_slice-loops.ensures.value)
+    (more_regions (length c.args.atoms.now) 320 c.requires.few c.args.certificate.now.loops.items c.requires.regions)
 
 pub judged-requires-clause-loops : goal.judged-requires-clause-loops
 judged-requires-clause-loops g c = λ k d lt.

@@ -14,7 +14,7 @@ pub returns-then-is_never-clause-numbered : goal.returns-then-is_never-clause-nu
 returns-then-is_never-clause-numbered c = leaf_numbered c.leaf.result _ c.leaf.ensures
 
 pub quiet_or_listed-requires-clause-listed : goal.quiet_or_listed-requires-clause-listed
-quiet_or_listed-requires-clause-listed c = c.in_ok-listed.ensures.below 64 c.requires.lines
+quiet_or_listed-requires-clause-listed c = c.in_ok-listed.ensures.below 320 c.requires.lines
 
 pub returns-clause-truth : goal.returns-clause-truth
 returns-clause-truth c =

@@ -5,7 +5,7 @@ use Rattle.invariant_certificate.proofs.Covering.{covers, covers_below, numbered
 use Rattle.invariant_certificate.proofs.listing.quiet_or_listed.Goals as goal
 
 pub unify_in-requires-clause-u : goal.unify_in-requires-clause-u
-unify_in-requires-clause-u g c = numbered_tree 0 64 _ (numbered c.in_ok-region.region) c.in_ok-region.ensures.tree
+unify_in-requires-clause-u g c = numbered_tree 0 320 _ (numbered c.in_ok-region.region) c.in_ok-region.ensures.tree
 
 pub returns-clause-truth : goal.returns-clause-truth
 returns-clause-truth g c =

@@ -16,10 +16,10 @@ use Rattle.invariant_certificate.proofs.stopping.first_unlisted.Goals as goal
 pub covered-requires-clause-tree : goal.covered-requires-clause-tree
 covered-requires-clause-tree c =
     let one = c.alarm-item.result in
-    subst (λ (a : AlarmTree). IsNumberedTree 0 64 (numbered a.tree)) (sym c.alarm-item.is) (c.requires.trees c.alarms.alarm-index one c.alarms-test.true)
+    subst (λ (a : AlarmTree). IsNumberedTree 0 320 (numbered a.tree)) (sym c.alarm-item.is) (c.requires.trees c.alarms.alarm-index one c.alarms-test.true)
 
 pub covered-requires-clause-lines : goal.covered-requires-clause-lines
-covered-requires-clause-lines c = more_lines (length c.args.atoms.now) 64 c.requires.few c.args.lines.now c.requires.lines
+covered-requires-clause-lines c = more_lines (length c.args.atoms.now) 320 c.requires.few c.args.lines.now c.requires.lines
 
 pub least_untrue-requires-clause-tests : goal.least_untrue-requires-clause-tests
 least_untrue-requires-clause-tests c =

@@ -17,7 +17,7 @@ noted_in-requires-clause-family g c =
     record {
       few = few;
       never = c.in_ok-trees.ensures.never;
-      regions = All-nil (λ (l : LoopLine). IsBelow 64 (formula l.region));
+      regions = All-nil (λ (l : LoopLine). IsBelow 320 (formula l.region));
       bounds = All-nil (λ (l : LoopLine). AreVariableBounds (length c.items.result.now) l.bounds);
       choices = λ i t e. numbered_each c.args.conditions.now c.deref.result.now i t trees e;
     }

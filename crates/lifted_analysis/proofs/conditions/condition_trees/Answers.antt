@@ -13,13 +13,13 @@ loop-condition-init g c = subst (AreTreesOf (take 0 c.args.conditions.now)) (sym
 
 pub test_tree_in-requires : goal.test_tree_in-requires
 test_tree_in-requires g c =
-    subst (λ f. IsBelow 64 (formula f)) (sym c.condition-item.is) (c.requires c.loop-condition.condition-index c.condition-item.result c.loop-condition-test.true)
+    subst (λ f. IsBelow 320 (formula f)) (sym c.condition-item.is) (c.requires c.loop-condition.condition-index c.condition-item.result c.loop-condition-test.true)
 
 pub loop-condition-preserved : goal.loop-condition-preserved
 loop-condition-preserved g c =
     let tree = c.in_ok-tree.tree in
     trees_more c.args.conditions.now c.loop-condition.condition-index c.condition-item.result c.loop-condition.trees.items c.push.new.self.items tree c.loop-condition-test.true c.condition-item.is c.in_ok-push.ensures.items
-    c.loop-condition.invariant c.in_ok-tree.ensures.means (numbered_tree 0 64 c.test_tree_in.new.forest (numbered tree) c.in_ok-tree.ensures.tree)
+    c.loop-condition.invariant c.in_ok-tree.ensures.means (numbered_tree 0 320 c.test_tree_in.new.forest (numbered tree) c.in_ok-tree.ensures.tree)
 
 pub returns : goal.returns
 returns g c =

@@ -7,6 +7,6 @@ pub returns : goal.returns
 returns g c = record {
   choices = c.in_ok-choices.ensures;
   plausible = c.in_ok-plausible.ensures.means;
-  tree = numbered_tree 0 64 c.test_tree_in.new.forest (numbered c.in_ok-plausible.plausible) c.in_ok-plausible.ensures.tree;
+  tree = numbered_tree 0 320 c.test_tree_in.new.forest (numbered c.in_ok-plausible.plausible) c.in_ok-plausible.ensures.tree;
   never = leaf_kept (numbered c.in_ok-never.never) _ c.in_ok-never.ensures.same;
 }

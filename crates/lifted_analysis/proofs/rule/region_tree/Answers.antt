@@ -9,7 +9,7 @@ use Rattle.lifted_analysis.proofs.rule.region_tree.Goals as goal
 
 pub selected-requires-clause-truth : goal.selected-requires-clause-truth
 selected-requires-clause-truth g c = record {
-  tree = numbered_tree 0 64 c.test_tree_in.new.forest (numbered c.in_ok-region.region) c.in_ok-region.ensures.tree;
+  tree = numbered_tree 0 320 c.test_tree_in.new.forest (numbered c.in_ok-region.region) c.in_ok-region.ensures.tree;
   tests = λ k w. c.requires.tests k (c.in_ok-region.ensures.means.tests k w);
 }
 

@@ -10,6 +10,6 @@ loop-alarm-preserved g c = record {
   merged = pairs_more (IsMergedAlarm (plain c.args.care.now)) c.loop-alarm.alarm-index c.args.alarms.now c.loop-alarm.made.items c.push.new.self.items c.alarm-item.result (record { place = c.alarm-item.result.place; kind = c.alarm-item.result.kind; tree = c.in_ok-tree.tree })
       c.loop-alarm-test.true c.alarm-item.is c.in_ok-push.ensures.items c.loop-alarm.invariant.merged
       (record { place = refl; kind = refl; tree = c.in_ok-tree.ensures.merged });
-  care = tree_stays 0 64 c.loop-alarm.tables.cares c.merged_truths.new.tables.cares (numbered c.args.care.now) c.merged_truths.ensures.cares c.loop-alarm.invariant.care;
+  care = tree_stays 0 320 c.loop-alarm.tables.cares c.merged_truths.new.tables.cares (numbered c.args.care.now) c.merged_truths.ensures.cares c.loop-alarm.invariant.care;
   keeps = keeps_both c.args.tables.now.cares c.loop-alarm.tables.cares c.merged_truths.new.tables.cares c.loop-alarm.invariant.keeps c.merged_truths.ensures.cares;
 }

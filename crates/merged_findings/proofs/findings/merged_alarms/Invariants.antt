@@ -8,6 +8,6 @@ use Rattle.merged_findings.proofs.findings.merged_alarms.Given as goal
 abbrev pub invariant-loop-alarm : goal.invariant-loop-alarm
 invariant-loop-alarm g l = record {
   merged : ArePairs (IsMergedAlarm (plain l.care)) (take l.alarm-index l.alarms) l.made.items;
-  care : IsTreeIn 0 64 l.tables.cares (numbered l.care);
+  care : IsTreeIn 0 320 l.tables.cares (numbered l.care);
   keeps : Keeps l.initial.tables.cares l.tables.cares;
 }

@@ -8,6 +8,6 @@ use Rattle.merged_findings.proofs.findings.merged_places.Given as goal
 abbrev pub invariant-loop-place : goal.invariant-loop-place
 invariant-loop-place g l = record {
   merged : ArePairs (IsMergedPlace (plain l.care)) (take l.place-index l.places) l.made.items;
-  care : IsTreeIn 0 64 l.tables.cares (numbered l.care);
+  care : IsTreeIn 0 320 l.tables.cares (numbered l.care);
   keeps : Keeps l.initial.tables.cares l.tables.cares;
 }

@@ -5,4 +5,4 @@ use Rattle.reading_laws.proofs.names.families_have_the_names_that_they_declare.G
 pub returns : goal.returns
 returns c =
     let texts : TextLaws = record { tokens = record { read = c.reads_longest_lexemes.ensures; literal = c.literals_are_numbers.ensures.small; rise = c.places_rise.ensures }; apart = c.lines_are_apart.ensures; one = c.one_reading.ensures; told = c.texts_are_read_once.ensures } in
-    families_have_declared_names texts c.within_the_limits_is_a_file.ensures c.family_names_occur.ensures c.declarations_of_families_are_those_of_the_grammar.ensures.all
+    families_have_declared_names texts c.within_the_limits_is_a_file.ensures c.declarations_of_families_are_those_of_the_grammar.ensures.all

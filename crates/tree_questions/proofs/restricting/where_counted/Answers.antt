@@ -5,7 +5,7 @@ use Rattle.tree_questions.proofs.Restricted.{below_as, leads_as, tests_as, numbe
 use Rattle.tree_questions.proofs.restricting.where_counted.Goals as goal
 
 pub test_tree_in-requires : goal.test_tree_in-requires
-test_tree_in-requires g c = below_as 64 c.args.test c.args.truth (formula c.in_ok-said.said) c.in_ok-said.ensures c.requires.test
+test_tree_in-requires g c = below_as 320 c.args.test c.args.truth (formula c.in_ok-said.said) c.in_ok-said.ensures c.requires.test
 
 pub returns-clause-leads : goal.returns-clause-leads
 returns-clause-leads g c =

@@ -16,7 +16,7 @@ improve-improve-requires t c =
     let q = c.args.question.now in
     let wanted = formula c.args.wanted.now in
     let truth = c.truth_at-truth.result in
-    let test : (c.in-Some.test < 64) × (c.in-Some.test < length q.atoms.now) = rw c.in-Some.is at c.in_ok-next_test.ensures in
+    let test : (c.in-Some.test < 320) × (c.in-Some.test < length q.atoms.now) = rw c.in-Some.is at c.in_ok-next_test.ensures in
     let said = c.in_ok-wanted_near-in-Some.ensures in
     let near = c.in_ok-near-in-Some.near in
     let falls : 2 * (c.args.left - 1) < t = omega (arith, c.decreases, c.if-left-eq0.false) in (
@@ -35,7 +35,7 @@ improve-improve-requires t c =
 pub improve-search-requires : goal.improve-search-requires
 improve-search-requires t c =
     let q = c.args.question.now in
-    let test : (c.in-Some.test < 64) × (c.in-Some.test < length q.atoms.now) = rw c.in-Some.is at c.in_ok-next_test.ensures in
+    let test : (c.in-Some.test < 320) × (c.in-Some.test < length q.atoms.now) = rw c.in-Some.is at c.in_ok-next_test.ensures in
     let falls : 2 * (c.args.left - 1) + 1 < t = omega (arith, c.decreases, c.if-left-eq0.false) in (
       falls,
       side_asked q (formula c.args.wanted.now) (formula c.in_ok-wanted_far-in-Some.wanted_far) (numbered c.args.tree.now) (numbered c.in_ok-far-in-Some.far) c.args.best c.in_ok-found-in-Some.found c.in-Some.test

@@ -6,10 +6,10 @@ use Rattle.tree_restrict.proofs.Unions.{both_ok, two_truths, union_tree, union_o
 use Rattle.tree_restrict.proofs.cares.union.Goals as goal
 
 pub unify_in-requires-clause-t : goal.unify_in-requires-clause-t
-unify_in-requires-clause-t g c = numbered_tree 0 64 _ (numbered c.args.no.now) c.requires.no
+unify_in-requires-clause-t g c = numbered_tree 0 320 _ (numbered c.args.no.now) c.requires.no
 
 pub unify_in-requires-clause-u : goal.unify_in-requires-clause-u
-unify_in-requires-clause-u g c = numbered_tree 0 64 _ (numbered c.args.yes.now) c.requires.yes
+unify_in-requires-clause-u g c = numbered_tree 0 320 _ (numbered c.args.yes.now) c.requires.yes
 
 pub returns-clause-means : goal.returns-clause-means
 returns-clause-means g c =

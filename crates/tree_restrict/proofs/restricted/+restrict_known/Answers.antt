@@ -183,7 +183,7 @@ restrict_known-requires-in-Node-care-2 g t c κs within =
     let f : numbered c.args.tree.now ≡ branch n.number k (numbered lo) (numbered hi) = search rules in
     let fewer : measure (plain hi) (plain c.side-high.result.now) < measure (plain c.args.tree.now) (plain c.args.care.now) =
     fewer_side (plain c.args.tree.now) (plain hi) (plain lo) (plain hi) k (plain c.args.care.now) (plain c.side-high.result.now) true (ap erase f) (inr refl) c.side-high.ensures.side c.requires.care.small c.requires.care.reduced in
-    (search rules, (within.0, (within.1, (tree_stays 0 64 _ _ (numbered hi) c.restrict_known-in-Node-care.ensures.keep.of_trees (high_part 0 n.number k _ (numbered c.args.tree.now) (numbered lo) (numbered hi) f c.requires.tree), (tree_stays 0 64 _ _ (numbered c.side-high.result.now) c.restrict_known-in-Node-care.ensures.keep.of_cares (c.side-high.ensures.tree _ c.requires.care), (c.requires.exact, c.in_ok-no-in-Node-care.ensures.known))))))
+    (search rules, (within.0, (within.1, (tree_stays 0 320 _ _ (numbered hi) c.restrict_known-in-Node-care.ensures.keep.of_trees (high_part 0 n.number k _ (numbered c.args.tree.now) (numbered lo) (numbered hi) f c.requires.tree), (tree_stays 0 320 _ _ (numbered c.side-high.result.now) c.restrict_known-in-Node-care.ensures.keep.of_cares (c.side-high.ensures.tree _ c.requires.care), (c.requires.exact, c.in_ok-no-in-Node-care.ensures.known))))))
 
 pub returns-then-is_false-clause-answer : goal.returns-then-is_false-clause-answer
 returns-then-is_false-clause-answer g t c =

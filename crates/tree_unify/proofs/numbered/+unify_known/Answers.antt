@@ -22,7 +22,7 @@ returns-in-Some-clause-bounded g t c =
 
 pub note_node-requires-clause-no : goal.note_node-requires-clause-no
 note_node-requires-clause-no g t c =
-    tree_stays _ 64 _ _ (numbered c.in_ok-no.no) c.in_ok-yes.ensures.keeps (side_tree (plain c.args.t.now) (plain c.args.u.now) c.min-k.result false _ _ (numbered c.in_ok-no.no) c.requires.t_small c.requires.u_small c.requires.t_reduced c.requires.u_reduced (search rules) c.side.ensures.side c.side-2.ensures.side c.in_ok-no.ensures.made)
+    tree_stays _ 320 _ _ (numbered c.in_ok-no.no) c.in_ok-yes.ensures.keeps (side_tree (plain c.args.t.now) (plain c.args.u.now) c.min-k.result false _ _ (numbered c.in_ok-no.no) c.requires.t_small c.requires.u_small c.requires.t_reduced c.requires.u_reduced (search rules) c.side.ensures.side c.side-2.ensures.side c.in_ok-no.ensures.made)
 
 pub note_node-requires-clause-yes : goal.note_node-requires-clause-yes
 note_node-requires-clause-yes g t c =
@@ -30,12 +30,12 @@ note_node-requires-clause-yes g t c =
 
 pub returns-clause-made : goal.returns-clause-made
 returns-clause-made g t c =
-    let small : c.min-k.result < 64 = grind (arith, common_steps) in
+    let small : c.min-k.result < 320 = grind (arith, common_steps) in
     made_node_ok _ c.note_node.result (plain c.args.t.now) _ _ (plain c.args.u.now) _ _ c.min-k.result (numbered c.in_ok-no.no) (numbered c.in_ok-yes.yes) (search rules) small c.side.ensures.side c.side-3.ensures.side c.side-2.ensures.side c.side-4.ensures.side c.requires.t_reduced c.requires.u_reduced c.in_ok-no.ensures.made c.in_ok-yes.ensures.made c.note_node.ensures.made c.note_node.ensures.own
 
 pub returns-clause-known : goal.returns-clause-known
 returns-clause-known g t c =
-    let small : c.min-k.result < 64 = grind (arith, common_steps) in
+    let small : c.min-k.result < 320 = grind (arith, common_steps) in
     known_node _ _ c.note_node.new.entries.entries c.note_node.result _ (numbered c.args.t.now) (numbered c.args.u.now) c.requires.t_numbered c.requires.u_numbered c.note_node.ensures.keeps c.in_ok-yes.ensures.known c.requires.t_within c.requires.u_within (search rules) (search rules) (made_node_ok _ c.note_node.result (plain c.args.t.now) _ _ (plain c.args.u.now) _ _ c.min-k.result (numbered c.in_ok-no.no) (numbered c.in_ok-yes.yes) (search rules) small c.side.ensures.side c.side-3.ensures.side c.side-2.ensures.side c.side-4.ensures.side c.requires.t_reduced c.requires.u_reduced c.in_ok-no.ensures.made c.in_ok-yes.ensures.made c.note_node.ensures.made c.note_node.ensures.own) c.note_node.ensures.noted
 
 pub returns-clause-bounded : goal.returns-clause-bounded
@@ -65,7 +65,7 @@ returns-in-Some-clause-room g t c = walk_known _ _ c.args.memo.now.nodes.entries
 
 pub returns-clause-walked : goal.returns-clause-walked
 returns-clause-walked g t c =
-    let small : c.min-k.result < 64 = grind (arith, common_steps) in
+    let small : c.min-k.result < 320 = grind (arith, common_steps) in
     let no : AreSides (numbered c.args.t.now) (numbered c.args.u.now) (numbered c.side.result.now) (numbered c.side-2.result.now) =
     sides (numbered c.args.t.now) (numbered c.args.u.now) c.min-k.result false _ _ (search rules) small (c.side.ensures.within _ (within_self _)) (c.side-2.ensures.within _ (within_self _)) c.side.ensures.side c.side-2.ensures.side in
     let yes : AreSides (numbered c.args.t.now) (numbered c.args.u.now) (numbered c.side-3.result.now) (numbered c.side-4.result.now) =
@@ -76,7 +76,7 @@ returns-clause-walked g t c =
 
 pub returns-clause-within : goal.returns-clause-within
 returns-clause-within g t c =
-    let small : c.min-k.result < 64 = grind (arith, common_steps) in
+    let small : c.min-k.result < 320 = grind (arith, common_steps) in
     let no : AreSides (numbered c.args.t.now) (numbered c.args.u.now) (numbered c.side.result.now) (numbered c.side-2.result.now) =
     sides (numbered c.args.t.now) (numbered c.args.u.now) c.min-k.result false _ _ (search rules) small (c.side.ensures.within _ (within_self _)) (c.side-2.ensures.within _ (within_self _)) c.side.ensures.side c.side-2.ensures.side in
     let yes : AreSides (numbered c.args.t.now) (numbered c.args.u.now) (numbered c.side-3.result.now) (numbered c.side-4.result.now) =
@@ -87,7 +87,7 @@ returns-clause-within g t c =
 
 pub returns-clause-nodes : goal.returns-clause-nodes
 returns-clause-nodes g t c =
-    let small : c.min-k.result < 64 = grind (arith, common_steps) in
+    let small : c.min-k.result < 320 = grind (arith, common_steps) in
     let no : AreSides (numbered c.args.t.now) (numbered c.args.u.now) (numbered c.side.result.now) (numbered c.side-2.result.now) =
     sides (numbered c.args.t.now) (numbered c.args.u.now) c.min-k.result false _ _ (search rules) small (c.side.ensures.within _ (within_self _)) (c.side-2.ensures.within _ (within_self _)) c.side.ensures.side c.side-2.ensures.side in
     let yes : AreSides (numbered c.args.t.now) (numbered c.args.u.now) (numbered c.side-3.result.now) (numbered c.side-4.result.now) =
@@ -98,7 +98,7 @@ returns-clause-nodes g t c =
 
 pub returns-clause-room : goal.returns-clause-room
 returns-clause-room g t c =
-    let small : c.min-k.result < 64 = grind (arith, common_steps) in
+    let small : c.min-k.result < 320 = grind (arith, common_steps) in
     let no : AreSides (numbered c.args.t.now) (numbered c.args.u.now) (numbered c.side.result.now) (numbered c.side-2.result.now) =
     sides (numbered c.args.t.now) (numbered c.args.u.now) c.min-k.result false _ _ (search rules) small (c.side.ensures.within _ (within_self _)) (c.side-2.ensures.within _ (within_self _)) c.side.ensures.side c.side-2.ensures.side in
     let yes : AreSides (numbered c.args.t.now) (numbered c.args.u.now) (numbered c.side-3.result.now) (numbered c.side-4.result.now) =

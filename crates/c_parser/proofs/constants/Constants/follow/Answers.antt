@@ -1,17 +1,17 @@
-use Rattle.std.proofs.Common.{◌≡◌, Bool, not, ◌&&◌, Some, refl, ap, ◌∙◌}
+use Rattle.std.proofs.Common.{◌≡◌, Bool, not, ◌&&◌, ap, ◌∙◌}
 use Rattle.family_names.proofs.Holding.{is_asked, is_not_asked}
 use Rattle.c_parser.specs.Judging.{with_constant}
 use Rattle.c_parser.proofs.Holding.{held_more}
 use Rattle.c_parser.proofs.constants.Constants.follow.Goals as goal
-use Rattle.c_parser.proofs.constants.Constants.follow.Goals.{then-self, else-self}
+use Rattle.c_parser.proofs.constants.Constants.follow.Goals.{then-is_constant, else-is_constant}
 
 pub returns : goal.returns
 returns c = λ before k h.
-    let is : c.if-self.is_constant ≡ (c.args.self.now.goes_on && not c.args.known.now.in_main) = elim c.if-self.branch [
-      | then-self w ↦ is_asked c.args.self.now.goes_on c.args.known.now.in_main c.if-self.is_constant w.if-self.true w.is_constant-is
-      | else-self w ↦ is_not_asked c.args.self.now.goes_on c.args.known.now.in_main c.if-self.is_constant w.if-self.false w.is_constant-is
+    let is : c.if-is_constant.is_constant ≡ (c.is_constant.result && not c.args.known.now.in_main) = elim c.if-is_constant.branch [
+      | then-is_constant w ↦ is_asked c.is_constant.result c.args.known.now.in_main c.if-is_constant.is_constant w.if-is_constant.true w.is_constant-is
+      | else-is_constant w ↦ is_not_asked c.is_constant.result c.args.known.now.in_main c.if-is_constant.is_constant w.if-is_constant.false w.is_constant-is
     ] in
     held_more before c.args.item c.args.self.now
-    (record { last = Some c.args.item; goes_on = c.is_constant_behind-self.result; names = c.declare_constant.new.names })
-    c.args.known.now k h refl c.is_constant_behind-self.ensures
+    (record { track = c.follow.new.self; names = c.declare_constant.new.names })
+    c.args.known.now c.is_constant.result k h (c.follow.ensures before h.track) (c.is_constant.ensures before h.track)
     (c.in_ok-declare_constant.ensures ∙ ap (λ (b : Bool). with_constant c.args.self.now.names.items b c.args.item.sign) is)

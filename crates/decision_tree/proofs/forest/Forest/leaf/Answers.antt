@@ -36,7 +36,7 @@ returns-in-Some-clause-tree g c =
     let copied : c.in_ok-clone.field-0.value.value ≡ c.args.value = search rules in
     let there : lookup (same_key g.L.PartialEq.eq (key.Leaf c.in_ok-clone.field-0)) es ≡ Some c.in-Some.found.now = search rules in
     let known = known_leaf g.L.PartialEq.eq c.in_ok-clone.field-0 c.args.value es c.in-Some.found.now c.requires copied c.self.invariant there in
-    rw (← c.self.view_is) (IfOk-weaker c.share.result (λ t. numbered t ≡ numbered c.in-Some.found.now) (λ t. IsTreeIn 0 64 (trees es) (numbered t)) (λ t e. leaf_tree 0 64 (trees es) (numbered t) c.args.value (ap erase e ∙ known.0) (record { listed = subst (IsListed (trees es)) (sym e) known.1; distinct = c.self.invariant.distinct })) (search rules))
+    rw (← c.self.view_is) (IfOk-weaker c.share.result (λ t. numbered t ≡ numbered c.in-Some.found.now) (λ t. IsTreeIn 0 320 (trees es) (numbered t)) (λ t e. leaf_tree 0 320 (trees es) (numbered t) c.args.value (ap erase e ∙ known.0) (record { listed = subst (IsListed (trees es)) (sym e) known.1; distinct = c.self.invariant.distinct })) (search rules))
 
 pub returns-clause-tree : goal.returns-clause-tree
 returns-clause-tree g c =
@@ -51,7 +51,7 @@ returns-clause-tree g c =
       listed = new_listed es c.add.new.entries.entries (key.Leaf c.in_ok-clone.field-0) t c.args.value (numbered c.in_ok-answer.answer) (search rules) (search rules) (search rules);
       distinct = ok.distinct;
     } in
-    leaf_tree 0 64 _ (numbered c.in_ok-answer.answer) c.args.value (search rules) own
+    leaf_tree 0 320 _ (numbered c.in_ok-answer.answer) c.args.value (search rules) own
 
 pub returns-clause-keeps : goal.returns-clause-keeps
 returns-clause-keeps g c =

@@ -35,8 +35,8 @@ returns-in-Some-clause-tree g c =
     let known = node_found g.L.PartialEq.eq c.args.test no yes es c.in-Some.known.now c.self.invariant hn hy there in
     let made : IsNodeOf c.args.test (erase no) (erase yes) (erase (numbered c.in-Some.known.now)) = inr (differ_of_roots (trees es) no yes c.self.invariant.distinct hn hy (search rules), known.0) in
     let own : IsOf c.args.self.now (numbered c.in-Some.known.now) = rw (← c.self.view_is) (record { listed = known.1; distinct = c.self.invariant.distinct }) in
-    IfOk-weaker c.share-in-Some.result (λ t. numbered t ≡ numbered c.in-Some.known.now) (λ t. IsTreeIn c.args.test 64 c.args.self.now (numbered t))
-    (λ t e. subst (IsTreeIn c.args.test 64 c.args.self.now) (sym e) (tree_made c.args.test c.args.self.now c.args.self.now no yes (numbered c.in-Some.known.now) c.requires.small c.requires.no c.requires.yes made own)) (search rules)
+    IfOk-weaker c.share-in-Some.result (λ t. numbered t ≡ numbered c.in-Some.known.now) (λ t. IsTreeIn c.args.test 320 c.args.self.now (numbered t))
+    (λ t e. subst (IsTreeIn c.args.test 320 c.args.self.now) (sym e) (tree_made c.args.test c.args.self.now c.args.self.now no yes (numbered c.in-Some.known.now) c.requires.small c.requires.no c.requires.yes made own)) (search rules)
 
 pub returns-in-Some-clause-leads : goal.returns-in-Some-clause-leads
 returns-in-Some-clause-leads g c =

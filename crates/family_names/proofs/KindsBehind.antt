@@ -1,0 +1,214 @@
+-- The names of constants and variables, and the features that are used as values, behind one item more.
+use Rattle.std.proofs.Common.{◌≡◌, ℕ, Bool, true, false, cond, not, ◌&&◌, nat_eq, List, [], ◌∷◌, ◌++◌, refl, sym, ap, ◌∙◌, append_assoc, append-nil}
+use Rattle.std.specs.Prelude.{◌||◌, if◌then◌else◌}
+use Rattle.std.specs.List.{list_any, filter}
+use Rattle.std.proofs.lemmas.Bool.{eq-eqb}
+use Rattle.std.proofs.lemmas.List.Elements.{filter-append}
+use Rattle.std.proofs.lemmas.List.Folds.{list_any-append}
+use Rattle.fam_outer.specs.declared.faults.Place.{Place}
+use Rattle.c_grammar.specs.declared.constants.NameKind.{NameKind}
+use Rattle.c_grammar.specs.declared.constants.NameKind.TheVariants as kinds
+use Rattle.c_grammar.specs.declared.items.Item.{Item}
+use Rattle.c_grammar.specs.declared.items.Sign.{Sign}
+use Rattle.c_grammar.specs.declared.items.Sign.TheVariants as signs
+use Rattle.c_grammar.specs.Constants.{is_constant, kind_behind, kind_after}
+use Rattle.c_grammar.specs.Grammar.{at}
+use Rattle.c_grammar.specs.Kinds.{name_as, kinds_from, declared_kinds, is_first_constant, is_declared_constant}
+use Rattle.family_names.specs.declared.values.Used.{Used}
+use Rattle.family_names.specs.Names.{NameContext, is_main, has_main, until_main, name_of, names_of, declared_by, constants_of, variables_of, is_value, behind_main, values_of, is_among, with_number, each_once}
+use Rattle.family_names.specs.Judging.{AreUsed, with_kind}
+use Rattle.family_names.proofs.Declared.{names_append, AreStill, more_declared, once_append, among_once, and_false, or_left, or_right}
+
+-- ---- the kinds of declared names
+
+kinds_behind : (kind : NameKind) (before xs : List Item) → has_main before ≡ true → kinds_from kind (before ++ xs) ≡ kinds_from kind before
+kinds_behind kind [] xs h = absurd cc
+kinds_behind kind (y ∷ ys) xs h =
+    elim (is_main y.sign) as (λ b. (b || has_main ys) ≡ true → (if b then [] else name_as (is_constant kind) y.sign ++ kinds_from (kind_behind kind y.sign) (ys ++ xs)) ≡ (if b then [] else name_as (is_constant kind) y.sign ++ kinds_from (kind_behind kind y.sign) ys)) [
+      | true ↦ λ _. refl
+      | false ↦ λ g. ap (λ (ds : List (ℕ × Bool)). name_as (is_constant kind) y.sign ++ ds) (kinds_behind (kind_behind kind y.sign) ys xs g)
+    ] h
+
+kinds_on : (kind : NameKind) (before xs : List Item) → has_main before ≡ false → kinds_from kind (before ++ xs) ≡ kinds_from kind before ++ kinds_from (kind_after kind before) xs
+kinds_on kind [] xs h = refl
+kinds_on kind (y ∷ ys) xs h =
+    elim (is_main y.sign) as (λ b. (b || has_main ys) ≡ false → (if b then [] else name_as (is_constant kind) y.sign ++ kinds_from (kind_behind kind y.sign) (ys ++ xs))
+    ≡ (if b then [] else name_as (is_constant kind) y.sign ++ kinds_from (kind_behind kind y.sign) ys) ++ kinds_from (kind_after (kind_behind kind y.sign) ys) xs) [
+      | true ↦ λ g. absurd cc
+      | false ↦ λ g. ap (λ (ds : List (ℕ × Bool)). name_as (is_constant kind) y.sign ++ ds) (kinds_on (kind_behind kind y.sign) ys xs g)
+          ∙ sym (append_assoc (name_as (is_constant kind) y.sign) (kinds_from (kind_behind kind y.sign) ys) (kinds_from (kind_after (kind_behind kind y.sign) ys) xs))
+    ] h
+
+-- one of these declarations has the name
+abbrev has_kind : ℕ → List (ℕ × Bool) → Bool
+has_kind x ds = list_any (λ d. nat_eq x d.0) ds
+
+kind_of_name : (x : ℕ) (constant : Bool) (s : Sign) → has_kind x (name_as constant s) ≡ is_among x (name_of s)
+kind_of_name x constant (signs.Name n) = refl
+kind_of_name x constant _ = refl
+
+has_name : (x : ℕ) (kind : NameKind) (items : List Item) → has_kind x (kinds_from kind items) ≡ is_among x (names_of (until_main items))
+has_name x kind [] = refl
+has_name x kind (y ∷ ys) =
+    elim (is_main y.sign) as (λ b. has_kind x (if b then [] else name_as (is_constant kind) y.sign ++ kinds_from (kind_behind kind y.sign) ys) ≡ is_among x (names_of (if b then [] else y ∷ until_main ys))) [
+      | true ↦ refl
+      | false ↦ list_any-append (λ (d : ℕ × Bool). nat_eq x d.0) (name_as (is_constant kind) y.sign) (kinds_from (kind_behind kind y.sign) ys)
+          ∙ ap (λ (b : Bool). b || has_kind x (kinds_from (kind_behind kind y.sign) ys)) (kind_of_name x (is_constant kind) y.sign)
+          ∙ ap (λ (b : Bool). is_among x (name_of y.sign) || b) (has_name x (kind_behind kind y.sign) ys)
+          ∙ sym (list_any-append (nat_eq x) (name_of y.sign) (names_of (until_main ys)))
+    ]
+
+first_stays : (x : ℕ) (ds es : List (ℕ × Bool)) → has_kind x ds ≡ true → is_first_constant (ds ++ es) x ≡ is_first_constant ds x
+first_stays x [] es h = absurd cc
+first_stays x (d ∷ ds) es h = elim (nat_eq x d.0) as (λ b. (b || has_kind x ds) ≡ true → (if b then d.1 else is_first_constant (ds ++ es) x) ≡ (if b then d.1 else is_first_constant ds x)) [
+  | true ↦ λ _. refl
+  | false ↦ λ g. first_stays x ds es g
+] h
+
+first_behind : (x : ℕ) (ds es : List (ℕ × Bool)) → has_kind x ds ≡ false → is_first_constant (ds ++ es) x ≡ is_first_constant es x
+first_behind x [] es h = refl
+first_behind x (d ∷ ds) es h = elim (nat_eq x d.0) as (λ b. (b || has_kind x ds) ≡ false → (if b then d.1 else is_first_constant (ds ++ es) x) ≡ is_first_constant es x) [
+  | true ↦ λ g. absurd cc
+  | false ↦ λ g. first_behind x ds es g
+] h
+
+-- the kind of a name that is declared stays
+kind_stays : (before : List Item) (x : Item) (y : ℕ) → is_among y (declared_by before) ≡ true → is_declared_constant (before ++ x ∷ []) y ≡ is_declared_constant before y
+kind_stays before x y h = elim (has_main before) as (λ b. has_main before ≡ b → is_declared_constant (before ++ x ∷ []) y ≡ is_declared_constant before y) [
+  | true ↦ λ m. ap (λ (ds : List (ℕ × Bool)). is_first_constant ds y) (kinds_behind kinds.Variable before (x ∷ []) m)
+  | false ↦ λ m. ap (λ (ds : List (ℕ × Bool)). is_first_constant ds y) (kinds_on kinds.Variable before (x ∷ []) m)
+      ∙ first_stays y (declared_kinds before) (kinds_from (kind_after kinds.Variable before) (x ∷ [])) (has_name y kinds.Variable before ∙ h)
+] refl
+
+-- the kind of a new name
+kind_is : (before : List Item) (p : Place) (n : ℕ) → has_main before ≡ false → is_among n (declared_by before) ≡ false
+    → is_declared_constant (before ++ at p (signs.Name n) ∷ []) n ≡ is_constant (kind_after kinds.Variable before)
+kind_is before p n m h =
+    ap (λ (ds : List (ℕ × Bool)). is_first_constant ds n) (kinds_on kinds.Variable before (at p (signs.Name n) ∷ []) m)
+    ∙ first_behind n (declared_kinds before) (kinds_from (kind_after kinds.Variable before) (at p (signs.Name n) ∷ [])) (has_name n kinds.Variable before ∙ h)
+    ∙ ap (λ (b : Bool). if b then is_constant (kind_after kinds.Variable before) else false) (eq-eqb n n refl)
+
+-- ---- the names of a kind
+
+pub filter_same : (p q : ℕ → Bool) (xs : List ℕ) → ((y : ℕ) → is_among y xs ≡ true → p y ≡ q y) → filter p xs ≡ filter q xs
+filter_same p q [] h = refl
+filter_same p q (x ∷ xs) h =
+    ap (λ (b : Bool). cond b (x ∷ filter p xs) (filter p xs)) (h x (or_left (nat_eq x x) (is_among x xs) (eq-eqb x x refl)))
+    ∙ ap (λ (ys : List ℕ). cond (q x) (x ∷ ys) ys) (filter_same p q xs (λ y m. h y (or_right (nat_eq y x) (is_among y xs) m)))
+
+-- the names, each once, of which this is so of whether the first declaration is a constant's
+abbrev pub of_kind : (Bool → Bool) → List Item → List ℕ
+of_kind f items = filter (λ y. f (is_declared_constant items y)) (each_once [] (declared_by items))
+
+-- those that were declared before
+kept_kind : (f : Bool → Bool) (before : List Item) (x : Item) → filter (λ y. f (is_declared_constant (before ++ x ∷ []) y)) (each_once [] (declared_by before)) ≡ of_kind f before
+kept_kind f before x =
+    filter_same (λ y. f (is_declared_constant (before ++ x ∷ []) y)) (λ y. f (is_declared_constant before y)) (each_once [] (declared_by before))
+    (λ y m. ap f (kind_stays before x y (sym (among_once y [] (declared_by before)) ∙ m)))
+
+still_kind : (f : Bool → Bool) (before : List Item) (x : Item) → AreStill before x → of_kind f (before ++ x ∷ []) ≡ of_kind f before
+still_kind f before x s =
+    ap (λ (ns : List ℕ). filter (λ y. f (is_declared_constant (before ++ x ∷ []) y)) (each_once [] ns)) s.any ∙ kept_kind f before x
+
+with_one : (b : Bool) (others : List ℕ) (n : ℕ) → others ++ cond b (n ∷ []) [] ≡ (if b && true then others ++ n ∷ [] else others)
+with_one true others n = refl
+with_one false others n = append-nil others
+
+one_kind : (f : Bool → Bool) (before : List Item) (p : Place) (n : ℕ) → has_main before ≡ false
+    → of_kind f (before ++ at p (signs.Name n) ∷ []) ≡ with_kind (f (is_constant (kind_after kinds.Variable before))) (each_once [] (declared_by before)) (of_kind f before) n
+one_kind f before p n m =
+    let after : List Item = before ++ at p (signs.Name n) ∷ [] in
+    let names : List ℕ = each_once [] (declared_by before) in
+    let test : ℕ → Bool = λ y. f (is_declared_constant after y) in
+    let b : Bool = f (is_constant (kind_after kinds.Variable before)) in
+    ap (λ (ns : List ℕ). filter test (each_once [] ns)) ((more_declared before (at p (signs.Name n)) m refl).any) ∙ ap (filter test) (once_append [] (declared_by before) (n ∷ []))
+    ∙ elim (is_among n names) as (λ t. is_among n names ≡ t → filter test (if t then names else names ++ n ∷ []) ≡ (if b && not t then of_kind f before ++ n ∷ [] else of_kind f before)) [
+      | true ↦ λ _. kept_kind f before (at p (signs.Name n)) ∙ sym (ap (λ (c : Bool). if c then of_kind f before ++ n ∷ [] else of_kind f before) (and_false b))
+      | false ↦ λ e.
+          filter-append test names (n ∷ [])
+          ∙ ap (λ (ns : List ℕ). ns ++ cond (test n) (n ∷ []) []) (kept_kind f before (at p (signs.Name n)))
+          ∙ ap (λ (c : Bool). of_kind f before ++ cond (f c) (n ∷ []) []) (kind_is before p n m (sym (among_once n [] (declared_by before)) ∙ e))
+          ∙ with_one b (of_kind f before) n
+    ] refl
+
+pub still_constants : (before : List Item) (x : Item) → AreStill before x → constants_of (before ++ x ∷ []) ≡ constants_of before
+still_constants before x s = still_kind (λ b. b) before x s
+
+pub still_variables : (before : List Item) (x : Item) → AreStill before x → variables_of (before ++ x ∷ []) ≡ variables_of before
+still_variables before x s = still_kind not before x s
+
+pub more_constants : (before : List Item) (p : Place) (n : ℕ) → has_main before ≡ false
+    → constants_of (before ++ at p (signs.Name n) ∷ []) ≡ with_kind (is_constant (kind_after kinds.Variable before)) (each_once [] (declared_by before)) (constants_of before) n
+more_constants before p n m = one_kind (λ b. b) before p n m
+
+pub more_variables : (before : List Item) (p : Place) (n : ℕ) → has_main before ≡ false
+    → variables_of (before ++ at p (signs.Name n) ∷ []) ≡ with_kind (not (is_constant (kind_after kinds.Variable before))) (each_once [] (declared_by before)) (variables_of before) n
+more_variables before p n m = one_kind not before p n m
+
+-- ---- features that are used as values
+
+pub behind_on : (before xs : List Item) → has_main before ≡ true → behind_main (before ++ xs) ≡ behind_main before ++ xs
+behind_on [] xs h = absurd cc
+behind_on (y ∷ ys) xs h = elim (is_main y.sign) as (λ b. (b || has_main ys) ≡ true → (if b then ys ++ xs else behind_main (ys ++ xs)) ≡ (if b then ys else behind_main ys) ++ xs) [
+  | true ↦ λ _. refl
+  | false ↦ λ g. behind_on ys xs g
+] h
+
+pub behind_none : (before : List Item) → has_main before ≡ false → behind_main before ≡ []
+behind_none [] h = refl
+behind_none (y ∷ ys) h = elim (is_main y.sign) as (λ b. (b || has_main ys) ≡ false → (if b then ys else behind_main ys) ≡ []) [
+  | true ↦ λ g. absurd cc
+  | false ↦ λ g. behind_none ys g
+] h
+
+one_rest : (b : Bool) (rest : List Item) → (if b then rest else rest) ≡ rest
+one_rest true rest = refl
+one_rest false rest = refl
+
+behind_one : (before : List Item) (x : Item) → has_main before ≡ false → behind_main (before ++ x ∷ []) ≡ []
+behind_one [] x h = one_rest (is_main x.sign) []
+behind_one (y ∷ ys) x h = elim (is_main y.sign) as (λ b. (b || has_main ys) ≡ false → (if b then ys ++ x ∷ [] else behind_main (ys ++ x ∷ [])) ≡ []) [
+  | true ↦ λ g. absurd cc
+  | false ↦ λ g. behind_one ys x g
+] h
+
+-- before `main` nothing is used
+pub still_unused : (context : NameContext) (before : List Item) (x : Item) → has_main before ≡ false → values_of context (before ++ x ∷ []) ≡ values_of context before
+still_unused context before x h = ap (λ (ys : List Item). each_once [] (filter (is_value context) (names_of ys))) (behind_one before x h ∙ sym (behind_none before h))
+
+one_value : (context : NameContext) (before : List Item) (x : Item) → has_main before ≡ true → values_of context (before ++ x ∷ []) ≡ each_once (values_of context before) (filter (is_value context) (name_of x.sign))
+one_value context before x h =
+    let front : List ℕ = names_of (behind_main before) in
+    ap (λ (ns : List ℕ). each_once [] (filter (is_value context) ns)) (ap names_of (behind_on before (x ∷ []) h) ∙ names_append (behind_main before) (x ∷ []) ∙ ap (λ (ns : List ℕ). front ++ ns) (append-nil (name_of x.sign)))
+    ∙ ap (each_once []) (filter-append (is_value context) front (name_of x.sign))
+    ∙ once_append [] (filter (is_value context) front) (filter (is_value context) (name_of x.sign))
+
+pub still_values : (context : NameContext) (before : List Item) (x : Item) → name_of x.sign ≡ [] → values_of context (before ++ x ∷ []) ≡ values_of context before
+still_values context before x e = elim (has_main before) as (λ b. has_main before ≡ b → values_of context (before ++ x ∷ []) ≡ values_of context before) [
+  | true ↦ λ h. one_value context before x h ∙ ap (λ (ns : List ℕ). each_once (values_of context before) (filter (is_value context) ns)) e
+  | false ↦ λ h. still_unused context before x h
+] refl
+
+-- a name is used
+pub value_more : (context : NameContext) (before : List Item) (p : Place) (n : ℕ) → has_main before ≡ true
+    → values_of context (before ++ at p (signs.Name n) ∷ []) ≡ (if is_value context n then with_number (values_of context before) n else values_of context before)
+value_more context before p n h =
+    one_value context before (at p (signs.Name n)) h
+    ∙ elim (is_value context n) as (λ b. each_once (values_of context before) (cond b (n ∷ []) []) ≡ (if b then with_number (values_of context before) n else values_of context before)) [ true ↦ refl | false ↦ refl ]
+
+used_same : (context : NameContext) (before after : List Item) (used : Used) → values_of context after ≡ values_of context before → AreUsed context before used → AreUsed context after used
+used_same context before after used e u = record { names = u.names ∙ sym e; tests = u.tests }
+
+pub used_unnamed : (context : NameContext) (before : List Item) (x : Item) (used : Used) → name_of x.sign ≡ [] → AreUsed context before used → AreUsed context (before ++ x ∷ []) used
+used_unnamed context before x used e u = used_same context before (before ++ x ∷ []) used (still_values context before x e) u
+
+pub used_declared : (context : NameContext) (before : List Item) (x : Item) (used : Used) → has_main before ≡ false → AreUsed context before used → AreUsed context (before ++ x ∷ []) used
+used_declared context before x used h u = used_same context before (before ++ x ∷ []) used (still_unused context before x h) u
+
+pub used_other : (context : NameContext) (before : List Item) (p : Place) (n : ℕ) (used : Used) → has_main before ≡ true → is_value context n ≡ false → AreUsed context before used → AreUsed context (before ++ at p (signs.Name n) ∷ []) used
+used_other context before p n used h v u =
+    used_same context before (before ++ at p (signs.Name n) ∷ []) used
+    (value_more context before p n h ∙ ap (λ (b : Bool). if b then with_number (values_of context before) n else values_of context before) v) u
+
+pub used_names : (context : NameContext) (before : List Item) (p : Place) (n : ℕ) → has_main before ≡ true → is_value context n ≡ true → values_of context (before ++ at p (signs.Name n) ∷ []) ≡ with_number (values_of context before) n
+used_names context before p n h v = value_more context before p n h ∙ ap (λ (b : Bool). if b then with_number (values_of context before) n else values_of context before) v

@@ -1,0 +1,10 @@
+pub mod Adding
+pub mod Answering
+pub mod Counting
+pub mod Enough
+pub mod Keeping
+pub mod Naming
+pub mod Ranges
+pub mod Starting
+pub mod Stepping
+pub mod Testing

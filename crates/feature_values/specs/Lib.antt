@@ -1,0 +1,4 @@
+pub mod Declarators
+pub mod Laws
+pub mod Moved
+pub mod Values

@@ -1,0 +1,11 @@
+int level;
+int size;
+
+int main(void)
+{
+    size = SIZE;
+    if (size > 8)
+        size = 8;
+    while (level < size)
+        level++;
+}

@@ -1,0 +1,6 @@
+#define SIZE 16
+int count;
+int main(void)
+{
+    count = SIZE;
+}

@@ -1,0 +1,5 @@
+int size;
+int main(void)
+{
+    size = AREA + SIDE;
+}

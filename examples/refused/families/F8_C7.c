@@ -1,0 +1,8 @@
+#define LIMIT 8
+int count;
+int main(void)
+{
+#if SIZE > LIMIT
+    count = LIMIT;
+#endif
+}
